@@ -1,0 +1,7 @@
+pub mod PageSize
+pub mod Config
+pub mod Memory
+pub mod Serves
+pub mod Legal
+pub mod Flat
+pub mod Wants

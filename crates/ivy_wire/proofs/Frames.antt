@@ -1,0 +1,345 @@
+-- A string passes the tests exactly where it spells a frame.
+use Rattle.std.proofs.Common.{◌≡◌, ◌≢◌, ℕ, suc, zero, ◌+◌, ◌^◌, ◌<◌, ◌≤◌, Bool, true, false, not, cond, eqb, ltb, leb, ◌&&◌, ◌||◌, List, [], ◌∷◌, ◌++◌, length, get_or, drop, Option, Some, None, Result, Ok, Err, refl, sym, ap, subst, eq-eqb, ◌∙◌, arith}
+use Rattle.std.specs.Prelude.{MatchOption, option_map}
+use Rattle.std.proofs.lemmas.List.{length-drop, drop-drop}
+use Rattle.std.proofs.lemmas.Bool.{eqb-true, ltb-true, lt-ltb, eqb-false, ltb-false, leb-false, le-ltb, lt-leb, ne_eqb}
+use Rattle.byteorder.specs.Endian.{big_number, big_bytes}
+use Rattle.byteorder.specs.Numbers.{big_number-reads_back, big_from-lt}
+use Rattle.ivy_model.specs.declared.Config.{Config}
+use Rattle.ivy_model.specs.declared.Fault.{Fault}
+use Rattle.ivy_model.specs.declared.Fault.TheVariants.{ShortFrame, BadMagic, BadVersion, BadNode, BadBody}
+use Rattle.ivy_model.specs.Config.{IsConfig}
+use Rattle.ivy_wire.specs.declared.frame.FrameKind.{FrameKind}
+use Rattle.ivy_wire.specs.declared.frame.FrameKind.TheVariants as kinds
+use Rattle.ivy_wire.specs.Data.{Content}
+use Rattle.ivy_wire.specs.declared.frame.Content.TheVariants as contents
+use Rattle.ivy_wire.specs.Data.{Message}
+use Rattle.ivy_wire.specs.Data.{Frame}
+use Rattle.ivy_wire.specs.Spelling.{code_of, kind_of, frame_kind, content_text, message_text, spelling, text_len, FitsMessage, Fits, Spells}
+use Rattle.ivy_wire.specs.Faults.{kind_byte, source_at, dest_at, len_at, number_at, ack_at, text_at, kind_at, is_sound_content, is_sound_text, checked_in, checked_kind, checked}
+use Rattle.ivy_wire.specs.Reading.{content_at, message_at, frame_at}
+use Rattle.ivy_model.proofs.Limits.{page_has_words}
+use Rattle.ivy_wire.proofs.Bytes.{IsBytes, IsBytes-drop, field_1, field_2, field_8}
+use Rattle.ivy_wire.proofs.Contents.{both, content_spelled, content_again}
+
+-- what the tests ask of a string of this kind
+pub record IsSound (c : Config) (kind : FrameKind) (bytes : List ℕ) : Type 0 where
+  pub long : 24 ≤ length bytes
+  pub magic : (get_or bytes 0 0 ≡ 73) × (get_or bytes 1 0 ≡ 86)
+  pub version : get_or bytes 2 0 ≡ 1
+  pub known : kind_at (kind_byte bytes) ≡ Some kind
+  pub source : source_at bytes < c.nodes
+  pub dest : dest_at bytes < c.nodes
+  pub apart : source_at bytes ≢ dest_at bytes
+  pub len : length bytes ≡ 24 + len_at bytes
+  pub text_len : len_at bytes ≡ text_len c kind
+  pub text : is_sound_text c kind (number_at bytes) (text_at bytes) ≡ true
+
+guard : {A : Type 0} (b : Bool) (d : Fault) (r : Result A Fault) (y : A) → cond b (Err d) r ≡ Ok y → (b ≡ false) × (r ≡ Ok y)
+guard true d r y e = absurd cc
+guard false d r y e = (refl, e)
+
+last_guard : (b : Bool) (d : Fault) (x y : FrameKind) → cond b (Ok x) (Err d) ≡ Ok y → (b ≡ true) × (x ≡ y)
+last_guard true d x y e = (refl, cc)
+last_guard false d x y e = absurd cc
+
+neither : (a b : Bool) → a || b ≡ false → (a ≡ false) × (b ≡ false)
+neither true b e = absurd cc
+neither false b e = (refl, e)
+
+unflipped : (b : Bool) → not b ≡ true → b ≡ false
+unflipped true e = absurd cc
+unflipped false e = refl
+
+flipped : (b : Bool) → not b ≡ false → b ≡ true
+flipped true e = refl
+flipped false e = absurd cc
+
+record IsSoundIn (c : Config) (kind : FrameKind) (bytes : List ℕ) : Type 0 where
+  source : source_at bytes < c.nodes
+  dest : dest_at bytes < c.nodes
+  apart : source_at bytes ≢ dest_at bytes
+  len : length bytes ≡ 24 + len_at bytes
+  text_len : len_at bytes ≡ text_len c kind
+  text : is_sound_text c kind (number_at bytes) (text_at bytes) ≡ true
+
+sound_in : (c : Config) (kind k : FrameKind) (bytes : List ℕ) → checked_in c kind bytes ≡ Ok k → (kind ≡ k) × IsSoundIn c kind bytes
+unfolding checked_in
+sound_in c kind k bytes e =
+    let g1 = guard (leb c.nodes (source_at bytes) || (leb c.nodes (dest_at bytes) || eqb (source_at bytes) (dest_at bytes))) BadNode _ k e in
+    let g2 = guard (not (eqb (length bytes) (24 + len_at bytes))) BadBody _ k g1.1 in
+    let g3 = guard (not (eqb (len_at bytes) (text_len c kind))) BadBody _ k g2.1 in
+    let g4 = last_guard (is_sound_text c kind (number_at bytes) (text_at bytes)) BadBody kind k g3.1 in
+    let n1 = neither (leb c.nodes (source_at bytes)) (leb c.nodes (dest_at bytes) || eqb (source_at bytes) (dest_at bytes)) g1.0 in
+    let n2 = neither (leb c.nodes (dest_at bytes)) (eqb (source_at bytes) (dest_at bytes)) n1.1 in (
+      g4.1,
+      record {
+        source = leb-false c.nodes (source_at bytes) n1.0;
+        dest = leb-false c.nodes (dest_at bytes) n2.0;
+        apart = eqb-false (source_at bytes) (dest_at bytes) n2.1;
+        len = eqb-true (length bytes) (24 + len_at bytes) (flipped (eqb (length bytes) (24 + len_at bytes)) g2.0);
+        text_len = eqb-true (len_at bytes) (text_len c kind) (flipped (eqb (len_at bytes) (text_len c kind)) g3.0);
+        text = g4.0;
+      },
+    )
+
+sound_kind : (c : Config) (o : Option FrameKind) (k : FrameKind) (bytes : List ℕ) → checked_kind c o bytes ≡ Ok k → (o ≡ Some k) × IsSoundIn c k bytes
+unfolding checked_kind
+sound_kind c None k bytes e = absurd cc
+sound_kind c (Some kind) k bytes e =
+    let p = sound_in c kind k bytes e in
+    (ap Some p.0, subst (λ x. IsSoundIn c x bytes) p.0 p.1)
+
+pub sound_checked : (c : Config) (k : FrameKind) (bytes : List ℕ) → checked c bytes ≡ Ok k → IsSound c k bytes
+unfolding checked
+sound_checked c k bytes e =
+    let g1 = guard (ltb (length bytes) 24) ShortFrame _ k e in
+    let g2 = guard (ltb (length bytes) (24 + len_at bytes)) ShortFrame _ k g1.1 in
+    let g3 = guard (not (eqb (get_or bytes 0 0) 73 && eqb (get_or bytes 1 0) 86)) BadMagic _ k g2.1 in
+    let g4 = guard (not (eqb (get_or bytes 2 0) 1)) BadVersion _ k g3.1 in
+    let p = sound_kind c (kind_at (kind_byte bytes)) k bytes g4.1 in
+    let m = both (eqb (get_or bytes 0 0) 73) (eqb (get_or bytes 1 0) 86) (flipped (eqb (get_or bytes 0 0) 73 && eqb (get_or bytes 1 0) 86) g3.0) in
+    record {
+      long = ltb-false (length bytes) 24 g1.0;
+      magic = (eqb-true (get_or bytes 0 0) 73 m.0, eqb-true (get_or bytes 1 0) 86 m.1);
+      version = eqb-true (get_or bytes 2 0) 1 (flipped (eqb (get_or bytes 2 0) 1) g4.0);
+      known = p.0;
+      source = p.1.source;
+      dest = p.1.dest;
+      apart = p.1.apart;
+      len = p.1.len;
+      text_len = p.1.text_len;
+      text = p.1.text;
+    }
+
+checked_in_again : (c : Config) (kind : FrameKind) (bytes : List ℕ) → IsSound c kind bytes → checked_in c kind bytes ≡ Ok kind
+unfolding checked_in
+checked_in_again c kind bytes s =
+    rw (lt-leb c.nodes (source_at bytes) s.source, lt-leb c.nodes (dest_at bytes) s.dest, ne_eqb (source_at bytes) (dest_at bytes) s.apart, eq-eqb (length bytes) (24 + len_at bytes) s.len, eq-eqb (len_at bytes) (text_len c kind) s.text_len, s.text) refl
+
+pub checked_again : (c : Config) (kind : FrameKind) (bytes : List ℕ) → IsSound c kind bytes → checked c bytes ≡ Ok kind
+unfolding checked checked_kind
+checked_again c kind bytes s =
+    let e = s.len in
+    rw (le-ltb (length bytes) 24 s.long, le-ltb (length bytes) (24 + len_at bytes) (omega arith), s.magic.0, s.magic.1, s.version, s.known) (checked_in_again c kind bytes s)
+
+-- ---- from a sound string to its frame
+
+-- the message of a text that is sound
+pub record HasMessage (c : Config) (k : FrameKind) (number : ℕ) (text : List ℕ) (message : Option Message) : Type 0 where
+  pub read : message_at k text ≡ message
+  pub kind : frame_kind message ≡ k
+  pub spelled : text ≡ message_text message
+  pub fits : MatchOption message (number ≡ 0) (λ m. (1 ≤ number) × FitsMessage c m)
+
+no_text : (text : List ℕ) → length text ≡ 0 → text ≡ []
+no_text [] e = refl
+no_text (x ∷ xs) e = absurd (omega arith)
+
+some_message : (c : Config) (kind : FrameKind) (number : ℕ) (text : List ℕ) → IsBytes text → (kind ≡ kinds.Ack → ⊥) → 10 ≤ length text → length text ≡ text_len c kind
+    → not (eqb number 0) && (ltb (get_or text 0 0) c.nodes && (not (eqb (big_number 8 (drop 1 text)) 0) && is_sound_content c kind (drop 9 text))) ≡ true
+    → (m : Option Message) × HasMessage c kind number text m
+unfolding message_at
+some_message c kind number text h other long len sound =
+    let p = both (not (eqb number 0)) (ltb (get_or text 0 0) c.nodes && (not (eqb (big_number 8 (drop 1 text)) 0) && is_sound_content c kind (drop 9 text))) sound in
+    let q = both (ltb (get_or text 0 0) c.nodes) (not (eqb (big_number 8 (drop 1 text)) 0) && is_sound_content c kind (drop 9 text)) p.1 in
+    let r = both (not (eqb (big_number 8 (drop 1 text)) 0)) (is_sound_content c kind (drop 9 text)) q.1 in
+    let b = content_spelled c kind (drop 9 text) (IsBytes-drop 9 text h) other (omega (arith, length-drop 9 text)) r.1 in
+    let counted = eqb-false number 0 (unflipped (eqb number 0) p.0) in
+    let called = eqb-false (big_number 8 (drop 1 text)) 0 (unflipped (eqb (big_number 8 (drop 1 text)) 0) r.0) in
+    let rest : drop 8 (drop 1 text) ≡ content_text b.0 = drop-drop 8 1 text ∙ b.1.text in (
+      Some (record { origin = get_or text 0 0; call = big_number 8 (drop 1 text); content = b.0 }),
+      record {
+        read = ap (option_map (λ (content : Content). record { origin = get_or text 0 0; call = big_number 8 (drop 1 text); content = content })) b.1.read;
+        kind = b.1.kind;
+        spelled = field_1 text (omega arith)
+            ∙ ap (λ (t : List ℕ). get_or text 0 0 ∷ t) (field_8 (drop 1 text) (IsBytes-drop 1 text h) (omega (arith, length-drop 1 text)) ∙ ap (λ (t : List ℕ). big_bytes 8 (big_number 8 (drop 1 text)) ++ t) rest);
+        fits = (
+          omega (arith, counted),
+          record {
+            origin = ltb-true (get_or text 0 0) c.nodes q.0;
+            call_from = omega (arith, called);
+            call_to = big_from-lt 0 8 (drop 1 text) (IsBytes-drop 1 text h);
+            content = b.1.fits;
+          },
+        );
+      },
+    )
+
+message_spelled : (c : Config) (kind : FrameKind) (number : ℕ) (text : List ℕ) → IsBytes text → length text ≡ text_len c kind → is_sound_text c kind number text ≡ true → (m : Option Message) × HasMessage c kind number text m
+unfolding message_at content_at is_sound_text
+message_spelled c kinds.Ack number text h len sound = (None, record { read = refl; kind = refl; spelled = no_text text len; fits = eqb-true number 0 sound })
+message_spelled c kind number text h len sound = some_message c kind number text h (λ e. cc) (omega arith) len sound
+
+kind_code : (n : ℕ) (k : FrameKind) → kind_at n ≡ Some k → n ≡ code_of k
+unfolding kind_at
+kind_code zero k e = let f : kinds.Ack ≡ k = cc in ap code_of f
+kind_code (suc zero) k e = let f : kinds.ReadReq ≡ k = cc in ap code_of f
+kind_code (suc (suc zero)) k e = let f : kinds.WriteReq ≡ k = cc in ap code_of f
+kind_code (suc (suc (suc zero))) k e = let f : kinds.ReadRep ≡ k = cc in ap code_of f
+kind_code (suc (suc (suc (suc zero)))) k e = let f : kinds.WriteRep ≡ k = cc in ap code_of f
+kind_code (suc (suc (suc (suc (suc zero))))) k e = let f : kinds.Inval ≡ k = cc in ap code_of f
+kind_code (suc (suc (suc (suc (suc (suc zero)))))) k e = let f : kinds.InvalAck ≡ k = cc in ap code_of f
+kind_code (suc (suc (suc (suc (suc (suc (suc zero))))))) k e = let f : kinds.AllocReq ≡ k = cc in ap code_of f
+kind_code (suc (suc (suc (suc (suc (suc (suc (suc zero)))))))) k e = let f : kinds.AllocRep ≡ k = cc in ap code_of f
+kind_code (suc (suc (suc (suc (suc (suc (suc (suc (suc zero))))))))) k e = let f : kinds.FreeReq ≡ k = cc in ap code_of f
+kind_code (suc (suc (suc (suc (suc (suc (suc (suc (suc (suc zero)))))))))) k e = let f : kinds.FreeRep ≡ k = cc in ap code_of f
+kind_code (suc (suc (suc (suc (suc (suc (suc (suc (suc (suc (suc n))))))))))) k e = absurd cc
+
+kind_again : (k : FrameKind) → kind_at (code_of k) ≡ Some k
+unfolding kind_at
+kind_again kinds.Ack = refl
+kind_again kinds.ReadReq = refl
+kind_again kinds.WriteReq = refl
+kind_again kinds.ReadRep = refl
+kind_again kinds.WriteRep = refl
+kind_again kinds.Inval = refl
+kind_again kinds.InvalAck = refl
+kind_again kinds.AllocReq = refl
+kind_again kinds.AllocRep = refl
+kind_again kinds.FreeReq = refl
+kind_again kinds.FreeRep = refl
+
+not_ack : (b : Content) → eqb (code_of (kind_of b)) 0 ≡ false
+not_ack (contents.ReadReq page) = refl
+not_ack (contents.WriteReq page) = refl
+not_ack (contents.ReadRep page bytes) = refl
+not_ack (contents.WriteRep page copies bytes) = refl
+not_ack (contents.Inval page) = refl
+not_ack (contents.InvalAck page) = refl
+not_ack (contents.AllocReq size) = refl
+not_ack (contents.AllocRep code addr) = refl
+not_ack (contents.FreeReq addr) = refl
+not_ack (contents.FreeRep code) = refl
+
+-- the fields of the header, and the text
+header : (bs : List ℕ) → IsBytes bs → 24 ≤ length bs
+    → bs ≡ get_or bs 0 0 ∷ get_or bs 1 0 ∷ get_or bs 2 0 ∷ get_or bs 3 0 ∷ get_or bs 4 0 ∷ get_or bs 5 0
+    ∷ (big_bytes 2 (len_at bs) ++ (big_bytes 8 (number_at bs) ++ (big_bytes 8 (ack_at bs) ++ text_at bs)))
+unfolding len_at number_at ack_at text_at
+header [] h long = absurd (omega arith)
+header (a ∷ []) h long = absurd (omega arith)
+header (a ∷ b ∷ []) h long = absurd (omega arith)
+header (a ∷ b ∷ c ∷ []) h long = absurd (omega arith)
+header (a ∷ b ∷ c ∷ d ∷ []) h long = absurd (omega arith)
+header (a ∷ b ∷ c ∷ d ∷ e ∷ []) h long = absurd (omega arith)
+header (a ∷ b ∷ c ∷ d ∷ e ∷ f ∷ rest) h long =
+    let k : IsBytes rest = λ i. h (suc (suc (suc (suc (suc (suc i)))))) in
+    let k2 = IsBytes-drop 2 rest k in
+    let k10 = IsBytes-drop 10 rest k in
+    ap (λ (t : List ℕ). a ∷ b ∷ c ∷ d ∷ e ∷ f ∷ t)
+    (field_2 rest k (omega arith) ∙ ap (λ (t : List ℕ). big_bytes 2 (big_number 2 rest) ++ t)
+    (field_8 (drop 2 rest) k2 (omega (arith, length-drop 2 rest)) ∙ ap (λ (t : List ℕ). big_bytes 8 (big_number 8 (drop 2 rest)) ++ t)
+    (drop-drop 8 2 rest ∙ field_8 (drop 10 rest) k10 (omega (arith, length-drop 10 rest)) ∙ ap (λ (t : List ℕ). big_bytes 8 (big_number 8 (drop 10 rest)) ++ t) (drop-drop 8 10 rest))))
+
+page_most : (c : Config) → IsConfig c → c.page_size ≤ 4096
+page_most c limits = (page_has_words c.page_size limits.page_size).most
+
+text_small : (c : Config) (k : FrameKind) → IsConfig c → text_len c k < 256 ^ 2
+text_small c kinds.ReadRep limits = let most = page_most c limits in omega arith
+text_small c kinds.WriteRep limits = let most = page_most c limits in omega arith
+text_small c k limits = omega arith
+
+text_rest : (bytes : List ℕ) → length bytes ≡ 24 + len_at bytes → length (text_at bytes) ≡ len_at bytes
+unfolding text_at
+text_rest bytes e = omega (arith, length-drop 24 bytes)
+
+text_bytes : (bytes : List ℕ) → IsBytes bytes → IsBytes (text_at bytes)
+unfolding text_at
+text_bytes bytes h = IsBytes-drop 24 bytes h
+
+number_small : (bytes : List ℕ) → IsBytes bytes → number_at bytes < 2 ^ 64
+unfolding number_at
+number_small bytes h = big_from-lt 0 8 (drop 8 bytes) (IsBytes-drop 8 bytes h)
+
+ack_small : (bytes : List ℕ) → IsBytes bytes → ack_at bytes < 2 ^ 64
+unfolding ack_at
+ack_small bytes h = big_from-lt 0 8 (drop 16 bytes) (IsBytes-drop 16 bytes h)
+
+-- the spelling of the fields that stand in a string
+abbrev respelled : List ℕ → ℕ → ℕ → ℕ → ℕ → ℕ → List ℕ → List ℕ
+respelled bytes a b v k len text = a ∷ b ∷ v ∷ k ∷ source_at bytes ∷ dest_at bytes ∷ (big_bytes 2 len ++ (big_bytes 8 (number_at bytes) ++ (big_bytes 8 (ack_at bytes) ++ text)))
+
+spelled_so : (c : Config) (kind : FrameKind) (bytes : List ℕ) (m : Option Message) → IsBytes bytes → IsSound c kind bytes → HasMessage c kind (number_at bytes) (text_at bytes) m → length (text_at bytes) ≡ len_at bytes
+    → bytes ≡ respelled bytes 73 86 1 (code_of (frame_kind m)) (length (message_text m)) (message_text m)
+spelled_so c kind bytes m h s has len =
+    let e1 : get_or bytes 3 0 ≡ code_of (frame_kind m) = kind_code (get_or bytes 3 0) kind s.known ∙ ap code_of (sym has.kind) in
+    let e2 : len_at bytes ≡ length (message_text m) = sym len ∙ ap length has.spelled in
+    header bytes h s.long
+    ∙ ap (λ x. respelled bytes x (get_or bytes 1 0) (get_or bytes 2 0) (get_or bytes 3 0) (len_at bytes) (text_at bytes)) s.magic.0
+    ∙ ap (λ x. respelled bytes 73 x (get_or bytes 2 0) (get_or bytes 3 0) (len_at bytes) (text_at bytes)) s.magic.1
+    ∙ ap (λ x. respelled bytes 73 86 x (get_or bytes 3 0) (len_at bytes) (text_at bytes)) s.version
+    ∙ ap (λ x. respelled bytes 73 86 1 x (len_at bytes) (text_at bytes)) e1
+    ∙ ap (λ x. respelled bytes 73 86 1 (code_of (frame_kind m)) x (text_at bytes)) e2
+    ∙ ap (λ x. respelled bytes 73 86 1 (code_of (frame_kind m)) (length (message_text m)) x) has.spelled
+
+-- a sound string spells the frame in it
+pub frame_spelled : (c : Config) (kind : FrameKind) (bytes : List ℕ) → IsBytes bytes → IsSound c kind bytes → Spells c (frame_at kind bytes) bytes
+unfolding frame_at
+frame_spelled c kind bytes h s =
+    let text_len_is : length (text_at bytes) ≡ len_at bytes = text_rest bytes s.len in
+    let m = message_spelled c kind (number_at bytes) (text_at bytes) (text_bytes bytes h) (text_len_is ∙ s.text_len) s.text in
+    let whole = spelled_so c kind bytes m.0 h s m.1 text_len_is in
+    subst (λ x. Spells c (record { source = source_at bytes; dest = dest_at bytes; number = number_at bytes; ack = ack_at bytes; body = x }) bytes) (sym m.1.read) (record {
+      fits = record {
+        source = s.source;
+        dest = s.dest;
+        apart = s.apart;
+        number = number_small bytes h;
+        ack = ack_small bytes h;
+        body = m.1.fits;
+      };
+      text = whole;
+    })
+
+-- ---- from a frame to its spelling, and back
+
+-- a message is read back from its text
+record MessageBack (c : Config) (number : ℕ) (m : Option Message) : Type 0 where
+  read : message_at (frame_kind m) (message_text m) ≡ m
+  sound : is_sound_text c (frame_kind m) number (message_text m) ≡ true
+  len : length (message_text m) ≡ text_len c (frame_kind m)
+
+message_again : (c : Config) (number : ℕ) (m : Option Message) → IsConfig c → MatchOption m (number ≡ 0) (λ x. (1 ≤ number) × FitsMessage c x) → MessageBack c number m
+unfolding message_at content_at is_sound_text
+message_again c number None limits fits = record { read = refl; sound = eq-eqb number 0 fits; len = refl }
+message_again c number (Some m) limits fits =
+    let back : big_number 8 (big_bytes 8 m.call ++ content_text m.content) ≡ m.call = big_number-reads_back 8 m.call (content_text m.content) fits.1.call_to in
+    let b = content_again c m.content limits fits.1.content in
+    record {
+      read = ap (λ n. option_map (λ (content : Content). record { origin = m.origin; call = n; content = content }) (content_at (kind_of m.content) (content_text m.content))) back
+          ∙ ap (option_map (λ (content : Content). record { origin = m.origin; call = m.call; content = content })) b.read;
+      sound = rw (not_ack m.content, back, ne_eqb number 0 (λ e. omega arith), lt-ltb m.origin c.nodes fits.1.origin, ne_eqb m.call 0 (λ e. omega (arith, fits.1.call_from))) b.sound;
+      len = omega (arith, b.len);
+    }
+
+pub sound_spelling : (c : Config) (f : Frame) → IsConfig c → Fits c f → IsSound c (frame_kind f.body) (spelling f) × (frame_at (frame_kind f.body) (spelling f) ≡ f)
+unfolding len_at number_at ack_at text_at frame_at
+sound_spelling c f limits fits =
+    let m = message_again c f.number f.body limits fits.body in
+    let text = message_text f.body in
+    let small = text_small c (frame_kind f.body) limits in
+    let len : big_number 2 (big_bytes 2 (length text) ++ (big_bytes 8 f.number ++ (big_bytes 8 f.ack ++ text))) ≡ length text
+    = big_number-reads_back 2 (length text) (big_bytes 8 f.number ++ (big_bytes 8 f.ack ++ text)) (omega (arith, m.len)) in
+    let number : big_number 8 (big_bytes 8 f.number ++ (big_bytes 8 f.ack ++ text)) ≡ f.number = big_number-reads_back 8 f.number (big_bytes 8 f.ack ++ text) fits.number in
+    let ack : big_number 8 (big_bytes 8 f.ack ++ text) ≡ f.ack = big_number-reads_back 8 f.ack text fits.ack in (
+      record {
+        long = omega arith;
+        magic = (refl, refl);
+        version = refl;
+        known = kind_again (frame_kind f.body);
+        source = fits.source;
+        dest = fits.dest;
+        apart = fits.apart;
+        len = omega (arith, len);
+        text_len = len ∙ m.len;
+        text = ap (λ n. is_sound_text c (frame_kind f.body) n text) number ∙ m.sound;
+      },
+      rw (number, ack, m.read) refl,
+    )
+
+-- what is spelled passes the tests, and the frame in it is the one that was spelled
+pub spelled_once : (c : Config) (f : Frame) (bytes : List ℕ) → IsConfig c → Spells c f bytes → (checked c bytes ≡ Ok (frame_kind f.body)) × (frame_at (frame_kind f.body) bytes ≡ f)
+spelled_once c f bytes limits s =
+    let p = sound_spelling c f limits s.fits in
+    (ap (checked c) s.text ∙ checked_again c (frame_kind f.body) (spelling f) p.0, ap (frame_at (frame_kind f.body)) s.text ∙ p.1)

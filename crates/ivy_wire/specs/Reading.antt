@@ -1,0 +1,30 @@
+-- The frame that a sound string has in it.
+use Rattle.std.specs.Prelude.{ℕ, List, drop, slice_index, Option, Some, None, option_map}
+use Rattle.byteorder.specs.Endian.{big_number}
+use Rattle.ivy_wire.specs.declared.frame.FrameKind.{FrameKind}
+use Rattle.ivy_wire.specs.declared.frame.FrameKind.TheVariants as kinds
+use Rattle.ivy_wire.specs.Data.{Content}
+use Rattle.ivy_wire.specs.declared.frame.Content.TheVariants as contents
+use Rattle.ivy_wire.specs.Data.{Message}
+use Rattle.ivy_wire.specs.Data.{Frame}
+use Rattle.ivy_wire.specs.Faults.{source_at, dest_at, number_at, ack_at, text_at}
+
+-- what follows origin and call
+unfoldable pub content_at : FrameKind → List ℕ → Option Content
+content_at kinds.Ack rest = None
+content_at kinds.ReadReq rest = Some (contents.ReadReq (big_number 4 rest))
+content_at kinds.WriteReq rest = Some (contents.WriteReq (big_number 4 rest))
+content_at kinds.ReadRep rest = Some (contents.ReadRep (big_number 4 rest) (drop 4 rest))
+content_at kinds.WriteRep rest = Some (contents.WriteRep (big_number 4 rest) (slice_index rest 4) (drop 5 rest))
+content_at kinds.Inval rest = Some (contents.Inval (big_number 4 rest))
+content_at kinds.InvalAck rest = Some (contents.InvalAck (big_number 4 rest))
+content_at kinds.AllocReq rest = Some (contents.AllocReq (big_number 8 rest))
+content_at kinds.AllocRep rest = Some (contents.AllocRep (slice_index rest 0) (big_number 8 (drop 1 rest)))
+content_at kinds.FreeReq rest = Some (contents.FreeReq (big_number 8 rest))
+content_at kinds.FreeRep rest = Some (contents.FreeRep (slice_index rest 0))
+
+unfoldable pub message_at : FrameKind → List ℕ → Option Message
+message_at kind text = option_map (λ (content : Content). record { origin = slice_index text 0; call = big_number 8 (drop 1 text); content = content }) (content_at kind (drop 9 text))
+
+unfoldable pub frame_at : FrameKind → List ℕ → Frame
+frame_at kind bytes = record { source = source_at bytes; dest = dest_at bytes; number = number_at bytes; ack = ack_at bytes; body = message_at kind (text_at bytes) }

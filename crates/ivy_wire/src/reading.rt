@@ -1,0 +1,262 @@
+ghost use Rattle.std.specs.Prelude.{◌≡◌, ℕ, ◌+◌, ◌<◌, ◌≤◌, ◌↔◌, List, length, drop, Some, None, IsTrue, IfNone, IfOk, MatchResult, MatchOption, IsOkUnless};
+ghost use Rattle.ivy_model.specs.Config.{IsConfig};
+ghost use Rattle.ivy_wire.specs.Spelling.{text_len, Spells};
+ghost use Rattle.ivy_wire.specs.Data.{Frame as SeenFrame};
+ghost use Rattle.ivy_wire.specs.Reading.{content_at, message_at, frame_at};
+ghost use Rattle.ivy_wire.specs.Faults.{kind_at, is_sound_content, is_sound_text, checked_in, checked, len_at, number_at, ack_at, text_at};
+
+use crate::frame::{Content, Frame, FrameKind, Message, VERSION};
+use crate::page::Page;
+use byteorder::{BigEndian, ByteOrder};
+use ivy_model::{Config, Fault};
+use std::alloc::{AllocError, Allocator};
+
+#[tactic(auto, unfolding(crate::specs::Faults::kind_at))]
+fn kind_at(code: u8) -> Option<FrameKind>
+    ensures { result ≡ kind_at code }
+{
+    match code {
+        0 => Some(FrameKind::Ack),
+        1 => Some(FrameKind::ReadReq),
+        2 => Some(FrameKind::WriteReq),
+        3 => Some(FrameKind::ReadRep),
+        4 => Some(FrameKind::WriteRep),
+        5 => Some(FrameKind::Inval),
+        6 => Some(FrameKind::InvalAck),
+        7 => Some(FrameKind::AllocReq),
+        8 => Some(FrameKind::AllocRep),
+        9 => Some(FrameKind::FreeReq),
+        10 => Some(FrameKind::FreeRep),
+        _ => None,
+    }
+}
+
+#[tactic(auto, unfolding(crate::specs::Faults::is_sound_content))]
+fn is_sound_content(config: &Config, kind: FrameKind, rest: &[u8]) -> bool
+    requires limits { IsConfig config.now }
+    requires len { 9 + length rest.now ≡ text_len config.now kind }
+    ensures { result ≡ is_sound_content config.now kind rest.now }
+{
+    match kind {
+        FrameKind::Ack | FrameKind::AllocReq | FrameKind::FreeReq => true,
+        FrameKind::ReadReq
+        | FrameKind::WriteReq
+        | FrameKind::ReadRep
+        | FrameKind::Inval
+        | FrameKind::InvalAck => BigEndian::read_u32(rest) < config.pages,
+        FrameKind::WriteRep => {
+            BigEndian::read_u32(rest) < config.pages && u16::from(rest[4]) < 1 << config.nodes
+        }
+        FrameKind::AllocRep => {
+            rest[0] == 0 || ((rest[0] == 8 || rest[0] == 9) && BigEndian::read_u64(&rest[1..]) == 0)
+        }
+        FrameKind::FreeRep => rest[0] == 0 || rest[0] == 10,
+    }
+}
+
+#[tactic(auto, unfolding(crate::specs::Faults::is_sound_text))]
+fn is_sound_text(config: &Config, kind: FrameKind, number: u64, text: &[u8]) -> bool
+    requires limits { IsConfig config.now }
+    requires len { length text.now ≡ text_len config.now kind }
+    ensures { result ≡ is_sound_text config.now kind number text.now }
+{
+    if kind.code() == 0 {
+        return number == 0;
+    }
+    number != 0
+        && text[0] < config.nodes
+        && BigEndian::read_u64(&text[1..]) != 0
+        && is_sound_content(config, kind, &text[9..])
+}
+
+#[tactic(auto, unfolding(crate::specs::Faults::len_at))]
+fn len_at(bytes: &[u8]) -> u16
+    requires { 24 ≤ length bytes.now }
+    ensures { result ≡ len_at bytes.now }
+{
+    BigEndian::read_u16(&bytes[6..])
+}
+
+#[tactic(auto, unfolding(crate::specs::Faults::number_at))]
+fn number_at(bytes: &[u8]) -> u64
+    requires { 24 ≤ length bytes.now }
+    ensures { result ≡ number_at bytes.now }
+{
+    BigEndian::read_u64(&bytes[8..])
+}
+
+#[tactic(auto, unfolding(crate::specs::Faults::ack_at))]
+fn ack_at(bytes: &[u8]) -> u64
+    requires { 24 ≤ length bytes.now }
+    ensures { result ≡ ack_at bytes.now }
+{
+    BigEndian::read_u64(&bytes[16..])
+}
+
+#[tactic(auto, unfolding(crate::specs::Faults::text_at))]
+fn text_at(bytes: &[u8]) -> &[u8]
+    requires { 24 ≤ length bytes.now }
+    ensures text { result.now ≡ text_at bytes.now }
+    ensures len { 24 + length result.now ≡ length bytes.now }
+{
+    &bytes[24..]
+}
+
+/// The tests of a string that is long enough and of this kind.
+#[tactic(auto, unfolding(crate::specs::Faults::checked_in))]
+fn checked_in(config: &Config, kind: FrameKind, bytes: &[u8]) -> Result<FrameKind, Fault>
+    requires limits { IsConfig config.now }
+    requires len { 24 + len_at bytes.now ≤ length bytes.now }
+    ensures { result ≡ checked_in config.now kind bytes.now }
+{
+    let source = bytes[4];
+    let dest = bytes[5];
+    if source >= config.nodes || dest >= config.nodes || source == dest {
+        return Err(Fault::BadNode);
+    }
+    let len = len_at(bytes);
+    if bytes.len() != 24 + usize::from(len) {
+        return Err(Fault::BadBody);
+    }
+    if len != kind.text_len(config) {
+        return Err(Fault::BadBody);
+    }
+    if is_sound_text(config, kind, number_at(bytes), text_at(bytes)) {
+        Ok(kind)
+    } else {
+        Err(Fault::BadBody)
+    }
+}
+
+/// The kind of the frame, or what is wrong with the string.
+#[tactic(auto, unfolding(crate::specs::Faults::checked, crate::specs::Faults::checked_kind))]
+fn checked(config: &Config, bytes: &[u8]) -> Result<FrameKind, Fault>
+    requires { IsConfig config.now }
+    ensures { result ≡ checked config.now bytes.now }
+{
+    if bytes.len() < 24 {
+        return Err(Fault::ShortFrame);
+    }
+    if bytes.len() < 24 + usize::from(len_at(bytes)) {
+        return Err(Fault::ShortFrame);
+    }
+    if bytes[0] != b'I' || bytes[1] != b'V' {
+        return Err(Fault::BadMagic);
+    }
+    if bytes[2] != VERSION {
+        return Err(Fault::BadVersion);
+    }
+    match kind_at(bytes[3]) {
+        None => Err(Fault::BadKind),
+        Some(kind) => checked_in(config, kind, bytes),
+    }
+}
+
+#[tactic(auto, unfolding(crate::specs::Reading::content_at))]
+fn content_at<A: Allocator>(
+    alloc: A,
+    config: &Config,
+    kind: FrameKind,
+    rest: &[u8],
+) -> Result<Option<Content<Page<A>>>, AllocError>
+    requires limits { IsConfig config.now }
+    requires len { text_len config.now kind ≤ 9 + length rest.now }
+    ensures { IfOk result (λ content. content ≡ content_at kind rest.now) }
+{
+    Ok(match kind {
+        FrameKind::Ack => None,
+        FrameKind::ReadReq => Some(Content::ReadReq {
+            page: BigEndian::read_u32(rest),
+        }),
+        FrameKind::WriteReq => Some(Content::WriteReq {
+            page: BigEndian::read_u32(rest),
+        }),
+        FrameKind::ReadRep => Some(Content::ReadRep {
+            page: BigEndian::read_u32(rest),
+            bytes: Page::new(alloc, &rest[4..])?,
+        }),
+        FrameKind::WriteRep => Some(Content::WriteRep {
+            page: BigEndian::read_u32(rest),
+            copies: rest[4],
+            bytes: Page::new(alloc, &rest[5..])?,
+        }),
+        FrameKind::Inval => Some(Content::Inval {
+            page: BigEndian::read_u32(rest),
+        }),
+        FrameKind::InvalAck => Some(Content::InvalAck {
+            page: BigEndian::read_u32(rest),
+        }),
+        FrameKind::AllocReq => Some(Content::AllocReq {
+            size: BigEndian::read_u64(rest),
+        }),
+        FrameKind::AllocRep => Some(Content::AllocRep {
+            code: rest[0],
+            addr: BigEndian::read_u64(&rest[1..]),
+        }),
+        FrameKind::FreeReq => Some(Content::FreeReq {
+            addr: BigEndian::read_u64(rest),
+        }),
+        FrameKind::FreeRep => Some(Content::FreeRep { code: rest[0] }),
+    })
+}
+
+#[tactic(auto, unfolding(crate::specs::Reading::message_at, crate::specs::Reading::content_at))]
+fn message_at<A: Allocator>(
+    alloc: A,
+    config: &Config,
+    kind: FrameKind,
+    text: &[u8],
+) -> Result<Option<Message<Page<A>>>, AllocError>
+    requires limits { IsConfig config.now }
+    requires len { length text.now ≡ text_len config.now kind }
+    ensures { IfOk result (λ message. message ≡ message_at kind text.now) }
+{
+    if kind == FrameKind::Ack {
+        return Ok(None);
+    }
+    let origin = text[0];
+    let call = BigEndian::read_u64(&text[1..]);
+    match content_at(alloc, config, kind, &text[9..])? {
+        None => Ok(None),
+        Some(content) => Ok(Some(Message { origin, call, content })),
+    }
+}
+
+#[tactic(auto, unfolding(crate::specs::Reading::frame_at))]
+fn frame_at<A: Allocator>(
+    alloc: A,
+    config: &Config,
+    kind: FrameKind,
+    bytes: &[u8],
+) -> Result<Frame<Page<A>>, AllocError>
+    requires limits { IsConfig config.now }
+    requires len { length bytes.now ≡ 24 + text_len config.now kind }
+    ensures { IfOk result (λ frame. frame ≡ frame_at kind bytes.now) }
+{
+    let body = message_at(alloc, config, kind, text_at(bytes))?;
+    Ok(Frame {
+        source: bytes[4],
+        dest: bytes[5],
+        number: number_at(bytes),
+        ack: ack_at(bytes),
+        body,
+    })
+}
+
+/// The frame that the string spells, all of the string.
+pub fn decode<A: Allocator>(
+    alloc: A,
+    config: &Config,
+    bytes: &[u8],
+) -> Result<Frame<Page<A>>, Fault>
+    requires limits { IsConfig config.now }
+    // What is read is spelled so.
+    ensures found { IfOk result (λ frame. Spells config.now frame bytes.now) }
+    // What is spelled so is read, unless memory runs out.
+    ensures only { (frame : SeenFrame) → Spells config.now frame bytes.now → MatchResult result (λ f. f ≡ frame) (λ e. e ≡ Fault.Memory) }
+    // Which fault it is.
+    ensures fault { MatchResult (checked config.now bytes.now) (λ _. IsOkUnless result Fault.Memory) (λ e. result ≡ Err e) }
+{
+    let kind = checked(config, bytes)?;
+    Ok(frame_at(alloc, config, kind, bytes)?)
+}
