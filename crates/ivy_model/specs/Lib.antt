@@ -3,5 +3,6 @@ pub mod Config
 pub mod Memory
 pub mod Serves
 pub mod Legal
+pub mod Explains
 pub mod Flat
 pub mod Wants

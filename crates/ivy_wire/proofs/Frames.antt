@@ -7,7 +7,7 @@ use Rattle.byteorder.specs.Endian.{big_number, big_bytes}
 use Rattle.byteorder.specs.Numbers.{big_number-reads_back, big_from-lt}
 use Rattle.ivy_model.specs.declared.Config.{Config}
 use Rattle.ivy_model.specs.declared.Fault.{Fault}
-use Rattle.ivy_model.specs.declared.Fault.TheVariants.{ShortFrame, BadMagic, BadVersion, BadNode, BadBody}
+use Rattle.ivy_model.specs.declared.Fault.TheVariants.{Memory, ShortFrame, BadMagic, BadVersion, BadNode, BadBody}
 use Rattle.ivy_model.specs.Config.{IsConfig}
 use Rattle.ivy_wire.specs.declared.frame.FrameKind.{FrameKind}
 use Rattle.ivy_wire.specs.declared.frame.FrameKind.TheVariants as kinds
@@ -19,7 +19,7 @@ use Rattle.ivy_wire.specs.Spelling.{code_of, kind_of, frame_kind, content_text, 
 use Rattle.ivy_wire.specs.Faults.{kind_byte, source_at, dest_at, len_at, number_at, ack_at, text_at, kind_at, is_sound_content, is_sound_text, checked_in, checked_kind, checked}
 use Rattle.ivy_wire.specs.Reading.{content_at, message_at, frame_at}
 use Rattle.ivy_model.proofs.Limits.{page_has_words}
-use Rattle.ivy_wire.proofs.Bytes.{IsBytes, IsBytes-drop, field_1, field_2, field_8}
+use Rattle.ivy_wire.proofs.Fields.{IsBytes, IsBytes-drop, field_1, field_2, field_8}
 use Rattle.ivy_wire.proofs.Contents.{both, content_spelled, content_again}
 
 -- what the tests ask of a string of this kind
@@ -112,6 +112,38 @@ sound_checked c k bytes e =
       text = p.1.text;
     }
 
+-- a test that refuses for another fault leaves the question to the tests after it
+pass : {A : Type 0} (b : Bool) (d : Fault) (r : Result A Fault) → d ≢ Memory → cond b (Err d) r ≡ Err Memory → r ≡ Err Memory
+pass true d r other e = absurd (other cc)
+pass false d r other e = e
+
+last_pass : (b : Bool) (d : Fault) (x : FrameKind) → d ≢ Memory → cond b (Ok x) (Err d) ≡ Err Memory → ⊥
+last_pass true d x other e = cc
+last_pass false d x other e = other cc
+
+in_never_memory : (c : Config) (kind : FrameKind) (bytes : List ℕ) → checked_in c kind bytes ≡ Err Memory → ⊥
+unfolding checked_in
+in_never_memory c kind bytes e =
+    let p1 = pass (leb c.nodes (source_at bytes) || (leb c.nodes (dest_at bytes) || eqb (source_at bytes) (dest_at bytes))) BadNode _ (λ n. cc) e in
+    let p2 = pass (not (eqb (length bytes) (24 + len_at bytes))) BadBody _ (λ n. cc) p1 in
+    let p3 = pass (not (eqb (len_at bytes) (text_len c kind))) BadBody _ (λ n. cc) p2 in
+    last_pass (is_sound_text c kind (number_at bytes) (text_at bytes)) BadBody kind (λ n. cc) p3
+
+kind_never_memory : (c : Config) (o : Option FrameKind) (bytes : List ℕ) → checked_kind c o bytes ≡ Err Memory → ⊥
+unfolding checked_kind
+kind_never_memory c None bytes e = cc
+kind_never_memory c (Some kind) bytes e = in_never_memory c kind bytes e
+
+-- the tests take no memory
+pub never_memory : (c : Config) (bytes : List ℕ) → checked c bytes ≡ Err Memory → ⊥
+unfolding checked
+never_memory c bytes e =
+    let p1 = pass (ltb (length bytes) 24) ShortFrame _ (λ n. cc) e in
+    let p2 = pass (ltb (length bytes) (24 + len_at bytes)) ShortFrame _ (λ n. cc) p1 in
+    let p3 = pass (not (eqb (get_or bytes 0 0) 73 && eqb (get_or bytes 1 0) 86)) BadMagic _ (λ n. cc) p2 in
+    let p4 = pass (not (eqb (get_or bytes 2 0) 1)) BadVersion _ (λ n. cc) p3 in
+    kind_never_memory c (kind_at (kind_byte bytes)) bytes p4
+
 checked_in_again : (c : Config) (kind : FrameKind) (bytes : List ℕ) → IsSound c kind bytes → checked_in c kind bytes ≡ Ok kind
 unfolding checked_in
 checked_in_again c kind bytes s =
@@ -132,7 +164,7 @@ pub record HasMessage (c : Config) (k : FrameKind) (number : ℕ) (text : List �
   pub spelled : text ≡ message_text message
   pub fits : MatchOption message (number ≡ 0) (λ m. (1 ≤ number) × FitsMessage c m)
 
-no_text : (text : List ℕ) → length text ≡ 0 → text ≡ []
+pub no_text : (text : List ℕ) → length text ≡ 0 → text ≡ []
 no_text [] e = refl
 no_text (x ∷ xs) e = absurd (omega arith)
 

@@ -1,3 +1,4 @@
-pub mod Bytes
+pub mod Fields
 pub mod Contents
 pub mod Frames
+pub mod Laws

@@ -1,11 +1,12 @@
 -- A message whose page is lent, as the message that it is.
-use Rattle.std.specs.Prelude.{ℕ, List}
+use Rattle.std.specs.Prelude.{ℕ, List, Option, option_map}
 use Rattle.std.specs.Borrow.{Bor}
 use Rattle.ivy_wire.specs.declared.frame.Content as content
 use Rattle.ivy_wire.specs.declared.frame.Content.TheVariants.{ReadReq, WriteReq, ReadRep, WriteRep, Inval, InvalAck, AllocReq, AllocRep, FreeReq, FreeRep}
 use Rattle.ivy_wire.specs.declared.frame.Message as message
+use Rattle.ivy_wire.specs.declared.frame.Frame as frame
 use Rattle.ivy_wire.specs.declared.parcel.Parcel as parcel
-use Rattle.ivy_wire.specs.Data.{Content, Message, Parcel}
+use Rattle.ivy_wire.specs.Data.{Content, Message, Frame, Parcel}
 
 abbrev pub owned_content : content.Content (Bor (List ℕ)) → Content
 owned_content (ReadReq page) = ReadReq page
@@ -21,6 +22,12 @@ owned_content (FreeRep code) = FreeRep code
 
 abbrev pub owned_message : message.Message (Bor (List ℕ)) → Message
 owned_message m = record { origin = m.origin; call = m.call; content = owned_content m.content }
+
+abbrev pub owned_body : Option (message.Message (Bor (List ℕ))) → Option Message
+owned_body body = option_map owned_message body
+
+abbrev pub owned_frame : frame.Frame (Bor (List ℕ)) → Frame
+owned_frame f = record { source = f.source; dest = f.dest; number = f.number; ack = f.ack; body = owned_body f.body }
 
 abbrev pub owned_parcel : parcel.Parcel (Bor (List ℕ)) → Parcel
 owned_parcel p = record { source = p.source; dest = p.dest; message = owned_message p.message }

@@ -9,7 +9,7 @@ use Rattle.ivy_wire.specs.Data.{Message}
 use Rattle.ivy_wire.specs.Data.{Frame}
 use Rattle.ivy_wire.specs.Faults.{source_at, dest_at, number_at, ack_at, text_at}
 
--- what follows origin and call
+-- what follows origin and call in a body of this kind
 unfoldable pub content_at : FrameKind → List ℕ → Option Content
 content_at kinds.Ack rest = None
 content_at kinds.ReadReq rest = Some (contents.ReadReq (big_number 4 rest))
@@ -23,8 +23,12 @@ content_at kinds.AllocRep rest = Some (contents.AllocRep (slice_index rest 0) (b
 content_at kinds.FreeReq rest = Some (contents.FreeReq (big_number 8 rest))
 content_at kinds.FreeRep rest = Some (contents.FreeRep (slice_index rest 0))
 
+-- the message with this content of a body that begins with origin and call
+abbrev pub message_with : List ℕ → Content → Message
+message_with text content = record { origin = slice_index text 0; call = big_number 8 (drop 1 text); content = content }
+
 unfoldable pub message_at : FrameKind → List ℕ → Option Message
-message_at kind text = option_map (λ (content : Content). record { origin = slice_index text 0; call = big_number 8 (drop 1 text); content = content }) (content_at kind (drop 9 text))
+message_at kind text = option_map (message_with text) (content_at kind (drop 9 text))
 
 unfoldable pub frame_at : FrameKind → List ℕ → Frame
 frame_at kind bytes = record { source = source_at bytes; dest = dest_at bytes; number = number_at bytes; ack = ack_at bytes; body = message_at kind (text_at bytes) }

@@ -1,4 +1,4 @@
--- The one spelling of each frame.
+-- The one spelling of each frame. All numbers are big-endian.
 use Rattle.std.specs.Prelude.{◌≡◌, ◌≢◌, ℕ, ◌+◌, ◌^◌, ◌<◌, ◌≤◌, ◌⊎◌, List, [], ◌∷◌, ◌++◌, length, Option, Some, None, MatchOption}
 use Rattle.byteorder.specs.Endian.{big_bytes}
 use Rattle.ivy_model.specs.declared.Config.{Config}
@@ -9,6 +9,7 @@ use Rattle.ivy_wire.specs.declared.frame.Content.TheVariants as contents
 use Rattle.ivy_wire.specs.Data.{Message}
 use Rattle.ivy_wire.specs.Data.{Frame, Parcel}
 
+-- the number of each kind
 abbrev pub code_of : FrameKind → ℕ
 code_of kinds.Ack = 0
 code_of kinds.ReadReq = 1
@@ -22,6 +23,11 @@ code_of kinds.AllocRep = 8
 code_of kinds.FreeReq = 9
 code_of kinds.FreeRep = 10
 
+-- all kinds, in the order of their numbers
+abbrev pub all_kinds : List FrameKind
+all_kinds = kinds.Ack ∷ kinds.ReadReq ∷ kinds.WriteReq ∷ kinds.ReadRep ∷ kinds.WriteRep ∷ kinds.Inval ∷ kinds.InvalAck ∷ kinds.AllocReq ∷ kinds.AllocRep ∷ kinds.FreeReq ∷ kinds.FreeRep ∷ []
+
+-- what a message is about, and what a frame with this body is about
 abbrev pub kind_of : Content → FrameKind
 kind_of (contents.ReadReq page) = kinds.ReadReq
 kind_of (contents.WriteReq page) = kinds.WriteReq
@@ -38,6 +44,7 @@ abbrev pub frame_kind : Option Message → FrameKind
 frame_kind None = kinds.Ack
 frame_kind (Some m) = kind_of m.content
 
+-- a content follows origin and call in the body
 abbrev pub content_text : Content → List ℕ
 content_text (contents.ReadReq page) = big_bytes 4 page
 content_text (contents.WriteReq page) = big_bytes 4 page
@@ -50,16 +57,19 @@ content_text (contents.AllocRep code addr) = code ∷ big_bytes 8 addr
 content_text (contents.FreeReq addr) = big_bytes 8 addr
 content_text (contents.FreeRep code) = code ∷ []
 
+-- the body of a frame: nothing, or origin, call and content
 abbrev pub message_text : Option Message → List ℕ
 message_text None = []
 message_text (Some m) = m.origin ∷ (big_bytes 8 m.call ++ content_text m.content)
 
+-- The header of 24 bytes, and the body: the letters I and V, version 1, kind, source, destination,
+-- the length of the body, number and acknowledgement.
 abbrev pub spelling : Frame → List ℕ
 spelling f =
     73 ∷ 86 ∷ 1 ∷ code_of (frame_kind f.body) ∷ f.source ∷ f.dest
     ∷ (big_bytes 2 (length (message_text f.body)) ++ (big_bytes 8 f.number ++ (big_bytes 8 f.ack ++ message_text f.body)))
 
--- how long the text of a message of this kind is
+-- how long the body of a frame of this kind is
 abbrev pub text_len : Config → FrameKind → ℕ
 text_len c kinds.Ack = 0
 text_len c kinds.ReadReq = 13
@@ -73,6 +83,8 @@ text_len c kinds.AllocRep = 18
 text_len c kinds.FreeReq = 17
 text_len c kinds.FreeRep = 10
 
+-- its page is there, its copy set has only nodes that are there, and its page has all its bytes;
+-- a refusal carries no address
 abbrev pub FitsContent : Config → Content → Type 0
 FitsContent c (contents.ReadReq page) = page < c.pages
 FitsContent c (contents.WriteReq page) = page < c.pages
@@ -85,12 +97,14 @@ FitsContent c (contents.AllocRep code addr) = ((code ≡ 0) × (addr < 2 ^ 64)) 
 FitsContent c (contents.FreeReq addr) = addr < 2 ^ 64
 FitsContent c (contents.FreeRep code) = (code ≡ 0) ⊎ (code ≡ 10)
 
+-- a message of a node's call, which are numbered from 1
 pub record FitsMessage (c : Config) (m : Message) : Type 0 where
   pub origin : m.origin < c.nodes
   pub call_from : 1 ≤ m.call
   pub call_to : m.call < 2 ^ 64
   pub content : FitsContent c m.content
 
+-- a frame from one node to another; messages are numbered from 1, and no message has number 0
 pub record Fits (c : Config) (f : Frame) : Type 0 where
   pub source : f.source < c.nodes
   pub dest : f.dest < c.nodes
@@ -99,7 +113,7 @@ pub record Fits (c : Config) (f : Frame) : Type 0 where
   pub ack : f.ack < 2 ^ 64
   pub body : MatchOption f.body (f.number ≡ 0) (λ m. (1 ≤ f.number) × FitsMessage c m)
 
--- the bytes are the frame's spelling
+-- the bytes spell the frame
 pub record Spells (c : Config) (f : Frame) (bytes : List ℕ) : Type 0 where
   pub fits : Fits c f
   pub text : bytes ≡ spelling f

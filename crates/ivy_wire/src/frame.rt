@@ -1,72 +1,120 @@
-ghost use Rattle.std.specs.Prelude.{◌≡◌, ◌↔◌, IsTrue};
+//! What nodes say to one another.
+ghost use Rattle.std.specs.Prelude.{◌≡◌, ◌↔◌, IsTrue, IfOk};
 ghost use Rattle.ivy_model.specs.Config.{IsConfig};
+ghost use Rattle.ivy_wire.specs.Lent.{owned_content, owned_message, owned_frame};
 
 use crate::page::Page;
 use ivy_model::Config;
-use std::alloc::Allocator;
+use std::alloc::{AllocError, Allocator};
 
-/// What a frame is about.
+/// What a frame is about. The number of each kind in a frame is its place here, from 0.
 #[derive(Clone, Copy, Debug, PartialEq, Eq)]
 pub enum FrameKind {
+    /// Nothing but an acknowledgement.
     Ack,
+    /// Asks for a copy of a page, to read it.
     ReadReq,
+    /// Asks for a page itself, to write to it.
     WriteReq,
+    /// Brings a copy of a page.
     ReadRep,
+    /// Brings a page itself, with the nodes that hold a copy of it.
     WriteRep,
+    /// Ends a copy of a page.
     Inval,
+    /// Says that a copy was ended.
     InvalAck,
+    /// Asks for a block of the heap.
     AllocReq,
+    /// Brings a block of the heap, or why there is none.
     AllocRep,
+    /// Gives a block back to the heap.
     FreeReq,
+    /// Says whether a block was given back.
     FreeRep,
 }
 
-/// What a message says beside whose call it is.
+/// All kinds, in the order of their numbers.
+pub(crate) const KINDS: [FrameKind; 11] = [
+    FrameKind::Ack,
+    FrameKind::ReadReq,
+    FrameKind::WriteReq,
+    FrameKind::ReadRep,
+    FrameKind::WriteRep,
+    FrameKind::Inval,
+    FrameKind::InvalAck,
+    FrameKind::AllocReq,
+    FrameKind::AllocRep,
+    FrameKind::FreeReq,
+    FrameKind::FreeRep,
+];
+
+/// The one version of frames that there is.
+pub(crate) const VERSION: u8 = 1;
+
+/// What a message says, beside whose call it is. `B` is what holds the bytes of a page: a
+/// [`Page`] that owns them, or a slice that is lent.
 #[derive(Clone, Debug, Drop, PartialEq, Eq)]
 pub enum Content<B> {
+    /// Asks for a copy of a page, to read it.
     ReadReq { page: u32 },
+    /// Asks for a page itself, to write to it.
     WriteReq { page: u32 },
+    /// Brings a copy of a page.
     ReadRep { page: u32, bytes: B },
+    /// Brings a page itself. Bit `i` of `copies`, bit 0 the least, says that node `i` has a copy.
     WriteRep { page: u32, copies: u8, bytes: B },
+    /// Ends a copy of a page: its writer is about to write to it.
     Inval { page: u32 },
+    /// Says that a copy was ended.
     InvalAck { page: u32 },
+    /// Asks for a block of so many bytes.
     AllocReq { size: u64 },
+    /// Brings the address of a block with code 0, or the fault 8 or 9 with address 0.
     AllocRep { code: u8, addr: u64 },
+    /// Gives back the block that begins at the address.
     FreeReq { addr: u64 },
+    /// Says by code 0 that a block was given back, or by 10 that there is none at the address.
     FreeRep { code: u8 },
 }
 
-/// A message, with the node whose call it is and that call's number.
+/// A message. It always belongs to a call that some node has in progress.
 #[derive(Clone, Debug, Drop, PartialEq, Eq)]
 pub struct Message<B> {
+    /// The node whose call it is, in requests and in replies alike.
     pub origin: u8,
+    /// The number of the call at that node, from 1.
     pub call: u64,
     pub content: Content<B>,
 }
 
-/// What goes over the network. With no message it is an acknowledgement alone.
+/// What goes over the network.
 #[derive(Clone, Debug, Drop, PartialEq, Eq)]
 pub struct Frame<B> {
+    /// The node that sends it.
     pub source: u8,
+    /// The node that it goes to.
     pub dest: u8,
+    /// The number of the message among those of its source and destination, from 1. It is 0 in a
+    /// frame that has none.
     pub number: u64,
+    /// The greatest number that the source has accepted from the destination.
     pub ack: u64,
+    /// The message. A frame without one only acknowledges.
     pub body: Option<Message<B>>,
 }
-
-pub(crate) const VERSION: u8 = 1;
 
 impl FrameKind {
     ghost use Rattle.ivy_wire.specs.Spelling.{code_of, text_len};
 
-    /// The number that stands for the kind in a frame.
+    /// The number of the kind in a frame, 0 to 10.
     pub fn code(self) -> u8
         ensures { result ≡ code_of self }
     {
         self as u8
     }
 
-    /// How long the text of a message of this kind is.
+    /// How many bytes the body of a frame of this kind has.
     pub fn text_len(self, config: &Config) -> u16
         requires { IsConfig config.now }
         ensures { result ≡ text_len config.now self }
@@ -83,11 +131,12 @@ impl FrameKind {
     }
 }
 
-impl<A: Allocator> Content<Page<A>> {
+impl Content<&[u8]> {
     ghost use Rattle.ivy_wire.specs.Spelling.{kind_of, FitsContent};
 
+    /// What the message is about.
     pub fn kind(&self) -> FrameKind
-        ensures { result ≡ kind_of self.now }
+        ensures { result ≡ kind_of (owned_content self.now) }
     {
         match self {
             Content::ReadReq { .. } => FrameKind::ReadReq,
@@ -105,7 +154,7 @@ impl<A: Allocator> Content<Page<A>> {
 
     fn fits(&self, config: &Config) -> bool
         requires { IsConfig config.now }
-        ensures { IsTrue result ↔ FitsContent config.now self.now }
+        ensures { IsTrue result ↔ FitsContent config.now (owned_content self.now) }
     {
         match self {
             Content::ReadReq { page }
@@ -113,7 +162,7 @@ impl<A: Allocator> Content<Page<A>> {
             | Content::Inval { page }
             | Content::InvalAck { page } => *page < config.pages,
             Content::ReadRep { page, bytes } => *page < config.pages
-                && bytes.bytes().len() == config.page_size as usize,
+                && bytes.len() == config.page_size as usize,
             Content::WriteRep {
                 page,
                 copies,
@@ -121,7 +170,7 @@ impl<A: Allocator> Content<Page<A>> {
             } => {
                 *page < config.pages
                     && u16::from(*copies) < 1 << config.nodes
-                    && bytes.bytes().len() == config.page_size as usize
+                    && bytes.len() == config.page_size as usize
             }
             // A number behind a reference is in its range once it is read.
             Content::AllocReq { size: number } | Content::FreeReq { addr: number } => {
@@ -135,24 +184,67 @@ impl<A: Allocator> Content<Page<A>> {
             Content::FreeRep { code } => *code == 0 || *code == 10,
         }
     }
+
+    fn owned<A: Allocator>(&self, alloc: A) -> Result<Content<Page<A>>, AllocError>
+        ensures { IfOk result (λ content. content ≡ owned_content self.now) }
+    {
+        Ok(match self {
+            Content::ReadReq { page } => Content::ReadReq { page: *page },
+            Content::WriteReq { page } => Content::WriteReq { page: *page },
+            Content::ReadRep { page, bytes } => Content::ReadRep {
+                page: *page,
+                bytes: Page::new(alloc, *bytes)?,
+            },
+            Content::WriteRep {
+                page,
+                copies,
+                bytes,
+            } => Content::WriteRep {
+                page: *page,
+                copies: *copies,
+                bytes: Page::new(alloc, *bytes)?,
+            },
+            Content::Inval { page } => Content::Inval { page: *page },
+            Content::InvalAck { page } => Content::InvalAck { page: *page },
+            Content::AllocReq { size } => Content::AllocReq { size: *size },
+            Content::AllocRep { code, addr } => Content::AllocRep {
+                code: *code,
+                addr: *addr,
+            },
+            Content::FreeReq { addr } => Content::FreeReq { addr: *addr },
+            Content::FreeRep { code } => Content::FreeRep { code: *code },
+        })
+    }
 }
 
-impl<A: Allocator> Message<Page<A>> {
+impl Message<&[u8]> {
     ghost use Rattle.ivy_wire.specs.Spelling.{FitsMessage};
+
+    /// The message with a copy of its page. Err only where the allocator has no memory.
+    pub fn owned<A: Allocator>(&self, alloc: A) -> Result<Message<Page<A>>, AllocError>
+        ensures { IfOk result (λ message. message ≡ owned_message self.now) }
+    {
+        Ok(Message {
+            origin: self.origin,
+            call: self.call,
+            content: self.content.owned(alloc)?,
+        })
+    }
 
     fn fits(&self, config: &Config) -> bool
         requires { IsConfig config.now }
-        ensures { IsTrue result ↔ FitsMessage config.now self.now }
+        ensures { IsTrue result ↔ FitsMessage config.now (owned_message self.now) }
     {
         self.origin < config.nodes && self.call != 0 && self.content.fits(config)
     }
 }
 
-impl<A: Allocator> Frame<Page<A>> {
+impl Frame<&[u8]> {
     ghost use Rattle.ivy_wire.specs.Spelling.{Fits, frame_kind};
 
+    /// What the frame is about.
     pub fn kind(&self) -> FrameKind
-        ensures { result ≡ frame_kind self.now.body }
+        ensures { result ≡ frame_kind (owned_frame self.now).body }
     {
         match &self.body {
             None => FrameKind::Ack,
@@ -160,10 +252,10 @@ impl<A: Allocator> Frame<Page<A>> {
         }
     }
 
-    /// Whether the frame has a spelling.
+    /// Whether the frame has a spelling. It takes no memory.
     pub fn fits(&self, config: &Config) -> bool
         requires { IsConfig config.now }
-        ensures { IsTrue result ↔ Fits config.now self.now }
+        ensures { IsTrue result ↔ Fits config.now (owned_frame self.now) }
     {
         let nodes = config.nodes;
         if self.source >= nodes || self.dest >= nodes || self.source == self.dest {
@@ -173,6 +265,67 @@ impl<A: Allocator> Frame<Page<A>> {
         match &self.body {
             None => self.number == 0,
             Some(message) => self.number != 0 && message.fits(config),
+        }
+    }
+}
+
+impl<A: Allocator> Content<Page<A>> {
+    fn lent(&self) -> Content<&[u8]>
+        ensures { owned_content result ≡ self.now }
+    {
+        match self {
+            Content::ReadReq { page } => Content::ReadReq { page: *page },
+            Content::WriteReq { page } => Content::WriteReq { page: *page },
+            Content::ReadRep { page, bytes } => Content::ReadRep {
+                page: *page,
+                bytes: bytes.bytes(),
+            },
+            Content::WriteRep {
+                page,
+                copies,
+                bytes,
+            } => Content::WriteRep {
+                page: *page,
+                copies: *copies,
+                bytes: bytes.bytes(),
+            },
+            Content::Inval { page } => Content::Inval { page: *page },
+            Content::InvalAck { page } => Content::InvalAck { page: *page },
+            Content::AllocReq { size } => Content::AllocReq { size: *size },
+            Content::AllocRep { code, addr } => Content::AllocRep {
+                code: *code,
+                addr: *addr,
+            },
+            Content::FreeReq { addr } => Content::FreeReq { addr: *addr },
+            Content::FreeRep { code } => Content::FreeRep { code: *code },
+        }
+    }
+}
+
+impl<A: Allocator> Message<Page<A>> {
+    /// The message with its page lent.
+    pub fn lent(&self) -> Message<&[u8]>
+        ensures { owned_message result ≡ self.now }
+    {
+        Message {
+            origin: self.origin,
+            call: self.call,
+            content: self.content.lent(),
+        }
+    }
+}
+
+impl<A: Allocator> Frame<Page<A>> {
+    /// The frame with its page lent.
+    pub fn lent(&self) -> Frame<&[u8]>
+        ensures { owned_frame result ≡ self.now }
+    {
+        Frame {
+            source: self.source,
+            dest: self.dest,
+            number: self.number,
+            ack: self.ack,
+            body: self.body.as_ref().map(|message| message.lent()),
         }
     }
 }

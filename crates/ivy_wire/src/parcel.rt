@@ -5,9 +5,7 @@ ghost use Rattle.ivy_wire.specs.Lent.{owned_message, owned_parcel};
 ghost use Rattle.ivy_wire.specs.Spelling.{FitsParcel};
 
 use crate::frame::{Content, Message};
-use crate::page::Page;
 use ivy_model::Fault;
-use std::alloc::{AllocError, Allocator};
 
 /// A message from one node to another. A step lends the page that it sends, as `Parcel<&[u8]>`.
 #[derive(Clone, Debug, Drop, PartialEq, Eq)]
@@ -31,21 +29,44 @@ pub trait Post {
     /// The node whose messages it takes.
     ghost node: { Self → ℕ };
 
+    /// That it has a place for a list, memory aside.
+    ghost takes: { Self → List Parcel → Type 0 };
+
     /// What it is once it took a list.
     ghost after: { Self → List Parcel → Self };
 
-    /// That it may refuse a list with a fault, and what it is then. Code that is generic in its post
-    /// has such a fault from a refusal alone.
-    ghost refuses: { Self → Fault → Self → Type 0 };
+    /// That it may refuse a list with a fault. Code that is generic in its post has such a fault from a
+    /// refusal alone.
+    ghost refuses: { Self → List Parcel → Fault → Type 0 };
 
     /// Takes all of the parcels, in order, or refuses them all [1, 17].
+    ///
+    /// They are messages of this node to others, and fit the configuration.
     fn post(&mut self, parcels: &[Parcel<&[u8]>]) -> Result<(), Fault>
         requires fits { All (FitsParcel (config self.old) (node self.old)) (map owned_parcel parcels.now) }
         ensures ok { OnOk result (self.new ≡ after self.old (map owned_parcel parcels.now)) }
+        ensures took { OnOk result (takes self.old (map owned_parcel parcels.now)) }
         ensures err { OnErr result (self.new ≡ self.old) }
-        ensures fault { IfErr result (λ f. refuses self.old f self.new) }
+        ensures fault { IfErr result (refuses self.old (map owned_parcel parcels.now)) }
         ensures want { IfErr result IsWant };
 
-    /// A list of none changes nothing.
+    /// There is always a place for a list of none, which changes nothing.
+    ghost takes_none: { (s : Self) → takes s [] };
+
     ghost after_none: { (s : Self) → after s [] ≡ s };
+}
+
+impl<'a> Default for Parcel<&'a [u8]> {
+    /// A request of node 0, which only fills places that hold no parcel yet.
+    fn default() -> Self {
+        Parcel {
+            source: 0,
+            dest: 0,
+            message: Message {
+                origin: 0,
+                call: 0,
+                content: Content::ReadReq { page: 0 },
+            },
+        }
+    }
 }

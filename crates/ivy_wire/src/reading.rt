@@ -1,3 +1,4 @@
+//! From bytes to a frame.
 ghost use Rattle.std.specs.Prelude.{◌≡◌, ℕ, ◌+◌, ◌<◌, ◌≤◌, ◌↔◌, List, length, drop, Some, None, IsTrue, IfNone, IfOk, MatchResult, MatchOption, IsOkUnless};
 ghost use Rattle.ivy_model.specs.Config.{IsConfig};
 ghost use Rattle.ivy_wire.specs.Spelling.{text_len, Spells};
@@ -5,7 +6,7 @@ ghost use Rattle.ivy_wire.specs.Data.{Frame as SeenFrame};
 ghost use Rattle.ivy_wire.specs.Reading.{content_at, message_at, frame_at};
 ghost use Rattle.ivy_wire.specs.Faults.{kind_at, is_sound_content, is_sound_text, checked_in, checked, len_at, number_at, ack_at, text_at};
 
-use crate::frame::{Content, Frame, FrameKind, Message, VERSION};
+use crate::frame::{Content, Frame, FrameKind, KINDS, Message, VERSION};
 use crate::page::Page;
 use byteorder::{BigEndian, ByteOrder};
 use ivy_model::{Config, Fault};
@@ -15,20 +16,7 @@ use std::alloc::{AllocError, Allocator};
 fn kind_at(code: u8) -> Option<FrameKind>
     ensures { result ≡ kind_at code }
 {
-    match code {
-        0 => Some(FrameKind::Ack),
-        1 => Some(FrameKind::ReadReq),
-        2 => Some(FrameKind::WriteReq),
-        3 => Some(FrameKind::ReadRep),
-        4 => Some(FrameKind::WriteRep),
-        5 => Some(FrameKind::Inval),
-        6 => Some(FrameKind::InvalAck),
-        7 => Some(FrameKind::AllocReq),
-        8 => Some(FrameKind::AllocRep),
-        9 => Some(FrameKind::FreeReq),
-        10 => Some(FrameKind::FreeRep),
-        _ => None,
-    }
+    KINDS.get(usize::from(code)).copied()
 }
 
 #[tactic(auto, unfolding(crate::specs::Faults::is_sound_content))]
@@ -102,7 +90,7 @@ fn text_at(bytes: &[u8]) -> &[u8]
     &bytes[24..]
 }
 
-/// The tests of a string that is long enough and of this kind.
+/// The tests of nodes, length and body, for a string of this kind that is long enough.
 #[tactic(auto, unfolding(crate::specs::Faults::checked_in))]
 fn checked_in(config: &Config, kind: FrameKind, bytes: &[u8]) -> Result<FrameKind, Fault>
     requires limits { IsConfig config.now }
@@ -218,7 +206,11 @@ fn message_at<A: Allocator>(
     let call = BigEndian::read_u64(&text[1..]);
     match content_at(alloc, config, kind, &text[9..])? {
         None => Ok(None),
-        Some(content) => Ok(Some(Message { origin, call, content })),
+        Some(content) => Ok(Some(Message {
+            origin,
+            call,
+            content,
+        })),
     }
 }
 
@@ -243,18 +235,23 @@ fn frame_at<A: Allocator>(
     })
 }
 
-/// The frame that the string spells, all of the string.
+/// The frame that the whole string spells [1, 11 to 16].
+///
+/// A string that spells none is refused with the first of 11 to 16 whose test it fails. The tests
+/// take no memory, so 1 is answered only for a string that spells a frame.
 pub fn decode<A: Allocator>(
     alloc: A,
     config: &Config,
     bytes: &[u8],
 ) -> Result<Frame<Page<A>>, Fault>
     requires limits { IsConfig config.now }
-    // What is read is spelled so.
+    // A frame is given only if the whole string spells it.
     ensures found { IfOk result (λ frame. Spells config.now frame bytes.now) }
-    // What is spelled so is read, unless memory runs out.
+    // Where the string spells a frame, that one is given, unless memory runs out.
     ensures only { (frame : SeenFrame) → Spells config.now frame bytes.now → MatchResult result (λ f. f ≡ frame) (λ e. e ≡ Fault.Memory) }
-    // Which fault it is.
+    // Memory runs out only for a string that spells a frame.
+    ensures memory { result ≡ Err Fault.Memory → (frame : SeenFrame) × Spells config.now frame bytes.now }
+    // A string that spells none is refused with the first test that it fails.
     ensures fault { MatchResult (checked config.now bytes.now) (λ _. IsOkUnless result Fault.Memory) (λ e. result ≡ Err e) }
 {
     let kind = checked(config, bytes)?;

@@ -1,10 +1,11 @@
-ghost use Rattle.std.specs.Prelude.{◌≡◌, ◌++◌, ◌↔◌, [], ◌∷◌, IsTrue, IfOk, OnOk, IsOkUnless};
+//! From a frame to its bytes.
+ghost use Rattle.std.specs.Prelude.{◌≡◌, ◌++◌, IfOk, OnOk, IsOkUnless};
 ghost use Rattle.byteorder.specs.Endian.{big_bytes};
 ghost use Rattle.ivy_model.specs.Config.{IsConfig};
 ghost use Rattle.ivy_wire.specs.Spelling.{Fits, Spells, content_text, message_text};
+ghost use Rattle.ivy_wire.specs.Lent.{owned_content, owned_body, owned_frame};
 
 use crate::frame::{Content, Frame, Message, VERSION};
-use crate::page::Page;
 use byteorder::{BigEndian, ByteOrder};
 use ivy_model::{Config, Fault};
 use std::alloc::{AllocError, Allocator};
@@ -33,18 +34,18 @@ fn push_u64<A: Allocator>(out: &mut Vec<u8, A>, n: u64) -> Result<(), AllocError
     out.extend_from_slice(&bytes)
 }
 
-fn push_content<A: Allocator, B: Allocator>(
+fn push_content<A: Allocator>(
     out: &mut Vec<u8, A>,
-    content: &Content<Page<B>>,
+    content: &Content<&[u8]>,
 ) -> Result<(), AllocError>
-    ensures { OnOk result (out.new.items ≡ out.old.items ++ content_text content.now) }
+    ensures { OnOk result (out.new.items ≡ out.old.items ++ content_text (owned_content content.now)) }
 {
     match content {
         Content::ReadReq { page } => push_u32(out, *page),
         Content::WriteReq { page } => push_u32(out, *page),
         Content::ReadRep { page, bytes } => {
             push_u32(out, *page)?;
-            out.extend_from_slice(bytes.bytes())
+            out.extend_from_slice(*bytes)
         }
         Content::WriteRep {
             page,
@@ -53,7 +54,7 @@ fn push_content<A: Allocator, B: Allocator>(
         } => {
             push_u32(out, *page)?;
             out.push(*copies)?;
-            out.extend_from_slice(bytes.bytes())
+            out.extend_from_slice(*bytes)
         }
         Content::Inval { page } => push_u32(out, *page),
         Content::InvalAck { page } => push_u32(out, *page),
@@ -67,13 +68,13 @@ fn push_content<A: Allocator, B: Allocator>(
     }
 }
 
-fn push_text<A: Allocator, B: Allocator>(
+fn push_text<A: Allocator>(
     out: &mut Vec<u8, A>,
-    message: &Option<Message<Page<B>>>,
+    body: &Option<Message<&[u8]>>,
 ) -> Result<(), AllocError>
-    ensures { OnOk result (out.new.items ≡ out.old.items ++ message_text message.now) }
+    ensures { OnOk result (out.new.items ≡ out.old.items ++ message_text (owned_body body.now)) }
 {
-    match message {
+    match body {
         None => Ok(()),
         Some(message) => {
             out.push(message.origin)?;
@@ -83,21 +84,26 @@ fn push_text<A: Allocator, B: Allocator>(
     }
 }
 
-/// The one spelling of a frame.
-pub fn encode<A: Allocator, B: Allocator>(
+/// The one spelling of a frame that fits, a header of 24 bytes and then the body [1].
+///
+/// The header is the two magic bytes `IV`, the version, the kind, the source and the destination
+/// in a byte each, the length of the body in two bytes, and the number and the acknowledgement in
+/// eight bytes each. All numbers are big-endian. A page is copied once, into the string.
+pub fn encode<A: Allocator>(
     alloc: A,
     config: &Config,
-    frame: &Frame<Page<B>>,
+    frame: &Frame<&[u8]>,
 ) -> Result<Vec<u8, A>, Fault>
     requires limits { IsConfig config.now }
-    requires fits { Fits config.now frame.now }
-    ensures spelled { IfOk result (λ bytes. Spells config.now frame.now bytes.items) }
+    requires fits { Fits config.now (owned_frame frame.now) }
+    ensures spelled { IfOk result (λ bytes. Spells config.now (owned_frame frame.now) bytes.items) }
     ensures memory { IsOkUnless result Fault.Memory }
 {
     let kind = frame.kind();
-    let mut out = Vec::new(alloc);
+    let len = kind.text_len(config);
+    let mut out = Vec::with_capacity(alloc, 24 + usize::from(len))?;
     out.extend_from_slice(&[b'I', b'V', VERSION, kind.code(), frame.source, frame.dest])?;
-    push_u16(&mut out, kind.text_len(config))?;
+    push_u16(&mut out, len)?;
     push_u64(&mut out, frame.number)?;
     push_u64(&mut out, frame.ack)?;
     push_text(&mut out, &frame.body)?;

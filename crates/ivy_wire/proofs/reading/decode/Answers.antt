@@ -1,9 +1,12 @@
-use Rattle.std.proofs.Common.{◌≡◌, ap, sym, ◌∙◌, arith, Result, Ok, Err}
+use Rattle.std.proofs.Common.{◌≡◌, ℕ, List, ap, sym, ◌∙◌, arith, Result, Ok, Err}
+use Rattle.ivy_model.specs.declared.Config.{Config}
 use Rattle.ivy_model.specs.declared.Fault.{Fault}
+use Rattle.ivy_model.specs.declared.Fault.TheVariants.{Memory}
 use Rattle.ivy_wire.specs.declared.frame.FrameKind.{FrameKind}
 use Rattle.ivy_wire.specs.Spelling.{frame_kind}
+use Rattle.ivy_wire.specs.Faults.{checked}
 use Rattle.ivy_wire.specs.Reading.{frame_at}
-use Rattle.ivy_wire.proofs.Frames.{sound_checked, frame_spelled, spelled_once}
+use Rattle.ivy_wire.proofs.Frames.{sound_checked, frame_spelled, spelled_once, never_memory}
 use Rattle.ivy_wire.proofs.reading.decode.Goals as goal
 
 ok_is : (x y : FrameKind) → (let r : Result FrameKind Fault = Ok x in r) ≡ Ok y → x ≡ y
@@ -11,6 +14,9 @@ ok_is x y e = cc
 
 err_is_not_ok : (d : Fault) (y : FrameKind) → (let r : Result FrameKind Fault = Err d in r) ≡ Ok y → ⊥
 err_is_not_ok d y e = cc
+
+not_memory : (c : Config) (bytes : List ℕ) (d : Fault) → (let r : Result FrameKind Fault = Err d in r) ≡ checked c bytes → Memory ≡ d → ⊥
+not_memory c bytes d e m = never_memory c bytes (sym e ∙ ap Err (sym m))
 
 pub frame_at-requires-clause-len : goal.frame_at-requires-clause-len
 frame_at-requires-clause-len g c =
@@ -32,3 +38,11 @@ pub returns-in_err-kind-clause-only : goal.returns-in_err-kind-clause-only
 returns-in_err-kind-clause-only g c = λ frame spells.
     let once = spelled_once c.args.config.now frame c.args.bytes.now c.requires.limits spells in
     absurd (err_is_not_ok c.in_err-kind.field-0.0 (frame_kind frame.body) (c.in_err-kind.ensures ∙ once.0))
+
+pub returns-in_err-kind-clause-memory : goal.returns-in_err-kind-clause-memory
+returns-in_err-kind-clause-memory g c = λ e. absurd (not_memory c.args.config.now c.args.bytes.now c.in_err-kind.field-0.0 c.in_err-kind.ensures (rw e at c.from_residual.ensures.1))
+
+pub returns-in_err-frame_at-clause-memory : goal.returns-in_err-frame_at-clause-memory
+returns-in_err-frame_at-clause-memory g c = λ e.
+    let s = sound_checked c.args.config.now c.in_ok-kind.kind c.args.bytes.now (sym c.in_ok-kind.ensures) in
+    (frame_at c.in_ok-kind.kind c.args.bytes.now, frame_spelled c.args.config.now c.in_ok-kind.kind c.args.bytes.now (λ i. omega (arith, c.type_inv.bytes i)) s)

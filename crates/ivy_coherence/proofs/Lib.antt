@@ -1,0 +1,5 @@
+pub mod Pointing
+pub mod Keeping
+pub mod Changing
+pub mod Opened
+pub mod Few

@@ -1,0 +1,10 @@
+pub mod Coherent
+pub mod Steps
+pub mod Sound
+pub use Rattle.ivy_model.specs.Config
+pub use Rattle.ivy_model.specs.Wants
+pub use Rattle.ivy_wire.specs.Data
+pub use Rattle.ivy_wire.specs.Spelling
+pub use Rattle.ivy_pagetable.specs.Entries
+pub use Rattle.ivy_pagetable.specs.Tables
+pub use Rattle.ivy_pagetable.specs.Manager

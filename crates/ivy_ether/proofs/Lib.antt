@@ -1,0 +1,6 @@
+pub mod Noted
+mod Places
+mod Sent
+pub mod Following
+pub mod Opening
+pub mod Kept

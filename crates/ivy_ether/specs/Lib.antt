@@ -1,0 +1,11 @@
+pub mod Events
+pub mod Marks
+pub mod Listed
+pub mod Cores
+pub mod Nodes
+pub mod Worlds
+pub mod Explained
+pub mod Ordered
+pub mod Following
+pub use Rattle.ivy_wire.specs.Data
+pub use Rattle.ivy_link.specs.Linked

@@ -1,0 +1,57 @@
+-- Worlds of nodes, over any core: their moves, and what a list of moves leads to.
+-- Any string ever sent may be delivered to any node, in any order and however often: a wire that loses,
+-- repeats and reorders. A loss is a string that is never delivered.
+use Rattle.std.specs.Prelude.{◌≡◌, ℕ, ◌==◌, ◌&&◌, not, nat_lt, Bool, List, [], ◌∷◌, ◌++◌, length, slice_get, slice_set, Option, Some, None, if◌then◌else◌}
+use Rattle.ivy_model.specs.declared.Config.{Config}
+use Rattle.ivy_ether.specs.declared.moves.Move.{Move}
+use Rattle.ivy_ether.specs.declared.moves.Move.TheVariants.{Turn, Deliver, Pulse}
+use Rattle.ivy_ether.specs.Cores.{Core}
+use Rattle.ivy_ether.specs.Nodes.{Node, Effect, turned, delivered, pulsing}
+
+-- the nodes by number, and all strings ever sent, in the order sent
+pub record World (C : Type 0) : Type 0 where
+  pub nodes : List (Node C)
+  pub sent : List (List ℕ)
+
+module _ {C : Type 0} where
+  -- node i goes on by this effect
+  abbrev pub gone_on : World C → ℕ → Effect C → World C
+  gone_on w i e = record { nodes = slice_set w.nodes i e.after; sent = w.sent ++ e.sent }
+
+  abbrev pub goes_on : World C → ℕ → Option (Effect C) → Option (World C)
+  goes_on w i None = None
+  goes_on w i (Some e) = Some (gone_on w i e)
+
+  -- the nodes and the string that a move names are there, and a pulse goes to another node
+  abbrev pub is_named : World C → Move → Bool
+  is_named w (Turn i) = nat_lt i (length w.nodes)
+  is_named w (Deliver index to) = nat_lt to (length w.nodes) && nat_lt index (length w.sent)
+  is_named w (Pulse from to) = nat_lt from (length w.nodes) && (nat_lt to (length w.nodes) && not (from == to))
+
+module _ {C : Type 0} (rules : Core C) (c : Config) where
+  abbrev pub turn_of : World C → ℕ → Option (Node C) → Option (World C)
+  turn_of w i None = None
+  turn_of w i (Some n) = goes_on w i (turned rules n)
+
+  abbrev pub delivery_of : World C → ℕ → Option (Node C) → Option (List ℕ) → Option (World C)
+  delivery_of w i None s = None
+  delivery_of w i (Some n) None = None
+  delivery_of w i (Some n) (Some s) = goes_on w i (delivered rules c n s)
+
+  abbrev pub pulse_of : World C → ℕ → ℕ → Option (Node C) → Option (World C)
+  pulse_of w i to None = None
+  pulse_of w i to (Some n) = Some (gone_on w i (pulsing n to))
+
+  abbrev pub made_by : World C → Move → Option (World C)
+  made_by w (Turn i) = turn_of w i (slice_get w.nodes i)
+  made_by w (Deliver index to) = delivery_of w to (slice_get w.nodes to) (slice_get w.sent index)
+  made_by w (Pulse from to) = pulse_of w from to (slice_get w.nodes from)
+
+  -- the world after a move; none where it can't be named, or where a number above the greatest one is needed
+  unfoldable pub moved : World C → Move → Option (World C)
+  moved w move = if is_named w move then made_by w move else None
+
+  -- the moves, made one after another, lead from the one world to the other
+  abbrev pub Leads : World C → List Move → World C → Type 0
+  Leads w [] end = end ≡ w
+  Leads w (move ∷ moves) end = (mid : World C) × (moved w move ≡ Some mid) × Leads mid moves end

@@ -1,0 +1,15 @@
+//! What happens to nodes: their events, the moves of a world of nodes, and what both mean.
+//!
+//! The definitions of the node event and of the world stand in `specs/`, over any core: they know of links
+//! and strings, and nothing of pages.
+#![tactic(auto)]
+
+mod event;
+mod moves;
+mod note;
+
+pub use event::{Event, Events};
+pub use moves::Move;
+
+#[cfg(test)]
+mod tests;

@@ -1,0 +1,3 @@
+pub mod Fixed
+pub mod FixedLaws
+pub use Rattle.ivy_model.specs.Config

@@ -1,0 +1,7 @@
+pub mod Peers
+pub mod Sending
+pub mod Pulses
+pub mod Pairs
+pub mod Making
+pub mod Orderly
+pub mod Fits

@@ -1,0 +1,7 @@
+use Rattle.std.proofs.Common.{◌≡◌, map, replicate}
+use Rattle.ivy_link.specs.Linked.{fresh}
+use Rattle.ivy_link.specs.Sides.{peer_of}
+use Rattle.ivy_link.proofs.link.Link.new.Given as goal
+
+abbrev pub invariant-loop : goal.invariant-loop
+invariant-loop g l = map peer_of l.sides.items ≡ replicate l.counter fresh

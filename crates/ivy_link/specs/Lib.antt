@@ -1,0 +1,10 @@
+pub mod Linked
+pub mod Accepted
+pub mod Pulsed
+pub use Rattle.ivy_model.specs.Wants
+pub use Rattle.ivy_wire.specs.Data
+pub use Rattle.ivy_wire.specs.Lent
+pub mod Paired
+pub mod InOrder
+pub mod Fitting
+pub mod Sides

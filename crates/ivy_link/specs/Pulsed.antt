@@ -1,0 +1,38 @@
+-- What a node sends another again.
+use Rattle.std.specs.Prelude.{ℕ, ◌+◌, ◌-◌, List, [], ◌∷◌, length, take, false, Some, None, if◌then◌else◌}
+use Rattle.ivy_wire.specs.Data.{Message, Frame}
+use Rattle.ivy_link.specs.Linked.{Peer, Linked, Sending, peer_at, with_peer}
+
+-- the messages in frames, numbered upwards from the first one's number
+abbrev pub numbered : ℕ → ℕ → ℕ → ℕ → List Message → List Frame
+numbered me to ack first [] = []
+numbered me to ack first (m ∷ ms) = record { source = me; dest = to; number = first; ack = ack; body = Some m } ∷ numbered me to ack (first + 1) ms
+
+-- an acknowledgement alone
+abbrev pub ack_alone : ℕ → ℕ → ℕ → Frame
+ack_alone me to ack = record { source = me; dest = to; number = 0; ack = ack; body = None }
+
+-- where nothing is kept: an acknowledgement, if one is owed
+abbrev pub acknowledging : ℕ → ℕ → Peer → List Frame
+acknowledging me to p = if p.owed then ack_alone me to p.delivered ∷ [] else []
+
+-- at most 32 of the kept messages, in order
+abbrev pub repeated : ℕ → ℕ → Peer → List Frame
+repeated me to p = numbered me to p.delivered (p.sent - length p.kept + 1) (take 32 p.kept)
+
+abbrev pub pulse_of : List Message → ℕ → ℕ → Peer → List Frame
+pulse_of [] me to p = acknowledging me to p
+pulse_of (m ∷ ms) me to p = repeated me to p
+
+abbrev pub frames_again : Linked → ℕ → List Frame
+frames_again l to = pulse_of (peer_at l to).kept l.me to (peer_at l to)
+
+-- nothing is owed any more: either a frame was made that acknowledges, or nothing was owed
+abbrev pub settled : Peer → Peer
+settled p = record { sent = p.sent; kept = p.kept; delivered = p.delivered; owed = false }
+
+abbrev pub after_pulse : Linked → ℕ → Linked
+after_pulse l to = with_peer l to (settled (peer_at l to))
+
+abbrev pub pulsed : Linked → ℕ → Sending
+pulsed l to = record { after = after_pulse l to; frames = frames_again l to }

@@ -1,0 +1,102 @@
+//! Messages and frames whose pages are lent, lent again or copied.
+ghost use Rattle.std.specs.Prelude.{◌≡◌, [], ◌∷◌, ◌++◌, map, IfOk, OnOk};
+ghost use Rattle.ivy_wire.specs.Lent.{owned_message, owned_body, owned_parcel, owned_frame};
+ghost use Rattle.ivy_link.specs.Sides.{message_of};
+
+use ivy_wire::{Content, Frame, Message, Page, Parcel};
+use std::alloc::{AllocError, Allocator};
+use std::collections::VecDeque;
+
+/// The same message: what it lends is lent again.
+pub(crate) fn again<'p>(message: &Message<&'p [u8]>) -> Message<&'p [u8]>
+    ensures { owned_message result ≡ owned_message message.now }
+{
+    let content = match &message.content {
+        Content::ReadReq { page } => Content::ReadReq { page: *page },
+        Content::WriteReq { page } => Content::WriteReq { page: *page },
+        Content::ReadRep { page, bytes } => Content::ReadRep {
+            page: *page,
+            bytes: *bytes,
+        },
+        Content::WriteRep {
+            page,
+            copies,
+            bytes,
+        } => Content::WriteRep {
+            page: *page,
+            copies: *copies,
+            bytes: *bytes,
+        },
+        Content::Inval { page } => Content::Inval { page: *page },
+        Content::InvalAck { page } => Content::InvalAck { page: *page },
+        Content::AllocReq { size } => Content::AllocReq { size: *size },
+        Content::AllocRep { code, addr } => Content::AllocRep {
+            code: *code,
+            addr: *addr,
+        },
+        Content::FreeReq { addr } => Content::FreeReq { addr: *addr },
+        Content::FreeRep { code } => Content::FreeRep { code: *code },
+    };
+    Message {
+        origin: message.origin,
+        call: message.call,
+        content,
+    }
+}
+
+/// Adds a frame to those made.
+pub(crate) fn add<'p, A: Allocator>(
+    frames: &mut Vec<Frame<&'p [u8]>, A>,
+    frame: Frame<&'p [u8]>,
+) -> Result<(), AllocError>
+    ensures { OnOk result (map owned_frame frames.new.items ≡ map owned_frame frames.old.items ++ owned_frame frame.entry ∷ []) }
+{
+    frames.push(frame)?;
+    Ok(())
+}
+
+/// The messages of the parcels, with copies of their pages.
+pub(crate) fn copies<A: Allocator + Copy>(
+    alloc: A,
+    parcels: &[Parcel<&[u8]>],
+) -> Result<VecDeque<Message<Page<A>>, A>, AllocError>
+    ensures { IfOk result (λ copies. copies.items ≡ map message_of (map owned_parcel parcels.now)) }
+{
+    let mut copies = VecDeque::with_capacity(alloc, parcels.len())?;
+    for parcel in parcels {
+        copies.push_back(parcel.message.owned(alloc)?)?;
+    }
+    Ok(copies)
+}
+
+fn copied_body<A: Allocator>(
+    alloc: A,
+    body: &Option<Message<&[u8]>>,
+) -> Result<Option<Message<Page<A>>>, AllocError>
+    ensures { IfOk result (λ copy. copy ≡ owned_body body.now) }
+{
+    match body {
+        None => Ok(None),
+        Some(message) => Ok(Some(message.owned(alloc)?)),
+    }
+}
+
+/// The frames with copies of their pages.
+pub(crate) fn copied<A: Allocator + Copy>(
+    alloc: A,
+    frames: &[Frame<&[u8]>],
+) -> Result<Vec<Frame<Page<A>>, A>, AllocError>
+    ensures { IfOk result (λ copies. copies.items ≡ map owned_frame frames.now) }
+{
+    let mut copies = Vec::with_capacity(alloc, frames.len())?;
+    for frame in frames {
+        copies.push(Frame {
+            source: frame.source,
+            dest: frame.dest,
+            number: frame.number,
+            ack: frame.ack,
+            body: copied_body(alloc, &frame.body)?,
+        })?;
+    }
+    Ok(copies)
+}

@@ -1,0 +1,20 @@
+//! A node's links to the other nodes over a network that loses, repeats and reorders frames.
+//!
+//! A [`Link`] numbers the messages that its node sends each other one and keeps them until they are
+//! acknowledged, tells by its [`Verdict`] which frames carry the next message, and sends what is kept
+//! again. So each node is given the messages of another one in the order in which they were sent, each
+//! once ([`delivers_in_order`]).
+#![tactic(auto)]
+
+mod lent;
+mod link;
+mod order;
+mod side;
+mod verdict;
+
+pub use link::Link;
+pub use order::delivers_in_order;
+pub use verdict::Verdict;
+
+#[cfg(test)]
+mod tests;

@@ -1,0 +1,280 @@
+//! The link of one node to all others.
+ghost use Rattle.std.specs.Prelude.{◌≡◌, ◌≢◌, ◌↔◌, ℕ, ◌<◌, ◌≤◌, List, [], ◌∷◌, ◌++◌, length, map, true, false, IfOk, IfErr, OnOk, OnErr, IsErrOf, IsOkUnless, MatchOption};
+ghost use Rattle.ivy_model.specs.Wants.{IsWant};
+ghost use Rattle.ivy_model.specs.declared.Fault.TheVariants.{Memory, NumbersSpent};
+ghost use Rattle.ivy_wire.specs.Lent.{owned_message, owned_parcel, owned_frame};
+ghost use Rattle.ivy_link.specs.Linked.{first_link, peer_at, after_sends, frames_of, has_numbers, AreWithin};
+ghost use Rattle.ivy_link.specs.Accepted.{offered, accepted};
+ghost use Rattle.ivy_link.specs.Pulsed.{repeated, frames_again, after_pulse};
+ghost use Rattle.ivy_link.specs.Sides.{peer_of, linked, message_of, HasRoomFor, AreNumbers, AreCounts, AreReached, HaveRoom};
+
+use crate::lent::{add, again, copied, copies};
+use crate::side::Side;
+use crate::verdict::Verdict;
+use ivy_model::Fault;
+use ivy_wire::{Frame, Message, Page, Parcel};
+use std::alloc::{AllocError, Allocator};
+use std::collections::VecDeque;
+use std::marker::Model;
+
+/// How many nodes a number of one byte can name.
+const NODES: usize = 256;
+
+/// At most so many kept messages are sent again at once.
+const AGAIN: usize = 32;
+
+/// One node's side of its links to all others.
+#[derive(Drop)]
+#[derive_where(Debug)]
+pub struct Link<A: Allocator> {
+    #[derive_where(skip)]
+    alloc: A,
+    me: u8,
+    /// What is known of each node, by number.
+    sides: Vec<Side<A>, A>,
+}
+
+impl<A: Allocator> Model for Link<A> {
+    ghost use Rattle.std.specs.Prelude.{◌≤◌, length, map};
+    ghost use Rattle.ivy_link.specs.Linked.{Linked};
+    ghost use Rattle.ivy_link.specs.Sides.{peer_of};
+
+    ghost Value = { Linked };
+
+    ghost view = { λ l. record { me = l.me; peers = map peer_of l.sides.items } };
+
+    ghost invariant = { λ l. length l.sides.items ≤ 256 };
+}
+
+impl<A: Allocator + Copy> Link<A> {
+    /// The link of node `me` among so many nodes: nothing was sent either way [1].
+    pub fn new(alloc: A, me: u8, nodes: u8) -> Result<Link<A>, Fault>
+        ensures ok { IfOk result (λ link. link ≡ first_link me nodes) }
+        ensures want { IsOkUnless result Memory }
+    {
+        let mut sides = Vec::with_capacity(alloc, usize::from(nodes))?;
+        for _ in 0..nodes {
+            sides.push(Side::new(alloc))?;
+        }
+        Ok(Link { alloc, me, sides })
+    }
+
+    /// What a frame is to this node.
+    pub fn offer<B>(&self, frame: &Frame<B>) -> Verdict
+        requires source { frame.now.dest ≡ self.now.me → frame.now.source < length self.now.peers }
+        ensures { result ≡ offered self.now frame.now }
+    {
+        if frame.dest != self.me {
+            return Verdict::NotMine;
+        }
+        self.sides[usize::from(frame.source)].verdict(frame.number)
+    }
+
+    /// Takes the acknowledgement of a frame, and counts its message as delivered where it is the next.
+    /// A frame for another node changes nothing. It takes no memory.
+    pub fn accept<B>(&mut self, frame: &Frame<B>)
+        requires source { frame.now.dest ≡ self.old.me → frame.now.source < length self.old.peers }
+        ensures after { self.new ≡ accepted self.old frame.now }
+        ensures nodes { length self.new.peers ≡ length self.old.peers }
+    {
+        if frame.dest == self.me {
+            self.sides[usize::from(frame.source)].hear(frame.number, frame.ack);
+        }
+    }
+
+    /// Ends what is owed to the node, as the frames of [`Link::pulse_frames`] do. It takes no memory.
+    pub fn pulsed(&mut self, to: u8)
+        requires to { to < length self.old.peers }
+        ensures after { self.new ≡ after_pulse self.old to }
+        ensures nodes { length self.new.peers ≡ length self.old.peers }
+    {
+        self.sides[usize::from(to)].settle();
+    }
+
+    fn counts(&self) -> [u64; NODES]
+        ensures counts { AreCounts self.now result }
+        ensures small { AreNumbers result }
+        ensures long { length self.now.peers ≤ length result }
+    {
+        let mut counts = [0; NODES];
+        for node in 0..self.sides.len() {
+            counts[node] = self.sides[node].sent();
+        }
+        counts
+    }
+
+    /// How many messages each node was sent once the parcels are sent too. None where a number is missing.
+    fn counts_after(&self, parcels: &[Parcel<&[u8]>]) -> Option<[u64; NODES]>
+        requires within { AreWithin self.now (map owned_parcel parcels.now) }
+        ensures numbers { MatchOption result (has_numbers self.now (map owned_parcel parcels.now) ≡ false) (λ _. has_numbers self.now (map owned_parcel parcels.now) ≡ true) }
+        ensures counts { MatchOption result (Unit {0}) (AreCounts (after_sends self.now (map owned_parcel parcels.now))) }
+        ensures small { MatchOption result (Unit {0}) AreNumbers }
+    {
+        let mut counts = self.counts();
+        for parcel in parcels {
+            let dest = usize::from(parcel.dest);
+            counts[dest] = counts[dest].checked_add(1)?;
+        }
+        Some(counts)
+    }
+
+    fn numbered<'p>(
+        &self,
+        parcels: &[Parcel<&'p [u8]>],
+    ) -> Result<Vec<Frame<&'p [u8]>, A>, AllocError>
+        requires within { AreWithin self.now (map owned_parcel parcels.now) }
+        requires numbers { has_numbers self.now (map owned_parcel parcels.now) ≡ true }
+        ensures { IfOk result (λ frames. map owned_frame frames.items ≡ frames_of self.now (map owned_parcel parcels.now)) }
+    {
+        let mut counts = self.counts();
+        let mut frames = Vec::with_capacity(self.alloc, parcels.len())?;
+        for parcel in parcels {
+            let dest = usize::from(parcel.dest);
+            let number = counts[dest] + 1;
+            counts[dest] = number;
+            let frame = Frame {
+                source: self.me,
+                dest: parcel.dest,
+                number,
+                ack: self.sides[dest].delivered(),
+                body: Some(again(&parcel.message)),
+            };
+            add(&mut frames, frame)?;
+        }
+        Ok(frames)
+    }
+
+    /// The frames that [`Link::send`] would give now [1, 17].
+    pub fn frames<'p>(&self, parcels: &[Parcel<&'p [u8]>]) -> Result<Vec<Frame<&'p [u8]>, A>, Fault>
+        requires within { AreWithin self.now (map owned_parcel parcels.now) }
+        ensures ok { IfOk result (λ frames. map owned_frame frames.items ≡ frames_of self.now (map owned_parcel parcels.now)) }
+        ensures spent { IsErrOf result NumbersSpent ↔ (has_numbers self.now (map owned_parcel parcels.now) ≡ false) }
+        ensures want { IfErr result IsWant }
+    {
+        if self.counts_after(parcels).is_none() {
+            return Err(Fault::NumbersSpent);
+        }
+        Ok(self.numbered(parcels)?)
+    }
+
+    /// Numbers the messages, keeps copies of them until they are acknowledged, and gives their frames
+    /// [1, 17]: all of them, or none and the link stays as it was.
+    pub fn send<'p>(
+        &mut self,
+        parcels: &[Parcel<&'p [u8]>],
+    ) -> Result<Vec<Frame<&'p [u8]>, A>, Fault>
+        requires within { AreWithin self.old (map owned_parcel parcels.now) }
+        ensures ok { OnOk result (self.new ≡ after_sends self.old (map owned_parcel parcels.now)) }
+        ensures nodes { length self.new.peers ≡ length self.old.peers }
+        ensures frames { IfOk result (λ frames. map owned_frame frames.items ≡ frames_of self.old (map owned_parcel parcels.now)) }
+        ensures err { OnErr result (self.new ≡ self.old) }
+        ensures spent { IsErrOf result NumbersSpent ↔ (has_numbers self.old (map owned_parcel parcels.now) ≡ false) }
+        ensures want { IfErr result IsWant }
+    {
+        let Some(counts) = self.counts_after(parcels) else {
+            return Err(Fault::NumbersSpent);
+        };
+        let frames = self.numbered(parcels)?;
+        let copies = copies(self.alloc, parcels)?;
+        reserve(&mut self.sides, &counts)?;
+        keep(&mut self.sides, parcels, copies);
+        Ok(frames)
+    }
+
+    /// The frames that [`Link::pulse`] would give now [1]: the first 32 kept messages again, in order,
+    /// or an acknowledgement alone, where one is owed and nothing is kept.
+    pub fn pulse_frames(&self, to: u8) -> Result<Vec<Frame<&[u8]>, A>, Fault>
+        requires to { to < length self.now.peers }
+        ensures ok { IfOk result (λ frames. map owned_frame frames.items ≡ frames_again self.now to) }
+        ensures want { IsOkUnless result Memory }
+    {
+        let side = &self.sides[usize::from(to)];
+        if !side.kept().is_empty() {
+            return Ok(self.repeated(to)?);
+        }
+        let mut frames = Vec::new(self.alloc);
+        if side.is_owed() {
+            frames.push(Frame {
+                source: self.me,
+                dest: to,
+                number: 0,
+                ack: side.delivered(),
+                body: None,
+            })?;
+        }
+        Ok(frames)
+    }
+
+    /// Sends again what is kept for the node, as [`Link::pulse_frames`] says, with copies of the pages
+    /// [1]. A refused call leaves the link as it was.
+    pub fn pulse(&mut self, to: u8) -> Result<Vec<Frame<Page<A>>, A>, Fault>
+        requires to { to < length self.old.peers }
+        ensures ok { OnOk result (self.new ≡ after_pulse self.old to) }
+        ensures nodes { length self.new.peers ≡ length self.old.peers }
+        ensures frames { IfOk result (λ frames. frames.items ≡ frames_again self.old to) }
+        ensures err { OnErr result (self.new ≡ self.old) }
+        ensures want { IsOkUnless result Memory }
+    {
+        let frames = copied(self.alloc, &self.pulse_frames(to)?)?;
+        self.pulsed(to);
+        Ok(frames)
+    }
+
+    fn repeated(&self, to: u8) -> Result<Vec<Frame<&[u8]>, A>, AllocError>
+        requires to { to < length self.now.peers }
+        ensures { IfOk result (λ frames. map owned_frame frames.items ≡ repeated self.now.me to (peer_at self.now to)) }
+    {
+        let side = &self.sides[usize::from(to)];
+        let kept = side.kept();
+        let count = kept.len().min(AGAIN);
+        let acknowledged = side.sent() - kept.len() as u64;
+        let mut frames = Vec::with_capacity(self.alloc, count)?;
+        for i in 0..count {
+            let frame = Frame {
+                source: self.me,
+                dest: to,
+                number: acknowledged + 1 + i as u64,
+                ack: side.delivered(),
+                body: Some(kept[i].lent()),
+            };
+            add(&mut frames, frame)?;
+        }
+        Ok(frames)
+    }
+}
+
+/// Makes room at each node for the messages that bring its count to the given one.
+fn reserve<A: Allocator>(
+    sides: &mut Vec<Side<A>, A>,
+    counts: &[u64; NODES],
+) -> Result<(), AllocError>
+    requires limit { length sides.old.items ≤ 256 }
+    requires reached { AreReached sides.old.items counts.now }
+    ensures peers { map peer_of sides.new.items ≡ map peer_of sides.old.items }
+    ensures room { OnOk result (HaveRoom sides.new.items counts.now) }
+{
+    for node in 0..sides.len() {
+        let more = counts[node] - sides[node].sent();
+        sides[node].reserve(more as usize)?;
+    }
+    Ok(())
+}
+
+/// Keeps the messages of the parcels, each at its node.
+fn keep<A: Allocator>(
+    sides: &mut Vec<Side<A>, A>,
+    parcels: &[Parcel<&[u8]>],
+    mut copies: VecDeque<Message<Page<A>>, A>,
+)
+    requires within { AreWithin (linked 0 sides.old.items) (map owned_parcel parcels.now) }
+    requires room { HasRoomFor sides.old.items (map owned_parcel parcels.now) }
+    requires copies { copies.items ≡ map message_of (map owned_parcel parcels.now) }
+    ensures { linked 0 sides.new.items ≡ after_sends (linked 0 sides.old.items) (map owned_parcel parcels.now) }
+{
+    for parcel in parcels {
+        let Some(copy) = copies.pop_front() else {
+            unreachable!();
+        };
+        sides[usize::from(parcel.dest)].keep(copy);
+    }
+}

@@ -1,0 +1,144 @@
+//! What a link knows of one other node.
+ghost use Rattle.std.specs.Prelude.{◌≡◌, ◌+◌, ◌≤◌, length, drop, OnOk};
+ghost use Rattle.ivy_link.specs.Linked.{with_message};
+
+use crate::verdict::Verdict;
+use ivy_wire::{Message, Page};
+use std::alloc::{AllocError, Allocator};
+use std::collections::VecDeque;
+use std::marker::Model;
+
+/// The traffic with one other node: counts of the messages both ways, and those to keep.
+#[derive(Drop)]
+#[derive_where(Debug)]
+pub(crate) struct Side<A: Allocator> {
+    /// How many messages were sent.
+    sent: u64,
+    /// The last ones of them: those not acknowledged yet.
+    kept: VecDeque<Message<Page<A>>, A>,
+    /// How many messages were delivered.
+    delivered: u64,
+    /// Whether an acknowledgement is owed.
+    owed: bool,
+}
+
+impl<A: Allocator> Model for Side<A> {
+    ghost use Rattle.ivy_link.specs.Sides.{Sided};
+    ghost use Rattle.std.specs.Prelude.{◌-◌, ◌≤◌, length};
+    ghost use Rattle.std.specs.VecDeque.{deque_len, deque_capacity};
+
+    ghost Value = { Sided };
+
+    ghost view = { λ s. record { peer = record { sent = s.sent; kept = s.kept.items; delivered = s.delivered; owed = s.owed }; room = deque_capacity s.kept - deque_len s.kept } };
+
+    ghost invariant = { λ s. length s.kept.items ≤ s.sent };
+}
+
+impl<A: Allocator> Side<A> {
+    ghost use Rattle.ivy_link.specs.Linked.{fresh};
+    ghost use Rattle.ivy_link.specs.Accepted.{verdict_on, heard};
+    ghost use Rattle.ivy_link.specs.Pulsed.{settled};
+
+    pub(crate) fn new(alloc: A) -> Side<A>
+        ensures { result.peer ≡ fresh }
+    {
+        Side {
+            sent: 0,
+            kept: VecDeque::new(alloc),
+            delivered: 0,
+            owed: false,
+        }
+    }
+
+    pub(crate) fn sent(&self) -> u64
+        ensures { result ≡ self.now.peer.sent }
+    {
+        self.sent
+    }
+
+    pub(crate) fn delivered(&self) -> u64
+        ensures { result ≡ self.now.peer.delivered }
+    {
+        self.delivered
+    }
+
+    pub(crate) fn is_owed(&self) -> bool
+        ensures { result ≡ self.now.peer.owed }
+    {
+        self.owed
+    }
+
+    pub(crate) fn kept(&self) -> &VecDeque<Message<Page<A>>, A>
+        ensures items { result.now.items ≡ self.now.peer.kept }
+        ensures within { length self.now.peer.kept ≤ self.now.peer.sent }
+    {
+        &self.kept
+    }
+
+    /// Makes room for so many more messages to keep.
+    pub(crate) fn reserve(&mut self, more: usize) -> Result<(), AllocError>
+        ensures peer { self.new.peer ≡ self.old.peer }
+        ensures room { OnOk result (more ≤ self.new.room) }
+    {
+        self.kept.reserve(more)
+    }
+
+    /// One more message was sent: it is kept, in the room that was made, and nothing is owed.
+    pub(crate) fn keep(&mut self, message: Message<Page<A>>)
+        requires room { 1 ≤ self.old.room }
+        requires number { self.old.peer.sent + 1 ≤ 18446744073709551615 }
+        ensures peer { self.new.peer ≡ with_message self.old.peer message }
+        ensures room { self.new.room + 1 ≡ self.old.room }
+    {
+        self.kept.push_back_reserved(message);
+        self.sent += 1;
+        self.owed = false;
+    }
+
+    /// What a frame of this number is.
+    pub(crate) fn verdict(&self, number: u64) -> Verdict
+        ensures { result ≡ verdict_on self.now.peer.delivered number }
+    {
+        if number <= self.delivered {
+            Verdict::Repeat
+        } else if number - self.delivered == 1 {
+            Verdict::Next
+        } else {
+            Verdict::Ahead
+        }
+    }
+
+    /// Takes the acknowledgement of a frame of this number, and counts its message if it is the next.
+    pub(crate) fn hear(&mut self, number: u64, ack: u64)
+        ensures { self.new.peer ≡ heard (verdict_on self.old.peer.delivered number) self.old.peer number ack }
+    {
+        if ack <= self.sent {
+            let acknowledged = self.sent - self.kept.len() as u64;
+            drop_first(&mut self.kept, ack.saturating_sub(acknowledged));
+        }
+        match self.verdict(number) {
+            Verdict::Next => {
+                self.delivered = number;
+                self.owed = true;
+            }
+            Verdict::Repeat => self.owed = self.owed || number >= 1,
+            Verdict::Ahead | Verdict::NotMine => {}
+        }
+    }
+
+    /// A frame was made: nothing is owed any more.
+    pub(crate) fn settle(&mut self)
+        ensures { self.new.peer ≡ settled self.old.peer }
+    {
+        self.owed = false;
+    }
+}
+
+fn drop_first<T: Drop, A: Allocator>(queue: &mut VecDeque<T, A>, count: u64)
+    requires { count ≤ length queue.old.items }
+    ensures { queue.new.items ≡ drop count queue.old.items }
+{
+    for _ in 0..count {
+        let _ = queue.pop_front();
+    }
+}

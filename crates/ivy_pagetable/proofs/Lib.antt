@@ -1,0 +1,2 @@
+pub mod NodeSets
+pub mod Words

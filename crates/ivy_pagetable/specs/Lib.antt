@@ -1,0 +1,10 @@
+pub mod Accesses
+pub mod NodeSets
+pub mod States
+pub mod Entries
+pub mod TableState
+pub mod Tables
+pub mod Words
+pub mod Manager
+pub mod Lending
+pub use Rattle.ivy_model.specs.Config

@@ -1,0 +1,72 @@
+-- The calls of a manager over what contracts see of it, and the laws that the protocol rests on.
+use Rattle.std.specs.Prelude.{◌≡◌, ◌≢◌, ◌⊎◌, ◌<◌, ℕ, Bool, true, false, List, [], ◌∷◌, if◌then◌else◌, ◌==◌}
+use Rattle.ivy_model.specs.declared.Config.{Config}
+use Rattle.ivy_model.specs.Config.{IsConfig}
+
+-- `first c i` is a new manager's state at node i, and `size` the number of its pages. A Bool says
+-- whether the request was one to write.
+pub record Ops (S : Type 0) : Type 0 where
+  pub me : S → ℕ
+  pub size : S → ℕ
+  pub first : Config → ℕ → S
+  pub next_hop : S → ℕ → ℕ
+  pub on_forward : S → ℕ → Bool → ℕ → S
+  pub on_given : S → ℕ → ℕ → S
+  pub on_replied : S → ℕ → Bool → ℕ → S
+  pub on_invalidated : S → ℕ → ℕ → S
+
+-- a call of a manager, for some page
+pub data Change : Type 0 where
+  Forward : (write : Bool) → (origin : ℕ) → Change
+  Given : (to : ℕ) → Change
+  Replied : (write : Bool) → (from : ℕ) → Change
+  Invalidated : (by : ℕ) → Change
+
+abbrev pub changed : {S : Type 0} → Ops S → ℕ → S → Change → S
+changed ops page s (Forward write origin) = ops.on_forward s page write origin
+changed ops page s (Given to) = ops.on_given s page to
+changed ops page s (Replied write from) = ops.on_replied s page write from
+changed ops page s (Invalidated by) = ops.on_invalidated s page by
+
+abbrev pub all_changed : {S : Type 0} → Ops S → ℕ → S → List Change → S
+all_changed ops page s [] = s
+all_changed ops page s (c ∷ cs) = all_changed ops page (changed ops page s c) cs
+
+-- what brings back a state whose next hop was `hop`
+abbrev pub brought_back : {S : Type 0} → Ops S → ℕ → ℕ → ℕ → S → S
+brought_back ops page hop from s =
+    if hop == ops.me s then ops.on_replied s page true from else ops.on_given s page hop
+
+-- Of a change at page p: who the manager's node is and how many pages it has stay, and so does the
+-- next hop of each other page.
+pub record Keeps {S : Type 0} (ops : Ops S) (s : S) (p : ℕ) (new : S) : Type 0 where
+  pub me : ops.me new ≡ ops.me s
+  pub size : ops.size new ≡ ops.size s
+  pub others : (q : ℕ) → q ≢ p → ops.next_hop new q ≡ ops.next_hop s q
+
+pub record Laws {S : Type 0} (ops : Ops S) : Type 0 where
+  -- at first, the next hop is a node, and this node at node 0 alone
+  pub first_me : (c : Config) (i : ℕ) → IsConfig c → i < c.nodes → ops.me (ops.first c i) ≡ i
+  pub first_size : (c : Config) (i : ℕ) → IsConfig c → i < c.nodes → ops.size (ops.first c i) ≡ c.pages
+  pub first_hop : (c : Config) (i p : ℕ) → IsConfig c → i < c.nodes → p < c.pages → ops.next_hop (ops.first c i) p < c.nodes
+  pub first_own : (c : Config) (i p : ℕ) → IsConfig c → i < c.nodes → p < c.pages → ops.next_hop (ops.first c i) p ≡ i → i ≡ 0
+  -- each call
+  pub keeps_forward : (s : S) (p : ℕ) (write : Bool) (origin : ℕ) → Keeps ops s p (ops.on_forward s p write origin)
+  pub keeps_given : (s : S) (p to : ℕ) → Keeps ops s p (ops.on_given s p to)
+  pub keeps_replied : (s : S) (p : ℕ) (write : Bool) (from : ℕ) → Keeps ops s p (ops.on_replied s p write from)
+  pub keeps_invalidated : (s : S) (p by : ℕ) → Keeps ops s p (ops.on_invalidated s p by)
+  -- what the next hop can be then
+  pub hop_forward : (s : S) (p : ℕ) (write : Bool) (origin : ℕ) → p < ops.size s
+      → (ops.next_hop (ops.on_forward s p write origin) p ≡ ops.next_hop s p) ⊎ (ops.next_hop (ops.on_forward s p write origin) p ≡ origin)
+  pub hop_given : (s : S) (p to : ℕ) → p < ops.size s
+      → (ops.next_hop (ops.on_given s p to) p ≡ ops.next_hop s p) ⊎ (ops.next_hop (ops.on_given s p to) p ≡ to)
+  pub gone_given : (s : S) (p to : ℕ) → p < ops.size s → to ≢ ops.me s → ops.next_hop (ops.on_given s p to) p ≢ ops.me s
+  pub hop_read : (s : S) (p from : ℕ) → p < ops.size s
+      → (ops.next_hop (ops.on_replied s p false from) p ≡ ops.next_hop s p) ⊎ (ops.next_hop (ops.on_replied s p false from) p ≡ from)
+  pub hop_written : (s : S) (p from : ℕ) → p < ops.size s
+      → (ops.next_hop (ops.on_replied s p true from) p ≡ ops.next_hop s p) ⊎ (ops.next_hop (ops.on_replied s p true from) p ≡ ops.me s)
+      ⊎ (ops.next_hop (ops.on_replied s p true from) p ≡ from)
+  pub hop_invalidated : (s : S) (p by : ℕ) → p < ops.size s
+      → (ops.next_hop (ops.on_invalidated s p by) p ≡ ops.next_hop s p) ⊎ (ops.next_hop (ops.on_invalidated s p by) p ≡ by)
+  -- one call takes back all changes at a page since its next hop was this one
+  pub undo : (s : S) (p from : ℕ) (cs : List Change) → brought_back ops p (ops.next_hop s p) from (all_changed ops p s cs) ≡ s

@@ -1,0 +1,22 @@
+-- Sets of nodes.
+use Rattle.std.specs.Prelude.{ℕ, ◌+◌, ◌≤◌, List, [], ◌∷◌, filter}
+use Rattle.std.specs.List.{range_with_len}
+use Rattle.std.specs.Ordering.{nat_cmp}
+use Rattle.std.specs.FinSet as set
+use Rattle.std.specs.Coded.{Coded, coded_ℕ}
+
+abbrev pub Nodes : Type 0
+Nodes = set.FinSet nat_cmp
+
+-- by which a proof tells sets apart
+abbrev pub nodes_code : Coded Nodes
+nodes_code = set.code coded_ℕ
+
+-- the list ascends, from a least number on, and lies below 32
+abbrev pub AscendsFrom : ℕ → List ℕ → Type 0
+AscendsFrom least [] = least ≤ 32
+AscendsFrom least (x ∷ xs) = (least ≤ x) × AscendsFrom (x + 1) xs
+
+-- the nodes of a set, in ascending order
+unfoldable pub nodes_of : Nodes → List ℕ
+nodes_of s = filter (set.contains s) (range_with_len 0 32)

@@ -1,0 +1,30 @@
+-- Words on page tables.
+use Rattle.std.specs.Prelude.{ℕ, List, [], slice_index_or, slice_set, replicate, if◌then◌else◌, ◌==◌}
+use Rattle.ivy_model.specs.declared.Config.{Config}
+use Rattle.ivy_pagetable.specs.declared.entry.Entry.{Entry}
+use Rattle.ivy_pagetable.specs.Entries.{nothing, owned}
+use Rattle.ivy_pagetable.specs.TableState.{Table}
+
+-- beyond the pages: an entry of nothing, and no bytes
+abbrev pub entry_at : Table → ℕ → Entry
+entry_at t page = slice_index_or t.entries page nothing
+
+abbrev pub page_at : Table → ℕ → List ℕ
+page_at t page = slice_index_or t.pages page []
+
+abbrev pub with_entry : Table → ℕ → Entry → Table
+with_entry t page e = record { page_size = t.page_size; entries = slice_set t.entries page e; pages = t.pages }
+
+abbrev pub with_page : Table → ℕ → List ℕ → Table
+with_page t page bytes = record { page_size = t.page_size; entries = t.entries; pages = slice_set t.pages page bytes }
+
+-- at first node 0 owns each page, and all bytes are 0
+abbrev pub first_entry : ℕ → Entry
+first_entry me = if me == 0 then owned else nothing
+
+abbrev pub first_table : Config → ℕ → Table
+first_table c me = record {
+  page_size = c.page_size;
+  entries = replicate c.pages (first_entry me);
+  pages = replicate c.pages (replicate c.page_size 0);
+}

@@ -1,0 +1,91 @@
+ghost use Rattle.std.specs.Prelude.{◌≡◌, ◌<◌, ◌↔◌, IsTrue};
+ghost use Rattle.std.specs.FinSet as set;
+ghost use Rattle.ivy_pagetable.specs.NodeSets.{nodes_of};
+
+use arrayvec::ArrayVec;
+use std::marker::Model;
+
+/// A set of nodes, each of a number below 32.
+#[derive(Drop)]
+pub struct NodeSet {
+    nodes: ArrayVec<u8, 32>,
+}
+
+impl Model for NodeSet {
+    ghost use Rattle.std.specs.Ordering.{nat_cmp};
+    ghost use Rattle.std.specs.FinSet as set;
+    ghost use Rattle.std.specs.Coded.{coded_ℕ};
+    ghost use Rattle.ivy_pagetable.specs.NodeSets.{AscendsFrom};
+
+    ghost Value = { set.FinSet nat_cmp };
+
+    ghost coded = { set.code coded_ℕ };
+
+    ghost view = { λ s. set.from_list s.nodes.items };
+
+    ghost invariant = { λ s. AscendsFrom 0 s.nodes.items };
+}
+
+impl NodeSet {
+    /// No node.
+    pub fn new() -> NodeSet
+        ensures { result ≡ set.empty }
+    {
+        NodeSet {
+            nodes: ArrayVec::new(),
+        }
+    }
+
+    /// Whether the node is one of them.
+    pub fn contains(&self, node: u8) -> bool
+        requires { node < 32 }
+        ensures { result ≡ set.contains self.now node }
+    {
+        self.nodes.contains(&node)
+    }
+
+    /// The same with this node.
+    pub fn insert(&mut self, node: u8)
+        requires { node < 32 }
+        ensures { self.new ≡ set.insert self.old node }
+    {
+        if let Err(place) = self.nodes.binary_search(&node) {
+            self.nodes.insert(place, node);
+        }
+    }
+
+    /// The same without this node.
+    pub fn remove(&mut self, node: u8)
+        requires { node < 32 }
+        ensures { self.new ≡ set.remove self.old node }
+    {
+        if let Ok(place) = self.nodes.binary_search(&node) {
+            self.nodes.remove(place);
+        }
+    }
+
+    /// Whether there is none.
+    pub fn is_empty(&self) -> bool
+        ensures { IsTrue result ↔ (self.now ≡ set.empty) }
+    {
+        self.nodes.is_empty()
+    }
+
+    /// The nodes in ascending order.
+    pub fn nodes(&self) -> ArrayVec<u8, 32>
+        ensures { result.items ≡ nodes_of self.now }
+    {
+        let mut nodes = ArrayVec::new();
+        nodes.try_extend_from_slice(&self.nodes).unwrap();
+        nodes
+    }
+
+    /// The same set.
+    pub fn copied(&self) -> NodeSet
+        ensures { result ≡ self.now }
+    {
+        let mut nodes = ArrayVec::new();
+        nodes.try_extend_from_slice(&self.nodes).unwrap();
+        NodeSet { nodes }
+    }
+}

@@ -1,0 +1,61 @@
+ghost use Rattle.std.specs.Prelude.{◌≡◌, ℕ, List, length, replicate, IfOk};
+ghost use Rattle.ivy_pagetable.specs.Words.{IsWord, carried_out};
+
+use crate::word::{Out, Word};
+use std::alloc::{AllocError, Allocator};
+use std::marker::Model;
+
+/// The bytes of a page.
+#[derive(Drop)]
+pub(crate) struct Page<A: Allocator> {
+    bytes: Vec<u8, A>,
+}
+
+impl<A: Allocator> Model for Page<A> {
+    ghost Value = { List ℕ };
+
+    ghost view = { λ page. page.bytes.items };
+}
+
+impl<A: Allocator> Page<A> {
+    ghost use Rattle.std.specs.Borrow.{sem};
+    ghost use Rattle.ivy_pagetable.specs.Lending.{LendsBytes};
+
+    /// A page of this many zeros.
+    pub(crate) fn zeros(alloc: A, len: usize) -> Result<Self, AllocError>
+        ensures { IfOk result (λ page. page ≡ replicate len 0) }
+    {
+        Ok(Page {
+            bytes: vec![in alloc; 0u8; len]?,
+        })
+    }
+
+    pub(crate) fn bytes(&self) -> &[u8]
+        ensures { result.now ≡ self.now }
+    {
+        &self.bytes
+    }
+
+    pub(crate) fn bytes_mut(&mut self) -> &mut [u8]
+        ensures* writes_back { sem 𝓛 (LendsBytes A.row A.Allocator self.entry result) }
+        ensures value { result.now ≡ self.old }
+    {
+        &mut self.bytes
+    }
+
+    pub(crate) fn copy_from(&mut self, bytes: &[u8])
+        requires { length bytes.now ≡ length self.old }
+        ensures { self.new ≡ bytes.now }
+    {
+        self.bytes.copy_from_slice(bytes);
+    }
+
+    pub(crate) fn carry_out(&mut self, word: Word) -> Out
+        requires { IsWord (length self.old) word }
+        ensures out { result ≡ (carried_out word self.old).out }
+        ensures bytes { self.new ≡ (carried_out word self.old).bytes }
+        ensures sized { length self.new ≡ length self.old }
+    {
+        word.carry_out(&mut self.bytes)
+    }
+}

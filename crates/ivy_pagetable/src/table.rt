@@ -1,0 +1,158 @@
+ghost use Rattle.std.specs.Prelude.{◌≡◌, ◌<◌, length, replicate, if◌then◌else◌, IfOk, IsOkUnless};
+ghost use Rattle.ivy_model.specs.Config.{IsConfig};
+ghost use Rattle.ivy_pagetable.specs.Entries.{can_put_off, with_put_off};
+ghost use Rattle.ivy_pagetable.specs.Tables.{first_entry, entry_at, page_at, with_entry, with_page, first_table};
+ghost use Rattle.ivy_pagetable.specs.Words.{IsWord, carried_out};
+
+use crate::access::Access;
+use crate::entry::Entry;
+use crate::idle::Idle;
+use crate::page::Page;
+use crate::put_off::PutOff;
+use crate::word::{Out, Word};
+use ivy_model::{Config, Fault};
+use std::alloc::{AllocError, Allocator};
+use std::marker::Model;
+
+/// The entry and the bytes of each page.
+#[derive(Drop)]
+pub struct PageTable<A: Allocator> {
+    page_size: u32,
+    entries: Vec<Entry, A>,
+    pages: Vec<Page<A>, A>,
+}
+
+impl<A: Allocator> Model for PageTable<A> {
+    ghost use Rattle.ivy_pagetable.specs.TableState.{Table, IsTable};
+    ghost use Rattle.std.specs.Coded.{codes};
+    ghost use Rattle.ivy_pagetable.specs.NodeSets.{nodes_code};
+
+    ghost Value = { Table };
+
+    ghost coded = { Prim.hlevel (codes, nodes_code) };
+
+    ghost view = { λ t. record { page_size = t.page_size; entries = t.entries.items; pages = t.pages.items } };
+
+    ghost invariant = { λ t. IsTable (record { page_size = t.page_size; entries = t.entries.items; pages = t.pages.items }) };
+}
+
+fn first_entry(me: u8) -> Entry
+    ensures { result ≡ first_entry me }
+{
+    if me == 0 {
+        Entry::Idle(Idle::owned())
+    } else {
+        Entry::Idle(Idle::plain(Access::Nil))
+    }
+}
+
+fn first_entries<A: Allocator>(alloc: A, pages: u32, me: u8) -> Result<Vec<Entry, A>, AllocError>
+    ensures { IfOk result (λ entries. entries.items ≡ replicate pages (first_entry me)) }
+{
+    let mut entries = Vec::new(alloc);
+    for _ in 0..pages {
+        entries.push(first_entry(me))?;
+    }
+    Ok(entries)
+}
+
+fn first_pages<A: Allocator + Copy>(
+    alloc: A,
+    pages: u32,
+    page_size: u32,
+) -> Result<Vec<Page<A>, A>, AllocError>
+    ensures { IfOk result (λ all. all.items ≡ replicate pages (replicate page_size 0)) }
+{
+    let mut all = Vec::new(alloc);
+    for _ in 0..pages {
+        all.push(Page::zeros(alloc, page_size as usize)?)?;
+    }
+    Ok(all)
+}
+
+impl<A: Allocator + Copy> PageTable<A> {
+    /// The table of a node at first: node 0 owns each page, to write, and the others have nothing;
+    /// each byte is 0. Refused with 1.
+    pub fn new(alloc: A, config: &Config, me: u8) -> Result<Self, Fault>
+        requires { IsConfig config.now }
+        ensures first { IfOk result (λ t. t ≡ first_table config.now me) }
+        ensures memory { IsOkUnless result Fault.Memory }
+    {
+        let entries = first_entries(alloc, config.pages, me)?;
+        let pages = first_pages(alloc, config.pages, config.page_size)?;
+        Ok(PageTable {
+            page_size: config.page_size,
+            entries,
+            pages,
+        })
+    }
+}
+
+impl<A: Allocator> PageTable<A> {
+    ghost use Rattle.std.specs.Borrow.{sem};
+    ghost use Rattle.ivy_pagetable.specs.Lending.{LendsPage};
+
+    /// The entry of the page.
+    pub fn entry(&self, page: u32) -> &Entry
+        requires { page < length self.now.entries }
+        ensures { result.now ≡ entry_at self.now page }
+    {
+        &self.entries[page as usize]
+    }
+
+    /// The bytes of the page.
+    pub fn page(&self, page: u32) -> &[u8]
+        requires { page < length self.now.entries }
+        ensures bytes { result.now ≡ page_at self.now page }
+        ensures sized { length result.now ≡ self.now.page_size }
+    {
+        self.pages[page as usize].bytes()
+    }
+
+    /// The bytes of the page, to be written.
+    pub fn page_mut(&mut self, page: u32) -> &mut [u8]
+        requires { page < length self.old.entries }
+        ensures* writes_back { sem 𝓛 (LendsPage A.row A.Allocator self.entry page result) }
+        ensures bytes { result.now ≡ page_at self.old page }
+        ensures sized { length result.now ≡ self.old.page_size }
+    {
+        self.pages[page as usize].bytes_mut()
+    }
+
+    /// Replaces the entry of the page.
+    pub fn set_entry(&mut self, page: u32, entry: Entry)
+        requires { page < length self.old.entries }
+        ensures { self.new ≡ with_entry self.old page entry }
+    {
+        self.entries[page as usize] = entry;
+    }
+
+    /// Puts a message off where a word waits for the page and fewer than eight are put off, and
+    /// says whether it did.
+    pub fn put_off(&mut self, page: u32, message: PutOff) -> bool
+        requires { page < length self.old.entries }
+        ensures done { result ≡ can_put_off (entry_at self.old page) }
+        ensures kept { self.new ≡ if can_put_off (entry_at self.old page) then with_entry self.old page (with_put_off (entry_at self.old page) message) else self.old }
+    {
+        self.entries[page as usize].put_off(message)
+    }
+
+    /// Copies these bytes to the page, as many as it has.
+    pub fn install(&mut self, page: u32, bytes: &[u8])
+        requires page { page < length self.old.entries }
+        requires sized { length bytes.now ≡ self.old.page_size }
+        ensures { self.new ≡ with_page self.old page bytes.now }
+    {
+        self.pages[page as usize].copy_from(bytes);
+    }
+
+    /// Carries a word out on the page.
+    pub fn carry_out(&mut self, page: u32, word: Word) -> Out
+        requires page { page < length self.old.entries }
+        requires word { IsWord self.old.page_size word }
+        ensures out { result ≡ (carried_out word (page_at self.old page)).out }
+        ensures bytes { self.new ≡ with_page self.old page (carried_out word (page_at self.old page)).bytes }
+    {
+        self.pages[page as usize].carry_out(word)
+    }
+}

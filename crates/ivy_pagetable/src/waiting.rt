@@ -1,0 +1,188 @@
+ghost use Rattle.std.specs.Prelude.{◌≡◌, ◌≢◌, ◌<◌, ◌≤◌, [], ◌∷◌, ◌++◌, length, nat_le, nat_lt, if◌then◌else◌};
+ghost use Rattle.std.specs.FinSet as set;
+ghost use Rattle.ivy_pagetable.specs.Entries.{one_more};
+
+use crate::node_set::NodeSet;
+use crate::put_off::PutOff;
+use crate::word::Word;
+use arrayvec::ArrayVec;
+use std::marker::Model;
+
+/// A word that waits for its page, the number of its call, and the messages that were put off
+/// until then, at most eight.
+#[derive(Drop)]
+pub struct Waiting {
+    word: Word,
+    call: u64,
+    put_off: ArrayVec<PutOff, 8>,
+}
+
+impl Model for Waiting {
+    ghost use Rattle.ivy_pagetable.specs.States.{WaitingState, FitsPutOff};
+
+    ghost Value = { WaitingState };
+
+    ghost view = { λ s. record { word = s.word; call = s.call; put_off = s.put_off.items } };
+
+    ghost invariant = { λ s. FitsPutOff (record { word = s.word; call = s.call; put_off = s.put_off.items }) };
+}
+
+impl Waiting {
+    /// The word of this call, and nothing put off.
+    pub fn new(word: Word, call: u64) -> Waiting
+        ensures { result ≡ record { word = word; call = call; put_off = [] } }
+    {
+        Waiting {
+            word,
+            call,
+            put_off: ArrayVec::new(),
+        }
+    }
+
+    /// Whether no message more can be put off.
+    pub fn is_full(&self) -> bool
+        ensures { result ≡ nat_le 8 (length self.now.put_off) }
+    {
+        self.put_off.is_full()
+    }
+
+    /// Puts one message more off.
+    pub fn put_off(&mut self, message: PutOff)
+        requires { length self.old.put_off < 8 }
+        ensures { self.new ≡ one_more self.old message }
+    {
+        self.put_off.push(message);
+    }
+
+    /// Puts one message more off where there is room, and says whether it did.
+    pub(crate) fn try_put_off(&mut self, message: PutOff) -> bool
+        ensures done { result ≡ nat_lt (length self.old.put_off) 8 }
+        ensures kept { self.new ≡ if nat_lt (length self.old.put_off) 8 then one_more self.old message else self.old }
+    {
+        if self.is_full() {
+            return false;
+        }
+        self.put_off(message);
+        true
+    }
+
+    /// What was put off, in order of arrival.
+    pub fn put_offs(&self) -> &[PutOff]
+        ensures list { result.now ≡ self.now.put_off }
+        ensures fits { length self.now.put_off ≤ 8 }
+    {
+        self.put_off.as_slice()
+    }
+
+    /// The word that waits.
+    pub fn word(&self) -> Word
+        ensures { result ≡ self.now.word }
+    {
+        self.word
+    }
+
+    /// The number of the word's call.
+    pub fn call(&self) -> u64
+        ensures { result ≡ self.now.call }
+    {
+        self.call
+    }
+}
+
+/// A word that writes waits for the page. Until then this node may still have the copy that it had.
+#[derive(Drop)]
+pub struct AwaitWrite {
+    had_copy: bool,
+    waiting: Waiting,
+}
+
+impl Model for AwaitWrite {
+    ghost use Rattle.ivy_pagetable.specs.States.{AwaitWriteState};
+
+    ghost Value = { AwaitWriteState };
+
+    ghost view = { λ s. record { had_copy = s.had_copy; waiting = s.waiting } };
+}
+
+impl AwaitWrite {
+    /// The word waits, with this copy or none.
+    pub fn new(had_copy: bool, waiting: Waiting) -> AwaitWrite
+        ensures { result ≡ record { had_copy = had_copy; waiting = waiting } }
+    {
+        AwaitWrite { had_copy, waiting }
+    }
+
+    /// Whether this node still has a copy, to read.
+    pub fn had_copy(&self) -> bool
+        ensures { result ≡ self.now.had_copy }
+    {
+        self.had_copy
+    }
+
+    /// The word, its call and what was put off.
+    pub fn waiting(&self) -> &Waiting
+        ensures { result.now ≡ self.now.waiting }
+    {
+        &self.waiting
+    }
+
+    pub(crate) fn try_put_off(&mut self, message: PutOff) -> bool
+        ensures done { result ≡ nat_lt (length self.old.waiting.put_off) 8 }
+        ensures kept { self.new ≡ record { had_copy = self.old.had_copy; waiting = if nat_lt (length self.old.waiting.put_off) 8 then one_more self.old.waiting message else self.old.waiting } }
+    {
+        self.waiting.try_put_off(message)
+    }
+}
+
+/// This node is the owner, and a word that writes waits until each copy was given up.
+#[derive(Drop)]
+pub struct AwaitAcks {
+    left: NodeSet,
+    waiting: Waiting,
+}
+
+impl Model for AwaitAcks {
+    ghost use Rattle.ivy_pagetable.specs.States.{AwaitAcksState, IsAwaitAcks};
+    ghost use Rattle.std.specs.Coded.{codes};
+    ghost use Rattle.ivy_pagetable.specs.NodeSets.{nodes_code};
+
+    ghost Value = { AwaitAcksState };
+
+    ghost coded = { Prim.hlevel (codes, nodes_code) };
+
+    ghost view = { λ s. record { left = s.left; waiting = s.waiting } };
+
+    ghost invariant = { λ s. IsAwaitAcks (record { left = s.left; waiting = s.waiting }) };
+}
+
+impl AwaitAcks {
+    /// The acknowledgements of these nodes are missing, of one at least.
+    pub fn new(left: NodeSet, waiting: Waiting) -> AwaitAcks
+        requires { left ≢ set.empty }
+        ensures { result ≡ record { left = left; waiting = waiting } }
+    {
+        AwaitAcks { left, waiting }
+    }
+
+    /// The nodes whose acknowledgement is missing.
+    pub fn left(&self) -> &NodeSet
+        ensures left { result.now ≡ self.now.left }
+        ensures fact { self.now.left ≢ set.empty }
+    {
+        &self.left
+    }
+
+    /// The word, its call and what was put off.
+    pub fn waiting(&self) -> &Waiting
+        ensures { result.now ≡ self.now.waiting }
+    {
+        &self.waiting
+    }
+
+    pub(crate) fn try_put_off(&mut self, message: PutOff) -> bool
+        ensures done { result ≡ nat_lt (length self.old.waiting.put_off) 8 }
+        ensures kept { self.new ≡ record { left = self.old.left; waiting = if nat_lt (length self.old.waiting.put_off) 8 then one_more self.old.waiting message else self.old.waiting } }
+    {
+        self.waiting.try_put_off(message)
+    }
+}

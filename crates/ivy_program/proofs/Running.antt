@@ -1,0 +1,50 @@
+-- Runs that grow at their end, and the calls that programs make.
+use Rattle.std.proofs.Common.{◌≡◌, ℕ, suc, zero, List, [], ◌∷◌, ◌++◌, Option, Some, None, refl, ap, subst, slice_get, lit<}
+use Rattle.ivy_model.specs.declared.Call.{Call}
+use Rattle.ivy_model.specs.declared.Record.{Record}
+use Rattle.ivy_model.specs.Legal.{HasWidth, IsWidth}
+use Rattle.ivy_program.specs.declared.instruction.Width.{Width}
+use Rattle.ivy_program.specs.declared.instruction.Width.TheVariants.{One, Two, Four, Eight}
+use Rattle.ivy_program.specs.declared.instruction.Instruction.{Instruction}
+use Rattle.ivy_program.specs.declared.instruction.Instruction.TheVariants.{Set, Load, Print}
+use Rattle.ivy_program.specs.Instructions.{bytes_in}
+use Rattle.ivy_program.specs.States.{State}
+use Rattle.ivy_program.specs.Steps.{Step, Local, Asks, Ends, step, step_at, answered}
+use Rattle.ivy_program.specs.Runs.{Leads, Runs}
+use Rattle.ivy_program.specs.Calls.{IsLoad, OnlyLoads}
+
+leads_on : (p : List Instruction) (n : ℕ) (old mid new : State) → Leads p n old mid → step p mid ≡ Local new → Leads p (suc n) old new
+leads_on p zero old mid new e h = (new, subst (λ s. step p s ≡ Local new) e h, refl)
+leads_on p (suc n) old mid new l h = (l.0, l.1, leads_on p n l.0 mid new l.2 h)
+
+-- a run goes on by one instruction of its own
+pub runs_on : (p : List Instruction) (rs : List Record) (old mid new : State) → Runs p old rs mid → step p mid ≡ Local new → Runs p old rs new
+runs_on p [] old mid new run h = (suc run.0, leads_on p run.0 old mid new run.1 h)
+runs_on p (r ∷ rs) old mid new run h = (run.0, run.1, run.2, runs_on p rs (answered p run.0 r.reply) mid new run.3 h)
+
+-- a run goes on by one call and its reply
+pub runs_answered : (p : List Instruction) (rs : List Record) (old mid : State) (r : Record) → Runs p old rs mid → step p mid ≡ Asks r.call → Runs p old (rs ++ r ∷ []) (answered p mid r.reply)
+runs_answered p [] old mid r run h = (mid, run, h, (0, refl))
+runs_answered p (q ∷ rs) old mid r run h = (run.0, run.1, run.2, runs_answered p rs (answered p run.0 q.reply) mid r run.3 h)
+
+is_width : (w : Width) → IsWidth (bytes_in w)
+is_width One = (0, lit< tt, refl)
+is_width Two = (1, lit< tt, refl)
+is_width Four = (2, lit< tt, refl)
+is_width Eight = (3, lit< tt, refl)
+
+abbrev asked : Call → Step → Call
+asked c (Local s) = c
+asked c (Asks d) = d
+asked c Ends = c
+
+loads_at : (s : State) (i : Option Instruction) (c : Call) → step_at s i ≡ Asks c → IsLoad c × HasWidth c
+loads_at s None c h = cc
+loads_at s (Some (Set to value)) c h = cc
+loads_at s (Some (Print from)) c h = cc
+loads_at s (Some (Load width to addr)) c h =
+    subst (λ d. IsLoad d × HasWidth d) (ap (asked c) h) (tt, is_width width)
+
+-- each program makes no call but loads, of 1, 2, 4 or 8 bytes
+pub only_loads : (p : List Instruction) → OnlyLoads p
+only_loads p s c h = loads_at s (slice_get p s.place) c h

@@ -1,0 +1,6 @@
+pub mod Instructions
+pub mod States
+pub mod Steps
+pub mod Calls
+pub mod Runs
+pub mod Texts

@@ -1,0 +1,34 @@
+-- Histories that are runs of a program.
+use Rattle.std.specs.Prelude.{◌≡◌, ℕ, suc, zero, List, [], ◌∷◌}
+use Rattle.ivy_model.specs.declared.Record.{Record}
+use Rattle.ivy_program.specs.declared.instruction.Instruction.{Instruction}
+use Rattle.ivy_program.specs.States.{State, first_state}
+use Rattle.ivy_program.specs.Steps.{Local, Asks, Ends, step, answered}
+
+-- so many instructions without a call lead from one state to another
+abbrev pub Leads : List Instruction → ℕ → State → State → Type 0
+Leads program zero old new = new ≡ old
+Leads program (suc n) old new = (mid : State) × (step program old ≡ Local mid) × Leads program n mid new
+
+abbrev pub Follows : List Instruction → State → State → Type 0
+Follows program old new = (n : ℕ) × Leads program n old new
+
+-- the program makes the calls of the records one after another, each with its reply, and then comes to this state
+abbrev pub Runs : List Instruction → State → List Record → State → Type 0
+Runs program old [] new = Follows program old new
+Runs program old (r ∷ rs) new =
+    (asking : State) × Follows program old asking × (step program asking ≡ Asks r.call) × Runs program (answered program asking r.reply) rs new
+
+-- a run of the program from its beginning
+abbrev pub IsRunTo : List Instruction → List Record → State → Type 0
+IsRunTo program history new = Runs program first_state history new
+
+abbrev pub IsRun : List Instruction → List Record → Type 0
+IsRun program history = (new : State) × IsRunTo program history new
+
+-- the run to the program's end, with this output
+pub record IsWholeRun (program : List Instruction) (history : List Record) (output : List ℕ) : Type 0 where
+  pub end : State
+  pub run : IsRunTo program history end
+  pub ended : step program end ≡ Ends
+  pub printed : end.output ≡ output
