@@ -1,0 +1,114 @@
+-- What holds of an outbox stays, and how many strings an event adds.
+use Rattle.std.proofs.Common.{◌≡◌, ◌≢◌, ℕ, ◌+◌, ◌<◌, ◌≤◌, List, [], ◌∷◌, ◌++◌, All, length, map, get_or, take, Bool, true, false, refl, sym, ap, subst, ◌∙◌, arith}
+use Rattle.std.specs.Borrow.{Bor}
+use Rattle.std.specs.Prelude.{IsErrOf, Ok, Err}
+use Rattle.std.proofs.lemmas.List.{length-map, get_or-map, map_more, map-append, length-append}
+use Rattle.ivy_model.specs.declared.Config.{Config}
+use Rattle.ivy_model.specs.declared.Fault.{Fault}
+use Rattle.ivy_model.specs.Config.{IsConfig}
+use Rattle.ivy_wire.specs.Data.{Frame, Parcel}
+use Rattle.ivy_wire.specs.declared.frame.Frame as frame
+use Rattle.ivy_wire.specs.Lent.{owned_frame}
+use Rattle.ivy_wire.specs.Spelling.{FitsParcel, Fits, spelling}
+use Rattle.ivy_link.specs.Linked.{Linked, first_link, after_sends, frames_of, has_numbers, AreWithin}
+use Rattle.ivy_link.specs.Accepted.{accepted}
+use Rattle.ivy_link.specs.Pulsed.{frames_again, after_pulse, pulsed}
+use Rattle.ivy_link.specs.Fitting.{FitsLink}
+use Rattle.ivy_link.proofs.Fits.{sends-me, accepted-me, first-fits, sends-fits, frames-fit, fits-within, accepted-fits, pulsed-fits, again-fit, length-frames_of, few-again}
+use Rattle.ivy_ether.specs.Marks.{Pulse}
+use Rattle.ivy_node.specs.Shown.{pulse_marks}
+use Rattle.ivy_node.specs.Outboxes.{Outbox, IsSoundOutbox, with_sending, posted_by}
+
+-- how many strings are added
+pub few : (l : Linked) (to : ℕ) → length (map spelling (frames_again l to)) ≤ 32
+few l to = omega (arith, few-again l to, length-map (frames_again l to) spelling)
+
+pub as_many : (l : Linked) (ps : List Parcel) → length (map spelling (frames_of l ps)) ≡ length ps
+as_many l ps = length-map (frames_of l ps) spelling ∙ length-frames_of l ps
+
+-- the frames that are spelled one after the other
+pub fits_at : (c : Config) (fs : List (frame.Frame (Bor (List ℕ)))) (i : ℕ) (d : frame.Frame (Bor (List ℕ))) → i < length fs → All (Fits c) (map owned_frame fs) → Fits c (owned_frame (get_or fs i d))
+fits_at c fs i d lt fit =
+    subst (Fits c) (get_or-map owned_frame fs i d (owned_frame d) lt) (fit i (owned_frame d) (subst (λ n. i < n) (sym (length-map fs owned_frame)) lt))
+
+pub spelled_more : (fs : List (frame.Frame (Bor (List ℕ)))) (i : ℕ) (d : frame.Frame (Bor (List ℕ))) (strings : List (List ℕ)) (string : List ℕ) → i < length fs → strings ≡ map spelling (map owned_frame (take i fs)) → string ≡ spelling (owned_frame (get_or fs i d)) → strings ++ string ∷ [] ≡ map spelling (map owned_frame (take (i + 1) fs))
+spelled_more fs i d strings string lt so here =
+    ap (λ ss. ss ++ string ∷ []) so ∙ (ap (λ s. map spelling (map owned_frame (take i fs)) ++ s ∷ []) here
+    ∙ sym (ap (map spelling) (map_more owned_frame fs i d lt) ∙ map-append spelling (map owned_frame (take i fs)) (owned_frame (get_or fs i d) ∷ [])))
+
+pub few-wait : (o : Outbox) (to : ℕ) → length (with_sending o (pulsed o.link to)).waiting ≤ length o.waiting + 32
+few-wait o to = omega (arith, few o.link to, length-append o.waiting (map spelling (frames_again o.link to)))
+
+pub as_many-wait : (o : Outbox) (ps : List Parcel) → length (posted_by o ps).waiting ≡ length o.waiting + length ps
+as_many-wait o ps = length-append o.waiting (map spelling (frames_of o.link ps)) ∙ ap (λ n. length o.waiting + n) (as_many o.link ps)
+
+-- a pulse is listed where a frame was made
+pub made-marks : (to : ℕ) (fs : List Frame) → fs ≢ [] → pulse_marks to (map spelling fs) ≡ Pulse to ∷ []
+made-marks to [] some = absurd (some refl)
+made-marks to (f ∷ fs) some = refl
+
+pub none-marks : (to : ℕ) (fs : List Frame) → (fs ≢ [] → ⊥) → pulse_marks to (map spelling fs) ≡ []
+none-marks to [] none = refl
+none-marks to (f ∷ fs) none = absurd (none (λ e. absurd cc))
+
+-- at the beginning
+pub first-box : (c : Config) (me : ℕ) (ws : List (List ℕ)) → IsConfig c → me < c.nodes → IsSoundOutbox (record { config = c; me = me; link = first_link me c.nodes; waiting = ws })
+first-box c me ws limits here = record { limits = limits; mine = refl; fits = first-fits c me here }
+
+-- another link of the same node that fits
+relinked : (n v : Outbox) → v ≡ n → IsSoundOutbox v → (l : Linked) (ws : List (List ℕ)) → l.me ≡ n.link.me → (IsSoundOutbox n → FitsLink n.config l) → IsSoundOutbox (record { config = v.config; me = v.me; link = l; waiting = ws })
+relinked n v same s l ws mine fits =
+    let at : IsSoundOutbox n = subst IsSoundOutbox same s in
+    subst (λ (x : Outbox). IsSoundOutbox (record { config = x.config; me = x.me; link = l; waiting = ws })) (sym same)
+    (record { limits = at.limits; mine = mine ∙ at.mine; fits = fits at })
+
+pub accepted-box : (n v : Outbox) → v ≡ n → IsSoundOutbox v → (f : Frame) (l : Linked) → Fits n.config f → l ≡ accepted v.link f → IsSoundOutbox (record { config = v.config; me = v.me; link = l; waiting = v.waiting })
+accepted-box n v same s f l fits is =
+    let now : l ≡ accepted n.link f = is ∙ ap (λ (x : Outbox). accepted x.link f) same in
+    relinked n v same s l v.waiting (ap (λ k. k.me) now ∙ accepted-me n.link f) (λ at. subst (FitsLink n.config) (sym now) (accepted-fits n.config n.link f at.fits fits))
+
+pub pulsed-box : (n v : Outbox) → v ≡ n → IsSoundOutbox v → (to : ℕ) (l : Linked) (ws : List (List ℕ)) → l ≡ after_pulse v.link to → IsSoundOutbox (record { config = v.config; me = v.me; link = l; waiting = ws })
+pulsed-box n v same s to l ws is =
+    let now : l ≡ after_pulse n.link to = is ∙ ap (λ (x : Outbox). after_pulse x.link to) same in
+    relinked n v same s l ws (ap (λ k. k.me) now) (λ at. subst (FitsLink n.config) (sym now) (pulsed-fits n.config n.link to at.fits))
+
+pub pulsed-fit : (n v : Outbox) → v ≡ n → IsSoundOutbox v → (to : ℕ) (fs : List Frame) → to < n.config.nodes → to ≢ n.me → fs ≡ frames_again v.link to → All (Fits v.config) fs
+pulsed-fit n v same s to fs there apart is =
+    let inside : to < v.config.nodes = subst (λ (x : Outbox). to < x.config.nodes) (sym same) there in
+    let other : to ≢ v.link.me = λ e. apart (e ∙ (s.mine ∙ ap (λ (x : Outbox). x.me) same)) in
+    subst (All (Fits v.config)) (sym is) (again-fit v.config v.link to s.fits inside other)
+
+-- the parcels of a node fit, seen from its link
+own-fit : (n v : Outbox) → v ≡ n → IsSoundOutbox v → (ps : List Parcel) → All (FitsParcel n.config n.me) ps → All (FitsParcel v.config v.link.me) ps
+own-fit n v same s ps fit =
+    subst (λ me. All (FitsParcel v.config me) ps) (sym s.mine) (subst (λ (x : Outbox). All (FitsParcel x.config x.me) ps) (sym same) fit)
+
+pub sent-within : (n v : Outbox) → v ≡ n → IsSoundOutbox v → (ps : List Parcel) → All (FitsParcel n.config n.me) ps → AreWithin v.link ps
+sent-within n v same s ps fit = fits-within v.config v.link ps s.fits (own-fit n v same s ps fit)
+
+pub never : {T P : Type 0} (x : T) (f : Fault) → (P → IsErrOf (Ok x) f) → P → ⊥
+never x f h p =
+    let wrong : Ok x ≡ Err f = h p in
+    absurd cc
+
+not_false : (b : Bool) → b ≢ false → b ≡ true
+not_false true h = refl
+not_false false h = absurd (h refl)
+
+pub sent-fit : (n v : Outbox) → v ≡ n → IsSoundOutbox v → (ps : List Parcel) (fs : List Frame) → All (FitsParcel n.config n.me) ps → has_numbers v.link ps ≢ false → fs ≡ frames_of v.link ps → All (Fits v.config) fs
+sent-fit n v same s ps fs fit numbers is =
+    subst (All (Fits v.config)) (sym is) (frames-fit v.config v.link ps s.fits (own-fit n v same s ps fit) (not_false (has_numbers v.link ps) numbers))
+
+pub sent-box : (n v : Outbox) → v ≡ n → IsSoundOutbox v → (ps : List Parcel) (l : Linked) (ws : List (List ℕ)) → All (FitsParcel n.config n.me) ps → has_numbers v.link ps ≢ false → l ≡ after_sends v.link ps → IsSoundOutbox (record { config = v.config; me = v.me; link = l; waiting = ws })
+sent-box n v same s ps l ws fit numbers is = record {
+  limits = s.limits;
+  mine = ap (λ k. k.me) is ∙ (sends-me v.link ps ∙ s.mine);
+  fits = subst (FitsLink v.config) (sym is) (sends-fits v.config v.link ps s.fits (own-fit n v same s ps fit) (not_false (has_numbers v.link ps) numbers));
+}
+
+pub few-added : (n v : Outbox) → v ≡ n → (to : ℕ) (fs : List Frame) (strings ws : List (List ℕ)) → fs ≡ frames_again v.link to → strings ≡ map spelling fs → ws ≡ v.waiting ++ strings → length ws ≤ length n.waiting + 32
+few-added n v same to fs strings ws is spelled added =
+    let all : ws ≡ v.waiting ++ map spelling (frames_again v.link to) = added ∙ ap (λ ss. v.waiting ++ ss) (spelled ∙ ap (map spelling) is) in
+    let count : length ws ≡ length (v.waiting ++ map spelling (frames_again v.link to)) = ap length all in
+    let before : length v.waiting ≡ length n.waiting = ap (λ (x : Outbox). length x.waiting) same in
+    omega (arith, count, before, few v.link to, length-append v.waiting (map spelling (frames_again v.link to)))

@@ -1,0 +1,201 @@
+-- What a delivery to a site is, from what its parts did. `v` is what the fields are seen as, `n` the value.
+use Rattle.std.proofs.Common.{◌≡◌, ℕ, ◌+◌, ◌≤◌, true, false, List, [], ◌∷◌, ◌++◌, length, map, Some, None, Result, Ok, Err, MatchResult, refl, sym, ap, ◌∙◌, subst, arith, append-nil}
+use Rattle.std.proofs.lemmas.List.{length-append}
+use Rattle.ivy_model.specs.declared.Config.{Config}
+use Rattle.ivy_model.specs.declared.Fault.{Fault}
+use Rattle.ivy_model.specs.declared.Fault.TheVariants as fault
+use Rattle.ivy_model.specs.Config.{IsConfig}
+use Rattle.ivy_wire.specs.declared.FrameKind.{FrameKind}
+use Rattle.ivy_wire.specs.Data.{Message, Frame, Parcel}
+use Rattle.ivy_wire.specs.Spelling.{Spells, spelling, frame_kind}
+use Rattle.ivy_wire.specs.Faults.{checked}
+use Rattle.ivy_wire.specs.Reading.{frame_at}
+use Rattle.ivy_wire.proofs.Frames.{spelled_once}
+use Rattle.ivy_link.specs.declared.Verdict.{Verdict}
+use Rattle.ivy_link.specs.declared.Verdict.TheVariants as verdict
+use Rattle.ivy_link.specs.Linked.{Linked, sends, has_numbers}
+use Rattle.ivy_link.specs.Accepted.{offered, accepted}
+use Rattle.ivy_coherence.specs.Steps.{handled}
+use Rattle.ivy_fixed.specs.Fixed.{Owners, fixed_ops}
+use Rattle.ivy_ether.specs.Marks.{Mark, Delivery}
+use Rattle.ivy_ether.specs.Cores.{Core}
+use Rattle.ivy_ether.specs.Nodes.{Node, Effect, stays, posting, accepting, served, received, received_as, delivered, delivered_as}
+use Rattle.ivy_node.specs.Memories.{Memory, memory_told}
+use Rattle.ivy_node.specs.Hosts.{Host, host_rules, serving}
+use Rattle.ivy_node.specs.Outboxes.{Outbox, HasNumbers, IsRefused, with_link, posted_by}
+use Rattle.ivy_node.specs.Shown.{Shown, after_event, after_delivery}
+use Rattle.ivy_node.specs.Sites.{Delivers, IsSpentDelivery, IsSite}
+use Rattle.ivy_node.proofs.Boxes.{as_many}
+use Rattle.ivy_node.proofs.Same.{handled-same}
+use Rattle.ivy_node.proofs.Tame.{IsAskingHost}
+
+abbrev H : Type 0
+H = Host Owners
+
+abbrev rules : Core H
+rules = host_rules fixed_ops
+
+abbrev box_of : Shown → Outbox
+box_of v = record { config = v.config; me = v.me; link = v.node.link; waiting = v.waiting }
+
+-- a frame was read from the string, and this is what it is to the node
+pub record IsRead (v : Shown) (k : Config) (f : Frame) (bytes : List ℕ) (w : Verdict) : Type 0 where
+  pub config : k ≡ v.config
+  pub limits : IsConfig k
+  pub spelled : Spells k f bytes
+  pub is : w ≡ offered v.node.link f
+
+spelled_here : (v : Shown) (k : Config) (f : Frame) (bytes : List ℕ) (w : Verdict) → IsRead v k f bytes w → Spells v.config f bytes
+spelled_here v k f bytes w r = subst (λ x. Spells x f bytes) r.config r.spelled
+
+receives : (v : Shown) (k : Config) (f : Frame) (bytes : List ℕ) (w : Verdict) → IsRead v k f bytes w → delivered rules v.config v.node bytes ≡ received_as rules w v.node f
+unfolding delivered received
+receives v k f bytes w r =
+    let once : (checked v.config bytes ≡ Ok (frame_kind f.body)) × (frame_at (frame_kind f.body) bytes ≡ f) = spelled_once v.config f bytes (subst IsConfig r.config r.limits) (spelled_here v k f bytes w r) in
+    ap (λ x. delivered_as rules x v.node bytes) once.0 ∙ (ap (λ x. received rules v.node x) once.1 ∙ ap (λ x. received_as rules x v.node f) (sym r.is))
+
+-- a string that no frame was read from, for another reason than memory, is not delivered
+refused_is : (c : Config) (m : Node H) (bytes : List ℕ) (x : Result FrameKind Fault) → checked c bytes ≡ x → (e : Fault) (Q : Fault → Type 0) → MatchResult x (λ k. e ≡ fault.Memory) Q → e ≡ fault.NumbersSpent → delivered rules c m bytes ≡ None
+unfolding delivered
+refused_is c m bytes (Ok kind) is e Q why spent = absurd (let both : fault.Memory ≡ fault.NumbersSpent = sym why ∙ spent in cc)
+refused_is c m bytes (Err k) is e Q why spent = ap (λ x. delivered_as rules x m bytes) is
+
+pub spent_reading : (n v : Shown) → v ≡ n → (k : Config) (bytes : List ℕ) (e : Fault) (Q : Fault → Type 0) → k ≡ v.config → MatchResult (checked k bytes) (λ x. e ≡ fault.Memory) Q → IsSpentDelivery n bytes e
+spent_reading n v same k bytes e Q config why spent =
+    subst (λ (x : Shown). delivered rules x.config x.node bytes ≡ None) same
+    (subst (λ x. delivered rules x v.node bytes ≡ None) config (refused_is k v.node bytes (checked k bytes) refl e Q why spent))
+
+-- a frame for another node
+pub not_mine : (n v : Shown) → v ≡ n → (k : Config) (f : Frame) (bytes : List ℕ) (w : Verdict) → IsRead v k f bytes w → w ≡ verdict.NotMine → Delivers bytes w n n
+not_mine n v same k f bytes w r not =
+    subst (λ x. Delivers bytes w x x) same
+    (record {
+      frame = f;
+      spelled = spelled_here v k f bytes w r;
+      is = r.is;
+      effect = stays v.node;
+      delivered = receives v k f bytes w r ∙ ap (λ x. received_as rules x v.node f) not;
+      after = sym (ap (λ x. after_delivery v bytes x (stays v.node)) not);
+    })
+
+numbers_out : (e : Fault) (o : Outbox) (ps : List Parcel) → IsRefused e o ps → e ≡ fault.NumbersSpent → has_numbers o.link ps ≡ false
+numbers_out e o ps why spent = subst (λ x. IsRefused x o ps) spent why
+
+not_sent : (m : Node H) (h : H) (ps : List Parcel) → has_numbers m.link ps ≡ false → posting m h ps ≡ None
+not_sent m h ps numbers = rw numbers refl
+
+is_sent : (m : Node H) (h : H) (ps : List Parcel) → has_numbers m.link ps ≡ true
+    → posting m h ps ≡ Some (record { after = record { core = h; link = (sends m.link ps).after }; sent = map spelling (sends m.link ps).frames })
+is_sent m h ps numbers = rw numbers refl
+
+-- what the message of the next frame posts has no numbers
+pub spent_message : (n v : Shown) → v ≡ n → (k : Config) (f : Frame) (bytes : List ℕ) (w : Verdict) → IsRead v k f bytes w → w ≡ verdict.Next → (m : Message) → f.body ≡ Some m → (e : Fault)
+    → IsRefused e (box_of v) (handled fixed_ops v.node.core.memory.coherence f.source m).posted → IsSpentDelivery n bytes e
+unfolding serving
+spent_message n v same k f bytes w r next m body e why spent =
+    subst (λ (x : Shown). delivered rules x.config x.node bytes ≡ None) same
+    (receives v k f bytes w r ∙ (ap (λ x. received_as rules x v.node f) next ∙ (ap (served rules v.node f) body
+    ∙ ap (accepting f) (not_sent v.node (serving fixed_ops v.node.core f.source m).after (serving fixed_ops v.node.core f.source m).posted
+    (numbers_out e (box_of v) (handled fixed_ops v.node.core.memory.coherence f.source m).posted why spent)))))
+
+-- the frame was heard: what the node and its outbox are before the frame is accepted
+pub record IsHeard (v : Shown) (f : Frame) (w : Verdict) (h : H) (box : Outbox) : Type 0 where
+  pub link : Linked
+  pub sent : List (List ℕ)
+  pub received : received_as rules w v.node f ≡ accepting f (Some (record { after = record { core = h; link = link }; sent = sent }))
+  pub outbox : box ≡ record { config = v.config; me = v.me; link = link; waiting = v.waiting ++ sent }
+  pub few : length sent ≤ 32
+  pub config : h.memory.coherence.config ≡ v.node.core.memory.coherence.config
+  pub me : h.memory.coherence.me ≡ v.node.core.memory.coherence.me
+  pub asking : IsAskingHost v.node.core → IsAskingHost h
+
+quietly_as : (w : Verdict) (m : Node H) (f : Frame) → (w ≡ verdict.NotMine → ⊥) → (w ≡ verdict.Next → f.body ≡ None) → received_as rules w m f ≡ accepting f (Some (stays m))
+quietly_as verdict.NotMine m f ne none = absurd (ne refl)
+quietly_as verdict.Next m f ne none = ap (served rules m f) (none refl)
+quietly_as verdict.Repeat m f ne none = refl
+quietly_as verdict.Ahead m f ne none = refl
+
+pub heard_quietly : (v : Shown) (f : Frame) (w : Verdict) → (w ≡ verdict.NotMine → ⊥) → (w ≡ verdict.Next → f.body ≡ None) → IsHeard v f w v.node.core (box_of v)
+heard_quietly v f w ne none = record {
+  link = v.node.link;
+  sent = [];
+  received = quietly_as w v.node f ne none;
+  outbox = ap (λ (ws : List (List ℕ)). record { config = v.config; me = v.me; link = v.node.link; waiting = ws }) (sym (append-nil v.waiting));
+  few = omega arith;
+  config = refl;
+  me = refl;
+  asking = λ a. a;
+}
+
+-- by a message that is served
+told_message : (v : Shown) (f : Frame) (w : Verdict) (m : Message) → w ≡ verdict.Next → f.body ≡ Some m
+    → HasNumbers (box_of v) (handled fixed_ops v.node.core.memory.coherence f.source m).posted → length (handled fixed_ops v.node.core.memory.coherence f.source m).posted ≤ 8
+    → IsHeard v f w (serving fixed_ops v.node.core f.source m).after (posted_by (box_of v) (handled fixed_ops v.node.core.memory.coherence f.source m).posted)
+unfolding serving
+told_message v f w m next body numbers few =
+    let ps : List Parcel = (handled fixed_ops v.node.core.memory.coherence f.source m).posted in
+    let same = handled-same fixed_ops v.node.core.memory.coherence f.source m in
+    record {
+      link = (sends v.node.link ps).after;
+      sent = map spelling (sends v.node.link ps).frames;
+      received = ap (λ x. received_as rules x v.node f) next ∙ (ap (served rules v.node f) body ∙ ap (accepting f) (is_sent v.node (serving fixed_ops v.node.core f.source m).after ps numbers));
+      outbox = refl;
+      few = omega (arith, as_many v.node.link ps, few);
+      config = same.config;
+      me = same.me;
+      asking = λ a. a;
+    }
+
+pub heard_message : (v : Shown) (f : Frame) (w : Verdict) (m : Message) (memory : Memory Owners) (box : Outbox) → w ≡ verdict.Next → f.body ≡ Some m
+    → memory ≡ memory_told fixed_ops v.node.core.memory f.source m
+    → HasNumbers (box_of v) (handled fixed_ops v.node.core.memory.coherence f.source m).posted → length (handled fixed_ops v.node.core.memory.coherence f.source m).posted ≤ 8
+    → box ≡ posted_by (box_of v) (handled fixed_ops v.node.core.memory.coherence f.source m).posted
+    → IsHeard v f w (record { memory = memory; process = v.node.core.process; history = v.node.core.history }) box
+unfolding serving
+heard_message v f w m memory box next body told numbers few posted =
+    subst (λ x. IsHeard v f w (record { memory = memory; process = v.node.core.process; history = v.node.core.history }) x) (sym posted)
+    (subst (λ x. IsHeard v f w (record { memory = x; process = v.node.core.process; history = v.node.core.history }) (posted_by (box_of v) (handled fixed_ops v.node.core.memory.coherence f.source m).posted)) (sym told)
+    (told_message v f w m next body numbers few))
+
+-- then the frame is accepted, and the event listed
+abbrev pub shown_of : H → Outbox → List Mark → Shown
+shown_of h box events = record { config = box.config; me = box.me; node = record { core = h; link = box.link }; events = events; waiting = box.waiting }
+
+abbrev heard_box : Shown → Linked → List (List ℕ) → Frame → Outbox
+heard_box v link sent f = record { config = v.config; me = v.me; link = accepted link f; waiting = v.waiting ++ sent }
+
+after_heard : (v : Shown) (f : Frame) (w : Verdict) (h : H) (box new : Outbox) → (x : IsHeard v f w h box) → new ≡ with_link box (accepted box.link f) → new ≡ heard_box v x.link x.sent f
+after_heard v f w h box new x is = is ∙ ap (λ (b : Outbox). with_link b (accepted b.link f)) x.outbox
+
+is_event : (v : Shown) (bytes : List ℕ) (w : Verdict) (e : Effect H) → (w ≡ verdict.NotMine → ⊥) → after_event v (Delivery bytes) e ≡ after_delivery v bytes w e
+is_event v bytes verdict.NotMine e ne = absurd (ne refl)
+is_event v bytes verdict.Next e ne = refl
+is_event v bytes verdict.Repeat e ne = refl
+is_event v bytes verdict.Ahead e ne = refl
+
+pub heard_delivers : (n v : Shown) → v ≡ n → (k : Config) (f : Frame) (bytes : List ℕ) (w : Verdict) → IsRead v k f bytes w → (w ≡ verdict.NotMine → ⊥)
+    → (h : H) (box new : Outbox) (events : List Mark) → IsHeard v f w h box → new ≡ with_link box (accepted box.link f) → events ≡ v.events ++ Delivery bytes ∷ [] → Delivers bytes w n (shown_of h new events)
+heard_delivers n v same k f bytes w r ne h box new events x is listed =
+    let e : Effect H = record { after = record { core = h; link = accepted x.link f }; sent = x.sent } in
+    subst (λ y. Delivers bytes w y (shown_of h new events)) same
+    (record {
+      frame = f;
+      spelled = spelled_here v k f bytes w r;
+      is = r.is;
+      effect = e;
+      delivered = receives v k f bytes w r ∙ x.received;
+      after = ap (λ (b : Outbox). shown_of h b events) (after_heard v f w h box new x is)
+          ∙ (ap (λ (es : List Mark). shown_of h (heard_box v x.link x.sent f) es) listed ∙ is_event v bytes w e ne);
+    })
+
+pub heard_site : (v : Shown) (f : Frame) (w : Verdict) (h : H) (box new : Outbox) (events : List Mark) → IsSite v → IsHeard v f w h box → new ≡ with_link box (accepted box.link f) → IsSite (shown_of h new events)
+heard_site v f w h box new events site x is =
+    subst (λ (b : Outbox). IsSite (shown_of h b events)) (sym (after_heard v f w h box new x is))
+    (record { config = x.config ∙ site.config; me = x.me ∙ site.me; asking = x.asking site.asking })
+
+pub heard_few : (n v : Shown) → v ≡ n → (f : Frame) (w : Verdict) (h : H) (box new : Outbox) → IsHeard v f w h box → new ≡ with_link box (accepted box.link f) → length new.waiting ≤ length n.waiting + 32
+heard_few n v same f w h box new x is =
+    let count : length new.waiting ≡ length (v.waiting ++ x.sent) = ap (λ (b : Outbox). length b.waiting) (after_heard v f w h box new x is) in
+    let before : length v.waiting ≡ length n.waiting = ap (λ (y : Shown). length y.waiting) same in
+    let few = x.few in
+    omega (arith, count, before, few, length-append v.waiting x.sent)

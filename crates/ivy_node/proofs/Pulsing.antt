@@ -1,0 +1,40 @@
+-- What a site's pulse is, from what its parts did. `v` is what the fields are seen as, `n` the value.
+use Rattle.std.proofs.Common.{◌≡◌, ◌≢◌, ℕ, Bool, true, false, List, [], ◌∷◌, ◌++◌, map, sym, ap, ◌∙◌, subst, append-nil}
+use Rattle.std.specs.Prelude.{IsTrue}
+use Rattle.ivy_wire.specs.Spelling.{spelling}
+use Rattle.ivy_link.specs.Pulsed.{frames_again, pulsed}
+use Rattle.ivy_ether.specs.Marks.{Mark, Pulse}
+use Rattle.ivy_ether.specs.Nodes.{pulsing}
+use Rattle.ivy_node.specs.Outboxes.{Outbox, with_sending}
+use Rattle.ivy_node.specs.Shown.{Shown, pulse_marks, after_pulse_to}
+use Rattle.ivy_node.proofs.Boxes.{made-marks, none-marks}
+
+abbrev box_of : Shown → Outbox
+box_of v = record { config = v.config; me = v.me; link = v.node.link; waiting = v.waiting }
+
+abbrev site_with : Shown → Outbox → List Mark → Shown
+site_with v box events = record { config = box.config; me = box.me; node = record { core = v.node.core; link = box.link }; events = events; waiting = box.waiting }
+
+pulse_is : (n v : Shown) → v ≡ n → (to : ℕ) (box : Outbox) (events : List Mark) → box ≡ with_sending (box_of v) (pulsed v.node.link to)
+    → events ≡ v.events ++ pulse_marks to (map spelling (frames_again v.node.link to)) → site_with v box events ≡ after_pulse_to n to (pulsing n.node to)
+unfolding pulsing
+pulse_is n v same to box events sent listed =
+    subst (λ (x : Shown). site_with v box events ≡ after_pulse_to x to (pulsing x.node to)) same
+    (ap (λ (b : Outbox). site_with v b events) sent ∙ ap (λ (es : List Mark). site_with v (with_sending (box_of v) (pulsed v.node.link to)) es) listed)
+
+pub pulse_made : (n v : Shown) → v ≡ n → (to : ℕ) (box : Outbox) (reserved events : List Mark) → box ≡ with_sending (box_of v) (pulsed v.node.link to)
+    → frames_again v.node.link to ≢ [] → reserved ≡ v.events → events ≡ reserved ++ Pulse to ∷ [] → site_with v box events ≡ after_pulse_to n to (pulsing n.node to)
+pulse_made n v same to box reserved events sent some room listed =
+    pulse_is n v same to box events sent (listed ∙ (ap (λ (es : List Mark). es ++ Pulse to ∷ []) room ∙ ap (λ (ms : List Mark). v.events ++ ms) (sym (made-marks to (frames_again v.node.link to) some))))
+
+pub pulse_none : (n v : Shown) → v ≡ n → (to : ℕ) (box : Outbox) (events : List Mark) → box ≡ with_sending (box_of v) (pulsed v.node.link to)
+    → (frames_again v.node.link to ≢ [] → ⊥) → events ≡ v.events → site_with v box events ≡ after_pulse_to n to (pulsing n.node to)
+pulse_none n v same to box events sent none room =
+    pulse_is n v same to box events sent (room ∙ (sym (append-nil v.events) ∙ ap (λ (ms : List Mark). v.events ++ ms) (sym (none-marks to (frames_again v.node.link to) none))))
+
+-- no frame was made
+pub not_made : {P : Type 0} (b : Bool) → b ≡ false → (P → IsTrue b) → P → ⊥
+not_made true is h p = absurd cc
+not_made false is h p =
+    let wrong : IsTrue false = h p in
+    absurd cc

@@ -1,0 +1,16 @@
+use Rattle.std.proofs.Common.{rules, ◌≡◌, ◌++◌, map, ap, ◌∙◌}
+use Rattle.ivy_wire.specs.Lent.{owned_frame}
+use Rattle.ivy_node.proofs.Boxes.{pulsed-fit, pulsed-box, few-added}
+use Rattle.ivy_node.proofs.outbox.Outbox.pulse.Goals as goal
+
+pub spelled-requires-clause-fit : goal.spelled-requires-clause-fit
+spelled-requires-clause-fit g c =
+    pulsed-fit _ _ c.self.view_is c.self.invariant c.args.to _ c.requires.to c.requires.other (ap (map owned_frame) c.deref.ensures.value ∙ c.in_ok-frames.ensures.ok)
+
+pub invariant_of-self-2 : goal.invariant_of-self-2
+invariant_of-self-2 g c = pulsed-box _ _ c.self.view_is c.self.invariant c.args.to c.pulsed.new.self c.append.new.self.items c.pulsed.ensures.after
+
+pub returns-clause-few : goal.returns-clause-few
+returns-clause-few g c =
+    let added : c.append.new.self.items ≡ c.self.inside.waiting.items ++ c.in_ok-strings.strings.items = search rules in
+    few-added _ _ c.self.view_is c.args.to _ c.in_ok-strings.strings.items c.append.new.self.items (ap (map owned_frame) c.deref.ensures.value ∙ c.in_ok-frames.ensures.ok) c.in_ok-strings.ensures.spelled added

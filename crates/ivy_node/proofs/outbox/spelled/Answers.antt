@@ -1,0 +1,10 @@
+use Rattle.std.proofs.Common.{◌∙◌}
+use Rattle.ivy_node.proofs.Boxes.{fits_at, spelled_more}
+use Rattle.ivy_node.proofs.outbox.spelled.Goals as goal
+
+pub encode-requires-clause-fits : goal.encode-requires-clause-fits
+encode-requires-clause-fits g c = fits_at c.args.config.now c.args.frames.now c.loop-frame.frame-index _ c.loop-frame-test.true c.requires.fit
+
+pub loop-frame-preserved : goal.loop-frame-preserved
+loop-frame-preserved g c =
+    c.in_ok-push_back.ensures.items ∙ spelled_more c.args.frames.now c.loop-frame.frame-index _ c.loop-frame.strings.items c.from_vec.result c.loop-frame-test.true c.loop-frame.invariant (c.from_vec.ensures ∙ c.in_ok-encode.ensures.spelled.text)

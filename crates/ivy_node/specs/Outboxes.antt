@@ -1,0 +1,57 @@
+-- A node's link, with the strings that wait to be put on the wire.
+use Rattle.std.specs.Prelude.{◌≡◌, ℕ, true, false, List, [], ◌∷◌, ◌++◌, map, Option, Some, None, refl}
+use Rattle.std.proofs.Common.{ap, append-nil}
+use Rattle.ivy_model.specs.declared.Config.{Config}
+use Rattle.ivy_model.specs.Config.{IsConfig}
+use Rattle.ivy_model.specs.declared.Fault.{Fault}
+use Rattle.ivy_model.specs.declared.Fault.TheVariants.{Memory, NumbersSpent}
+use Rattle.ivy_wire.specs.Data.{Parcel}
+use Rattle.ivy_wire.specs.Spelling.{spelling}
+use Rattle.ivy_link.specs.Linked.{Linked, Sending, sends, has_numbers}
+use Rattle.ivy_link.specs.Fitting.{FitsLink}
+
+pub record Outbox : Type 0 where
+  pub config : Config
+  pub me : ℕ
+  pub link : Linked
+  pub waiting : List (List ℕ)
+
+pub record IsSoundOutbox (o : Outbox) : Type 0 where
+  pub limits : IsConfig o.config
+  pub mine : o.link.me ≡ o.me
+  pub fits : FitsLink o.config o.link
+
+abbrev pub with_link : Outbox → Linked → Outbox
+with_link o link = record { config = o.config; me = o.me; link = link; waiting = o.waiting }
+
+-- a link made frames: their spellings wait, in order
+abbrev pub with_sending : Outbox → Sending → Outbox
+with_sending o s = record { config = o.config; me = o.me; link = s.after; waiting = o.waiting ++ map spelling s.frames }
+
+-- there are numbers for the parcels
+abbrev pub HasNumbers : Outbox → List Parcel → Type 0
+HasNumbers o parcels = has_numbers o.link parcels ≡ true
+
+abbrev pub posted_by : Outbox → List Parcel → Outbox
+posted_by o parcels = with_sending o (sends o.link parcels)
+
+-- why parcels were refused: memory, or one of them would need a number above the greatest one
+abbrev pub IsRefused : Fault → Outbox → List Parcel → Type 0
+IsRefused Memory o parcels = Unit {0}
+IsRefused NumbersSpent o parcels = has_numbers o.link parcels ≡ false
+IsRefused f o parcels = ⊥
+
+abbrev pub Refuses : Outbox → List Parcel → Fault → Type 0
+Refuses o parcels f = IsRefused f o parcels
+
+-- the first string is taken, if one waits
+abbrev pub Takes : Option (List ℕ) → Outbox → Outbox → Type 0
+Takes None old new = (old.waiting ≡ []) × (new ≡ old)
+Takes (Some bytes) old new =
+    (old.waiting ≡ bytes ∷ new.waiting) × (new.config ≡ old.config) × (new.me ≡ old.me) × (new.link ≡ old.link)
+
+pub takes_none : (o : Outbox) → HasNumbers o []
+takes_none o = refl
+
+pub after_none : (o : Outbox) → posted_by o [] ≡ o
+after_none o = ap (λ w. record { config = o.config; me = o.me; link = o.link; waiting = w }) (append-nil o.waiting)

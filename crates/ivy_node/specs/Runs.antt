@@ -1,0 +1,44 @@
+-- What a call of `run` did, and what holds of a world that was reached from its opening.
+use Rattle.std.specs.Prelude.{◌≡◌, ℕ, false, List, [], take, Option, Some, None, Result, Ok, Err}
+use Rattle.ivy_model.specs.declared.Config.{Config}
+use Rattle.ivy_model.specs.declared.Fault.{Fault}
+use Rattle.ivy_model.specs.declared.Fault.TheVariants.{Memory, NumbersSpent, NoSuchFrame}
+use Rattle.ivy_fixed.specs.Fixed.{Owners, fixed_ops}
+use Rattle.ivy_ether.specs.declared.Move.{Move}
+use Rattle.ivy_ether.specs.Worlds.{World, is_named, moved, Leads}
+use Rattle.ivy_ether.specs.Explained.{GoesOn}
+use Rattle.ivy_node.specs.Hosts.{Host, host_rules, answered_by}
+use Rattle.ivy_node.specs.Openings.{opening}
+use Rattle.ivy_node.specs.RunState.{Run}
+
+-- the moves that were made: all, or those before the refused one
+abbrev pub made_of : Result (Unit {0}) (ℕ × Fault) → List Move → List Move
+made_of (Ok done) moves = moves
+made_of (Err e) moves = take e.0 moves
+
+-- why a move was refused: what it names is not there, or it would need a number above the greatest one, or memory
+abbrev pub IsRefusedBy : Config → World (Host Owners) → Fault → Option Move → Type 0
+IsRefusedBy c w NoSuchFrame (Some m) = is_named w m ≡ false
+IsRefusedBy c w NumbersSpent (Some m) = moved (host_rules fixed_ops) c w m ≡ None
+IsRefusedBy c w Memory (Some m) = Unit {0}
+IsRefusedBy c w f o = ⊥
+
+-- a move that can't be named is refused by that, whatever else
+abbrev pub IsNamedUnless : World (Host Owners) → Result (Unit {0}) Fault → Move → Type 0
+IsNamedUnless w result m = is_named w m ≡ false → result ≡ Err NoSuchFrame
+
+abbrev pub opening_of : Run → World (Host Owners)
+opening_of r = opening fixed_ops r.config r.programs
+
+-- the moves lead from the one world to the other
+abbrev pub IsLedTo : Config → World (Host Owners) → List Move → World (Host Owners) → Type 0
+IsLedTo c = Leads (host_rules fixed_ops) c
+
+-- some list of moves leads to this world from the opening of its programs
+abbrev pub IsReached : Run → Type 0
+IsReached r = (before : List Move) × IsLedTo r.config (opening_of r) before r.world
+
+-- at the opening no record explains what the nodes were answered, and after each of the moves an order that goes on
+-- from the one before does
+abbrev pub IsExplainedAlong : Run → List Move → Type 0
+IsExplainedAlong r moves = GoesOn (host_rules fixed_ops) r.config answered_by (opening_of r) [] moves

@@ -1,0 +1,84 @@
+-- What the calls of a site do.
+use Rattle.std.specs.Prelude.{◌≡◌, ℕ, List, [], ◌∷◌, false, Option, Some, None}
+use Rattle.ivy_model.specs.declared.Config.{Config}
+use Rattle.ivy_model.specs.declared.Call.{Call}
+use Rattle.ivy_model.specs.declared.Fault.{Fault}
+use Rattle.ivy_model.specs.declared.Fault.TheVariants.{NumbersSpent}
+use Rattle.ivy_wire.specs.Data.{Frame}
+use Rattle.ivy_wire.specs.Spelling.{Spells}
+use Rattle.ivy_link.specs.Accepted.{offered}
+use Rattle.ivy_link.specs.declared.Verdict.{Verdict}
+use Rattle.ivy_program.specs.declared.Instruction.{Instruction}
+use Rattle.ivy_program.specs.Steps.{HasEnded, Asks, step_of}
+use Rattle.ivy_fixed.specs.Fixed.{Owners, fixed_ops}
+use Rattle.ivy_ether.specs.Marks.{Turn}
+use Rattle.ivy_ether.specs.Cores.{Outcome}
+use Rattle.ivy_ether.specs.Nodes.{Effect, posting, turned, delivered}
+use Rattle.ivy_node.specs.declared.turn.Turn as turn
+use Rattle.ivy_node.specs.declared.turn.Turn.TheVariants.{Idle, Moved, Ended}
+use Rattle.ivy_model.specs.declared.Record.{Record}
+use Rattle.ivy_link.specs.Linked.{has_numbers}
+use Rattle.ivy_program.specs.Steps.{Process}
+use Rattle.ivy_node.specs.Memories as memories
+use Rattle.ivy_node.specs.Outboxes.{Outbox, HasNumbers, posted_by}
+use Rattle.ivy_node.specs.Hosts.{Host, host_rules, turn_of, begins}
+use Rattle.ivy_node.specs.Openings.{first_node}
+use Rattle.ivy_node.specs.Shown.{Shown, after_event, after_delivery}
+
+abbrev pub first_shown : Config → ℕ → List Instruction → Shown
+first_shown c me program = record { config = c; me = me; node = first_node fixed_ops c me program; events = []; waiting = [] }
+
+-- the turn changed something: it is the turn of the definitions
+pub record Turns (old new : Shown) : Type 0 where
+  pub outcome : Outcome (Host Owners)
+  pub turn : turn_of fixed_ops old.node.core ≡ Some outcome
+  pub effect : Effect (Host Owners)
+  pub sent : posting old.node outcome.after outcome.posted ≡ Some effect
+  pub after : new ≡ after_event old Turn effect
+
+abbrev pub AfterTurn : turn.Turn → Shown → Shown → Type 0
+AfterTurn Idle old new = (turn_of fixed_ops old.node.core ≡ None) × (new ≡ old)
+AfterTurn Moved old new = Turns old new
+AfterTurn Ended old new = HasEnded old.node.core.process × (turn_of fixed_ops old.node.core ≡ None) × (new ≡ old)
+
+-- the string spells a frame, which is what the verdict says, and the delivery is that of the definitions
+pub record Delivers (bytes : List ℕ) (verdict : Verdict) (old new : Shown) : Type 0 where
+  pub frame : Frame
+  pub spelled : Spells old.config frame bytes
+  pub is : verdict ≡ offered old.node.link frame
+  pub effect : Effect (Host Owners)
+  pub delivered : delivered (host_rules fixed_ops) old.config old.node bytes ≡ Some effect
+  pub after : new ≡ after_delivery old bytes verdict effect
+
+-- message numbers are at an end: the turn, or the delivery, is no event
+abbrev pub IsSpentTurn : Shown → Fault → Type 0
+IsSpentTurn old fault = fault ≡ NumbersSpent → turned (host_rules fixed_ops) old.node ≡ None
+
+abbrev pub IsSpentDelivery : Shown → List ℕ → Fault → Type 0
+IsSpentDelivery old bytes fault = fault ≡ NumbersSpent → delivered (host_rules fixed_ops) old.config old.node bytes ≡ None
+
+-- what holds of a site, beside what its parts keep
+pub record IsSite (s : Shown) : Type 0 where
+  pub config : s.node.core.memory.coherence.config ≡ s.config
+  pub me : s.node.core.memory.coherence.me ≡ s.me
+  pub asking : (call : Call) → s.node.core.memory.asked ≡ Some call → step_of s.node.core.process ≡ Asks call
+
+abbrev pub host_of : memories.Memory Owners → Process → List Record → Host Owners
+host_of memory process history = record { memory = memory; process = process; history = history }
+
+-- a call that the program makes begins, by the rules of the definitions, and what is posted is sent
+pub record Begins (call : Call) (old : Host Owners) (box : Outbox) (new : Host Owners) (after : Outbox) : Type 0 where
+  pub outcome : Outcome (Host Owners)
+  pub begun : begins fixed_ops old call ≡ Some outcome
+  pub host : new ≡ outcome.after
+  pub numbers : HasNumbers box outcome.posted
+  pub sent : after ≡ posted_by box outcome.posted
+
+-- numbers are at an end for what it would post
+abbrev pub CannotBegin : Call → Host Owners → Outbox → Fault → Type 0
+CannotBegin call old box fault = fault ≡ NumbersSpent → (outcome : Outcome (Host Owners)) × (begins fixed_ops old call ≡ Some outcome) × (has_numbers box.link outcome.posted ≡ false)
+
+-- the first string that waits is taken, if there is one, and nothing else changes
+abbrev pub TakesFrame : Option (List ℕ) → Shown → Shown → Type 0
+TakesFrame None old new = (old.waiting ≡ []) × (new ≡ old)
+TakesFrame (Some bytes) old new = (old.waiting ≡ bytes ∷ new.waiting) × (new ≡ record old { waiting = new.waiting })

@@ -1,0 +1,15 @@
+//! Nodes that run programs over one shared memory, and worlds of them.
+#![tactic(auto)]
+
+mod memory;
+mod outbox;
+mod site;
+mod turn;
+mod world;
+
+pub use ivy_ether::Move;
+pub use ivy_link::Verdict;
+pub use ivy_program::{Program, parse};
+pub use site::Site;
+pub use turn::Turn;
+pub use world::World;

@@ -1,0 +1,160 @@
+//! A node's link, and the strings that wait to be put on the wire.
+ghost use Rattle.std.specs.Prelude.{◌≡◌, ◌≢◌, ◌↔◌, ◌+◌, ◌<◌, ◌≤◌, [], map, All, IfOk, OnOk, OnErr, IsOkUnless, IsTrue, length};
+ghost use Rattle.ivy_model.specs.Config.{IsConfig};
+ghost use Rattle.ivy_wire.specs.Lent.{owned_frame};
+ghost use Rattle.ivy_wire.specs.Spelling.{spelling, Fits};
+ghost use Rattle.ivy_link.specs.Linked.{first_link};
+ghost use Rattle.ivy_link.specs.Accepted.{offered, accepted};
+ghost use Rattle.ivy_link.specs.Pulsed.{frames_again, pulsed};
+ghost use Rattle.ivy_node.specs.Outboxes.{with_link, with_sending, Takes};
+
+use ivy_link::{Link, Verdict};
+use ivy_model::{Config, Fault};
+use ivy_wire::{Bytes, Frame, Page, Parcel, Post, encode};
+use std::alloc::Allocator;
+use std::collections::VecDeque;
+use std::marker::Model;
+
+/// A node's link, with the strings of its frames that wait to be put on the wire.
+#[derive(Drop)]
+pub(crate) struct Outbox<A: Allocator> {
+    alloc: A,
+    config: Config,
+    me: u8,
+    link: Link<A>,
+    waiting: VecDeque<Bytes<A>, A>,
+}
+
+impl<A: Allocator> Model for Outbox<A> {
+    ghost use Rattle.ivy_node.specs.Outboxes as outboxes;
+    ghost use Rattle.ivy_node.specs.Outboxes.{IsSoundOutbox};
+
+    ghost Value = { outboxes.Outbox };
+
+    ghost view = { λ o. record { config = o.config; me = o.me; link = o.link; waiting = o.waiting.items } };
+
+    ghost invariant = { λ o. IsSoundOutbox (record { config = o.config; me = o.me; link = o.link; waiting = o.waiting.items }) };
+}
+
+/// The spellings of the frames, in order.
+fn spelled<A: Allocator + Copy>(
+    alloc: A,
+    config: &Config,
+    frames: &[Frame<&[u8]>],
+) -> Result<VecDeque<Bytes<A>, A>, Fault>
+    requires limits { IsConfig config.now }
+    requires fit { All (Fits config.now) (map owned_frame frames.now) }
+    ensures spelled { IfOk result (λ strings. strings.items ≡ map spelling (map owned_frame frames.now)) }
+    ensures memory { IsOkUnless result Fault.Memory }
+{
+    let mut strings = VecDeque::with_capacity(alloc, frames.len())?;
+    for frame in frames {
+        strings.push_back(Bytes::from_vec(encode(alloc, config, frame)?))?;
+    }
+    Ok(strings)
+}
+
+impl<A: Allocator + Copy> Outbox<A> {
+    /// The link of node `me` at the beginning, and no string [1].
+    pub(crate) fn new(alloc: A, config: &Config, me: u8) -> Result<Self, Fault>
+        requires limits { IsConfig config.now }
+        requires here { me < config.now.nodes }
+        ensures first { IfOk result (λ o. o ≡ record { config = config.now; me = me; link = first_link me config.now.nodes; waiting = [] }) }
+        ensures memory { IsOkUnless result Fault.Memory }
+    {
+        Ok(Outbox {
+            alloc,
+            config: *config,
+            me,
+            link: Link::new(alloc, me, config.nodes)?,
+            waiting: VecDeque::new(alloc),
+        })
+    }
+
+    /// The node whose link it is.
+    pub(crate) fn me(&self) -> u8
+        ensures { result ≡ self.now.me }
+    {
+        self.me
+    }
+
+    /// The configuration of the nodes, which is within its limits; and the link is that of the same node.
+    pub(crate) fn config(&self) -> Config
+        ensures is { result ≡ self.now.config }
+        ensures limits { IsConfig result }
+        ensures mine { self.now.link.me ≡ self.now.me }
+    {
+        self.config
+    }
+
+    /// The first string that waits.
+    pub(crate) fn take(&mut self) -> Option<Bytes<A>>
+        ensures { Takes result self.old self.new }
+    {
+        self.waiting.pop_front()
+    }
+
+    /// What a frame is to this node.
+    pub(crate) fn offer<B>(&self, frame: &Frame<B>) -> Verdict
+        requires source { frame.now.source < self.now.config.nodes }
+        ensures { result ≡ offered self.now.link frame.now }
+    {
+        self.link.offer(frame)
+    }
+
+    /// Takes the acknowledgement of a frame, and counts its message where it is the next.
+    pub(crate) fn accept(&mut self, frame: &Frame<Page<A>>)
+        requires fits { Fits self.old.config frame.now }
+        ensures { self.new ≡ with_link self.old (accepted self.old.link frame.now) }
+    {
+        self.link.accept(frame);
+    }
+
+    /// A pulse to a node: what it has not acknowledged waits again, or an acknowledgement alone does [1].
+    /// Says whether a frame was made.
+    pub(crate) fn pulse(&mut self, to: u8) -> Result<bool, Fault>
+        requires to { to < self.old.config.nodes }
+        requires other { to ≢ self.old.me }
+        ensures ok { OnOk result (self.new ≡ with_sending self.old (pulsed self.old.link to)) }
+        ensures err { OnErr result (self.new ≡ self.old) }
+        ensures few { OnOk result (length self.new.waiting ≤ length self.old.waiting + 32) }
+        ensures made { IfOk result (λ made. IsTrue made ↔ (frames_again self.old.link to ≢ [])) }
+        ensures memory { IsOkUnless result Fault.Memory }
+    {
+        let frames = self.link.pulse_frames(to)?;
+        let mut strings = spelled(self.alloc, &self.config, &frames)?;
+        self.waiting.reserve(strings.len())?;
+        let made = !frames.is_empty();
+        drop(frames);
+        self.link.pulsed(to);
+        let _ = self.waiting.append(&mut strings);
+        Ok(made)
+    }
+}
+
+impl<A: Allocator + Copy> Post for Outbox<A> {
+    ghost use Rattle.ivy_node.specs.Outboxes.{HasNumbers, posted_by, Refuses, takes_none, after_none};
+
+    ghost config = { λ o. o.config };
+
+    ghost node = { λ o. o.me };
+
+    ghost takes = { HasNumbers };
+
+    ghost after = { posted_by };
+
+    ghost refuses = { Refuses };
+
+    fn post(&mut self, parcels: &[Parcel<&[u8]>]) -> Result<(), Fault> {
+        let frames = self.link.frames(parcels)?;
+        let mut strings = spelled(self.alloc, &self.config, &frames)?;
+        self.waiting.reserve(strings.len())?;
+        let _ = self.link.send(parcels)?;
+        let _ = self.waiting.append(&mut strings);
+        Ok(())
+    }
+
+    ghost takes_none = { takes_none };
+
+    ghost after_none = { after_none };
+}

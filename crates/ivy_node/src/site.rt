@@ -1,0 +1,236 @@
+//! One node: its program, its memory, its link, and the strings that wait to be put on the wire.
+ghost use Rattle.std.specs.Prelude.{◌≡◌, ◌↔◌, ◌≢◌, ◌+◌, ◌<◌, ◌≤◌, ◌++◌, ◌∷◌, [], None, Some, Err, length, vec_len, vec_capacity, IsTrue, IfOk, IfErr, OnOk, OnErr, IsOkUnless, MatchResult, MatchOption};
+ghost use Rattle.ivy_model.specs.Config.{IsConfig};
+ghost use Rattle.ivy_model.specs.Wants.{IsWant};
+ghost use Rattle.ivy_wire.specs.Faults.{checked};
+ghost use Rattle.ivy_program.specs.Steps.{IsAsking, HasEnded, Asks, step_of, answered_with};
+ghost use Rattle.ivy_fixed.specs.Fixed.{fixed_ops};
+ghost use Rattle.ivy_ether.specs.Nodes.{pulsing};
+ghost use Rattle.ivy_node.specs.Shown.{after_pulse_to};
+ghost use Rattle.ivy_node.specs.Sites.{first_shown, host_of, Begins, CannotBegin, AfterTurn, Delivers, IsSpentTurn, IsSpentDelivery, TakesFrame};
+ghost use Rattle.ivy_ether.specs.Marks.{marks};
+ghost use Rattle.ivy_model.specs.Legal.{HasWidth};
+ghost use Rattle.ivy_program.specs.Calls.{IsLoad};
+
+use crate::memory::Memory;
+use crate::outbox::Outbox;
+use crate::turn::Turn;
+use ivy_ether::{Event, Events};
+use ivy_fixed::FixedManager;
+use ivy_link::Verdict;
+use ivy_model::{Call, Config, Fault, Record, Reply};
+use ivy_program::{Machine, Next, Program};
+use ivy_wire::{Bytes, decode};
+use std::alloc::Allocator;
+use std::marker::Model;
+
+/// One node of a shared memory, with the program that it runs.
+#[derive(Drop)]
+pub struct Site<A: Allocator> {
+    alloc: A,
+    memory: Memory<FixedManager<A>, A>,
+    machine: Machine<A>,
+    history: Vec<Record, A>,
+    outbox: Outbox<A>,
+    events: Events<A>,
+}
+
+impl<A: Allocator> Model for Site<A> {
+    ghost use Rattle.ivy_node.specs.Shown.{Shown};
+    ghost use Rattle.ivy_node.specs.Sites.{IsSite};
+
+    ghost Value = { Shown };
+
+    ghost use Rattle.std.specs.Coded.{codes};
+    ghost use Rattle.ivy_pagetable.specs.NodeSets.{nodes_code};
+
+    ghost coded = { Prim.hlevel (codes, nodes_code) };
+
+    ghost view = { λ s. record { config = s.outbox.config; me = s.outbox.me; node = record { core = record { memory = s.memory; process = s.machine; history = s.history.items }; link = s.outbox.link }; events = s.events.marks; waiting = s.outbox.waiting } };
+
+    ghost invariant = { λ s. IsSite (record { config = s.outbox.config; me = s.outbox.me; node = record { core = record { memory = s.memory; process = s.machine; history = s.history.items }; link = s.outbox.link }; events = s.events.marks; waiting = s.outbox.waiting }) };
+}
+
+/// A reply is recorded, and the program goes on with it.
+fn keep<A: Allocator + Copy>(history: &mut Vec<Record, A>, machine: &mut Machine<A>, entry: Record)
+    requires room { vec_len history.old < vec_capacity history.old }
+    requires asking { IsAsking machine.old }
+    ensures history { history.new.items ≡ history.old.items ++ entry ∷ [] }
+    ensures machine { machine.new ≡ answered_with machine.old entry.reply }
+{
+    history.push_reserved(entry);
+    machine.answer(entry.reply);
+}
+
+/// A call that the program makes begins: it is answered at once, or in progress from now on [1, 17].
+fn begin<A: Allocator + Copy>(
+    memory: &mut Memory<FixedManager<A>, A>,
+    outbox: &mut Outbox<A>,
+    machine: &mut Machine<A>,
+    history: &mut Vec<Record, A>,
+    call: Call,
+) -> Result<(), Fault>
+    requires room { vec_len history.old < vec_capacity history.old }
+    requires idle { memory.old.asked ≡ None }
+    requires asks { step_of machine.old ≡ Asks call }
+    requires load { IsLoad call × HasWidth call }
+    requires config { outbox.old.config ≡ memory.old.coherence.config }
+    requires me { outbox.old.me ≡ memory.old.coherence.me }
+    ensures ok { OnOk result (Begins call (host_of memory.old machine.old history.old.items) outbox.old (host_of memory.new machine.new history.new.items) outbox.new) }
+    ensures err { OnErr result ((memory.new ≡ memory.old) × (outbox.new ≡ outbox.old) × (machine.new ≡ machine.old) × (history.new.items ≡ history.old.items)) }
+    ensures spent { IfErr result (CannotBegin call (host_of memory.old machine.old history.old.items) outbox.old) }
+    ensures want { IfErr result IsWant }
+{
+    let Call::Load { width, addr } = call else {
+        unreachable!()
+    };
+    let number = history.len() as u64 + 1;
+    if let Some(reply) = memory.load(width, addr, number, outbox)? {
+        let node = outbox.me();
+        keep(history, machine, Record { node, call, reply });
+    }
+    Ok(())
+}
+
+impl<A: Allocator + Copy> Site<A> {
+    /// Node `me` at the beginning of its program [1].
+    ///
+    /// The configuration is within its limits, and `me` is one of its nodes.
+    pub fn new(alloc: A, config: &Config, me: u8, program: Program<A>) -> Result<Site<A>, Fault>
+        requires limits { IsConfig config.now }
+        requires here { me < config.now.nodes }
+        ensures first { IfOk result (λ site. site ≡ first_shown config.now me program) }
+        ensures memory { IsOkUnless result Fault.Memory }
+    {
+        let manager = FixedManager::new(alloc, config, me)?;
+        Ok(Site {
+            alloc,
+            memory: Memory::new(alloc, config, me, manager)?,
+            machine: Machine::new(program),
+            history: Vec::new(alloc),
+            outbox: Outbox::new(alloc, config, me)?,
+            events: Events::new(alloc),
+        })
+    }
+
+    /// What the program was answered so far, in order. It takes no memory.
+    pub fn history(&self) -> &[Record]
+        ensures { result.now ≡ self.now.node.core.history }
+    {
+        &self.history
+    }
+
+    /// What the program printed so far. It takes no memory.
+    pub fn output(&self) -> &[u64]
+        ensures { result.now ≡ self.now.node.core.process.state.output }
+    {
+        self.machine.output()
+    }
+
+    /// Whether the program has ended. It takes no memory.
+    pub fn ended(&self) -> bool
+        ensures { IsTrue result ↔ HasEnded self.now.node.core.process }
+    {
+        self.machine.ended()
+    }
+
+    /// The first string that waits to be put on the wire, taken out. It takes no memory.
+    pub fn take_frame(&mut self) -> Option<Bytes<A>>
+        ensures { TakesFrame result self.old self.new }
+    {
+        self.outbox.take()
+    }
+
+    /// One turn of the program: a reply that came is recorded, or an instruction is carried out, or a call
+    /// begins [1, 17]. A refused turn changes nothing.
+    pub fn program_turn(&mut self) -> Result<Turn, Fault>
+        ensures done { MatchResult result (λ turn. AfterTurn turn self.old self.new) (λ _. self.new ≡ self.old) }
+        ensures few { length self.new.waiting ≤ length self.old.waiting + 32 }
+        ensures spent { IfErr result (IsSpentTurn self.old) }
+        ensures want { IfErr result IsWant }
+    {
+        self.history.reserve(1)?;
+        self.events.reserve()?;
+        if let Some(call) = self.memory.asked() {
+            let Some(reply) = self.memory.take_reply() else {
+                return Ok(Turn::Idle);
+            };
+            let node = self.outbox.me();
+            keep(
+                &mut self.history,
+                &mut self.machine,
+                Record { node, call, reply },
+            );
+            self.events.push_turn();
+            return Ok(Turn::Moved);
+        }
+        match self.machine.next()? {
+            Next::Ended => Ok(Turn::Ended),
+            Next::Local => {
+                self.events.push_turn();
+                Ok(Turn::Moved)
+            }
+            Next::Call(call) => {
+                begin(
+                    &mut self.memory,
+                    &mut self.outbox,
+                    &mut self.machine,
+                    &mut self.history,
+                    call,
+                )?;
+                self.events.push_turn();
+                Ok(Turn::Moved)
+            }
+        }
+    }
+
+    /// A string comes, any bytes at all [1, 11 to 17]. What the frame in it is to this node is the answer: one
+    /// for another node is left alone, and the message of the next one is served before the frame is accepted.
+    /// A refused delivery changes nothing.
+    pub fn deliver(&mut self, bytes: &[u8]) -> Result<Verdict, Fault>
+        ensures done { MatchResult result (λ verdict. Delivers bytes.now verdict self.old self.new) (λ _. self.new ≡ self.old) }
+        ensures refused { MatchResult (checked self.old.config bytes.now) (λ _. IfErr result IsWant) (λ fault. result ≡ Err fault) }
+        ensures few { length self.new.waiting ≤ length self.old.waiting + 32 }
+        ensures spent { IfErr result (IsSpentDelivery self.old bytes.now) }
+    {
+        let config = self.outbox.config();
+        let frame = decode(self.alloc, &config, bytes)?;
+        let verdict = self.outbox.offer(&frame);
+        if verdict == Verdict::NotMine {
+            return Ok(verdict);
+        }
+        self.events.reserve()?;
+        let copy = Bytes::new(self.alloc, bytes)?;
+        if verdict == Verdict::Next {
+            if let Some(message) = &frame.body {
+                self.memory.handle(frame.source, message, &mut self.outbox)?;
+            }
+        }
+        self.outbox.accept(&frame);
+        self.events.push_delivery(copy);
+        Ok(verdict)
+    }
+
+    /// A pulse to another node: what that node has not acknowledged waits to be put on the wire again, at most
+    /// 32 frames, or an acknowledgement alone where one is owed [1]. A refused pulse changes nothing.
+    pub fn pulse(&mut self, to: u8) -> Result<(), Fault>
+        requires to { to < self.old.config.nodes }
+        requires other { to ≢ self.old.me }
+        ensures done { MatchResult result (λ _. self.new ≡ after_pulse_to self.old to (pulsing self.old.node to)) (λ _. self.new ≡ self.old) }
+        ensures few { length self.new.waiting ≤ length self.old.waiting + 32 }
+        ensures memory { IsOkUnless result Fault.Memory }
+    {
+        self.events.reserve()?;
+        if self.outbox.pulse(to)? {
+            self.events.push_pulse(to);
+        }
+        Ok(())
+    }
+
+    /// The events of this node so far, in order.
+    pub fn events(&self) -> &[Event<Bytes<A>>]
+        ensures { marks result.now ≡ self.now.events }
+    {
+        self.events.entries()
+    }
+}

@@ -1,0 +1,10 @@
+/// What a turn of a node's program came to.
+#[derive(Clone, Copy, Debug, PartialEq, Eq)]
+pub enum Turn {
+    /// The call in progress waits; nothing changed.
+    Idle,
+    /// An instruction was carried out, a call began, or a reply was recorded.
+    Moved,
+    /// The program had ended before this turn; nothing changed.
+    Ended,
+}

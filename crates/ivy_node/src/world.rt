@@ -1,0 +1,255 @@
+//! All nodes, and every string ever sent between them.
+ghost use Rattle.std.specs.Prelude.{◌≡◌, ◌+◌, ◌<◌, ◌≤◌, ◌↔◌, ◌++◌, ◌∷◌, [], List, Some, Err, length, map, take, slice_get, vec_len, vec_capacity, IsTrue, IfOk, IfErr, IfSome, OnOk, OnErr, IsErrOf};
+ghost use Rattle.ivy_model.specs.Config.{IsConfig};
+ghost use Rattle.ivy_program.specs.Steps.{HasEnded};
+ghost use Rattle.ivy_fixed.specs.Fixed.{fixed_ops};
+ghost use Rattle.ivy_ether.specs.declared.Move.{Move};
+ghost use Rattle.ivy_ether.specs.Worlds.{moved};
+ghost use Rattle.ivy_node.specs.Hosts.{host_rules};
+ghost use Rattle.ivy_node.specs.Holding.{IsExclusive, AreRuns, HasNoBreach, AllSpell};
+ghost use Rattle.ivy_node.specs.Openings.{opening};
+ghost use Rattle.ivy_node.specs.Runs.{made_of, IsRefusedBy, IsNamedUnless, IsLedTo, IsReached, IsExplainedAlong, opening_of};
+ghost use Rattle.ivy_node.specs.WorldSites.{programs_of, world_of, AreSites, IsBuilt, IsMemory, IsWorldWant, AreFirst};
+
+use crate::site::Site;
+use ivy_ether::Move;
+use ivy_model::{Config, Fault, Kind, Record};
+use ivy_program::Program;
+use ivy_wire::Bytes;
+use std::alloc::Allocator;
+use std::marker::Model;
+
+/// How many strings one move sends at most.
+const MOST_SENT: usize = 32;
+
+/// A world of nodes that run programs over one shared memory, on a wire that may lose, repeat and reorder.
+///
+/// Whatever moves are made, the replies that the nodes received are those of one flat memory that serves one
+/// call at a time, in an order that keeps each node's own (Lamport 1979), and no page is ever writable at one
+/// node and readable at another.
+#[derive(Drop)]
+pub struct World<A: Allocator> {
+    config: Config,
+    sites: Vec<Site<A>, A>,
+    sent: Vec<Bytes<A>, A>,
+}
+
+impl<A: Allocator> Model for World<A> {
+    ghost use Rattle.ivy_node.specs.RunState.{Run};
+    ghost use Rattle.ivy_node.specs.WorldSites.{run_of, IsRunning};
+
+    ghost Value = { Run };
+
+    ghost use Rattle.std.specs.Coded.{codes};
+    ghost use Rattle.ivy_pagetable.specs.NodeSets.{nodes_code};
+
+    ghost coded = { Prim.hlevel (codes, nodes_code) };
+
+    ghost view = { λ w. run_of w.config w.sites.items w.sent.items };
+
+    ghost invariant = { λ w. IsRunning w.config w.sites.items w.sent.items };
+}
+
+fn is_built(config: &Config) -> bool
+    ensures { IsTrue result ↔ IsBuilt config.now }
+{
+    config.manager == Kind::Fixed || config.nodes == 2
+}
+
+/// Moves the strings that wait at a site behind all that were sent.
+fn collect<A: Allocator + Copy>(site: &mut Site<A>, sent: &mut Vec<Bytes<A>, A>)
+    requires room { vec_len sent.old + length site.old.waiting ≤ vec_capacity sent.old }
+    ensures sent { sent.new.items ≡ sent.old.items ++ site.old.waiting }
+    ensures site { site.new ≡ record site.old { waiting = [] } }
+{
+    while let Some(bytes) = site.take_frame() {
+        sent.push_reserved(bytes);
+    }
+}
+
+/// Makes one move over the sites and the strings, or changes nothing [1, 17, 19].
+fn make<A: Allocator + Copy>(
+    sites: &mut Vec<Site<A>, A>,
+    sent: &mut Vec<Bytes<A>, A>,
+    config: &Config,
+    step: Move,
+) -> Result<(), Fault>
+    requires sites { AreSites config.now sites.old.items }
+    requires each { length sites.old.items ≡ config.now.nodes }
+    requires limits { IsConfig config.now }
+    requires spelled { AllSpell config.now (world_of sites.old.items sent.old.items) }
+    ensures ok { OnOk result (moved (host_rules fixed_ops) config.now (world_of sites.old.items sent.old.items) step ≡ Some (world_of sites.new.items sent.new.items)) }
+    ensures sites { AreSites config.now sites.new.items }
+    ensures each { length sites.new.items ≡ config.now.nodes }
+    ensures programs { programs_of sites.new.items ≡ programs_of sites.old.items }
+    ensures err { OnErr result ((sites.new.items ≡ sites.old.items) × (sent.new.items ≡ sent.old.items)) }
+    ensures cause { IfErr result (λ fault. IsRefusedBy config.now (world_of sites.old.items sent.old.items) fault (Some step)) }
+    ensures named { IsNamedUnless (world_of sites.old.items sent.old.items) result step }
+{
+    let nodes = sites.len() as u64;
+    match step {
+        Move::Turn(node) => {
+            if node >= nodes {
+                return Err(Fault::NoSuchFrame);
+            }
+            sent.reserve(MOST_SENT)?;
+            let site = &mut sites[node as usize];
+            let _ = site.program_turn()?;
+            collect(site, sent);
+        }
+        Move::Deliver { index, to } => {
+            if to >= nodes || index >= sent.len() as u64 {
+                return Err(Fault::NoSuchFrame);
+            }
+            sent.reserve(MOST_SENT)?;
+            let site = &mut sites[to as usize];
+            let _ = site.deliver(sent[index as usize].bytes())?;
+            collect(site, sent);
+        }
+        Move::Pulse { from, to } => {
+            if from >= nodes || to >= nodes || from == to {
+                return Err(Fault::NoSuchFrame);
+            }
+            sent.reserve(MOST_SENT)?;
+            let site = &mut sites[from as usize];
+            site.pulse(to as u8)?;
+            collect(site, sent);
+        }
+    }
+    Ok(())
+}
+
+/// The sites of the programs, in order.
+fn first_sites<A: Allocator + Copy>(
+    alloc: A,
+    config: &Config,
+    programs: Vec<Program<A>, A>,
+) -> Result<Vec<Site<A>, A>, Fault>
+    requires limits { IsConfig config.now }
+    requires each { length programs.items ≡ config.now.nodes }
+    ensures first { IfOk result (λ sites. AreFirst config.now programs.items sites.items) }
+    ensures memory { IfErr result IsMemory }
+{
+    let mut sites = Vec::with_capacity(alloc, programs.len())?;
+    let mut me = 0u8;
+    for program in programs {
+        sites.push(Site::new(alloc, config, me, program)?)?;
+        me += 1;
+    }
+    Ok(sites)
+}
+
+impl<A: Allocator + Copy> World<A> {
+    /// The opening world of these programs, one for each node [1, 2].
+    ///
+    /// It is 2 where the configuration is out of its limits, where there are not as many programs as nodes,
+    /// and, for now, where there are more than two nodes under the dynamic manager. Two nodes send every
+    /// request to each other under either manager, so they run as under the fixed one.
+    pub fn new(alloc: A, config: Config, programs: Vec<Program<A>, A>) -> Result<World<A>, Fault>
+        ensures opens { IfOk result (λ world. world ≡ record { config = config; programs = programs.items; world = opening fixed_ops config programs.items }) }
+        ensures bad { IsErrOf result Fault.BadConfig ↔ ¬ (IsConfig config × (length programs.items ≡ config.nodes) × IsBuilt config) }
+        ensures want { IfErr result IsWorldWant }
+    {
+        config.check()?;
+        if programs.len() != usize::from(config.nodes) || !is_built(&config) {
+            return Err(Fault::BadConfig);
+        }
+        let sites = first_sites(alloc, &config, programs)?;
+        Ok(World {
+            config,
+            sites,
+            sent: Vec::new(alloc),
+        })
+    }
+
+    /// Every string ever sent, in the order sent. It takes no memory.
+    pub fn sent(&self) -> &[Bytes<A>]
+        ensures { result.now ≡ self.now.world.sent }
+    {
+        &self.sent
+    }
+
+    /// How many nodes there are. It takes no memory.
+    pub fn nodes(&self) -> u64
+        ensures { result ≡ self.now.config.nodes }
+    {
+        self.sites.len() as u64
+    }
+
+    /// What a node was answered so far, in order; the node is one of the world's. It takes no memory.
+    pub fn history(&self, node: u64) -> &[Record]
+        requires { node < self.now.config.nodes }
+        ensures { IfSome (slice_get self.now.world.nodes node) (λ n. result.now ≡ n.core.history) }
+    {
+        self.sites[node as usize].history()
+    }
+
+    /// What a node's program printed so far; the node is one of the world's. It takes no memory.
+    pub fn output(&self, node: u64) -> &[u64]
+        requires { node < self.now.config.nodes }
+        ensures { IfSome (slice_get self.now.world.nodes node) (λ n. result.now ≡ n.core.process.state.output) }
+    {
+        self.sites[node as usize].output()
+    }
+
+    /// Whether a node's program has ended; the node is one of the world's. It takes no memory.
+    pub fn ended(&self, node: u64) -> bool
+        requires { node < self.now.config.nodes }
+        ensures { IfSome (slice_get self.now.world.nodes node) (λ n. IsTrue result ↔ HasEnded n.core.process) }
+    {
+        self.sites[node as usize].ended()
+    }
+
+    /// Makes one move, or changes nothing.
+    fn make(&mut self, step: Move) -> Result<(), Fault>
+        ensures stays { (self.new.config ≡ self.old.config) × (self.new.programs ≡ self.old.programs) }
+        ensures ok { OnOk result (moved (host_rules fixed_ops) self.old.config self.old.world step ≡ Some self.new.world) }
+        ensures err { OnErr result (self.new ≡ self.old) }
+        ensures cause { IfErr result (λ fault. IsRefusedBy self.old.config self.old.world fault (Some step)) }
+        ensures named { IsNamedUnless self.old.world result step }
+    {
+        make(&mut self.sites, &mut self.sent, &self.config, step)?;
+        Ok(())
+    }
+
+    /// What holds of a world that was reached.
+    fn reached(&self)
+        ensures limits { IsConfig self.now.config }
+        ensures each { length self.now.programs ≡ self.now.config.nodes }
+        ensures reached { IsReached self.now }
+    {
+        let _ = &self.config;
+    }
+
+    /// Makes the moves in order, up to the first that is refused, whose place is given with its fault
+    /// [1, 17, 19]. The moves before it were made, and it changed nothing. It is 19 only where the move names
+    /// a node or a string that is not there, or a pulse to its own node.
+    pub fn run(&mut self, moves: &[Move]) -> Result<(), (usize, Fault)>
+        // The world is the same one, and exactly the moves before the refused one were made.
+        ensures stays { (self.new.config ≡ self.old.config) × (self.new.programs ≡ self.old.programs) }
+        ensures made { IsLedTo self.old.config self.old.world (made_of result moves.now) self.new.world }
+        ensures refused { IfErr result (λ e. (e.0 < length moves.now) × IsRefusedBy self.new.config self.new.world e.1 (slice_get moves.now e.0)) }
+
+        // Some moves led from the opening to the world before the call, those made lead on, and at each moment
+        // one order of records explains what the nodes were answered, growing from move to move.
+        ensures explained { (before : List Move) × IsLedTo self.old.config (opening_of self.old) before self.old.world × IsLedTo self.old.config (opening_of self.old) (before ++ made_of result moves.now) self.new.world × IsExplainedAlong self.old (before ++ made_of result moves.now) }
+
+        // No page is writable at one node and readable at another.
+        ensures exclusive { IsExclusive self.new.world }
+
+        // Each history is a run of its program, and each output what that run printed.
+        ensures runs { AreRuns self.new.programs self.new.world }
+
+        // No node has met a message that fits no rule, and each string sent spells a frame.
+        ensures no_breach { HasNoBreach self.new.world }
+        ensures spelled { AllSpell self.new.config self.new.world }
+    {
+        self.reached();
+        for (place, step) in moves.iter().enumerate() {
+            if let Err(fault) = self.make(*step) {
+                return Err((place, fault));
+            }
+        }
+        Ok(())
+    }
+}
