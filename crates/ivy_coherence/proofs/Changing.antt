@@ -1,5 +1,5 @@
 -- What the messages that go on do to a manager, and that one call takes it back.
-use Rattle.std.proofs.Common.{◌≡◌, ℕ, Bool, true, false, List, [], ◌∷◌, refl, ap, ◌∙◌}
+use Rattle.std.proofs.Common.{◌≡◌, ℕ, false, List, [], ◌∷◌, refl, ap, ◌∙◌}
 use Rattle.ivy_pagetable.specs.declared.PutOff.{PutOff}
 use Rattle.ivy_pagetable.specs.Manager.{Ops, Laws, Change, Forward, Given, Replied, Invalidated, all_changed, brought_back}
 use Rattle.ivy_coherence.specs.Steps.{passed_on, is_write}

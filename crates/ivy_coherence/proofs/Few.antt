@@ -1,5 +1,5 @@
 -- How many messages one event posts at most.
-use Rattle.std.proofs.Common.{◌≡◌, ℕ, ◌+◌, ◌≤◌, Bool, true, false, List, [], ◌∷◌, length, Option, Some, None, refl, ap, subst, arith, if◌then◌else◌, ◌==◌}
+use Rattle.std.proofs.Common.{◌≡◌, ℕ, ◌≤◌, Bool, true, false, List, [], ◌∷◌, length, Option, Some, None, refl, arith, if◌then◌else◌, ◌==◌}
 use Rattle.ivy_wire.specs.declared.Content.TheVariants as content
 use Rattle.ivy_wire.specs.Data.{Content, Message}
 use Rattle.ivy_pagetable.specs.declared.Access.{Access}
@@ -12,7 +12,7 @@ use Rattle.ivy_pagetable.specs.Entries.{can_put_off, put_offs}
 use Rattle.ivy_pagetable.specs.Tables.{entry_at}
 use Rattle.ivy_pagetable.specs.Manager.{Ops}
 use Rattle.ivy_coherence.specs.Coherent.{Coherent}
-use Rattle.ivy_coherence.specs.Steps.{Effect, Begun, breach, put_aside, read_asked, unlocked, copy_came, handled, handled_as, hit, read_fault, accessed, begun, begun_at, suffices, passed_on, is_write}
+use Rattle.ivy_coherence.specs.Steps.{Effect, Begun, put_aside, read_asked, copy_came, handled, handled_as, accessed, begun, begun_at, suffices, passed_on, is_write}
 use Rattle.ivy_coherence.specs.Sound.{IsSound}
 
 module _ {S : Type 0} (ops : Ops S) where

@@ -8,7 +8,7 @@ use Rattle.std.proofs.lemmas.List.Elements.{All-push}
 use Rattle.ivy_model.specs.declared.Config.{Config}
 use Rattle.ivy_model.specs.Config.{IsConfig}
 use Rattle.ivy_wire.specs.declared.Content.TheVariants as content
-use Rattle.ivy_wire.specs.Data.{Content, Message, Parcel}
+use Rattle.ivy_wire.specs.Data.{Content, Message}
 use Rattle.ivy_wire.specs.Spelling.{FitsContent, FitsMessage, FitsParcel}
 use Rattle.ivy_pagetable.specs.declared.Access.{Access}
 use Rattle.ivy_pagetable.specs.declared.Entry.{Entry}
@@ -20,13 +20,13 @@ use Rattle.ivy_pagetable.specs.declared.Word.TheVariants as word
 use Rattle.ivy_pagetable.specs.Accesses.{reads}
 use Rattle.ivy_pagetable.specs.NodeSets.{Nodes}
 use Rattle.ivy_pagetable.specs.States.{IdleState, WaitingState}
-use Rattle.ivy_pagetable.specs.Entries.{nothing, owned, copy, is_owner, is_locked, put_offs, with_reader, with_put_off, can_put_off, awaiting_read}
+use Rattle.ivy_pagetable.specs.Entries.{nothing, owned, copy, is_owner, is_locked, with_reader, with_put_off, can_put_off, awaiting_read}
 use Rattle.ivy_pagetable.specs.TableState.{Table}
 use Rattle.ivy_pagetable.specs.Tables.{entry_at, page_at, with_entry, with_page, first_entry}
 use Rattle.ivy_pagetable.specs.Words.{IsWord, needs_write, carried_out}
 use Rattle.ivy_pagetable.specs.Manager.{Ops, Laws}
 use Rattle.ivy_coherence.specs.Coherent.{Coherent}
-use Rattle.ivy_coherence.specs.Steps.{Effect, Begun, breach, shared, sent_on, put_aside, read_asked, unlocked, copy_came, handled, handled_as, hit, read_fault, accessed, begun, begun_at, busy, suffices, passed_on}
+use Rattle.ivy_coherence.specs.Steps.{Effect, Begun, breach, shared, sent_on, put_aside, read_asked, unlocked, copy_came, handled, handled_as, hit, read_fault, accessed, begun, begun_at, suffices, passed_on}
 use Rattle.ivy_coherence.specs.Sound.{CanPassOn, IsSoundEntry, IsSound, first_coherent}
 use Rattle.ivy_coherence.proofs.Pointing.{Points, points_forward, points_read, points_passed, request_fits, all_none, all_one}
 

@@ -3,3 +3,4 @@ pub mod Keeping
 pub mod Changing
 pub mod Opened
 pub mod Few
+pub mod Same

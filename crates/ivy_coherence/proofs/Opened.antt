@@ -1,5 +1,5 @@
 -- The same for a value whose fields the code works on: `v` is what the fields are seen as, `n` the value.
-use Rattle.std.proofs.Common.{◌≡◌, ◌≢◌, ℕ, ◌<◌, ◌≤◌, ◌^◌, Bool, true, false, List, [], ◌∷◌, length, get_or, set, Option, Some, None, is_some, refl, sym, ap, ◌∙◌, subst, arith, eq-eqb, if◌then◌else◌, ◌==◌, set-set}
+use Rattle.std.proofs.Common.{◌≡◌, ◌≢◌, ℕ, ◌<◌, ◌≤◌, ◌^◌, Bool, true, false, List, [], length, set, Option, Some, None, is_some, refl, sym, ap, ◌∙◌, subst, eq-eqb, if◌then◌else◌, ◌==◌, set-set}
 use Rattle.std.specs.Prelude.{All}
 use Rattle.std.proofs.lemmas.List.{get_or-set_same}
 use Rattle.ivy_model.specs.declared.Config.{Config}
@@ -19,10 +19,9 @@ use Rattle.ivy_pagetable.specs.Tables.{entry_at, page_at, with_entry, with_page}
 use Rattle.ivy_pagetable.specs.Words.{IsWord, needs_write, carried_out}
 use Rattle.ivy_pagetable.specs.Manager.{Ops, Laws}
 use Rattle.ivy_coherence.specs.Coherent.{Coherent}
-use Rattle.ivy_coherence.specs.Steps.{Effect, unlocked, copy_came, passed_on, breach}
-use Rattle.ivy_coherence.specs.Sound.{CanPassOn, IsSoundEntry, IsSound}
+use Rattle.ivy_coherence.specs.Steps.{unlocked, copy_came, passed_on, breach}
+use Rattle.ivy_coherence.specs.Sound.{CanPassOn, IsSound}
 use Rattle.ivy_coherence.proofs.Keeping.{with_entry-sound, put_entry-sound, owner_put, locked_put, fault-keeps, not_owner, unlocked-keeps, idle-sound, entry_is}
-use Rattle.ivy_coherence.proofs.Pointing.{points_passed, points_read}
 
 pub none_of : (o : Option ℕ) → is_some o ≡ false → o ≡ None
 none_of None h = refl

@@ -1,16 +1,16 @@
 -- What a manager points at while requests go on. From the laws alone, for every manager.
-use Rattle.std.proofs.Common.{◌≡◌, ◌≢◌, ℕ, suc, ◌<◌, ◌≤◌, ◌^◌, ◌⊎◌, inl, inr, Bool, true, false, List, [], ◌∷◌, ◌++◌, length, refl, sym, ap, ◌∙◌, subst, arith}
+use Rattle.std.proofs.Common.{◌≡◌, ◌≢◌, ℕ, suc, ◌<◌, ◌≤◌, ◌^◌, ◌⊎◌, inl, inr, Bool, false, List, [], ◌∷◌, refl, sym, ap, ◌∙◌, subst, arith}
 use Rattle.std.specs.Prelude.{All}
 use Rattle.std.proofs.lemmas.Bool.Decides.{eqb_tells}
 use Rattle.std.proofs.lemmas.List.Elements.{All-from_recursion, All-cons}
 use Rattle.ivy_model.specs.declared.Config.{Config}
-use Rattle.ivy_wire.specs.Data.{Content, Parcel}
-use Rattle.ivy_wire.specs.Spelling.{FitsContent, FitsMessage, FitsParcel}
+use Rattle.ivy_wire.specs.Data.{Content}
+use Rattle.ivy_wire.specs.Spelling.{FitsContent, FitsParcel}
 use Rattle.ivy_pagetable.specs.declared.PutOff.{PutOff}
 use Rattle.ivy_pagetable.specs.declared.Request.{Request}
 use Rattle.ivy_pagetable.specs.declared.Request.TheVariants as request
 use Rattle.ivy_pagetable.specs.Manager.{Ops, Laws, Keeps}
-use Rattle.ivy_coherence.specs.Steps.{Passed, passed_on, is_write, asked_again, parcel_to}
+use Rattle.ivy_coherence.specs.Steps.{passed_on, is_write, asked_again, parcel_to}
 use Rattle.ivy_coherence.specs.Sound.{CanPassOn}
 
 pub all_none : {X : Type 0} (P : X → Type 0) → All P []

@@ -8,3 +8,6 @@ mod passing;
 
 pub use coherence::Coherence;
 pub use need::Need;
+
+#[cfg(test)]
+mod tests;

@@ -18,7 +18,9 @@ fn turns_in_a_row_are_one_entry(rt: HostRuntime) -> Result<(), Fail> {
     let entries = events.entries();
     assert_eq!(rt; entries.len(), 4);
     assert!(rt; matches!(&entries[0], Event::Turns(2)));
-    assert!(rt; matches!(&entries[1], Event::Delivered(bytes) if bytes.bytes().len() == 2));
+    assert!(rt;
+        matches!(&entries[1], Event::Delivered(bytes) if bytes.bytes() == [73, 86].as_slice())
+    );
     assert!(rt; matches!(&entries[2], Event::Turns(1)));
     assert!(rt; matches!(&entries[3], Event::Pulsed(1)));
     Ok(())

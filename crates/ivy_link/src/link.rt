@@ -158,7 +158,8 @@ impl<A: Allocator + Copy> Link<A> {
     }
 
     /// Numbers the messages, keeps copies of them until they are acknowledged, and gives their frames
-    /// [1, 17]: all of them, or none and the link stays as it was.
+    /// [1, 17]: all of them, or none and the link stays as it was. 17 is answered exactly where a number
+    /// above 2^64 - 1 would be needed.
     pub fn send<'p>(
         &mut self,
         parcels: &[Parcel<&'p [u8]>],

@@ -12,9 +12,16 @@ fn request() -> Parcel<&'static [u8]>
     ensures dest { result.dest ≡ 0 }
     ensures source { result.source ≡ 1 }
 {
+    request_to(0)
+}
+
+fn request_to(dest: u8) -> Parcel<&'static [u8]>
+    ensures dest { result.dest ≡ dest }
+    ensures source { result.source ≡ 1 }
+{
     Parcel {
         source: 1,
-        dest: 0,
+        dest,
         message: Message {
             origin: 1,
             call: 1,
@@ -72,8 +79,9 @@ fn alone(source: u8, dest: u8, ack: u64) -> Frame<Page<Global>>
 fn first_load(rt: HostRuntime) -> Result<(), Fail> {
     let mut asking = Link::new(rt.alloc(), 1, 2)?;
     let mut owner = Link::new(rt.alloc(), 0, 2)?;
-    assert_eq!(rt; asking.frames(&[request()])?.len(), 1);
+    let shown = asking.frames(&[request()])?;
     let sent = asking.send(&[request()])?;
+    assert!(rt; shown == sent);
     assert_eq!(rt; sent.len(), 1);
     let s0 = &sent[0];
     assert_eq!(rt; (s0.source, s0.dest, s0.number, s0.ack), (1, 0, 1, 0));
@@ -108,7 +116,9 @@ fn request_sent_again(rt: HostRuntime) -> Result<(), Fail> {
 fn answer_acknowledged(rt: HostRuntime) -> Result<(), Fail> {
     let mut owner = Link::new(rt.alloc(), 0, 2)?;
     let _ = owner.send(&[reply()])?;
-    owner.accept(&frame(request(), 0));
+    let s0 = frame(request(), 0);
+    owner.accept(&s0);
+    assert_eq!(rt; owner.offer(&s0), Verdict::Repeat);
     let s2 = frame(request(), 1);
     assert_eq!(rt; owner.offer(&s2), Verdict::Repeat);
     owner.accept(&s2);
@@ -118,6 +128,51 @@ fn answer_acknowledged(rt: HostRuntime) -> Result<(), Fail> {
     assert_eq!(rt; (s3.source, s3.dest, s3.number, s3.ack), (0, 1, 0, 1));
     assert!(rt; s3.body.is_none());
     assert_eq!(rt; owner.pulse_frames(1)?.len(), 0);
+    Ok(())
+}
+
+/// Once the frames that a pulse shows are sent, no acknowledgement is owed any more, and what is kept
+/// stays so.
+#[test]
+fn pulse_in_two_calls(rt: HostRuntime) -> Result<(), Fail> {
+    let mut owner = Link::new(rt.alloc(), 0, 2)?;
+    owner.accept(&frame(request(), 0));
+    assert_eq!(rt; owner.pulse_frames(1)?.len(), 1);
+    owner.pulsed(1);
+    assert_eq!(rt; owner.pulse_frames(1)?.len(), 0);
+    let _ = owner.send(&[reply()])?;
+    owner.pulsed(1);
+    assert_eq!(rt; owner.pulse_frames(1)?.len(), 1);
+    Ok(())
+}
+
+/// The messages to each node have numbers of their own.
+#[test]
+fn numbers_of_each_pair(rt: HostRuntime) -> Result<(), Fail> {
+    let mut link = Link::new(rt.alloc(), 1, 3)?;
+    let sent = link.send(&[request_to(0), request_to(2), request_to(0)])?;
+    assert_eq!(rt; sent.len(), 3);
+    assert_eq!(rt; (sent[0].dest, sent[0].number), (0, 1));
+    assert_eq!(rt; (sent[1].dest, sent[1].number), (2, 1));
+    assert_eq!(rt; (sent[2].dest, sent[2].number), (0, 2));
+    let again = link.pulse_frames(0)?;
+    assert_eq!(rt; again.len(), 2);
+    assert_eq!(rt; (again[0].number, again[1].number), (1, 2));
+    assert_eq!(rt; link.pulse_frames(2)?.len(), 1);
+    Ok(())
+}
+
+/// A frame for another node is NotMine, and accepting it changes nothing.
+#[test]
+fn frame_for_another_node(rt: HostRuntime) -> Result<(), Fail> {
+    let mut asking = Link::new(rt.alloc(), 1, 2)?;
+    let _ = asking.send(&[request()])?;
+    let s0 = frame(request(), 1);
+    assert_eq!(rt; asking.offer(&s0), Verdict::NotMine);
+    asking.accept(&s0);
+    let kept = asking.pulse_frames(0)?;
+    assert_eq!(rt; kept.len(), 1);
+    assert_eq!(rt; (kept[0].number, kept[0].ack), (1, 0));
     Ok(())
 }
 
@@ -140,7 +195,10 @@ fn more_kept_than_a_pulse(rt: HostRuntime) -> Result<(), Fail> {
     }
     let first = link.pulse_frames(0)?;
     assert_eq!(rt; first.len(), 32);
-    assert_eq!(rt; (first[0].number, first[31].number), (1, 32));
+    assert_eq!(rt;
+        (first[0].number, first[1].number, first[31].number),
+        (1, 2, 32)
+    );
     drop(first);
     assert_eq!(rt; least_kept(&mut link, 35)?, 1);
     assert_eq!(rt; least_kept(&mut link, 3)?, 4);

@@ -18,29 +18,28 @@ use Rattle.ivy_node.specs.Sound.{IsSoundHost}
 use Rattle.ivy_node.specs.Openings.{opening}
 use Rattle.ivy_node.specs.Holding.{IsExclusive, AreRuns, HasNoBreach, AllSpell}
 use Rattle.ivy_node.proofs.ExplainWorlds.{opening_explained, opening_runs}
-use Rattle.ivy_node.proofs.OrderlyRuns.{AreOrderly, orderly_led, orderly_first, orderly_worlds_exclusive, orderly_worlds_no_breach}
+use Rattle.ivy_node.proofs.OrderlyRuns.{AreOrderly, orderly_led, orderly_first, orderly_worlds_exclusive}
+use Rattle.ivy_node.proofs.RoutedRuns.{AreQuiet, quiet_led, quiet_first, quiet_worlds_no_breach}
 use Rattle.ivy_node.proofs.Tame.{tame, opening_is}
 
 module _ (c : Config) (programs : List (List Instruction)) (config : IsConfig c) (each : length programs ≡ c.nodes) where
   tamed : IsTame (host_rules fixed_ops) c (IsSoundHost fixed_ops c)
   tamed = tame fixed_laws c
 
-  first : World (Host Owners)
-  first = opening fixed_ops c programs
-
   opened : Follows c (IsSoundHost fixed_ops c) (opening fixed_ops c programs) (λ i j. [])
   opened = opening_follows c (IsSoundHost fixed_ops c) (opening fixed_ops c programs) (opening_is fixed_laws c programs config each)
 
-  orderly : (moves : List Move) (w : World (Host Owners)) → Leads (host_rules fixed_ops) c (opening fixed_ops c programs) moves w → AreOrderly c w
-  orderly moves w h =
-      orderly_led c config tamed (opening fixed_ops c programs) w moves
-      (record { posted = λ i j. []; follows = opened; orderly = orderly_first c programs config each }) h
+  orderly : (moves : List Move) (w : World (Host Owners)) → Leads (host_rules fixed_ops) c (opening fixed_ops c programs) moves w → AreOrderly fixed_ops c w
+  orderly moves w h = orderly_led fixed_ops c config tamed (opening fixed_ops c programs) w moves (record { posted = λ i j. []; follows = opened; holds = orderly_first fixed_ops c programs each }) h
 
   pub exclusive-led : (moves : List Move) (w : World (Host Owners)) → Leads (host_rules fixed_ops) c (opening fixed_ops c programs) moves w → IsExclusive w
-  exclusive-led moves w h = orderly_worlds_exclusive c w (orderly moves w h)
+  exclusive-led moves w h = orderly_worlds_exclusive fixed_ops c w (orderly moves w h)
+
+  quiet : (moves : List Move) (w : World (Host Owners)) → Leads (host_rules fixed_ops) c (opening fixed_ops c programs) moves w → AreQuiet c w
+  quiet moves w h = quiet_led c config tamed (opening fixed_ops c programs) w moves (record { posted = λ i j. []; follows = opened; holds = quiet_first c programs config each }) h
 
   pub no_breach-led : (moves : List Move) (w : World (Host Owners)) → Leads (host_rules fixed_ops) c (opening fixed_ops c programs) moves w → HasNoBreach w
-  no_breach-led moves w h = orderly_worlds_no_breach c w (orderly moves w h)
+  no_breach-led moves w h = quiet_worlds_no_breach c w (quiet moves w h)
 
   pub runs-led : (moves : List Move) (w : World (Host Owners)) → Leads (host_rules fixed_ops) c (opening fixed_ops c programs) moves w → AreRuns programs w
   runs-led moves w h = opening_runs fixed_ops c config tamed programs each opened w moves h

@@ -10,6 +10,10 @@ pub mod OrderlyServed
 pub mod OrderlyTurns
 pub mod OrderlyWorld
 pub mod OrderlyRuns
+pub mod RoutedEvents
+pub mod RoutedServed
+pub mod RoutedWorld
+pub mod RoutedRuns
 pub mod Boxes
 pub mod Tame
 pub mod Same

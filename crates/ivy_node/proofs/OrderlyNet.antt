@@ -1,7 +1,9 @@
--- Messages that are delivered, posted and put off, and entries that change, in an ordered world that only reads.
-use Rattle.std.proofs.Common.{◌≡◌, ◌≢◌, ◌⊎◌, ◌<◌, ◌≤◌, ◌+◌, ℕ, zero, suc, Bool, true, false, List, [], ◌∷◌, ◌++◌, length, slice_get, Some, refl, sym, ap, ◌∙◌, subst, inl, inr, arith, if◌then◌else◌, ◌==◌, ◌&&◌, append-nil, append_assoc}
+-- Messages that are delivered, posted and put off, and entries that change, in an ordered world that only reads. For
+-- every manager.
+use Rattle.std.proofs.Common.{◌≡◌, ◌≢◌, ◌⊎◌, ◌≤◌, ◌+◌, ℕ, zero, suc, Bool, true, false, List, [], ◌∷◌, ◌++◌, length, slice_get, Some, refl, sym, ap, ◌∙◌, subst, inl, inr, arith, if◌then◌else◌, ◌==◌, ◌&&◌, append-nil, append_assoc}
 use Rattle.std.proofs.lemmas.Bool.{cases_eq, eq-eqb, ne_eqb, eqb-true, and_left, and_right}
 use Rattle.std.proofs.lemmas.Option.{same_Some, none-some}
+use Rattle.std.specs.FinSet as set
 use Rattle.ivy_model.specs.declared.Config.{Config}
 use Rattle.ivy_wire.specs.declared.Content.TheVariants as content
 use Rattle.ivy_wire.specs.Data.{Content, Message, Parcel}
@@ -9,9 +11,9 @@ use Rattle.ivy_link.specs.Paired.{posted, extended}
 use Rattle.ivy_pagetable.specs.declared.Entry.{Entry}
 use Rattle.ivy_pagetable.specs.declared.PutOff.{PutOff}
 use Rattle.ivy_pagetable.specs.declared.Request.TheVariants as request
-use Rattle.ivy_pagetable.specs.Entries.{put_offs, readable, writable}
+use Rattle.ivy_pagetable.specs.Entries.{put_offs, readable, writable, is_owner, copies_of}
 use Rattle.ivy_ether.specs.Ordered.{one_more}
-use Rattle.ivy_node.specs.Ordering.{Place, Underway, Aside, IsOwned, IsReader, Awaits, Asks, Fits, IsNet}
+use Rattle.ivy_node.specs.Ordering.{Place, Underway, Aside, IsReading, Awaits, IsCounted, Asks, Fits, IsNet}
 
 -- what stands in two lists, one after the other
 pub get_append : {X : Type 0} (xs : List X) (y x : X) (k : ℕ) → slice_get (xs ++ y ∷ []) k ≡ Some x → (slice_get xs k ≡ Some x) ⊎ ((k ≡ length xs) × (x ≡ y))
@@ -65,15 +67,16 @@ pub take_net : (c : Config) (e : ℕ → ℕ → Entry) (sent : ℕ → ℕ → 
 take_net c e sent done place s x m net first =
     let here : Fits c e m.origin m.call m.content x × (place m.origin ≡ Underway s x (done s x)) = net.underway s x (done s x) m (omega arith) first in (
       record {
-        owner = net.owner;
-        reader = net.reader;
-        covered = net.covered;
+        reading = net.reading;
+        one_owner = net.one_owner;
+        alone = net.alone;
+        counted = net.counted;
         underway = λ i j k n le is. net.underway i j k n (later done s x i j k le) is;
         aside = net.aside;
       },
       record {
         underway = λ i j k n le is same. not_first done s x i j k le (sym (net.underway i j k n (later done s x i j k le) is).1 ∙ ap place same ∙ here.1);
-        aside = λ i p k q is same. not_both s x (done s x) i p k (sym here.1 ∙ ap place (sym same) ∙ (net.aside i p k q is).2);
+        aside = λ i p k q is same. not_both s x (done s x) i p k (sym here.1 ∙ ap place (sym same) ∙ (net.aside i p k q is).3);
       },
       here.0,
     )
@@ -95,25 +98,34 @@ one_parcel true true p old k m h = elim (get_append old p.message m k h) [ inl y
 one_parcel true false p old k m h = inl (subst (λ (l : List Message). slice_get l k ≡ Some m) (append-nil old) h)
 one_parcel false d p old k m h = inl (subst (λ (l : List Message). slice_get l k ≡ Some m) (append-nil old) h)
 
--- entries that change: those that messages of present origins wait for stay so, and what is put off may grow
+-- what is known of a request that is put off
+abbrev pub IsAside : Config → (ℕ → ℕ → Entry) → (ℕ → Place) → ℕ → ℕ → ℕ → PutOff → Type 0
+IsAside c e place i p k q = (q.kind ≡ request.Read) × (q.origin ≢ i) × Asks c e p q.origin q.call × (place q.origin ≡ Aside i p k)
+
+-- entries that change: those that messages of present origins wait for stay so, who is counted stays so, and what is
+-- put off may grow
 pub record Follows (c : Config) (e e' : ℕ → ℕ → Entry) (sent : ℕ → ℕ → List Message) (done : ℕ → ℕ → ℕ) (place place' : ℕ → Place) : Type 0 where
-  pub owner : (p : ℕ) → p < c.pages → IsOwned (e' 0 p)
-  pub reader : (i p : ℕ) → i ≢ 0 → IsReader (e' i p)
-  pub covered : (i p : ℕ) → i ≢ 0 → readable (e' i p) ≡ true → writable (e' 0 p) ≡ false
-  pub shared : (p : ℕ) → writable (e 0 p) ≡ false → writable (e' 0 p) ≡ false
+  pub reading : (i p : ℕ) → IsReading (e' i p)
+  pub one_owner : (i j p : ℕ) → is_owner (e' i p) ≡ true → is_owner (e' j p) ≡ true → i ≡ j
+  pub alone : (i p : ℕ) → writable (e' i p) ≡ true → (is_owner (e' i p) ≡ true) × (copies_of (e' i p) ≡ set.empty)
+  pub counted : (i p : ℕ) → readable (e' i p) ≡ true → IsCounted e' p i
+  pub still : (p n : ℕ) → IsCounted e p n → IsCounted e' p n
   pub awaits : (o p n : ℕ) → (Absent e sent done o → ⊥) → Awaits (e o p) n → Awaits (e' o p) n
   pub same : (o : ℕ) → (Absent e sent done o → ⊥) → place' o ≡ place o
   pub aside : (i p k : ℕ) (q : PutOff) → slice_get (put_offs (e' i p)) k ≡ Some q
-      → (slice_get (put_offs (e i p)) k ≡ Some q) ⊎ ((q.kind ≡ request.Read) × Asks c e' p q.origin q.call i × (place' q.origin ≡ Aside i p k))
+      → (slice_get (put_offs (e i p)) k ≡ Some q) ⊎ (IsAside c e' place' i p k q)
 
-asks_still : (c : Config) (e e' : ℕ → ℕ → Entry) (page origin call i : ℕ) → Awaits (e' origin page) call → Asks c e page origin call i → Asks c e' page origin call i
-asks_still c e e' page origin call i awaits a = record { below = a.below; inside = a.inside; awaits = awaits; at = a.at }
+pub asks_still : (c : Config) (e e' : ℕ → ℕ → Entry) (page origin call : ℕ) → Awaits (e' origin page) call → Asks c e page origin call → Asks c e' page origin call
+asks_still c e e' page origin call awaits a = record { below = a.below; inside = a.inside; awaits = awaits }
 
 module _ (c : Config) (e e' : ℕ → ℕ → Entry) (sent : ℕ → ℕ → List Message) (done : ℕ → ℕ → ℕ) (place place' : ℕ → Place) (f : Follows c e e' sent done place place') where
   fits_still : (origin call : ℕ) (m : Content) (i : ℕ) → (Absent e sent done origin → ⊥) → Fits c e origin call m i → Fits c e' origin call m i
-  fits_still origin call (content.ReadReq page) i there a = asks_still c e e' page origin call i (f.awaits origin page call there a.awaits) a
-  fits_still origin call (content.ReadRep page bytes) i there a =
-      record { below = a.below; inside = a.inside; awaits = f.awaits origin page call there a.awaits; at = a.at; shared = f.shared page a.shared }
+  fits_still origin call (content.ReadReq page) i there a = asks_still c e e' page origin call (f.awaits origin page call there a.awaits) a
+  fits_still origin call (content.ReadRep page bytes) i there a = record {
+    asked = asks_still c e e' page origin call (f.awaits origin page call there a.asked.awaits) a.asked;
+    at = a.at;
+    counted = f.still page origin a.counted;
+  }
   fits_still origin call (content.WriteReq page) i there a = a
   fits_still origin call (content.WriteRep page copies bytes) i there a = a
   fits_still origin call (content.Inval page) i there a = a
@@ -129,17 +141,18 @@ module _ (c : Config) (e e' : ℕ → ℕ → Entry) (sent : ℕ → ℕ → Lis
       let old : Fits c e m.origin m.call m.content j × (place m.origin ≡ Underway i j k) = net.underway i j k m le is in
       (fits_still m.origin m.call m.content j there old.0, f.same m.origin there ∙ old.1)
 
-  still_aside : IsNet c e sent done place → (i p k : ℕ) (q : PutOff) → slice_get (put_offs (e i p)) k ≡ Some q → (q.kind ≡ request.Read) × Asks c e' p q.origin q.call i × (place' q.origin ≡ Aside i p k)
+  still_aside : IsNet c e sent done place → (i p k : ℕ) (q : PutOff) → slice_get (put_offs (e i p)) k ≡ Some q → IsAside c e' place' i p k q
   still_aside net i p k q is =
       let there : Absent e sent done q.origin → ⊥ = λ (a : Absent e sent done q.origin). a.aside i p k q is refl in
-      let old : (q.kind ≡ request.Read) × Asks c e p q.origin q.call i × (place q.origin ≡ Aside i p k) = net.aside i p k q is in
-      (old.0, asks_still c e e' p q.origin q.call i (f.awaits q.origin p q.call there old.1.awaits) old.1, f.same q.origin there ∙ old.2)
+      let old : IsAside c e place i p k q = net.aside i p k q is in
+      (old.0, old.1, asks_still c e e' p q.origin q.call (f.awaits q.origin p q.call there old.2.awaits) old.2, f.same q.origin there ∙ old.3)
 
   pub changed_net : IsNet c e sent done place → IsNet c e' sent done place'
   changed_net net = record {
-    owner = f.owner;
-    reader = f.reader;
-    covered = f.covered;
+    reading = f.reading;
+    one_owner = f.one_owner;
+    alone = f.alone;
+    counted = f.counted;
     underway = still_underway net;
     aside = λ i p k q is. elim (f.aside i p k q is) [ inl y ↦ still_aside net i p k q y | inr y ↦ y ];
   }
@@ -149,9 +162,10 @@ pub post_one : (c : Config) (e : ℕ → ℕ → Entry) (sent : ℕ → ℕ → 
     → IsNet c e sent done place → Absent e sent done p.message.origin → Fits c e p.message.origin p.message.call p.message.content p.dest
     → IsNet c e (extended sent (p ∷ [])) done (moved place p.message.origin (Underway p.source p.dest (length (sent p.source p.dest))))
 post_one c e sent done place p net gone fits = record {
-  owner = net.owner;
-  reader = net.reader;
-  covered = net.covered;
+  reading = net.reading;
+  one_owner = net.one_owner;
+  alone = net.alone;
+  counted = net.counted;
   underway = λ i j k m le is. elim (one_parcel (p.source == i) (p.dest == j) p (sent i j) k m is) [
     | inl y ↦ (
         let old : Fits c e m.origin m.call m.content j × (place m.origin ≡ Underway i j k) = net.underway i j k m le y in
@@ -160,8 +174,8 @@ post_one c e sent done place p net gone fits = record {
     | inr y ↦ new_there i j k m y
   ];
   aside = λ i q k r is. (
-      let old : (r.kind ≡ request.Read) × Asks c e q r.origin r.call i × (place r.origin ≡ Aside i q k) = net.aside i q k r is in
-      (old.0, old.1, moved-other place p.message.origin new r.origin (gone.aside i q k r is) ∙ old.2)
+      let old : IsAside c e place i q k r = net.aside i q k r is in
+      (old.0, old.1, old.2, moved-other place p.message.origin new r.origin (gone.aside i q k r is) ∙ old.3)
       );
 }
   where
@@ -210,9 +224,10 @@ posted_front p ps i j old = append_assoc old (posted i j (p ∷ [])) (posted i j
 -- the same messages in the same places
 same_sent : (c : Config) (e : ℕ → ℕ → Entry) (sent sent' : ℕ → ℕ → List Message) (done : ℕ → ℕ → ℕ) (place : ℕ → Place) → ((i j : ℕ) → sent i j ≡ sent' i j) → IsNet c e sent done place → IsNet c e sent' done place
 same_sent c e sent sent' done place same net = record {
-  owner = net.owner;
-  reader = net.reader;
-  covered = net.covered;
+  reading = net.reading;
+  one_owner = net.one_owner;
+  alone = net.alone;
+  counted = net.counted;
   underway = λ i j k m le is. net.underway i j k m le (ap (λ l. slice_get l k) (same i j) ∙ is);
   aside = net.aside;
 }

@@ -1,16 +1,19 @@
 -- Lists of sites: as they begin, and with one of them changed.
-use Rattle.std.proofs.Common.{◌≡◌, ℕ, zero, suc, ◌+◌, List, [], ◌∷◌, ◌++◌, length, map, slice_get, Some, refl, sym, ap, subst, ◌∙◌, append_assoc, arith}
+use Rattle.std.proofs.Common.{◌≡◌, ◌↔◌, ℕ, zero, suc, ◌+◌, List, [], ◌∷◌, ◌++◌, length, map, slice_get, Option, Some, Err, refl, sym, ap, subst, ◌∙◌, append_assoc, arith}
+use Rattle.std.specs.Result.{result_err}
 use Rattle.std.proofs.lemmas.List.{length-map}
 use Rattle.std.proofs.lemmas.Option.{same_Some, none-some}
 use Rattle.ivy_model.specs.declared.Config.{Config}
 use Rattle.ivy_model.specs.Config.{IsConfig}
-use Rattle.ivy_fixed.specs.Fixed.{fixed_ops}
+use Rattle.ivy_model.specs.declared.Fault.{Fault}
+use Rattle.ivy_model.specs.declared.Fault.TheVariants.{NoSuchFrame}
+use Rattle.ivy_fixed.specs.Fixed.{Owners, fixed_ops}
 use Rattle.ivy_program.specs.declared.Instruction.{Instruction}
 use Rattle.ivy_ether.specs.declared.Move.{Move}
 use Rattle.ivy_ether.specs.Worlds as worlds
-use Rattle.ivy_node.specs.Hosts.{host_rules}
+use Rattle.ivy_node.specs.Hosts.{Host, host_rules}
 use Rattle.ivy_node.specs.Openings.{first_nodes, opening}
-use Rattle.ivy_node.specs.Runs.{IsLedTo}
+use Rattle.ivy_node.specs.Runs.{IsLedTo, IsRefusedBy, CannotBeNamed, IsNamedUnless}
 use Rattle.ivy_node.specs.Holding.{AllSpell}
 use Rattle.ivy_node.specs.Shown.{Shown}
 use Rattle.ivy_node.proofs.Headline.{spelled-led}
@@ -103,5 +106,10 @@ runs_on c sites sites' sent sent' step h are count programs made = record {
   );
 }
 
-pub stays_running : (c : Config) (sites sites' : List Shown) (sent sent' : List (List ℕ)) → IsRunning c sites sent → sites' ≡ sites → sent' ≡ sent → IsRunning c sites' sent'
-stays_running c sites sites' sent sent' h same none = subst (λ x. IsRunning c x sent') (sym same) (subst (λ x. IsRunning c sites x) (sym none) h)
+-- refused by that number exactly where it can't be named
+pub named_exactly : (c : Config) (w : worlds.World (Host Owners)) (e : Fault) (o : Option Move) (m : Move) → o ≡ Some m → IsRefusedBy c w e (Some m) → IsNamedUnless w (Err e) m
+    → (e ≡ NoSuchFrame) ↔ CannotBeNamed w o
+named_exactly c w e o m is refused named = (
+  λ spent. rw is (subst (λ f. IsRefusedBy c w f (Some m)) spent refused),
+  λ not. same_Some e NoSuchFrame (ap result_err (named (rw is at not))),
+)

@@ -10,3 +10,4 @@ pub mod RunState
 pub mod Runs
 pub mod WorldSites
 pub mod Ordering
+pub mod Routing

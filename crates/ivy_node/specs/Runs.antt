@@ -23,9 +23,14 @@ IsRefusedBy c w NumbersSpent (Some m) = moved (host_rules fixed_ops) c w m ≡ N
 IsRefusedBy c w Memory (Some m) = Unit {0}
 IsRefusedBy c w f o = ⊥
 
+-- the node or string that the move names is not there, or it is a pulse to its own node
+abbrev pub CannotBeNamed : World (Host Owners) → Option Move → Type 0
+CannotBeNamed w (Some m) = is_named w m ≡ false
+CannotBeNamed w None = ⊥
+
 -- a move that can't be named is refused by that, whatever else
 abbrev pub IsNamedUnless : World (Host Owners) → Result (Unit {0}) Fault → Move → Type 0
-IsNamedUnless w result m = is_named w m ≡ false → result ≡ Err NoSuchFrame
+IsNamedUnless w result m = CannotBeNamed w (Some m) → result ≡ Err NoSuchFrame
 
 abbrev pub opening_of : Run → World (Host Owners)
 opening_of r = opening fixed_ops r.config r.programs

@@ -28,6 +28,10 @@ use Rattle.ivy_node.specs.Shown.{Shown, after_event, after_delivery}
 abbrev pub first_shown : Config → ℕ → List Instruction → Shown
 first_shown c me program = record { config = c; me = me; node = first_node fixed_ops c me program; events = []; waiting = [] }
 
+-- it is the same node, under the same configuration
+abbrev pub IsSameNode : Shown → Shown → Type 0
+IsSameNode old new = (new.config ≡ old.config) × (new.me ≡ old.me)
+
 -- the turn changed something: it is the turn of the definitions
 pub record Turns (old new : Shown) : Type 0 where
   pub outcome : Outcome (Host Owners)

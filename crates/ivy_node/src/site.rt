@@ -7,7 +7,7 @@ ghost use Rattle.ivy_program.specs.Steps.{IsAsking, HasEnded, Asks, step_of, ans
 ghost use Rattle.ivy_fixed.specs.Fixed.{fixed_ops};
 ghost use Rattle.ivy_ether.specs.Nodes.{pulsing};
 ghost use Rattle.ivy_node.specs.Shown.{after_pulse_to};
-ghost use Rattle.ivy_node.specs.Sites.{first_shown, host_of, Begins, CannotBegin, AfterTurn, Delivers, IsSpentTurn, IsSpentDelivery, TakesFrame};
+ghost use Rattle.ivy_node.specs.Sites.{first_shown, host_of, Begins, CannotBegin, AfterTurn, Delivers, IsSpentTurn, IsSpentDelivery, TakesFrame, IsSameNode};
 ghost use Rattle.ivy_ether.specs.Marks.{marks};
 ghost use Rattle.ivy_model.specs.Legal.{HasWidth};
 ghost use Rattle.ivy_program.specs.Calls.{IsLoad};
@@ -136,7 +136,8 @@ impl<A: Allocator + Copy> Site<A> {
 
     /// The first string that waits to be put on the wire, taken out. It takes no memory.
     pub fn take_frame(&mut self) -> Option<Bytes<A>>
-        ensures { TakesFrame result self.old self.new }
+        ensures taken { TakesFrame result self.old self.new }
+        ensures same { IsSameNode self.old self.new }
     {
         self.outbox.take()
     }
@@ -144,6 +145,7 @@ impl<A: Allocator + Copy> Site<A> {
     /// One turn of the program: a reply that came is recorded, or an instruction is carried out, or a call
     /// begins [1, 17]. A refused turn changes nothing.
     pub fn program_turn(&mut self) -> Result<Turn, Fault>
+        ensures same { IsSameNode self.old self.new }
         ensures done { MatchResult result (λ turn. AfterTurn turn self.old self.new) (λ _. self.new ≡ self.old) }
         ensures few { length self.new.waiting ≤ length self.old.waiting + 32 }
         ensures spent { IfErr result (IsSpentTurn self.old) }
@@ -188,6 +190,7 @@ impl<A: Allocator + Copy> Site<A> {
     /// for another node is left alone, and the message of the next one is served before the frame is accepted.
     /// A refused delivery changes nothing.
     pub fn deliver(&mut self, bytes: &[u8]) -> Result<Verdict, Fault>
+        ensures same { IsSameNode self.old self.new }
         ensures done { MatchResult result (λ verdict. Delivers bytes.now verdict self.old self.new) (λ _. self.new ≡ self.old) }
         ensures refused { MatchResult (checked self.old.config bytes.now) (λ _. IfErr result IsWant) (λ fault. result ≡ Err fault) }
         ensures few { length self.new.waiting ≤ length self.old.waiting + 32 }
@@ -216,6 +219,7 @@ impl<A: Allocator + Copy> Site<A> {
     pub fn pulse(&mut self, to: u8) -> Result<(), Fault>
         requires to { to < self.old.config.nodes }
         requires other { to ≢ self.old.me }
+        ensures same { IsSameNode self.old self.new }
         ensures done { MatchResult result (λ _. self.new ≡ after_pulse_to self.old to (pulsing self.old.node to)) (λ _. self.new ≡ self.old) }
         ensures few { length self.new.waiting ≤ length self.old.waiting + 32 }
         ensures memory { IsOkUnless result Fault.Memory }

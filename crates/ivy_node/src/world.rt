@@ -8,7 +8,7 @@ ghost use Rattle.ivy_ether.specs.Worlds.{moved};
 ghost use Rattle.ivy_node.specs.Hosts.{host_rules};
 ghost use Rattle.ivy_node.specs.Holding.{IsExclusive, AreRuns, HasNoBreach, AllSpell};
 ghost use Rattle.ivy_node.specs.Openings.{opening};
-ghost use Rattle.ivy_node.specs.Runs.{made_of, IsRefusedBy, IsNamedUnless, IsLedTo, IsReached, IsExplainedAlong, opening_of};
+ghost use Rattle.ivy_node.specs.Runs.{made_of, IsRefusedBy, CannotBeNamed, IsNamedUnless, IsLedTo, IsReached, IsExplainedAlong, opening_of};
 ghost use Rattle.ivy_node.specs.WorldSites.{programs_of, world_of, AreSites, IsBuilt, IsMemory, IsWorldWant, AreFirst};
 
 use crate::site::Site;
@@ -222,13 +222,14 @@ impl<A: Allocator + Copy> World<A> {
     }
 
     /// Makes the moves in order, up to the first that is refused, whose place is given with its fault
-    /// [1, 17, 19]. The moves before it were made, and it changed nothing. It is 19 only where the move names
+    /// [1, 17, 19]. The moves before it were made, and it changed nothing. It is 19 exactly where the move names
     /// a node or a string that is not there, or a pulse to its own node.
     pub fn run(&mut self, moves: &[Move]) -> Result<(), (usize, Fault)>
         // The world is the same one, and exactly the moves before the refused one were made.
         ensures stays { (self.new.config ≡ self.old.config) × (self.new.programs ≡ self.old.programs) }
         ensures made { IsLedTo self.old.config self.old.world (made_of result moves.now) self.new.world }
         ensures refused { IfErr result (λ e. (e.0 < length moves.now) × IsRefusedBy self.new.config self.new.world e.1 (slice_get moves.now e.0)) }
+        ensures named { IfErr result (λ e. (e.1 ≡ Fault.NoSuchFrame) ↔ CannotBeNamed self.new.world (slice_get moves.now e.0)) }
 
         // Some moves led from the opening to the world before the call, those made lead on, and at each moment
         // one order of records explains what the nodes were answered, growing from move to move.

@@ -1,9 +1,11 @@
 ghost use Rattle.std.specs.Prelude.{◌≡◌, if◌then◌else◌};
 ghost use Rattle.ivy_pagetable.specs.Entries.{is_locked, is_owner, readable, writable, can_put_off, with_put_off};
 
+use crate::await_acks::AwaitAcks;
+use crate::await_write::AwaitWrite;
 use crate::idle::Idle;
 use crate::put_off::PutOff;
-use crate::waiting::{AwaitAcks, AwaitWrite, Waiting};
+use crate::waiting::Waiting;
 
 /// The entry of a page at a node.
 #[derive(Drop)]

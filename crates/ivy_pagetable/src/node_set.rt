@@ -26,6 +26,14 @@ impl Model for NodeSet {
     ghost invariant = { λ s. AscendsFrom 0 s.nodes.items };
 }
 
+fn copied(nodes: &ArrayVec<u8, 32>) -> ArrayVec<u8, 32>
+    ensures { result.items ≡ nodes.now.items }
+{
+    let mut copied = ArrayVec::new();
+    copied.try_extend_from_slice(nodes).unwrap();
+    copied
+}
+
 impl NodeSet {
     /// No node.
     pub fn new() -> NodeSet
@@ -75,17 +83,15 @@ impl NodeSet {
     pub fn nodes(&self) -> ArrayVec<u8, 32>
         ensures { result.items ≡ nodes_of self.now }
     {
-        let mut nodes = ArrayVec::new();
-        nodes.try_extend_from_slice(&self.nodes).unwrap();
-        nodes
+        copied(&self.nodes)
     }
 
     /// The same set.
     pub fn copied(&self) -> NodeSet
         ensures { result ≡ self.now }
     {
-        let mut nodes = ArrayVec::new();
-        nodes.try_extend_from_slice(&self.nodes).unwrap();
-        NodeSet { nodes }
+        NodeSet {
+            nodes: copied(&self.nodes),
+        }
     }
 }

@@ -19,6 +19,12 @@ pub struct PutOff {
 }
 
 impl Default for PutOff {
+    ghost use Rattle.std.specs.Prelude.{◌≡◌};
+    ghost use Rattle.ivy_pagetable.specs.declared.put_off.Request.TheVariants.{Read};
+
+    ghost is_default = { λ message. message ≡ record { kind = Read; origin = 0; call = 0 } };
+
+    /// A request of node 0, which only fills places that hold no message yet.
     fn default() -> PutOff {
         PutOff {
             kind: Request::Read,

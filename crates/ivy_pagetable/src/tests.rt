@@ -145,3 +145,55 @@ fn messages_are_put_off_in_order(rt: HostRuntime) -> Result<(), Fail> {
     }
     Ok(())
 }
+
+/// Eight messages can be put off at a locked entry, and no ninth.
+#[test]
+fn eight_are_put_off(rt: HostRuntime) -> Result<(), Fail> {
+    let mut table = PageTable::new(rt.alloc(), &CONFIG, 1)?;
+    let word = Word::Advance { offset: 8 };
+    assert!(rt; word.needs_write() && !Word::Count { offset: 8 }.needs_write());
+    let message = PutOff {
+        kind: Request::Write,
+        origin: 2,
+        call: 7,
+    };
+    let mut waiting = Waiting::new(word, 3);
+    for _ in 0..8 {
+        assert!(rt; !waiting.is_full());
+        waiting.put_off(message);
+    }
+    let state = AwaitWrite::new(true, waiting);
+    assert!(rt; state.had_copy() && state.waiting().is_full());
+    table.set_entry(1, Entry::AwaitWrite(state));
+    assert!(rt; table.entry(1).readable() && !table.entry(1).is_owner());
+    assert!(rt; !table.put_off(1, message));
+    Ok(())
+}
+
+/// An owner that waits for acknowledgements reads its page, and does not write it yet.
+#[test]
+fn acknowledgements_are_missing(rt: HostRuntime) -> Result<(), Fail> {
+    let mut table = PageTable::new(rt.alloc(), &CONFIG, 1)?;
+    let mut copies = NodeSet::new();
+    copies.insert(3);
+    if copies.is_empty() {
+        return Err("no node is left".into());
+    }
+    let state = AwaitAcks::new(copies, Waiting::new(Word::Advance { offset: 8 }, 3));
+    assert_eq!(rt; state.left().nodes().as_slice(), [3].as_slice());
+    assert_eq!(rt; state.waiting().call(), 3);
+    let entry = Entry::AwaitAcks(state);
+    assert!(rt; entry.is_locked() && entry.is_owner());
+    assert!(rt; entry.readable() && !entry.writable());
+    table.set_entry(0, entry);
+    assert!(rt; table.entry(0).is_locked());
+    Ok(())
+}
+
+/// A copy is read, and its holder is no owner.
+#[test]
+fn copy_of_another_node(rt: HostRuntime) {
+    let copy = Idle::plain(Access::Read);
+    assert!(rt; copy.access().reads() && !copy.access().writes());
+    assert!(rt; !copy.is_owner() && copy.copies().is_empty());
+}

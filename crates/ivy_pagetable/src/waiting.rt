@@ -1,8 +1,6 @@
-ghost use Rattle.std.specs.Prelude.{◌≡◌, ◌≢◌, ◌<◌, ◌≤◌, [], ◌∷◌, ◌++◌, length, nat_le, nat_lt, if◌then◌else◌};
-ghost use Rattle.std.specs.FinSet as set;
+ghost use Rattle.std.specs.Prelude.{◌≡◌, ◌<◌, ◌≤◌, [], ◌∷◌, ◌++◌, length, nat_le, nat_lt, if◌then◌else◌};
 ghost use Rattle.ivy_pagetable.specs.Entries.{one_more};
 
-use crate::node_set::NodeSet;
 use crate::put_off::PutOff;
 use crate::word::Word;
 use arrayvec::ArrayVec;
@@ -86,103 +84,5 @@ impl Waiting {
         ensures { result ≡ self.now.call }
     {
         self.call
-    }
-}
-
-/// A word that writes waits for the page. Until then this node may still have the copy that it had.
-#[derive(Drop)]
-pub struct AwaitWrite {
-    had_copy: bool,
-    waiting: Waiting,
-}
-
-impl Model for AwaitWrite {
-    ghost use Rattle.ivy_pagetable.specs.States.{AwaitWriteState};
-
-    ghost Value = { AwaitWriteState };
-
-    ghost view = { λ s. record { had_copy = s.had_copy; waiting = s.waiting } };
-}
-
-impl AwaitWrite {
-    /// The word waits, with this copy or none.
-    pub fn new(had_copy: bool, waiting: Waiting) -> AwaitWrite
-        ensures { result ≡ record { had_copy = had_copy; waiting = waiting } }
-    {
-        AwaitWrite { had_copy, waiting }
-    }
-
-    /// Whether this node still has a copy, to read.
-    pub fn had_copy(&self) -> bool
-        ensures { result ≡ self.now.had_copy }
-    {
-        self.had_copy
-    }
-
-    /// The word, its call and what was put off.
-    pub fn waiting(&self) -> &Waiting
-        ensures { result.now ≡ self.now.waiting }
-    {
-        &self.waiting
-    }
-
-    pub(crate) fn try_put_off(&mut self, message: PutOff) -> bool
-        ensures done { result ≡ nat_lt (length self.old.waiting.put_off) 8 }
-        ensures kept { self.new ≡ record { had_copy = self.old.had_copy; waiting = if nat_lt (length self.old.waiting.put_off) 8 then one_more self.old.waiting message else self.old.waiting } }
-    {
-        self.waiting.try_put_off(message)
-    }
-}
-
-/// This node is the owner, and a word that writes waits until each copy was given up.
-#[derive(Drop)]
-pub struct AwaitAcks {
-    left: NodeSet,
-    waiting: Waiting,
-}
-
-impl Model for AwaitAcks {
-    ghost use Rattle.ivy_pagetable.specs.States.{AwaitAcksState, IsAwaitAcks};
-    ghost use Rattle.std.specs.Coded.{codes};
-    ghost use Rattle.ivy_pagetable.specs.NodeSets.{nodes_code};
-
-    ghost Value = { AwaitAcksState };
-
-    ghost coded = { Prim.hlevel (codes, nodes_code) };
-
-    ghost view = { λ s. record { left = s.left; waiting = s.waiting } };
-
-    ghost invariant = { λ s. IsAwaitAcks (record { left = s.left; waiting = s.waiting }) };
-}
-
-impl AwaitAcks {
-    /// The acknowledgements of these nodes are missing, of one at least.
-    pub fn new(left: NodeSet, waiting: Waiting) -> AwaitAcks
-        requires { left ≢ set.empty }
-        ensures { result ≡ record { left = left; waiting = waiting } }
-    {
-        AwaitAcks { left, waiting }
-    }
-
-    /// The nodes whose acknowledgement is missing.
-    pub fn left(&self) -> &NodeSet
-        ensures left { result.now ≡ self.now.left }
-        ensures fact { self.now.left ≢ set.empty }
-    {
-        &self.left
-    }
-
-    /// The word, its call and what was put off.
-    pub fn waiting(&self) -> &Waiting
-        ensures { result.now ≡ self.now.waiting }
-    {
-        &self.waiting
-    }
-
-    pub(crate) fn try_put_off(&mut self, message: PutOff) -> bool
-        ensures done { result ≡ nat_lt (length self.old.waiting.put_off) 8 }
-        ensures kept { self.new ≡ record { left = self.old.left; waiting = if nat_lt (length self.old.waiting.put_off) 8 then one_more self.old.waiting message else self.old.waiting } }
-    {
-        self.waiting.try_put_off(message)
     }
 }

@@ -3,4 +3,5 @@ pub mod States
 pub mod Steps
 pub mod Calls
 pub mod Runs
+pub mod Numbers
 pub mod Texts

@@ -4,15 +4,13 @@ ghost use Rattle.ivy_program.specs.Texts.{ArePrograms, IsRefusal};
 
 use crate::instruction::{Instruction, Register, Width};
 use crate::program::{MOST_INSTRUCTIONS, Program};
+use crate::words::{parse_number, words_of};
 use ivy_model::Fault;
-use std::alloc::{AllocError, Allocator};
+use std::alloc::Allocator;
 use std::marker::Model;
 
 /// The most programs that a text can have.
 const MOST_PROGRAMS: usize = 32;
-
-/// The most digits that a number can have.
-const MOST_DIGITS: usize = 20;
 
 const REGISTER_NAMES: [&str; 16] = [
     "r0", "r1", "r2", "r3", "r4", "r5", "r6", "r7", "r8", "r9", "r10", "r11", "r12", "r13", "r14",
@@ -54,13 +52,6 @@ impl LineNumber {
     }
 }
 
-fn parse_number(word: &str) -> Option<u64> {
-    if word.len() > MOST_DIGITS || !word.bytes().all(|byte| byte.is_ascii_digit()) {
-        return None;
-    }
-    word.parse().ok()
-}
-
 fn parse_register(word: &str) -> Option<Register> {
     let number = REGISTER_NAMES.iter().position(|name| *name == word)?;
     Register::new(number as u8)
@@ -93,30 +84,6 @@ fn parse_instruction(words: &[&str]) -> Option<Instruction> {
         }),
         _ => None,
     }
-}
-
-/// A line without its end: an LF, and one CR before it.
-fn without_end(line: &str) -> &str {
-    match line.strip_suffix('\n') {
-        Some(line) => line.strip_suffix('\r').unwrap_or(line),
-        None => line,
-    }
-}
-
-/// A line without its comment.
-fn without_comment(line: &str) -> &str {
-    match line.split_once('#') {
-        Some((before, _comment)) => before,
-        None => line,
-    }
-}
-
-/// The words of a line, which only spaces and tabs part.
-fn words_of<A: Allocator>(alloc: A, line: &str) -> Result<Vec<&str, A>, AllocError> {
-    without_comment(without_end(line))
-        .split([' ', '\t'])
-        .filter(|word| !word.is_empty())
-        .collect(alloc)
 }
 
 /// The programs of the lines read so far, and the least of these lines that is at fault.

@@ -41,7 +41,11 @@ fn texts_in_order(rt: HostRuntime) -> Result<(), Fail> {
         "# two programs\r\n\r\n \tnode 0# one\r\nset\tr15  18446744073709551615 \nnode 1\nnode 2";
     let programs = parse(rt.alloc(), text)?;
     assert_eq!(rt; programs.len(), 3);
-    assert_eq!(rt; programs[0].instructions().len(), 1);
+    let all_ones = Instruction::Set {
+        to: Register::new(15).ok_or("no register")?,
+        value: u64::MAX,
+    };
+    assert_eq!(rt; programs[0].instructions(), [all_ones].as_slice());
     assert_eq!(rt; programs[1].instructions().len(), 0);
     Ok(())
 }
@@ -102,4 +106,65 @@ fn refused_load(rt: HostRuntime) -> Result<(), Fail> {
     machine.next()?;
     assert_eq!(rt; machine.output(), [5].as_slice());
     Ok(())
+}
+
+/// A program can be put together without a text.
+#[test]
+fn program_by_hand(rt: HostRuntime) -> Result<(), Fail> {
+    let to = Register::new(15).ok_or("no register")?;
+    assert_eq!(rt; to.number(), 15);
+    assert_eq!(rt; Register::new(16), None);
+    let mut program = Program::new(rt.alloc());
+    program.push(Instruction::Set { to, value: 66 })?;
+    let width = Width::Two;
+    program.push(Instruction::Load {
+        width,
+        to,
+        addr: to,
+    })?;
+    assert_eq!(rt; program.instructions().len(), 2);
+    let mut machine = Machine::new(program);
+    assert_eq!(rt; machine.next(), Ok(Next::Local));
+    let call = Call::Load { width: 2, addr: 66 };
+    assert_eq!(rt; machine.next(), Ok(Next::Call(call)));
+    assert_eq!(rt; machine.output().len(), 0);
+    Ok(())
+}
+
+#[test]
+fn widths(rt: HostRuntime) {
+    let widths = [
+        (Width::One, 1),
+        (Width::Two, 2),
+        (Width::Four, 4),
+        (Width::Eight, 8),
+    ];
+    for (width, bytes) in widths {
+        assert_eq!(rt; width.bytes(), bytes);
+    }
+}
+
+#[test]
+fn words_of_a_line(rt: HostRuntime) -> Result<(), Fail> {
+    let words = words_of(rt.alloc(), "\tload  8 r2\tr1# a comment\r\n")?;
+    assert_eq!(rt; words.as_slice(), ["load", "8", "r2", "r1"].as_slice());
+    assert_eq!(rt; words_of(rt.alloc(), " \t# a comment\n")?.len(), 0);
+    Ok(())
+}
+
+#[test]
+fn numbers(rt: HostRuntime) {
+    for (word, number) in [
+        ("0", Some(0)),
+        ("18446744073709551615", Some(u64::MAX)),
+        ("00000000000000000007", Some(7)),
+        ("18446744073709551616", None),
+        ("000000000000000000001", None),
+        ("", None),
+        ("+1", None),
+        ("-1", None),
+        ("1x", None),
+    ] {
+        assert_eq!(rt; parse_number(word), number, "{word}");
+    }
 }

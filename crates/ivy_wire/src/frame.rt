@@ -85,6 +85,7 @@ pub struct Message<B> {
     pub origin: u8,
     /// The number of the call at that node, from 1.
     pub call: u64,
+    /// What it says.
     pub content: Content<B>,
 }
 
@@ -261,6 +262,7 @@ impl Frame<&[u8]> {
         if self.source >= nodes || self.dest >= nodes || self.source == self.dest {
             return false;
         }
+        // The acknowledgement is in its range once it is read.
         let _ack = self.ack;
         match &self.body {
             None => self.number == 0,

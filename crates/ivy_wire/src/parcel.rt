@@ -14,6 +14,7 @@ pub struct Parcel<B> {
     pub source: u8,
     /// The node that it goes to.
     pub dest: u8,
+    /// What is sent.
     pub message: Message<B>,
 }
 
@@ -57,6 +58,10 @@ pub trait Post {
 }
 
 impl<'a> Default for Parcel<&'a [u8]> {
+    ghost use Rattle.ivy_wire.specs.Lent.{filling};
+
+    ghost is_default = { λ p. owned_parcel p ≡ filling };
+
     /// A request of node 0, which only fills places that hold no parcel yet.
     fn default() -> Self {
         Parcel {

@@ -1,5 +1,5 @@
-use Rattle.std.proofs.Common.{◌≡◌, true, sym, ◌∙◌, ap, arith, length, ◌<◌, subst}
-use Rattle.ivy_coherence.proofs.Opened.{Comes, copy_fits, word_there, came_sound, came_is, table_came, out_came}
+use Rattle.std.proofs.Common.{sym, ◌∙◌, ap, length, ◌<◌, subst}
+use Rattle.ivy_coherence.proofs.Opened.{copy_fits, word_there, came_sound, came_is, table_came, out_came}
 use Rattle.ivy_coherence.proofs.coherence.Coherence.copy_came.Goals as goal
 
 pub post_passed-requires-clause-fits : goal.post_passed-requires-clause-fits

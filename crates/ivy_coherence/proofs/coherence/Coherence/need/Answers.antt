@@ -1,4 +1,4 @@
-use Rattle.std.proofs.Common.{◌≡◌, false, sym, ◌∙◌, ap, arith, is_some}
+use Rattle.std.proofs.Common.{◌≡◌, false, sym, ◌∙◌, arith, is_some}
 use Rattle.ivy_pagetable.specs.Accesses.{reads}
 use Rattle.ivy_coherence.proofs.Opened.{fault_sound, none_of}
 use Rattle.ivy_coherence.proofs.coherence.Coherence.need.Goals as goal

@@ -1,4 +1,4 @@
-use Rattle.std.proofs.Common.{◌≡◌, true, sym, ◌∙◌, ap, arith}
+use Rattle.std.proofs.Common.{◌≡◌, true, sym, ◌∙◌, arith}
 use Rattle.ivy_pagetable.specs.Entries.{can_put_off}
 use Rattle.ivy_pagetable.specs.Tables.{entry_at}
 use Rattle.ivy_coherence.proofs.Opened.{shared_sound, put_off_sound}

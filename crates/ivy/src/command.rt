@@ -1,0 +1,93 @@
+//! Whole commands.
+ghost use Rattle.std.specs.Prelude.{◌≤◌};
+
+use crate::arguments::{Request, Settings};
+use crate::failure::Failure;
+use crate::print::{print_ends, print_outputs};
+use crate::rounds::run_in_rounds;
+use crate::schedule::parse_schedule;
+use crate::texts::Texts;
+use crate::trace::trace_moves;
+use ivy_node::{World, parse};
+use std::alloc::Global;
+use std::io::Write;
+
+fn text_of<'a, T: Texts>(files: &T, name: &'a str) -> Result<String, Failure<'a>> {
+    files.text(name)?.ok_or(Failure::CannotRead(name))
+}
+
+/// Runs the programs of a file in rounds, and prints what they printed.
+fn run<'a, T: Texts, W: Write>(
+    alloc: Global,
+    (file, turns, settings): (&'a str, u64, Settings),
+    files: &T,
+    out: &mut W,
+) -> Result<(), Failure<'a>> {
+    let programs = parse(alloc, text_of(files, file)?.as_str())?;
+    let config = settings.config(programs.len())?;
+    let mut world = World::new(alloc, config, programs)?;
+    run_in_rounds(alloc, &config, &mut world, turns)?;
+    print_outputs(&world, out)?;
+    Ok(())
+}
+
+/// Runs the programs of a file by a schedule, and prints each move and what they printed.
+fn step<'a, T: Texts, W: Write>(
+    alloc: Global,
+    (file, schedule, settings): (&'a str, &'a str, Settings),
+    files: &T,
+    out: &mut W,
+) -> Result<(), Failure<'a>> {
+    let programs = parse(alloc, text_of(files, file)?.as_str())?;
+    let moves = parse_schedule(alloc, text_of(files, schedule)?.as_str())?;
+    let config = settings.config(programs.len())?;
+    let mut world = World::new(alloc, config, programs)?;
+    trace_moves(alloc, &config, &mut world, &moves, out)?;
+    print_outputs(&world, out)?;
+    print_ends(&world, out)?;
+    Ok(())
+}
+
+/// Carries out what the words ask for.
+fn carry_out<'a, T: Texts, W: Write>(
+    alloc: Global,
+    words: &'a [String],
+    files: &T,
+    out: &mut W,
+) -> Result<(), Failure<'a>> {
+    match Request::read(alloc, words)? {
+        Request::Run {
+            file,
+            turns,
+            settings,
+        } => run(alloc, (file, turns, settings), files, out),
+        Request::Step {
+            file,
+            schedule,
+            settings,
+        } => step(alloc, (file, schedule, settings), files, out),
+    }
+}
+
+/// Carries out a command and gives its exit status: 0 where it was done, 1 where the run was refused
+/// or standard output took no more, and 2 where the command line, a file or the configuration is at
+/// fault.
+///
+/// The first word is the program's name. What is at fault is printed on standard error.
+pub fn perform<T: Texts, O: Write, E: Write>(
+    alloc: Global,
+    words: &[String],
+    files: &T,
+    out: &mut O,
+    err: &mut E,
+) -> u8
+    ensures { result ≤ 2 }
+{
+    let done = carry_out(alloc, words, files, out);
+    let failure = match (out.flush(), done) {
+        (Ok(()), Ok(())) => return 0,
+        (Ok(()), Err(failure)) => failure,
+        (Err(_), _) => Failure::Unwritten,
+    };
+    failure.report(err)
+}

@@ -1,0 +1,47 @@
+//! The program `ivy`: runs the programs of a shared virtual memory's nodes.
+//!
+//! `ivy run FILE` runs them in rounds and prints what they print. `ivy step FILE SCHEDULE` runs them
+//! by a schedule and prints a trace of its moves.
+#![tactic(auto)]
+
+mod arguments;
+mod command;
+mod failure;
+mod print;
+mod rounds;
+mod schedule;
+#[cfg(test)]
+mod tests;
+mod texts;
+mod trace;
+
+use command::perform;
+use failure::Failure;
+use ivy_model::Fault;
+use std::env;
+use std::io::{self, BufWriter, Write};
+use std::process::ExitCode;
+use std::rt::{Env, Files};
+use texts::FilesOf;
+
+/// Hands the words of the command line, the files and the streams to the command. Err only where
+/// memory is short before it begins.
+fn performed<R: Env + Files + AllocGlobal, O: Write + Drop, E: Write>(
+    rt: &R,
+    out: O,
+    err: &mut E,
+) -> io::Result<u8> {
+    let words: Vec<String> = env::args(rt)?.collect(rt.alloc())?;
+    let mut out = BufWriter::new(rt.alloc(), out)?;
+    let files = FilesOf { runtime: rt };
+    Ok(perform(rt.alloc(), &words, &files, &mut out, err))
+}
+
+fn main(rt: HostRuntime) -> ExitCode {
+    let mut err = rt.stderr();
+    let status = match performed(&rt, rt.stdout(), &mut err) {
+        Ok(status) => status,
+        Err(_) => Failure::Refused(Fault::Memory).report(&mut err),
+    };
+    ExitCode::from(status)
+}

@@ -1,0 +1,233 @@
+use crate::command::perform;
+use crate::texts::Texts;
+use ivy_model::Fault;
+use std::alloc::{AllocError, Global};
+use std::io::{self, Write};
+use std::process::Abort;
+use std::test::Fail;
+
+/// Files that lie in memory, by name.
+#[derive(Drop)]
+struct Shelf<'a> {
+    alloc: Global,
+    files: &'a [(&'a str, &'a str)],
+}
+
+impl Texts for Shelf<'_> {
+    fn text(&self, name: &str) -> Result<Option<String>, Fault> {
+        for (other, text) in self.files {
+            if *other == name {
+                return Ok(Some(String::from_str(self.alloc, text)?));
+            }
+        }
+        Ok(None)
+    }
+}
+
+/// A stream that takes so many bytes and no more.
+#[derive(Drop)]
+struct Narrow {
+    room: usize,
+}
+
+impl Write for Narrow {
+    fn write(&mut self, buf: &[u8]) -> io::Result<usize> {
+        let taken = self.room.min(buf.len());
+        self.room -= taken;
+        Ok(taken)
+    }
+
+    fn flush(&mut self) -> io::Result<()> {
+        Ok(())
+    }
+}
+
+const EMPTY: &str = "node 0\nnode 1\n";
+
+const FIRST_LOAD: &str = "node 0\nnode 1\nset r1 64\nload 8 r2 r1\nprint r2\n";
+
+const FIRST_MOVES: &str = "turn 1\nturn 1\ndeliver 0 0\ndeliver 1 1\nturn 1\nturn 1\n";
+
+const FIRST_TRACE: &str = "\
+1 turn 1
+2 turn 1
+  sent 0 ReadReq 1 0 1
+3 deliver 0 0
+  sent 1 ReadRep 0 1 1
+4 deliver 1 1
+5 turn 1
+  1 load 8 64 = value 0
+6 turn 1
+node 1: 0
+node 0 ended
+node 1 ended
+";
+
+/// The files of every test.
+const FILES: [(&str, &str); 10] = [
+    ("empty", EMPTY),
+    ("load", FIRST_LOAD),
+    ("faulty", "node 0\nset r16 1\n"),
+    ("lone", "node 0\n"),
+    (
+        "nine",
+        "node 0\nnode 1\nnode 2\nnode 3\nnode 4\nnode 5\nnode 6\nnode 7\nnode 8\n",
+    ),
+    ("none", ""),
+    ("moves", FIRST_MOVES),
+    ("unsent", "turn 1\nturn 1\ndeliver 1 1\n"),
+    (
+        "spaced",
+        " # two moves\r\n\r\n\tturn\t01 # the first\r\nturn 1",
+    ),
+    ("unknown", "turn 1\n\nturn 1 1\nturn"),
+];
+
+/// The words of a command line that is given without the program's name.
+fn words_of(alloc: Global, line: &str) -> Result<Vec<String>, AllocError> {
+    let mut words = Vec::new(alloc);
+    words.push(String::from_str(alloc, "ivy")?)?;
+    for word in line.split(' ').filter(|word| !word.is_empty()) {
+        words.push(String::from_str(alloc, word)?)?;
+    }
+    Ok(words)
+}
+
+/// Performs a command line over the files. Asserts its status and what it prints on both streams.
+fn check<R: Abort + AllocGlobal>(
+    rt: &R,
+    line: &str,
+    (status, out, err): (u8, &str, &str),
+) -> Result<(), Fail> {
+    let alloc = rt.alloc();
+    let words = words_of(alloc, line)?;
+    let files = Shelf {
+        alloc,
+        files: &FILES,
+    };
+    let mut printed: Vec<u8> = Vec::new(alloc);
+    let mut told: Vec<u8> = Vec::new(alloc);
+    let answer = perform(alloc, &words, &files, &mut printed, &mut told);
+    assert_eq!(rt; String::from_utf8(printed)?.as_str(), out, "{line}");
+    assert_eq!(rt; String::from_utf8(told)?.as_str(), err, "{line}");
+    assert_eq!(rt; answer, status, "{line}");
+    Ok(())
+}
+
+#[test]
+fn done(rt: HostRuntime) -> Result<(), Fail> {
+    let small = "--pages 2 --page-size 64 --manager fixed";
+    for (command, options, out) in [
+        ("run empty", "", ""),
+        ("run empty", "--turns 0", ""),
+        ("run load", small, "node 1: 0\n"),
+        (
+            "run load",
+            "--page-size=64 --capacity 0 --pulse 0",
+            "node 1: 0\n",
+        ),
+        ("step load moves", small, FIRST_TRACE),
+        (
+            "step load spaced",
+            small,
+            "1 turn 1\n2 turn 1\n  sent 0 ReadReq 1 0 1\nnode 0 ended\nnode 1 open\n",
+        ),
+        ("step empty none", "", "node 0 ended\nnode 1 ended\n"),
+    ] {
+        let line = format!(in rt.alloc(); "{command} {options}")?;
+        check(&rt, line.as_str(), (0, out, ""))?;
+    }
+    Ok(())
+}
+
+#[test]
+fn refused(rt: HostRuntime) -> Result<(), Fail> {
+    let trace = "1 turn 1\n2 turn 1\n  sent 0 ReadReq 1 0 1\n3 deliver 1 1\n  refused 19\n";
+    for (line, status, out, err) in [
+        (
+            "step load unsent --page-size 64",
+            1,
+            trace,
+            "ivy: 19 NoSuchFrame\n",
+        ),
+        (
+            "run load --page-size 64 --turns 0",
+            1,
+            "",
+            "ivy: 21 TurnLimit\n",
+        ),
+        ("run missing", 2, "", "ivy: cannot read missing\n"),
+        (
+            "step faulty missing",
+            2,
+            "",
+            "ivy: 20 ProgramFault line 2\n",
+        ),
+        (
+            "step load missing --pages 1",
+            2,
+            "",
+            "ivy: cannot read missing\n",
+        ),
+        (
+            "run faulty --pages 1",
+            2,
+            "",
+            "ivy: 20 ProgramFault line 2\n",
+        ),
+        (
+            "step load unknown --pages 1",
+            2,
+            "",
+            "ivy: 20 ProgramFault line 3\n",
+        ),
+        ("run load --pages 1", 2, "", "ivy: 2 BadConfig\n"),
+        ("run load --pages 4294967298", 2, "", "ivy: 2 BadConfig\n"),
+        ("run load --page-size 96", 2, "", "ivy: 2 BadConfig\n"),
+        ("run lone", 2, "", "ivy: 2 BadConfig\n"),
+        ("run nine", 2, "", "ivy: 2 BadConfig\n"),
+    ] {
+        check(&rt, line, (status, out, err))?;
+    }
+    Ok(())
+}
+
+#[test]
+fn bad_command_lines(rt: HostRuntime) -> Result<(), Fail> {
+    for line in [
+        "",
+        "walk load",
+        "run",
+        "run load moves",
+        "step load",
+        "step load moves --turns 1",
+        "run load --turns",
+        "run load --turns 1 --turns 1",
+        "run load --pages +3",
+        "run load --turns -1",
+        "run load --pulse 18446744073709551616",
+        "run load --capacity 000000000000000000001",
+        "run missing --manager central",
+        "help",
+        "run --help",
+    ] {
+        check(&rt, line, (2, "", "ivy: bad command line\n"))?;
+    }
+    Ok(())
+}
+
+/// Where standard output takes no more, nothing is told either.
+#[test]
+fn unwritten(rt: HostRuntime) -> Result<(), Fail> {
+    let alloc = rt.alloc();
+    let words = words_of(alloc, "step load unsent --page-size 64")?;
+    let files = Shelf {
+        alloc,
+        files: &FILES,
+    };
+    let mut told: Vec<u8> = Vec::new(alloc);
+    let answer = perform(alloc, &words, &files, &mut Narrow { room: 12 }, &mut told);
+    assert_eq!(rt; answer, 1);
+    assert!(rt; told.is_empty());
+    Ok(())
+}

@@ -1,0 +1,130 @@
+//! Worlds that run by a schedule, with a trace of each move.
+ghost use Rattle.ivy_model.specs.Config.{IsConfig};
+
+use crate::failure::Failure;
+use crate::print::{Decimal, MoveText, RecordText, kind_name};
+use ivy_model::{Config, Fault, Record};
+use ivy_node::{Move, World};
+use ivy_wire::{Bytes, decode};
+use std::alloc::Allocator;
+use std::io::{self, Write};
+
+/// The number of a fault.
+fn code_of(fault: Fault) -> u8 {
+    match fault {
+        Fault::Memory => 1,
+        Fault::BadConfig => 2,
+        Fault::Misaligned => 3,
+        Fault::OutOfRange => 4,
+        Fault::Reserved => 5,
+        Fault::NoSuchCount => 6,
+        Fault::CountFull => 7,
+        Fault::ZeroSize => 8,
+        Fault::NoRoom => 9,
+        Fault::NotABlock => 10,
+        Fault::ShortFrame => 11,
+        Fault::BadMagic => 12,
+        Fault::BadVersion => 13,
+        Fault::BadKind => 14,
+        Fault::BadNode => 15,
+        Fault::BadBody => 16,
+        Fault::NumbersSpent => 17,
+        Fault::Busy => 18,
+        Fault::NoSuchFrame => 19,
+        Fault::ProgramFault(_) => 20,
+        Fault::TurnLimit => 21,
+    }
+}
+
+/// What the node was answered so far, or nothing where it is not there.
+fn history_of<A: Allocator + Copy>(world: &World<A>, node: u64) -> &[Record] {
+    if node < world.nodes() {
+        world.history(node)
+    } else {
+        &[]
+    }
+}
+
+/// The node whose event a move is.
+fn node_of(step: Move) -> u64 {
+    match step {
+        Move::Turn(node) => node,
+        Move::Deliver { to, .. } => to,
+        Move::Pulse { from, .. } => from,
+    }
+}
+
+/// Prints a line for each string from this one on.
+fn trace_sent<A: Allocator + Copy, W: Write>(
+    alloc: A,
+    config: &Config,
+    sent: &[Bytes<A>],
+    from: usize,
+    out: &mut W,
+) -> Result<(), Failure<'static>>
+    requires { IsConfig config.now }
+{
+    for index in from..sent.len() {
+        let frame = decode(alloc, config, sent[index].bytes())?;
+        let name = kind_name(frame.lent().kind());
+        let source = Decimal(u64::from(frame.source));
+        let dest = Decimal(u64::from(frame.dest));
+        let number = Decimal(frame.number);
+        writeln!(
+            out,
+            "  sent {} {name} {source} {dest} {number}",
+            Decimal(index as u64)
+        )?;
+    }
+    Ok(())
+}
+
+/// Prints a line for each record from this one on.
+fn trace_records<W: Write>(history: &[Record], from: usize, out: &mut W) -> io::Result<()> {
+    for place in from..history.len() {
+        writeln!(out, "  {}", RecordText(history[place]))?;
+    }
+    Ok(())
+}
+
+/// Makes a move and prints what came of it.
+fn trace_move<A: Allocator + Copy, W: Write>(
+    alloc: A,
+    config: &Config,
+    world: &mut World<A>,
+    step: Move,
+    out: &mut W,
+) -> Result<(), Failure<'static>>
+    requires { IsConfig config.now }
+{
+    let sent = world.sent().len();
+    let records = history_of(world, node_of(step)).len();
+    if let Err((_place, fault)) = world.run(&[step]) {
+        writeln!(out, "  refused {}", Decimal(u64::from(code_of(fault))))?;
+        return Err(Failure::Refused(fault));
+    }
+    trace_sent(alloc, config, world.sent(), sent, out)?;
+    trace_records(history_of(world, node_of(step)), records, out)?;
+    Ok(())
+}
+
+/// Makes the moves of a schedule in order, up to the first that is refused. For each it prints a line
+/// with its number from 1, and under it the strings that were sent and the reply that was recorded.
+///
+/// The refusal of a move, where one is; and where standard output took no more, nothing is printed
+/// after that.
+pub fn trace_moves<A: Allocator + Copy, W: Write>(
+    alloc: A,
+    config: &Config,
+    world: &mut World<A>,
+    moves: &[Move],
+    out: &mut W,
+) -> Result<(), Failure<'static>>
+    requires { IsConfig config.now }
+{
+    for (before, step) in moves.iter().enumerate() {
+        writeln!(out, "{} {}", Decimal(before as u64 + 1), MoveText(*step))?;
+        trace_move(alloc, config, world, *step, out)?;
+    }
+    Ok(())
+}

@@ -1,0 +1,278 @@
+ghost use Rattle.std.specs.Prelude.{◌≡◌, ◌≢◌, ◌<◌, ◌≤◌, IfOk};
+ghost use Rattle.ivy_wire.specs.Spelling.{FitsMessage};
+
+use super::*;
+use ivy_fixed::FixedManager;
+use ivy_model::{Config, Fault, Kind};
+use ivy_pagetable::{Out, Word};
+use ivy_wire::{Content, Message, Page, Parcel, Post};
+use std::alloc::Global;
+use std::marker::Model;
+use std::test::Fail;
+
+/// Three nodes, and two pages of 64 bytes. Node 1 keeps the owner of page 1.
+const TRIO: Config = Config {
+    nodes: 3,
+    pages: 2,
+    page_size: 64,
+    manager: Kind::Fixed,
+};
+
+/// Keeps the messages of a node, in order.
+#[derive(Drop)]
+struct Posted {
+    alloc: Global,
+    config: Config,
+    node: u8,
+    parcels: Vec<Parcel<Page<Global>>, Global>,
+}
+
+impl Model for Posted {
+    ghost use Rattle.std.specs.Prelude.{ℕ, List};
+    ghost use Rattle.ivy_model.specs.declared.Config as declared;
+    ghost use Rattle.ivy_wire.specs.Data as wire;
+
+    ghost Value = { declared.Config × ℕ × List wire.Parcel };
+
+    ghost view = { λ p. (p.config, p.node, p.parcels.items) };
+}
+
+impl Posted {
+    fn node(&self) -> u8
+        ensures { result ≡ self.now.1 }
+    {
+        self.node
+    }
+
+    fn parcels(&self) -> &[Parcel<Page<Global>>]
+        ensures { result.now ≡ self.now.2 }
+    {
+        &self.parcels
+    }
+}
+
+impl Post for Posted {
+    ghost use Rattle.std.specs.Prelude.{◌≡◌, ◌++◌};
+    ghost use Rattle.std.proofs.Common.{ap, append-nil};
+    ghost use Rattle.ivy_model.specs.declared.Fault.TheVariants.{Memory};
+
+    ghost config = { λ p. p.0 };
+
+    ghost node = { λ p. p.1 };
+
+    ghost takes = { λ p parcels. Unit {0} };
+
+    ghost after = { λ p parcels. (p.0, p.1, p.2 ++ parcels) };
+
+    ghost refuses = { λ p parcels fault. fault ≡ Memory };
+
+    fn post(&mut self, parcels: &[Parcel<&[u8]>]) -> Result<(), Fault> {
+        let mut taken = Vec::new(self.alloc);
+        for parcel in parcels {
+            taken.push(Parcel {
+                source: parcel.source,
+                dest: parcel.dest,
+                message: parcel.message.owned(self.alloc)?,
+            })?;
+        }
+        self.parcels.append(&mut taken)?;
+        Ok(())
+    }
+
+    ghost takes_none = { λ p. tt };
+
+    ghost after_none = { λ p. ap (λ xs. (p.0, p.1, xs)) (append-nil p.2) };
+}
+
+/// One of the three nodes, and what it posts.
+#[derive(Drop)]
+struct Node {
+    coherence: Coherence<FixedManager<Global>, Global>,
+    posted: Posted,
+}
+
+impl Model for Node {
+    ghost use Rattle.std.specs.Prelude.{◌≡◌, ℕ, List};
+    ghost use Rattle.ivy_model.specs.declared.Config as declared;
+    ghost use Rattle.ivy_wire.specs.Data as wire;
+    ghost use Rattle.ivy_fixed.specs.Fixed.{Owners};
+    ghost use Rattle.ivy_coherence.specs.Coherent.{Coherent};
+    ghost use Rattle.ivy_coherence.specs.declared.tests.TheConstants.{TRIO};
+    ghost use Rattle.std.specs.Coded.{codes};
+    ghost use Rattle.ivy_pagetable.specs.NodeSets.{nodes_code};
+
+    ghost Value = { Coherent Owners × (declared.Config × ℕ × List wire.Parcel) };
+
+    ghost coded = { Prim.hlevel (codes, nodes_code) };
+
+    ghost view = { λ n. (n.coherence, n.posted) };
+
+    ghost invariant = { λ n. (n.coherence.config ≡ TRIO) × (n.posted.0 ≡ TRIO) × (n.posted.1 ≡ n.coherence.me) };
+}
+
+impl Node {
+    fn new(alloc: Global, me: u8) -> Result<Node, Fail>
+        requires { me < 3 }
+    {
+        TRIO.check()?;
+        let manager = FixedManager::new(alloc, &TRIO, me)?;
+        Ok(Node {
+            coherence: Coherence::new(alloc, &TRIO, me, manager)?,
+            posted: Posted {
+                alloc,
+                config: TRIO,
+                node: me,
+                parcels: Vec::new(alloc),
+            },
+        })
+    }
+
+    /// The node's program loads the first word of a page, once its last answer was taken out.
+    fn load(&mut self, page: u32, call: u64) -> Result<Need, Fail>
+        requires page { page < 2 }
+        requires call { 1 ≤ call }
+    {
+        if self.coherence.answer().is_some() {
+            return Err("an answer waits".into());
+        }
+        let word = Word::Load {
+            width: 8,
+            offset: 0,
+        };
+        let need = self.coherence.need(page, word, call, &mut self.posted)?;
+        Ok(need)
+    }
+
+    /// A message of another node comes.
+    fn deliver(&mut self, from: u8, message: &Message<Page<Global>>) -> Result<(), Fail>
+        requires from { from < 3 }
+        requires fits { FitsMessage TRIO message.now }
+    {
+        if from == self.posted.node() {
+            return Err("a message of the node itself".into());
+        }
+        self.coherence.handle(from, message, &mut self.posted)?;
+        Ok(())
+    }
+
+    fn has_posted_at(&self, index: usize, wanted: &Parcel<Page<Global>>) -> bool {
+        match self.posted.parcels().get(index) {
+            Some(parcel) => parcel == wanted,
+            None => false,
+        }
+    }
+
+    fn has_posted(&self, parcels: &[Parcel<Page<Global>>]) -> bool {
+        self.posted.parcels() == parcels
+    }
+}
+
+/// A request for a copy of page 1.
+fn request(origin: u8, call: u64) -> Message<Page<Global>>
+    requires origin { origin < 3 }
+    requires call { 1 ≤ call }
+    ensures { FitsMessage TRIO result }
+{
+    Message {
+        origin,
+        call,
+        content: Content::ReadReq { page: 1 },
+    }
+}
+
+/// A copy of page 1, each byte of it the same.
+fn copy(alloc: Global, origin: u8, call: u64, byte: u8) -> Result<Message<Page<Global>>, Fail>
+    requires origin { origin < 3 }
+    requires call { 1 ≤ call }
+    ensures { IfOk result (FitsMessage TRIO) }
+{
+    Ok(Message {
+        origin,
+        call,
+        content: Content::ReadRep {
+            page: 1,
+            bytes: Page::new(alloc, &[byte; 64])?,
+        },
+    })
+}
+
+fn parcel(source: u8, dest: u8, message: Message<Page<Global>>) -> Parcel<Page<Global>> {
+    Parcel {
+        source,
+        dest,
+        message,
+    }
+}
+
+/// A node without a copy asks the managing node, and its entry is locked then.
+#[test]
+fn a_read_fault(rt: HostRuntime) -> Result<(), Fail> {
+    let mut node = Node::new(rt.alloc(), 2)?;
+    assert_eq!(rt; node.coherence.config(), TRIO);
+    assert_eq!(rt; node.load(1, 1)?, Need::Started);
+    assert_eq!(rt; node.load(0, 2)?, Need::Busy);
+    assert!(rt; node.has_posted(&[parcel(2, 1, request(2, 1))]));
+    assert_eq!(rt; node.coherence.returned(), None);
+    Ok(())
+}
+
+/// The owner answers with the page's bytes, and reads on without asking.
+#[test]
+fn an_owner_answers(rt: HostRuntime) -> Result<(), Fail> {
+    let mut node = Node::new(rt.alloc(), 0)?;
+    node.deliver(1, &request(2, 7))?;
+    assert!(rt; node.has_posted(&[parcel(0, 2, copy(rt.alloc(), 2, 7, 0)?)]));
+    assert_eq!(rt; node.load(1, 1)?, Need::Have(Out::Value(0)));
+    assert_eq!(rt; node.coherence.breaches(), 0);
+    Ok(())
+}
+
+/// The managing node sends a request on to the owner, and it stays a request of the node that asked.
+#[test]
+fn a_request_goes_on(rt: HostRuntime) -> Result<(), Fail> {
+    let mut node = Node::new(rt.alloc(), 1)?;
+    node.deliver(2, &request(2, 7))?;
+    assert!(rt; node.has_posted(&[parcel(1, 0, request(2, 7))]));
+    Ok(())
+}
+
+/// Requests at a locked entry are put off, eight at most. Once the copy came they go on in their order,
+/// and the word that waited has read the copy.
+#[test]
+fn requests_at_a_locked_entry(rt: HostRuntime) -> Result<(), Fail> {
+    let mut node = Node::new(rt.alloc(), 1)?;
+    assert_eq!(rt; node.load(1, 3)?, Need::Started);
+    for call in 1..10u64 {
+        node.deliver(2, &request(2, call))?;
+    }
+    assert!(rt; node.has_posted(&[parcel(1, 0, request(1, 3))]));
+    assert_eq!(rt; node.coherence.breaches(), 1);
+    node.deliver(0, &copy(rt.alloc(), 1, 3, 255)?)?;
+    assert_eq!(rt; node.posted.parcels().len(), 9);
+    for call in 1..9u64 {
+        assert!(rt; node.has_posted_at(call as usize, &parcel(1, 0, request(2, call))));
+    }
+    let answer = Some(Out::Value(u64::MAX));
+    assert_eq!(rt; node.coherence.answer(), answer);
+    assert_eq!(rt; node.coherence.returned(), answer);
+    assert_eq!(rt; node.coherence.returned(), None);
+    assert_eq!(rt; node.load(1, 4)?, Need::Have(Out::Value(u64::MAX)));
+    Ok(())
+}
+
+/// A copy that no word waits for, a copy for another call, and a request that names this node as the one
+/// that asks: each is one breach, and changes nothing else.
+#[test]
+fn forged_messages(rt: HostRuntime) -> Result<(), Fail> {
+    let mut node = Node::new(rt.alloc(), 2)?;
+    node.deliver(0, &copy(rt.alloc(), 2, 1, 255)?)?;
+    assert_eq!(rt; node.coherence.breaches(), 1);
+    assert_eq!(rt; node.load(1, 2)?, Need::Started);
+    node.deliver(0, &copy(rt.alloc(), 2, 1, 255)?)?;
+    assert_eq!(rt; node.coherence.breaches(), 2);
+    node.deliver(1, &request(2, 2))?;
+    assert_eq!(rt; node.coherence.breaches(), 3);
+    assert_eq!(rt; node.coherence.answer(), None);
+    assert!(rt; node.has_posted(&[parcel(2, 1, request(2, 2))]));
+    Ok(())
+}

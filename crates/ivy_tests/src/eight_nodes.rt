@@ -1,0 +1,169 @@
+//! Eight nodes that all load the same word, under several schedules.
+ghost use Rattle.std.specs.Prelude.{◌≡◌, IfOk};
+
+use crate::common::{deliver, has_loaded_zero, play, world};
+use ivy_model::{Config, Fault, Kind};
+use ivy_node::{Move, World};
+use std::alloc::{Allocator, Global};
+use std::test::Fail;
+
+const EIGHT: Config = Config {
+    nodes: 8,
+    pages: 2,
+    page_size: 64,
+    manager: Kind::Fixed,
+};
+
+const ALL_LOAD: &str = "node 0\nset r1 64\nload 8 r2 r1\nprint r2
+node 1\nset r1 64\nload 8 r2 r1\nprint r2
+node 2\nset r1 64\nload 8 r2 r1\nprint r2
+node 3\nset r1 64\nload 8 r2 r1\nprint r2
+node 4\nset r1 64\nload 8 r2 r1\nprint r2
+node 5\nset r1 64\nload 8 r2 r1\nprint r2
+node 6\nset r1 64\nload 8 r2 r1\nprint r2
+node 7\nset r1 64\nload 8 r2 r1\nprint r2\n";
+
+/// More strings than these programs send under any schedule here.
+const MANY: u64 = 100;
+
+/// Each node makes two turns.
+fn all_turn<A: Allocator + Copy>(world: &mut World<A>) -> Result<(), (usize, Fault)>
+    ensures { world.new.config ≡ world.old.config }
+{
+    let moves = [
+        Move::Turn(0),
+        Move::Turn(1),
+        Move::Turn(2),
+        Move::Turn(3),
+        Move::Turn(4),
+        Move::Turn(5),
+        Move::Turn(6),
+        Move::Turn(7),
+    ];
+    play(world, &moves)?;
+    play(world, &moves)
+}
+
+/// The node that a string which was sent is for.
+fn dest_of<A: Allocator + Copy>(world: &World<A>, index: u64) -> Option<u8> {
+    let string = world.sent().get(index as usize)?;
+    string.bytes().get(5).copied()
+}
+
+/// Delivers the strings from this one on, in the order sent, until none is new. Says which one would be
+/// next.
+fn deliver_from<A: Allocator + Copy>(
+    world: &mut World<A>,
+    first: u64,
+) -> Result<u64, (usize, Fault)>
+    ensures { world.new.config ≡ world.old.config }
+{
+    for index in first..MANY {
+        let Some(to) = dest_of(world, index) else {
+            return Ok(index);
+        };
+        play(world, &[deliver(index, u64::from(to))])?;
+    }
+    Ok(MANY)
+}
+
+/// Delivers a string to every node.
+fn deliver_to_all<A: Allocator + Copy>(
+    world: &mut World<A>,
+    index: u64,
+) -> Result<(), (usize, Fault)>
+    ensures { world.new.config ≡ world.old.config }
+{
+    play(
+        world,
+        &[
+            deliver(index, 0),
+            deliver(index, 1),
+            deliver(index, 2),
+            deliver(index, 3),
+        ],
+    )?;
+    play(
+        world,
+        &[
+            deliver(index, 4),
+            deliver(index, 5),
+            deliver(index, 6),
+            deliver(index, 7),
+        ],
+    )
+}
+
+/// Delivers each string to every node, in the order sent, until none is new.
+fn deliver_each_to_all<A: Allocator + Copy>(world: &mut World<A>) -> Result<(), (usize, Fault)>
+    ensures { world.new.config ≡ world.old.config }
+{
+    for index in 0..MANY {
+        if dest_of(world, index).is_none() {
+            break;
+        }
+        deliver_to_all(world, index)?;
+    }
+    Ok(())
+}
+
+/// Each node goes on to its end before the next one begins.
+fn turn_one_by_one<A: Allocator + Copy>(world: &mut World<A>) -> Result<(), (usize, Fault)>
+    ensures { world.new.config ≡ world.old.config }
+{
+    let mut next = 0;
+    for node in 0..8 {
+        let turns = [Move::Turn(7 - node), Move::Turn(7 - node)];
+        play(world, &turns)?;
+        next = deliver_from(world, next)?;
+        play(world, &turns)?;
+    }
+    Ok(())
+}
+
+/// Whether every node has loaded the value 0, printed it, and ended.
+fn all_have_loaded_zero<A: Allocator + Copy>(world: &World<A>) -> bool
+    requires { world.now.config ≡ EIGHT }
+{
+    for node in 0..8 {
+        if !has_loaded_zero(world, node) {
+            return false;
+        }
+    }
+    true
+}
+
+fn eight(alloc: Global) -> Result<World<Global>, Fault>
+    ensures { IfOk result (λ world. world.config ≡ EIGHT) }
+{
+    world(alloc, EIGHT, ALL_LOAD)
+}
+
+#[test]
+fn all_ask_before_any_is_answered(rt: HostRuntime) -> Result<(), Fail> {
+    let mut world = eight(rt.alloc())?;
+    all_turn(&mut world)?;
+    let next = deliver_from(&mut world, 0)?;
+    assert!(rt; next < MANY);
+    all_turn(&mut world)?;
+    assert!(rt; all_have_loaded_zero(&world));
+    Ok(())
+}
+
+#[test]
+fn each_string_goes_to_every_node(rt: HostRuntime) -> Result<(), Fail> {
+    let mut world = eight(rt.alloc())?;
+    all_turn(&mut world)?;
+    deliver_each_to_all(&mut world)?;
+    all_turn(&mut world)?;
+    assert!(rt; all_have_loaded_zero(&world));
+    Ok(())
+}
+
+#[test]
+fn one_node_after_another(rt: HostRuntime) -> Result<(), Fail> {
+    let mut world = eight(rt.alloc())?;
+    turn_one_by_one(&mut world)?;
+    assert!(rt; all_have_loaded_zero(&world));
+    Ok(())
+}

@@ -1,0 +1,183 @@
+//! Each growth refused in turn where frames are written, read, sent and sent again, in the order checker
+//! and in a page table.
+use crate::common::{MANY, PAIR, REPLY, ZEROS, is_met, string};
+use growths::Refusing;
+use ivy_link::Link;
+use ivy_model::{Call, Fault, Record, Reply, check_order};
+use ivy_pagetable::PageTable;
+use ivy_wire::{Content, Frame, Message, Parcel, decode, encode};
+use std::alloc::Global;
+use std::process::Abort;
+use std::test::Fail;
+
+const PAGE: [u8; 64] = [7; 64];
+
+/// A page for node 1.
+fn message() -> Message<&'static [u8]> {
+    Message {
+        origin: 1,
+        call: 1,
+        content: Content::ReadRep {
+            page: 1,
+            bytes: &PAGE,
+        },
+    }
+}
+
+/// Whether the frames are the same, in order.
+fn same_frames(one: &[Frame<&[u8]>], other: &[Frame<&[u8]>]) -> bool {
+    one == other
+}
+
+fn encode_at(rt: &impl Abort, memory: &Refusing<Global>, n: u64) -> Result<bool, Fail> {
+    let frame = Frame {
+        source: 0,
+        dest: 1,
+        number: 1,
+        ack: 0,
+        body: Some(message()),
+    };
+    PAIR.check()?;
+    assert!(rt; frame.fits(&PAIR));
+    memory.refuse(n);
+    let fault = encode(memory, &PAIR, &frame).err();
+    Ok(is_met(rt, memory, n, fault))
+}
+
+#[test]
+fn growths_of_encode(rt: HostRuntime) -> Result<(), Fail> {
+    let memory = Refusing::new(rt.alloc());
+    for n in 1..MANY {
+        if !encode_at(&rt, &memory, n)? {
+            assert!(rt; n > 1);
+            return Ok(());
+        }
+    }
+    Err("no end of growths".into())
+}
+
+fn decode_at(rt: &impl Abort, memory: &Refusing<Global>, n: u64) -> Result<bool, Fail> {
+    let string = string(memory, REPLY, &ZEROS)?;
+    PAIR.check()?;
+    memory.refuse(n);
+    let fault = decode(memory, &PAIR, &string).err();
+    Ok(is_met(rt, memory, n, fault))
+}
+
+#[test]
+fn growths_of_decode(rt: HostRuntime) -> Result<(), Fail> {
+    let memory = Refusing::new(rt.alloc());
+    for n in 1..MANY {
+        if !decode_at(&rt, &memory, n)? {
+            assert!(rt; n > 1);
+            return Ok(());
+        }
+    }
+    Err("no end of growths".into())
+}
+
+/// A refused message is sent later, under the number that it would have had.
+fn send_at(rt: &impl Abort, memory: &Refusing<Global>, n: u64) -> Result<bool, Fail> {
+    let parcels = [Parcel {
+        source: 0,
+        dest: 1,
+        message: message(),
+    }];
+    let mut link = Link::new(memory, 0, 2)?;
+    let mut twin = Link::new(memory, 0, 2)?;
+    memory.refuse(n);
+    let fault = link.send(&parcels).err();
+    let met = is_met(rt, memory, n, fault);
+    if fault.is_some() {
+        let again = link.send(&parcels)?;
+        let sent = twin.send(&parcels)?;
+        assert!(rt; same_frames(&again, &sent), "growth {n}");
+    }
+    Ok(met)
+}
+
+#[test]
+fn growths_of_send(rt: HostRuntime) -> Result<(), Fail> {
+    let memory = Refusing::new(rt.alloc());
+    for n in 1..MANY {
+        if !send_at(&rt, &memory, n)? {
+            assert!(rt; n > 1);
+            return Ok(());
+        }
+    }
+    Err("no end of growths".into())
+}
+
+/// A refused pulse leaves all that is kept.
+fn pulse_at(rt: &impl Abort, memory: &Refusing<Global>, n: u64) -> Result<bool, Fail> {
+    let mut link = Link::new(memory, 0, 2)?;
+    let parcels = [Parcel {
+        source: 0,
+        dest: 1,
+        message: message(),
+    }];
+    let _ = link.send(&parcels)?;
+    memory.refuse(n);
+    let fault = link.pulse(1).err();
+    let met = is_met(rt, memory, n, fault);
+    let frames = link.pulse_frames(1)?;
+    assert!(rt; frames.len() == 1, "growth {n}");
+    Ok(met)
+}
+
+#[test]
+fn growths_of_pulse(rt: HostRuntime) -> Result<(), Fail> {
+    let memory = Refusing::new(rt.alloc());
+    for n in 1..MANY {
+        if !pulse_at(&rt, &memory, n)? {
+            assert!(rt; n > 1);
+            return Ok(());
+        }
+    }
+    Err("no end of growths".into())
+}
+
+fn check_order_at(rt: &impl Abort, memory: &Refusing<Global>, n: u64) -> Result<bool, Fail> {
+    let block = Record {
+        node: 1,
+        call: Call::Alloc { size: 8 },
+        reply: Reply::Value(64),
+    };
+    PAIR.check()?;
+    memory.refuse(n);
+    let answer = check_order(memory, &PAIR, &[block]);
+    let met = is_met(rt, memory, n, answer.err());
+    assert!(rt; met || answer == Ok(true));
+    Ok(met)
+}
+
+#[test]
+fn growths_of_check_order(rt: HostRuntime) -> Result<(), Fail> {
+    let memory = Refusing::new(rt.alloc());
+    for n in 1..MANY {
+        if !check_order_at(&rt, &memory, n)? {
+            assert!(rt; n > 1);
+            return Ok(());
+        }
+    }
+    Err("no end of growths".into())
+}
+
+fn page_table_at(rt: &impl Abort, memory: &Refusing<Global>, n: u64) -> Result<bool, Fail> {
+    PAIR.check()?;
+    memory.refuse(n);
+    let fault = PageTable::new(memory, &PAIR, 0).err();
+    Ok(is_met(rt, memory, n, fault))
+}
+
+#[test]
+fn growths_of_a_page_table(rt: HostRuntime) -> Result<(), Fail> {
+    let memory = Refusing::new(rt.alloc());
+    for n in 1..MANY {
+        if !page_table_at(&rt, &memory, n)? {
+            assert!(rt; n > 1);
+            return Ok(());
+        }
+    }
+    Err("no end of growths".into())
+}
