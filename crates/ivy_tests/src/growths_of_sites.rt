@@ -1,5 +1,5 @@
-//! Each growth refused in turn in the turns and deliveries of a node. A refused call changes
-//! nothing: the node goes on as a twin does that was never refused, to the same strings.
+//! Each growth refused in turn in a pulse of a node. A refused pulse changes nothing: the node goes
+//! on as a twin does that was never refused, to the same strings.
 use crate::common::{MANY, asking, is_met};
 use growths::Refusing;
 use ivy_node::Site;
