@@ -1,67 +1,87 @@
 -- Each event keeps what holds of a node's coherence, and posts only what can be sent. For every manager that keeps the laws.
-use Rattle.std.proofs.Common.{◌≡◌, ◌≢◌, ℕ, zero, suc, eq-eqb, replicate, ◌<◌, ◌≤◌, ◌^◌, ◌⊎◌, inl, inr, Bool, true, false, List, [], ◌∷◌, ◌++◌, length, length-append, ltb, get_or, set, Option, Some, None, refl, sym, ap, ◌∙◌, subst, arith, if◌then◌else◌, ◌==◌}
+use Rattle.std.proofs.Common.{◌≡◌, ◌≢◌, ℕ, zero, suc, ◌+◌, ◌-◌, ◌<◌, ◌≤◌, ◌^◌, ◌⊎◌, inl, inr, eq-eqb, replicate, Bool, true, false, not, ◌&&◌, List, [], ◌∷◌, ◌++◌, length, length-append, map, cond, ltb, get_or, set, Option, Some, None, refl, sym, ap, ◌∙◌, subst, arith, if◌then◌else◌, ◌==◌}
 use Rattle.std.specs.Prelude.{All}
+use Rattle.std.specs.List.{filter, range_with_len}
+use Rattle.std.specs.FinSet as nodes
 use Rattle.std.proofs.lemmas.Bool.Decides.{eqb_tells}
-use Rattle.std.proofs.lemmas.List.{length-set, get_or-set_same, get_or-set_other, length-replicate, get_or-replicate}
-use Rattle.std.proofs.lemmas.Bool.{ltb-true}
-use Rattle.std.proofs.lemmas.List.Elements.{All-push}
+use Rattle.std.proofs.lemmas.Bool.{cases_Bool, and_parts, ltb-true}
+use Rattle.std.proofs.lemmas.List.{length-replicate, get_or-replicate}
+use Rattle.std.proofs.lemmas.List.Elements.{All-cons, All-push}
 use Rattle.ivy_model.specs.declared.Config.{Config}
 use Rattle.ivy_model.specs.Config.{IsConfig}
 use Rattle.ivy_wire.specs.declared.Content.TheVariants as content
-use Rattle.ivy_wire.specs.Data.{Content, Message}
+use Rattle.ivy_wire.specs.Data.{Content, Message, Parcel}
 use Rattle.ivy_wire.specs.Spelling.{FitsContent, FitsMessage, FitsParcel}
-use Rattle.ivy_pagetable.specs.declared.Access.{Access}
 use Rattle.ivy_pagetable.specs.declared.Entry.{Entry}
 use Rattle.ivy_pagetable.specs.declared.Entry.TheVariants as entry
 use Rattle.ivy_pagetable.specs.declared.PutOff.{PutOff}
+use Rattle.ivy_pagetable.specs.declared.Request.{Request}
 use Rattle.ivy_pagetable.specs.declared.Request.TheVariants as request
 use Rattle.ivy_pagetable.specs.declared.Word.{Word}
-use Rattle.ivy_pagetable.specs.declared.Word.TheVariants as word
 use Rattle.ivy_pagetable.specs.Accesses.{reads}
-use Rattle.ivy_pagetable.specs.NodeSets.{Nodes}
-use Rattle.ivy_pagetable.specs.States.{IdleState, WaitingState}
-use Rattle.ivy_pagetable.specs.Entries.{nothing, owned, copy, is_owner, is_locked, with_reader, with_put_off, can_put_off, awaiting_read}
-use Rattle.ivy_pagetable.specs.TableState.{Table}
-use Rattle.ivy_pagetable.specs.Tables.{entry_at, page_at, with_entry, with_page, first_entry}
+use Rattle.ivy_pagetable.specs.NodeSets.{Nodes, nodes_of, nodes_with}
+use Rattle.ivy_pagetable.specs.States.{IdleState, WaitingState, AwaitWriteState, AwaitAcksState}
+use Rattle.ivy_pagetable.specs.Entries.{nothing, owned, is_owner, is_locked, put_offs, with_put_off, can_put_off, without, copying, owning}
+use Rattle.ivy_pagetable.specs.Tables.{entry_at, page_at, first_entry}
 use Rattle.ivy_pagetable.specs.Words.{IsWord, needs_write, carried_out}
 use Rattle.ivy_pagetable.specs.Manager.{Ops, Laws}
+use Rattle.ivy_pagetable.proofs.Bits.{with_below}
+use Rattle.ivy_pagetable.proofs.Words.{length-carried_out}
 use Rattle.ivy_coherence.specs.Coherent.{Coherent}
-use Rattle.ivy_coherence.specs.Steps.{Effect, Begun, breach, shared, sent_on, put_aside, read_asked, unlocked, copy_came, handled, handled_as, hit, read_fault, accessed, begun, begun_at, suffices, passed_on}
-use Rattle.ivy_coherence.specs.Sound.{CanPassOn, IsSoundEntry, IsSound, first_coherent}
-use Rattle.ivy_coherence.proofs.Pointing.{Points, points_forward, points_read, points_passed, request_fits, all_none, all_one}
+use Rattle.ivy_coherence.specs.Serving.{Serving, serving, told, settled, all_served, parcel_to}
+use Rattle.ivy_coherence.specs.Steps.{Effect, collected, still_collecting, IsWaiting, IsCollecting, unlocked_as, is_none, is_order, invalidations, breach, after_serving, unlocked, put_aside, given_up, asked, copy_came, owned_with, page_came, left_with, acknowledged, handled, handled_as}
+use Rattle.ivy_coherence.specs.Faults.{Begun, hit, faulted, fault_entry, fault_posted, waiting_from, accessed, begun, begun_at, suffices}
+use Rattle.ivy_coherence.specs.Sound.{CanBeServed, AreOthers, IsSoundIdle, IsSoundEntry, IsSound, first_coherent}
+use Rattle.ivy_coherence.proofs.IdleServing.{IsServing, IsPlace, all_none, all_one, parcel_fits, no_others, fewer_others, without-sound, copying-sound, owning-sound, keeps_all, hop_to, hop_away, all_served-keeps}
+use Rattle.ivy_coherence.proofs.Changing.{IsChange, AreLocks, change-sound, same_pages, other_page, same_locks, unlocks, locks, place}
 
--- an entry that is written, and any other
-pub entry_with : (t : Table) (page : ℕ) (e : Entry) (p : ℕ) → page < length t.entries → ((p ≡ page) × (entry_at (with_entry t page e) p ≡ e)) ⊎ ((p ≢ page) × (entry_at (with_entry t page e) p ≡ entry_at t p))
-entry_with t page e p within =
-    elim (eqb_tells p page) [
-      | inl y ↦ inl (y.1, ap (λ q. get_or (set t.entries page e) q nothing) y.1 ∙ get_or-set_same t.entries page e nothing within)
-      | inr y ↦ inr (y.1, get_or-set_other t.entries page p e nothing y.1)
-    ]
+-- what an event has to keep
+abbrev pub Keeps : {S : Type 0} → Ops S → Coherent S → Effect S → Type 0
+Keeps ops c e = IsSound ops e.after × All (FitsParcel c.config c.me) e.posted
 
-pub page_with : (t : Table) (page : ℕ) (b : List ℕ) (p : ℕ) → page < length t.pages → ((p ≡ page) × (page_at (with_page t page b) p ≡ b)) ⊎ ((p ≢ page) × (page_at (with_page t page b) p ≡ page_at t p))
-page_with t page b p within =
-    elim (eqb_tells p page) [
-      | inl y ↦ inl (y.1, ap (λ q. get_or (set t.pages page b) q []) y.1 ∙ get_or-set_same t.pages page b [] within)
-      | inr y ↦ inr (y.1, get_or-set_other t.pages page p b [] y.1)
-    ]
+-- what an access has to keep
+abbrev pub KeepsBegun : {S : Type 0} → Ops S → Coherent S → Begun S → Type 0
+KeepsBegun ops c b = IsSound ops b.after × All (FitsParcel c.config c.me) b.posted
 
--- a word that reads changes no byte
-pub read-bytes : (w : Word) (bytes : List ℕ) → needs_write w ≡ false → (carried_out w bytes).bytes ≡ bytes
-read-bytes (word.Load width offset) bytes h = refl
-read-bytes (word.Store width offset value) bytes h = absurd cc
-read-bytes (word.Count offset) bytes h = refl
-read-bytes (word.Advance offset) bytes h = absurd cc
-read-bytes (word.Await offset least) bytes h = refl
-
-abbrev pub owns : {S : Type 0} → Coherent S → ℕ → Bool
-owns c p = is_owner (entry_at c.table p)
-
-pub idle-sound : (c : Config) (me : ℕ) (s : IdleState) → (s.owner ≡ true → reads s.access ≡ true) → IsSoundEntry c me (entry.Idle s)
-idle-sound c me s own = record {
-  owner = λ t h o. (let e : s ≡ t = cc in ap (λ (x : IdleState). reads x.access) (sym e) ∙ own (ap (λ (x : IdleState). x.owner) e ∙ o));
-  word = λ w h. absurd cc;
-  put_off = all_none (CanPassOn c me);
+-- entries of each kind
+pub idle-sound : (c : Config) (me : ℕ) (s : IdleState) → IsSoundIdle c me s → IsSoundEntry c me (entry.Idle s)
+idle-sound c me s good = record {
+  idle = λ t h. (let e : s ≡ t = cc in subst (IsSoundIdle c me) e good);
+  reading = λ t h. absurd cc;
+  writing = λ t h. absurd cc;
+  collecting = λ t h. absurd cc;
+  put_off = all_none (CanBeServed c me);
   few = omega arith;
+}
+
+reading-sound : (c : Config) (me : ℕ) (s : WaitingState) → IsWord c.page_size s.word → needs_write s.word ≡ false → All (CanBeServed c me) s.put_off → length s.put_off ≤ 8 → IsSoundEntry c me (entry.AwaitRead s)
+reading-sound c me s word reads can few = record {
+  idle = λ t h. absurd cc;
+  reading = λ t h. (let e : s ≡ t = cc in subst (λ (x : WaitingState). IsWord c.page_size x.word × (needs_write x.word ≡ false)) e (word, reads));
+  writing = λ t h. absurd cc;
+  collecting = λ t h. absurd cc;
+  put_off = can;
+  few = few;
+}
+
+writing-sound : (c : Config) (me : ℕ) (s : AwaitWriteState) → IsWord c.page_size s.waiting.word → needs_write s.waiting.word ≡ true → All (CanBeServed c me) s.waiting.put_off → length s.waiting.put_off ≤ 8 → IsSoundEntry c me (entry.AwaitWrite s)
+writing-sound c me s word writes can few = record {
+  idle = λ t h. absurd cc;
+  reading = λ t h. absurd cc;
+  writing = λ t h. (let e : s ≡ t = cc in subst (λ (x : AwaitWriteState). IsWord c.page_size x.waiting.word × (needs_write x.waiting.word ≡ true)) e (word, writes));
+  collecting = λ t h. absurd cc;
+  put_off = can;
+  few = few;
+}
+
+collecting-sound : (c : Config) (me : ℕ) (s : AwaitAcksState) → IsWord c.page_size s.waiting.word → needs_write s.waiting.word ≡ true → AreOthers c me s.left → All (CanBeServed c me) s.waiting.put_off → length s.waiting.put_off ≤ 8 → IsSoundEntry c me (entry.AwaitAcks s)
+collecting-sound c me s word writes left can few = record {
+  idle = λ t h. absurd cc;
+  reading = λ t h. absurd cc;
+  writing = λ t h. absurd cc;
+  collecting = λ t h. (let e : s ≡ t = cc in subst (λ (x : AwaitAcksState). (IsWord c.page_size x.waiting.word × (needs_write x.waiting.word ≡ true)) × AreOthers c me x.left) e ((word, writes), left));
+  put_off = can;
+  few = few;
 }
 
 pub owner_put : (e : Entry) (q : PutOff) → is_owner (with_put_off e q) ≡ is_owner e
@@ -80,90 +100,34 @@ room : (qs : List PutOff) (q : PutOff) → ltb (length qs) 8 ≡ true → length
 room qs q h = let e : length qs < 8 = ltb-true (length qs) 8 h in omega (arith, e, length-append qs (q ∷ []))
 
 -- an entry with one more message put off
-pub put_entry-sound : (c : Config) (me : ℕ) (e : Entry) (q : PutOff) → IsSoundEntry c me e → CanPassOn c me q → can_put_off e ≡ true → IsSoundEntry c me (with_put_off e q)
+pub put_entry-sound : (c : Config) (me : ℕ) (e : Entry) (q : PutOff) → IsSoundEntry c me e → CanBeServed c me q → can_put_off e ≡ true → IsSoundEntry c me (with_put_off e q)
 put_entry-sound c me (entry.Idle s) q good can h = absurd cc
-put_entry-sound c me (entry.AwaitRead w) q good can h = record {
-  owner = λ t j o. absurd cc;
-  word = λ v j. (let e : w.word ≡ v.word = cc in subst (λ x. IsWord c.page_size x × (needs_write x ≡ false)) e (good.word w refl));
-  put_off = All-push (CanPassOn c me) w.put_off q good.put_off can;
-  few = room w.put_off q h;
-}
-put_entry-sound c me (entry.AwaitWrite w) q good can h = record {
-  owner = λ t j o. absurd cc;
-  word = λ v j. absurd cc;
-  put_off = All-push (CanPassOn c me) w.waiting.put_off q good.put_off can;
-  few = room w.waiting.put_off q h;
-}
-put_entry-sound c me (entry.AwaitAcks w) q good can h = record {
-  owner = λ t j o. absurd cc;
-  word = λ v j. absurd cc;
-  put_off = All-push (CanPassOn c me) w.waiting.put_off q good.put_off can;
-  few = room w.waiting.put_off q h;
-}
+put_entry-sound c me (entry.AwaitRead w) q good can h =
+    let word = good.reading w refl in
+    reading-sound c me _ word.0 word.1 (All-push (CanBeServed c me) w.put_off q good.put_off can) (room w.put_off q h)
+put_entry-sound c me (entry.AwaitWrite w) q good can h =
+    let word = good.writing w refl in
+    writing-sound c me _ word.0 word.1 (All-push (CanBeServed c me) w.waiting.put_off q good.put_off can) (room w.waiting.put_off q h)
+put_entry-sound c me (entry.AwaitAcks w) q good can h =
+    let all = good.collecting w refl in
+    collecting-sound c me _ all.0.0 all.0.1 all.1 (All-push (CanBeServed c me) w.waiting.put_off q good.put_off can) (room w.waiting.put_off q h)
 
--- what an event has to keep
-abbrev pub Keeps : {S : Type 0} → Ops S → Coherent S → Effect S → Type 0
-Keeps ops c e = IsSound ops e.after × All (FitsParcel c.config c.me) e.posted
+-- those that are told to give a copy up
+each_told : (P : Parcel → Type 0) (f : ℕ → Parcel) (p : ℕ → Bool) (xs : List ℕ) → ((q : ℕ) → p q ≡ true → P (f q)) → All P (map f (filter p xs))
+each_told P f p [] h = all_none P
+each_told P f p (x ∷ xs) h =
+    elim (cases_Bool (p x)) [
+      | inl t ↦ subst (λ b. All P (map f (cond b (x ∷ filter p xs) (filter p xs)))) (sym t) (All-cons P (f x) (map f (filter p xs)) (h x t) (each_told P f p xs h))
+      | inr t ↦ subst (λ b. All P (map f (cond b (x ∷ filter p xs) (filter p xs)))) (sym t) (each_told P f p xs h)
+    ]
 
--- what an access has to keep
-abbrev pub KeepsBegun : {S : Type 0} → Ops S → Coherent S → Begun S → Type 0
-KeepsBegun ops c b = IsSound ops b.after × All (FitsParcel c.config c.me) b.posted
+pub invalidations-fit : (c : Config) (me page call : ℕ) (s : Nodes) → me < c.nodes → page < c.pages → 1 ≤ call → call < 2 ^ 64 → AreOthers c me s → All (FitsParcel c me) (invalidations me page call s)
+unfolding nodes_of
+invalidations-fit c me page call s here inside from to others =
+    each_told (FitsParcel c me) (λ node. parcel_to me node me call (content.Inval page)) (nodes.contains s) (range_with_len 0 32)
+    (λ node is. parcel_fits c me node me call (content.Inval page) here (others.below node is) (λ e. absurd (let f : true ≡ false = sym is ∙ ap (nodes.contains s) e ∙ others.apart in cc)) here from to inside)
 
 module _ {S : Type 0} {ops : Ops S} where
-  pub points : (c : Coherent S) → IsSound ops c → Points ops c.config c.me (owns c) c.manager
-  points c s = record { mine = s.mine; managed = s.managed; hop = s.hop; away = s.away }
-
-  -- another manager that points right
-  with_manager-sound : (c : Coherent S) (m : S) → IsSound ops c → Points ops c.config c.me (owns c) m → IsSound ops (record c { manager = m })
-  with_manager-sound c m s p = record {
-    limits = s.limits;
-    here = s.here;
-    mine = p.mine;
-    managed = p.managed;
-    size = s.size;
-    entries = s.entries;
-    pages = s.pages;
-    sized = s.sized;
-    each = s.each;
-    hop = p.hop;
-    away = p.away;
-    locked = s.locked;
-    others = s.others;
-  }
-
-  -- another entry, as locked as the one before, and owned where that was
-  pub with_entry-sound : (c : Coherent S) (page : ℕ) (e : Entry) → IsSound ops c → page < c.config.pages → IsSoundEntry c.config c.me e
-      → (is_owner e ≡ false → is_owner (entry_at c.table page) ≡ false) → is_locked e ≡ is_locked (entry_at c.table page) → IsSound ops (record c { table = with_entry c.table page e })
-  with_entry-sound c page e s inside good owner lock =
-      let within : page < length c.table.entries = (let e = s.entries in omega (arith, inside, e)) in
-      record {
-        limits = s.limits;
-        here = s.here;
-        mine = s.mine;
-        managed = s.managed;
-        size = s.size;
-        entries = length-set c.table.entries page e ∙ s.entries;
-        pages = s.pages;
-        sized = s.sized;
-        each = λ p. elim (entry_with c.table page e p within) [
-          | inl x ↦ subst (IsSoundEntry c.config c.me) (sym x.1) good
-          | inr x ↦ subst (IsSoundEntry c.config c.me) (sym x.1) (s.each p)
-        ];
-        hop = s.hop;
-        away = λ p lt h. elim (entry_with c.table page e p within) [
-          | inl x ↦ s.away p lt (ap (λ q. is_owner (entry_at c.table q)) x.0 ∙ owner (ap is_owner (sym x.1) ∙ h))
-          | inr x ↦ s.away p lt (ap is_owner (sym x.1) ∙ h)
-        ];
-        locked = λ p h. elim (entry_with c.table page e p within) [
-          | inl x ↦ ap is_locked x.1 ∙ lock ∙ ap (λ q. is_locked (entry_at c.table q)) (sym x.0) ∙ s.locked p h
-          | inr x ↦ ap is_locked x.1 ∙ s.locked p h
-        ];
-        others = λ p h. elim (entry_with c.table page e p within) [
-          | inl x ↦ s.others p (ap (λ q. is_locked (entry_at c.table q)) x.0 ∙ sym lock ∙ ap is_locked (sym x.1) ∙ h)
-          | inr x ↦ s.others p (ap is_locked (sym x.1) ∙ h)
-        ];
-      }
-
   breach-keeps : (c : Coherent S) → IsSound ops c → Keeps ops c (breach ops c)
   breach-keeps c s = (
     record {
@@ -188,110 +152,335 @@ module _ {S : Type 0} {ops : Ops S} where
   either-keeps c true x y h k = h refl
   either-keeps c false x y h k = k refl
 
-  pub shared-keeps : (c : Coherent S) (origin call page : ℕ) (s : IdleState) → IsSound ops c → origin < c.config.nodes → origin ≢ c.me → 1 ≤ call → call < 2 ^ 64 → page < c.config.pages
-      → entry_at c.table page ≡ entry.Idle s → Keeps ops c (shared ops c origin call page (entry.Idle s))
-  shared-keeps c origin call page s sound below foreign from to inside is = (
-    with_entry-sound c page (with_reader (entry.Idle s) origin) sound inside (idle-sound c.config c.me _ (λ o. refl)) (λ h. absurd cc) (ap is_locked (sym is)),
-    all_one (FitsParcel c.config c.me) _ (request_fits c.config c.me origin origin call (content.ReadRep page (page_at c.table page)) sound.here below foreign below from to (inside, sound.sized page inside)),
-  )
-
   pub entry_is : (c : Coherent S) (page : ℕ) (e : Entry) → IsSound ops c → entry_at c.table page ≡ e → IsSoundEntry c.config c.me e
   entry_is c page e s is = subst (IsSoundEntry c.config c.me) is (s.each page)
 
-  put_aside-keeps : (c : Coherent S) (page : ℕ) (e : Entry) (q : PutOff) → IsSound ops c → page < c.config.pages → entry_at c.table page ≡ e → CanPassOn c.config c.me q → Keeps ops c (put_aside ops c page e q)
+  -- another entry at a page, as locked as before and owned where that was
+  pub entry-sound : (c : Coherent S) (page : ℕ) (e f : Entry) → IsSound ops c → page < c.config.pages → entry_at c.table page ≡ e → IsSoundEntry c.config c.me f
+      → is_owner f ≡ is_owner e → is_locked f ≡ is_locked e → IsChange ops c page f c.table.pages c.manager c.locked
+  entry-sound c page e f s inside is good owner lock = record {
+    inside = inside;
+    entry = good;
+    sized = same_pages c s;
+    keeps = keeps_all c.manager page;
+    hop = s.hop page inside;
+    away = λ free. s.away page inside (ap is_owner is ∙ sym owner ∙ free);
+    locks = same_locks c page (is_locked f) s (lock ∙ sym (ap is_locked is));
+  }
+
+  put_aside-keeps : (c : Coherent S) (page : ℕ) (e : Entry) (q : PutOff) → IsSound ops c → page < c.config.pages → entry_at c.table page ≡ e → CanBeServed c.config c.me q → Keeps ops c (put_aside ops c page e q)
   put_aside-keeps c page e q s inside is can =
       either-keeps c (can_put_off e) _ _
-      (λ h. (with_entry-sound c page (with_put_off e q) s inside (put_entry-sound c.config c.me e q (entry_is c page e s is) can h) (λ k. ap is_owner is ∙ sym (owner_put e q) ∙ k) (locked_put e q ∙ ap is_locked (sym is)), all_none (FitsParcel c.config c.me)))
+      (λ h. (
+        change-sound c page (with_put_off e q) c.table.pages c.manager c.locked c.done c.breaches s
+            (entry-sound c page e (with_put_off e q) s inside is (put_entry-sound c.config c.me e q (entry_is c page e s is) can h) (owner_put e q) (locked_put e q)),
+        all_none (FitsParcel c.config c.me),
+      ))
       (λ h. breach-keeps c s)
 
+  -- before anything is served at an entry that is idle
+  idle-start : (c : Coherent S) (page : ℕ) (i : IdleState) → IsSound ops c → page < c.config.pages → entry_at c.table page ≡ entry.Idle i → IsServing ops c.config c.me page c.manager (serving i c.manager c.breaches [])
+  idle-start c page i s inside is = record {
+    keeps = keeps_all c.manager page;
+    hop = s.hop page inside;
+    away = λ free. s.away page inside (ap is_owner is ∙ free);
+    idle = (entry_is c page (entry.Idle i) s is).idle i refl;
+    fits = all_none (FitsParcel c.config c.me);
+  }
+
 module _ {S : Type 0} {ops : Ops S} (laws : Laws ops) where
-  pub sent_on-keeps : (c : Coherent S) (origin call page : ℕ) → IsSound ops c → origin < c.config.nodes → origin ≢ c.me → 1 ≤ call → call < 2 ^ 64 → page < c.config.pages
-      → is_owner (entry_at c.table page) ≡ false → Keeps ops c (sent_on ops c origin call page)
-  sent_on-keeps c origin call page s below foreign from to inside free = (
-    with_manager-sound c (ops.on_forward c.manager page false origin) s (points_forward laws c.config c.me (owns c) c.manager page false origin (points c s) inside below foreign),
-    all_one (FitsParcel c.config c.me) _ (request_fits c.config c.me (ops.next_hop c.manager page) origin call (content.ReadReq page) s.here (s.hop page inside) (s.away page inside free) below from to inside),
-  )
-
-  idle_asked : (c : Coherent S) (origin call page : ℕ) (access : Access) (owner : Bool) (copies : Nodes) → IsSound ops c → origin < c.config.nodes → origin ≢ c.me → 1 ≤ call → call < 2 ^ 64 → page < c.config.pages
-      → entry_at c.table page ≡ entry.Idle (record { access = access; owner = owner; copies = copies }) → Keeps ops c (read_asked ops c origin call page (entry.Idle (record { access = access; owner = owner; copies = copies })))
-  idle_asked c origin call page access true copies s below foreign from to inside is = shared-keeps c origin call page _ s below foreign from to inside is
-  idle_asked c origin call page access false copies s below foreign from to inside is = sent_on-keeps c origin call page s below foreign from to inside (ap is_owner is)
-
-  pub read_asked-keeps : (c : Coherent S) (origin call page : ℕ) (e : Entry) → IsSound ops c → origin < c.config.nodes → origin ≢ c.me → 1 ≤ call → call < 2 ^ 64 → page < c.config.pages
-      → entry_at c.table page ≡ e → Keeps ops c (read_asked ops c origin call page e)
-  read_asked-keeps c origin call page (entry.Idle i) s below foreign from to inside is = idle_asked c origin call page i.access i.owner i.copies s below foreign from to inside is
-  read_asked-keeps c origin call page (entry.AwaitRead w) s below foreign from to inside is =
-      put_aside-keeps c page (entry.AwaitRead w) (record { kind = request.Read; origin = origin; call = call }) s inside is (record { origin = below; foreign = foreign; call_from = from; call_to = to })
-  read_asked-keeps c origin call page (entry.AwaitWrite w) s below foreign from to inside is =
-      put_aside-keeps c page (entry.AwaitWrite w) (record { kind = request.Read; origin = origin; call = call }) s inside is (record { origin = below; foreign = foreign; call_from = from; call_to = to })
-  read_asked-keeps c origin call page (entry.AwaitAcks w) s below foreign from to inside is =
-      put_aside-keeps c page (entry.AwaitAcks w) (record { kind = request.Read; origin = origin; call = call }) s inside is (record { origin = below; foreign = foreign; call_from = from; call_to = to })
-
-  -- a copy that was waited for
-  pub unlocked-keeps : (c : Coherent S) (from page : ℕ) (bytes : List ℕ) (w : WaitingState) → IsSound ops c → from < c.config.nodes → from ≢ c.me → page < c.config.pages → length bytes ≡ c.config.page_size
-      → entry_at c.table page ≡ entry.AwaitRead w → Keeps ops c (unlocked ops c from page bytes w)
-  unlocked-keeps c from page bytes w s below foreign inside sized is =
-      let good : IsSoundEntry c.config c.me (entry.AwaitRead w) = entry_is c page (entry.AwaitRead w) s is in
-      let now : List ℕ = (carried_out w.word bytes).bytes in
-      let same : now ≡ bytes = read-bytes w.word bytes (good.word w refl).1 in
-      let t : Table = with_entry c.table page copy in
-      let free : is_owner (entry_at c.table page) ≡ false = ap is_owner is in
-      let within : page < length c.table.entries = (let e = s.entries in omega (arith, inside, e)) in
-      let inside_pages : page < length c.table.pages = (let e = s.pages in omega (arith, inside, e)) in
-      let passed : Points ops c.config c.me (owns c) (passed_on ops c.me page (ops.on_replied c.manager page false from) w.put_off).manager × All (FitsParcel c.config c.me) (passed_on ops c.me page (ops.on_replied c.manager page false from) w.put_off).posted
-      = points_passed laws c.config c.me (owns c) (ops.on_replied c.manager page false from) page w.put_off (points_read laws c.config c.me (owns c) c.manager page from (points c s) inside below foreign) inside s.here free good.put_off in
-      let was_locked : c.locked ≡ Some page = s.others page (ap is_locked is) in (
-        record {
-          limits = s.limits;
-          here = s.here;
-          mine = passed.0.mine;
-          managed = passed.0.managed;
-          size = s.size;
-          entries = length-set c.table.entries page copy ∙ s.entries;
-          pages = length-set c.table.pages page now ∙ s.pages;
-          sized = λ p lt. elim (page_with t page now p inside_pages) [
-            | inl x ↦ ap length (x.1 ∙ same) ∙ sized
-            | inr x ↦ ap length x.1 ∙ s.sized p lt
-          ];
-          each = λ p. elim (entry_with c.table page copy p within) [
-            | inl x ↦ subst (IsSoundEntry c.config c.me) (sym x.1) (idle-sound c.config c.me _ (λ o. absurd cc))
-            | inr x ↦ subst (IsSoundEntry c.config c.me) (sym x.1) (s.each p)
-          ];
-          hop = passed.0.hop;
-          away = λ p lt h. elim (entry_with c.table page copy p within) [
-            | inl x ↦ passed.0.away p lt (ap (λ q. is_owner (entry_at c.table q)) x.0 ∙ free)
-            | inr x ↦ passed.0.away p lt (ap is_owner (sym x.1) ∙ h)
-          ];
-          locked = λ p h. absurd cc;
-          others = λ p h. elim (entry_with c.table page copy p within) [
-            | inl x ↦ absurd (let f : false ≡ true = ap is_locked (sym x.1) ∙ h in cc)
-            | inr x ↦ absurd (x.0 (let f : Some p ≡ Some page = sym (s.others p (ap is_locked (sym x.1) ∙ h)) ∙ was_locked in cc))
-          ];
-        },
-        passed.1,
+  idle_asked-keeps : (c : Coherent S) (page : ℕ) (q : PutOff) (i : IdleState) → IsSound ops c → page < c.config.pages → entry_at c.table page ≡ entry.Idle i → CanBeServed c.config c.me q → Keeps ops c (asked ops c page q (entry.Idle i))
+  idle_asked-keeps c page q i s inside is can =
+      let v : Serving S = settled ops c.me q.origin page (page_at c.table page) i c.manager c.breaches None (q ∷ []) in
+      let h : IsServing ops c.config c.me page c.manager v
+      = all_served-keeps laws c.config c.me page (page_at c.table page) c.manager (place c page (page_at c.table page) s inside (s.sized page inside)) (serving i c.manager c.breaches []) (q ∷ []) (idle-start c page i s inside is) (all_one (CanBeServed c.config c.me) q can) in (
+        change-sound c page (entry.Idle v.idle) c.table.pages v.manager c.locked c.done v.breaches s
+            (record {
+              inside = inside;
+              entry = idle-sound c.config c.me v.idle h.idle;
+              sized = same_pages c s;
+              keeps = h.keeps;
+              hop = h.hop;
+              away = h.away;
+              locks = same_locks c page false s (sym (ap is_locked is));
+            }),
+        h.fits,
       )
+
+  given_up-keeps : (c : Coherent S) (page : ℕ) (w : AwaitWriteState) (q : PutOff) → IsSound ops c → page < c.config.pages → entry_at c.table page ≡ entry.AwaitWrite w → CanBeServed c.config c.me q → Keeps ops c (given_up ops c page w.waiting q)
+  given_up-keeps c page w q s inside is can =
+      let good : IsSoundEntry c.config c.me (entry.AwaitWrite w) = entry_is c page (entry.AwaitWrite w) s is in
+      let word = good.writing w refl in
+      let m : S = ops.on_invalidated c.manager page q.origin in
+      let free : is_owner (entry_at c.table page) ≡ false = ap is_owner is in
+      let in_size : page < ops.size c.manager = (let k = s.managed in omega (arith, inside, k)) in (
+        change-sound c page (entry.AwaitWrite (record { had_copy = false; waiting = w.waiting })) c.table.pages m c.locked c.done c.breaches s
+            (record {
+              inside = inside;
+              entry = writing-sound c.config c.me (record { had_copy = false; waiting = w.waiting }) word.0 word.1 good.put_off good.few;
+              sized = same_pages c s;
+              keeps = laws.keeps_invalidated c.manager page q.origin;
+              hop = hop_to c.config _ _ _ (laws.hop_invalidated c.manager page q.origin in_size) (s.hop page inside) can.origin;
+              away = λ o. hop_away c.me _ _ _ (laws.hop_invalidated c.manager page q.origin in_size) (s.away page inside free) can.foreign;
+              locks = same_locks c page true s (sym (ap is_locked is));
+            }),
+        all_one (FitsParcel c.config c.me) _ (parcel_fits c.config c.me q.origin q.origin q.call (content.InvalAck page) s.here can.origin can.foreign can.origin can.call_from can.call_to inside),
+      )
+
+  pub asked-keeps : (c : Coherent S) (page : ℕ) (q : PutOff) (e : Entry) → IsSound ops c → page < c.config.pages → entry_at c.table page ≡ e → CanBeServed c.config c.me q → Keeps ops c (asked ops c page q e)
+  asked-keeps c page q (entry.Idle i) s inside is can = idle_asked-keeps c page q i s inside is can
+  asked-keeps c page q (entry.AwaitRead w) s inside is can = put_aside-keeps c page (entry.AwaitRead w) q s inside is can
+  asked-keeps c page q (entry.AwaitWrite w) s inside is can =
+      either-keeps c (is_order q.kind) _ _ (λ h. given_up-keeps c page w q s inside is can) (λ h. put_aside-keeps c page (entry.AwaitWrite w) q s inside is can)
+  asked-keeps c page q (entry.AwaitAcks w) s inside is can =
+      either-keeps c (is_order q.kind) _ _ (λ h. breach-keeps c s) (λ h. put_aside-keeps c page (entry.AwaitAcks w) q s inside is can)
+
+  -- before what was put off is served, once a copy came, the page itself, or the last acknowledgement
+  copy-start : (c : Coherent S) (page from : ℕ) → IsSound ops c → page < c.config.pages → is_owner (entry_at c.table page) ≡ false → from < c.config.nodes → from ≢ c.me
+      → IsServing ops c.config c.me page c.manager (serving copying (told ops from page c.manager (Some false)) c.breaches [])
+  copy-start c page from s inside free below foreign =
+      let in_size : page < ops.size c.manager = (let k = s.managed in omega (arith, inside, k)) in
+      record {
+        keeps = laws.keeps_replied c.manager page false from;
+        hop = hop_to c.config _ _ _ (laws.hop_read c.manager page from in_size) (s.hop page inside) below;
+        away = λ o. hop_away c.me _ _ _ (laws.hop_read c.manager page from in_size) (s.away page inside free) foreign;
+        idle = copying-sound c.config c.me;
+        fits = all_none (FitsParcel c.config c.me);
+      }
+
+  pub written_hop : (c : Coherent S) (page from : ℕ) → IsSound ops c → page < c.config.pages → from < c.config.nodes → ops.next_hop (ops.on_replied c.manager page true from) page < c.config.nodes
+  written_hop c page from s inside below =
+      let in_size : page < ops.size c.manager = (let k = s.managed in omega (arith, inside, k)) in
+      elim (laws.hop_written c.manager page from in_size) [
+        | inl e ↦ subst (λ n. n < c.config.nodes) (sym e) (s.hop page inside)
+        | inr k ↦ elim k [
+          | inl e ↦ subst (λ n. n < c.config.nodes) (sym (e ∙ s.mine)) s.here
+          | inr e ↦ subst (λ n. n < c.config.nodes) (sym e) below
+        ]
+      ]
+
+  page-start : (c : Coherent S) (page from : ℕ) → IsSound ops c → page < c.config.pages → from < c.config.nodes
+      → IsServing ops c.config c.me page c.manager (serving owning (told ops from page c.manager (Some true)) c.breaches [])
+  page-start c page from s inside below = record {
+    keeps = laws.keeps_replied c.manager page true from;
+    hop = written_hop c page from s inside below;
+    away = λ o. absurd cc;
+    idle = owning-sound c.config c.me;
+    fits = all_none (FitsParcel c.config c.me);
+  }
+
+  last-start : (c : Coherent S) (page from : ℕ) → IsSound ops c → page < c.config.pages → IsServing ops c.config c.me page c.manager (serving owning (told ops from page c.manager None) c.breaches [])
+  last-start c page from s inside = record {
+    keeps = keeps_all c.manager page;
+    hop = s.hop page inside;
+    away = λ o. absurd cc;
+    idle = owning-sound c.config c.me;
+    fits = all_none (FitsParcel c.config c.me);
+  }
+
+  unlocked-keeps : (c : Coherent S) (from page : ℕ) (i : IdleState) (reply : Option Bool) (bytes : List ℕ) (w : WaitingState) → IsSound ops c → page < c.config.pages → length bytes ≡ c.config.page_size
+      → is_locked (entry_at c.table page) ≡ true → IsWord c.config.page_size w.word → All (CanBeServed c.config c.me) w.put_off
+      → IsServing ops c.config c.me page c.manager (serving i (told ops from page c.manager reply) c.breaches []) → Keeps ops c (unlocked ops c from page i reply bytes w)
+  unlocked-keeps c from page i reply bytes w s inside sized lock word can start =
+      let now : List ℕ = (carried_out w.word bytes).bytes in
+      let long : length now ≡ c.config.page_size = length-carried_out w.word bytes (subst (λ n. IsWord n w.word) (sym sized) word) ∙ sized in
+      let v : Serving S = settled ops c.me from page now i c.manager c.breaches reply w.put_off in
+      let h : IsServing ops c.config c.me page c.manager v
+      = all_served-keeps laws c.config c.me page now c.manager (place c page now s inside long) (serving i (told ops from page c.manager reply) c.breaches []) w.put_off start can in (
+        change-sound c page (entry.Idle v.idle) (set c.table.pages page now) v.manager None (Some (carried_out w.word bytes).out) v.breaches s
+            (record {
+              inside = inside;
+              entry = idle-sound c.config c.me v.idle h.idle;
+              sized = other_page c page now s inside long;
+              keeps = h.keeps;
+              hop = h.hop;
+              away = h.away;
+              locks = unlocks c page s lock;
+            }),
+        h.fits,
+      )
+
+  -- the word that waits at an entry, for a copy, for the page or for acknowledgements
+  word_at : (k : Config) (me : ℕ) (e : Entry) (write : Bool) (w : WaitingState) → IsSoundEntry k me e → IsWaiting e write w → IsWord k.page_size w.word
+  word_at k me (entry.Idle t) write w good waits = absurd waits
+  word_at k me (entry.AwaitRead t) write w good waits = subst (λ (x : WaitingState). IsWord k.page_size x.word) (sym waits.1) (good.reading t refl).0
+  word_at k me (entry.AwaitWrite t) write w good waits = subst (λ (x : WaitingState). IsWord k.page_size x.word) (sym waits.1) (good.writing t refl).0
+  word_at k me (entry.AwaitAcks t) write w good waits = absurd waits
+
+  pub waiting_word : (c : Coherent S) (page : ℕ) (write : Bool) (w : WaitingState) → IsSound ops c → IsWaiting (entry_at c.table page) write w → IsWord c.config.page_size w.word
+  waiting_word c page write w s waits = word_at c.config c.me (entry_at c.table page) write w (s.each page) waits
+
+  collected_at : (k : Config) (me : ℕ) (e : Entry) (w : WaitingState) → IsSoundEntry k me e → IsCollecting e w → IsWord k.page_size w.word
+  collected_at k me (entry.Idle t) w good waits = absurd waits
+  collected_at k me (entry.AwaitRead t) w good waits = absurd waits
+  collected_at k me (entry.AwaitWrite t) w good waits = absurd waits
+  collected_at k me (entry.AwaitAcks t) w good waits = subst (λ (x : WaitingState). IsWord k.page_size x.word) (sym waits) (good.collecting t refl).0.0
+
+  pub collecting_word : (c : Coherent S) (page : ℕ) (w : WaitingState) → IsSound ops c → IsCollecting (entry_at c.table page) w → IsWord c.config.page_size w.word
+  collecting_word c page w s waits = collected_at c.config c.me (entry_at c.table page) w (s.each page) waits
+
+  unlocking_at : (c : Coherent S) (from page : ℕ) (write : Bool) (bytes : List ℕ) (w : WaitingState) (e : Entry) → IsSound ops c → from < c.config.nodes → from ≢ c.me → page < c.config.pages → length bytes ≡ c.config.page_size
+      → entry_at c.table page ≡ e → IsWaiting e write w → Keeps ops c (unlocked ops c from page (unlocked_as write) (Some write) bytes w)
+  unlocking_at c from page write bytes w (entry.Idle t) s below foreign inside sized is waits = absurd waits
+  unlocking_at c from page write bytes w (entry.AwaitRead t) s below foreign inside sized is waits =
+      let good : IsSoundEntry c.config c.me (entry.AwaitRead t) = entry_is c page (entry.AwaitRead t) s is in
+      subst (λ b. Keeps ops c (unlocked ops c from page (unlocked_as b) (Some b) bytes w)) (sym waits.0)
+      (subst (λ x. Keeps ops c (unlocked ops c from page copying (Some false) bytes x)) (sym waits.1)
+      (unlocked-keeps c from page copying (Some false) bytes t s inside sized (ap is_locked is) (good.reading t refl).0 good.put_off (copy-start c page from s inside (ap is_owner is) below foreign)))
+  unlocking_at c from page write bytes w (entry.AwaitWrite t) s below foreign inside sized is waits =
+      let good : IsSoundEntry c.config c.me (entry.AwaitWrite t) = entry_is c page (entry.AwaitWrite t) s is in
+      subst (λ b. Keeps ops c (unlocked ops c from page (unlocked_as b) (Some b) bytes w)) (sym waits.0)
+      (subst (λ x. Keeps ops c (unlocked ops c from page owning (Some true) bytes x)) (sym waits.1)
+      (unlocked-keeps c from page owning (Some true) bytes t.waiting s inside sized (ap is_locked is) (good.writing t refl).0 good.put_off (page-start c page from s inside below)))
+  unlocking_at c from page write bytes w (entry.AwaitAcks t) s below foreign inside sized is waits = absurd waits
+
+  -- the bytes come for the word that waits
+  pub unlocking-keeps : (c : Coherent S) (from page : ℕ) (write : Bool) (bytes : List ℕ) (w : WaitingState) → IsSound ops c → from < c.config.nodes → from ≢ c.me → page < c.config.pages → length bytes ≡ c.config.page_size
+      → IsWaiting (entry_at c.table page) write w → Keeps ops c (unlocked ops c from page (unlocked_as write) (Some write) bytes w)
+  unlocking-keeps c from page write bytes w s below foreign inside sized waits = unlocking_at c from page write bytes w (entry_at c.table page) s below foreign inside sized refl waits
+
+  last_at : (c : Coherent S) (from page : ℕ) (w : WaitingState) (e : Entry) → IsSound ops c → page < c.config.pages → entry_at c.table page ≡ e → IsCollecting e w → Keeps ops c (unlocked ops c from page owning None (page_at c.table page) w)
+  last_at c from page w (entry.Idle t) s inside is waits = absurd waits
+  last_at c from page w (entry.AwaitRead t) s inside is waits = absurd waits
+  last_at c from page w (entry.AwaitWrite t) s inside is waits = absurd waits
+  last_at c from page w (entry.AwaitAcks t) s inside is waits =
+      let good : IsSoundEntry c.config c.me (entry.AwaitAcks t) = entry_is c page (entry.AwaitAcks t) s is in
+      subst (λ x. Keeps ops c (unlocked ops c from page owning None (page_at c.table page) x)) (sym waits)
+      (unlocked-keeps c from page owning None (page_at c.table page) t.waiting s inside (s.sized page inside) (ap is_locked is) (good.collecting t refl).0.0 good.put_off (last-start c page from s inside))
+
+  -- the last acknowledgement comes
+  pub last-keeps : (c : Coherent S) (from page : ℕ) (w : WaitingState) → IsSound ops c → page < c.config.pages → IsCollecting (entry_at c.table page) w → Keeps ops c (unlocked ops c from page owning None (page_at c.table page) w)
+  last-keeps c from page w s inside waits = last_at c from page w (entry_at c.table page) s inside refl waits
+
+  giving_at : (c : Coherent S) (page : ℕ) (w : WaitingState) (q : PutOff) (e : Entry) → IsSound ops c → page < c.config.pages → entry_at c.table page ≡ e → IsWaiting e true w → CanBeServed c.config c.me q → Keeps ops c (given_up ops c page w q)
+  giving_at c page w q (entry.Idle t) s inside is waits can = absurd waits
+  giving_at c page w q (entry.AwaitRead t) s inside is waits can = absurd (let f : true ≡ false = waits.0 in cc)
+  giving_at c page w q (entry.AwaitWrite t) s inside is waits can = subst (λ x. Keeps ops c (given_up ops c page x q)) (sym waits.1) (given_up-keeps c page t q s inside is can)
+  giving_at c page w q (entry.AwaitAcks t) s inside is waits can = absurd waits
+
+  -- a node that waits to write gives its copy up
+  pub giving-keeps : (c : Coherent S) (page : ℕ) (w : WaitingState) (q : PutOff) → IsSound ops c → page < c.config.pages → IsWaiting (entry_at c.table page) true w → CanBeServed c.config c.me q → Keeps ops c (given_up ops c page w q)
+  giving-keeps c page w q s inside waits can = giving_at c page w q (entry_at c.table page) s inside refl waits can
 
   pub copy_came-keeps : (c : Coherent S) (from call page : ℕ) (bytes : List ℕ) (e : Entry) → IsSound ops c → from < c.config.nodes → from ≢ c.me → page < c.config.pages → length bytes ≡ c.config.page_size
       → entry_at c.table page ≡ e → Keeps ops c (copy_came ops c from call page bytes e)
   copy_came-keeps c from call page bytes (entry.Idle i) s below foreign inside sized is = breach-keeps c s
   copy_came-keeps c from call page bytes (entry.AwaitRead w) s below foreign inside sized is =
-      either-keeps c (w.call == call) _ _ (λ h. unlocked-keeps c from page bytes w s below foreign inside sized is) (λ h. breach-keeps c s)
+      let good : IsSoundEntry c.config c.me (entry.AwaitRead w) = entry_is c page (entry.AwaitRead w) s is in
+      either-keeps c (w.call == call) _ _
+      (λ h. unlocked-keeps c from page copying (Some false) bytes w s inside sized (ap is_locked is) (good.reading w refl).0 good.put_off (copy-start c page from s inside (ap is_owner is) below foreign))
+      (λ h. breach-keeps c s)
   copy_came-keeps c from call page bytes (entry.AwaitWrite w) s below foreign inside sized is = breach-keeps c s
   copy_came-keeps c from call page bytes (entry.AwaitAcks w) s below foreign inside sized is = breach-keeps c s
+
+  -- the page came, and other nodes have a copy of it
+  collecting-page : (c : Coherent S) (from page : ℕ) (copies : Nodes) (bytes : List ℕ) (w : AwaitWriteState) → IsSound ops c → from < c.config.nodes → page < c.config.pages → length bytes ≡ c.config.page_size
+      → entry_at c.table page ≡ entry.AwaitWrite w → AreOthers c.config c.me copies → IsSound ops (collected ops c from page copies bytes w.waiting)
+  collecting-page c from page copies bytes w s below inside sized is others =
+      let good : IsSoundEntry c.config c.me (entry.AwaitWrite w) = entry_is c page (entry.AwaitWrite w) s is in
+      let word = good.writing w refl in
+      change-sound c page (entry.AwaitAcks (record { left = copies; waiting = w.waiting })) (set c.table.pages page bytes) (ops.on_replied c.manager page true from) c.locked c.done c.breaches s
+      (record {
+        inside = inside;
+        entry = collecting-sound c.config c.me (record { left = copies; waiting = w.waiting }) word.0 word.1 others good.put_off good.few;
+        sized = other_page c page bytes s inside sized;
+        keeps = laws.keeps_replied c.manager page true from;
+        hop = written_hop c page from s inside below;
+        away = λ o. absurd cc;
+        locks = same_locks c page true s (sym (ap is_locked is));
+      })
+
+  collecting_at : (c : Coherent S) (from page : ℕ) (copies : Nodes) (bytes : List ℕ) (w : WaitingState) (e : Entry) → IsSound ops c → from < c.config.nodes → page < c.config.pages → length bytes ≡ c.config.page_size
+      → entry_at c.table page ≡ e → IsWaiting e true w → AreOthers c.config c.me copies → IsSound ops (collected ops c from page copies bytes w)
+  collecting_at c from page copies bytes w (entry.Idle t) s below inside sized is waits others = absurd waits
+  collecting_at c from page copies bytes w (entry.AwaitRead t) s below inside sized is waits others = absurd (let f : true ≡ false = waits.0 in cc)
+  collecting_at c from page copies bytes w (entry.AwaitWrite t) s below inside sized is waits others = subst (λ x. IsSound ops (collected ops c from page copies bytes x)) (sym waits.1) (collecting-page c from page copies bytes t s below inside sized is others)
+  collecting_at c from page copies bytes w (entry.AwaitAcks t) s below inside sized is waits others = absurd waits
+
+  pub collecting-keeps : (c : Coherent S) (from page : ℕ) (copies : Nodes) (bytes : List ℕ) (w : WaitingState) → IsSound ops c → from < c.config.nodes → page < c.config.pages → length bytes ≡ c.config.page_size
+      → IsWaiting (entry_at c.table page) true w → AreOthers c.config c.me copies → IsSound ops (collected ops c from page copies bytes w)
+  collecting-keeps c from page copies bytes w s below inside sized waits others = collecting_at c from page copies bytes w (entry_at c.table page) s below inside sized refl waits others
+
+  owned_with-keeps : (c : Coherent S) (from call page : ℕ) (copies : Nodes) (bytes : List ℕ) (w : AwaitWriteState) → IsSound ops c → from < c.config.nodes → page < c.config.pages → length bytes ≡ c.config.page_size
+      → entry_at c.table page ≡ entry.AwaitWrite w → 1 ≤ call → call < 2 ^ 64 → AreOthers c.config c.me copies → Keeps ops c (owned_with ops c from call page copies bytes w.waiting)
+  owned_with-keeps c from call page copies bytes w s below inside sized is least most others =
+      let good : IsSoundEntry c.config c.me (entry.AwaitWrite w) = entry_is c page (entry.AwaitWrite w) s is in
+      either-keeps c (is_none copies) _ _
+      (λ h. unlocked-keeps c from page owning (Some true) bytes w.waiting s inside sized (ap is_locked is) (good.writing w refl).0 good.put_off (page-start c page from s inside below))
+      (λ h. (collecting-page c from page copies bytes w s below inside sized is others, invalidations-fit c.config c.me page call copies s.here inside least most others))
+
+  not_true : (b : Bool) → not b ≡ true → b ≡ false
+  not_true true h = absurd cc
+  not_true false h = refl
+
+  pub page_came-keeps : (c : Coherent S) (from call page bits : ℕ) (bytes : List ℕ) (e : Entry) → IsSound ops c → from < c.config.nodes → page < c.config.pages → length bytes ≡ c.config.page_size → bits < 2 ^ c.config.nodes
+      → 1 ≤ call → call < 2 ^ 64 → entry_at c.table page ≡ e → Keeps ops c (page_came ops c from call page (nodes_with bits) bytes e)
+  page_came-keeps c from call page bits bytes (entry.Idle i) s below inside sized small least most is = breach-keeps c s
+  page_came-keeps c from call page bits bytes (entry.AwaitRead w) s below inside sized small least most is = breach-keeps c s
+  page_came-keeps c from call page bits bytes (entry.AwaitWrite w) s below inside sized small least most is =
+      either-keeps c (w.waiting.call == call && not (nodes.contains (nodes_with bits) c.me)) _ _
+      (λ h. owned_with-keeps c from call page (nodes_with bits) bytes w s below inside sized is least most
+      (record { below = with_below c.config.nodes bits small; apart = not_true (nodes.contains (nodes_with bits) c.me) (and_parts (w.waiting.call == call) _ h).1 }))
+      (λ h. breach-keeps c s)
+  page_came-keeps c from call page bits bytes (entry.AwaitAcks w) s below inside sized small least most is = breach-keeps c s
+
+  -- an acknowledgement came, and others are missing
+  left_at : (c : Coherent S) (page : ℕ) (left : Nodes) (w : WaitingState) (e : Entry) → IsSound ops c → page < c.config.pages → entry_at c.table page ≡ e → IsCollecting e w → AreOthers c.config c.me left
+      → IsSound ops (still_collecting ops c page left w)
+  left_at c page left w (entry.Idle t) s inside is waits others = absurd waits
+  left_at c page left w (entry.AwaitRead t) s inside is waits others = absurd waits
+  left_at c page left w (entry.AwaitWrite t) s inside is waits others = absurd waits
+  left_at c page left w (entry.AwaitAcks t) s inside is waits others =
+      let good : IsSoundEntry c.config c.me (entry.AwaitAcks t) = entry_is c page (entry.AwaitAcks t) s is in
+      let word = (good.collecting t refl).0 in
+      let e : Entry = entry.AwaitAcks (record { left = left; waiting = t.waiting }) in
+      subst (λ x. IsSound ops (still_collecting ops c page left x)) (sym waits)
+      (change-sound c page e c.table.pages c.manager c.locked c.done c.breaches s
+      (entry-sound c page (entry.AwaitAcks t) e s inside is (collecting-sound c.config c.me (record { left = left; waiting = t.waiting }) word.0 word.1 others good.put_off good.few) refl refl))
+
+  pub left-keeps : (c : Coherent S) (page : ℕ) (left : Nodes) (w : WaitingState) → IsSound ops c → page < c.config.pages → IsCollecting (entry_at c.table page) w → AreOthers c.config c.me left
+      → IsSound ops (still_collecting ops c page left w)
+  left-keeps c page left w s inside waits others = left_at c page left w (entry_at c.table page) s inside refl waits others
+
+  left_with-keeps : (c : Coherent S) (from page : ℕ) (w : AwaitAcksState) → IsSound ops c → page < c.config.pages → entry_at c.table page ≡ entry.AwaitAcks w → Keeps ops c (left_with ops c from page (nodes.remove w.left from) w.waiting)
+  left_with-keeps c from page w s inside is =
+      let good : IsSoundEntry c.config c.me (entry.AwaitAcks w) = entry_is c page (entry.AwaitAcks w) s is in
+      let all = good.collecting w refl in
+      either-keeps c (is_none (nodes.remove w.left from)) _ _
+      (λ h. unlocked-keeps c from page owning None (page_at c.table page) w.waiting s inside (s.sized page inside) (ap is_locked is) all.0.0 good.put_off (last-start c page from s inside))
+      (λ h. (left_at c page (nodes.remove w.left from) w.waiting (entry.AwaitAcks w) s inside is refl (fewer_others c.config c.me from w.left all.1), all_none (FitsParcel c.config c.me)))
+
+  pub acknowledged-keeps : (c : Coherent S) (from call page : ℕ) (e : Entry) → IsSound ops c → page < c.config.pages → entry_at c.table page ≡ e → Keeps ops c (acknowledged ops c from call page e)
+  acknowledged-keeps c from call page (entry.Idle i) s inside is = breach-keeps c s
+  acknowledged-keeps c from call page (entry.AwaitRead w) s inside is = breach-keeps c s
+  acknowledged-keeps c from call page (entry.AwaitWrite w) s inside is = breach-keeps c s
+  acknowledged-keeps c from call page (entry.AwaitAcks w) s inside is =
+      either-keeps c (w.waiting.call == call && nodes.contains w.left from) _ _ (λ h. left_with-keeps c from page w s inside is) (λ h. breach-keeps c s)
 
   foreign_origin : (a b : ℕ) → (a == b) ≡ false → a ≢ b
   foreign_origin a b h = elim (eqb_tells a b) [ inl x ↦ absurd (let f : true ≡ false = sym x.0 ∙ h in cc) | inr x ↦ x.1 ]
 
+  same_origin : (a b : ℕ) → (a == b) ≡ true → a ≡ b
+  same_origin a b h = elim (eqb_tells a b) [ inl x ↦ x.1 | inr x ↦ absurd (let f : false ≡ true = sym x.0 ∙ h in cc) ]
+
   as-keeps : (c : Coherent S) (from origin call : ℕ) (m : Content) → IsSound ops c → from < c.config.nodes → from ≢ c.me → origin < c.config.nodes → 1 ≤ call → call < 2 ^ 64 → FitsContent c.config m
       → Keeps ops c (handled_as ops c from origin call m)
   as-keeps c from origin call (content.ReadReq page) s below foreign by least most fits =
-      either-keeps c (origin == c.me) _ _ (λ h. breach-keeps c s) (λ h. read_asked-keeps c origin call page _ s by (foreign_origin origin c.me h) least most fits refl)
+      either-keeps c (origin == c.me) _ _ (λ h. breach-keeps c s)
+      (λ h. asked-keeps c page (record { kind = request.Read; origin = origin; call = call }) _ s fits refl (record { origin = by; foreign = foreign_origin origin c.me h; call_from = least; call_to = most }))
+  as-keeps c from origin call (content.WriteReq page) s below foreign by least most fits =
+      either-keeps c (origin == c.me) _ _ (λ h. breach-keeps c s)
+      (λ h. asked-keeps c page (record { kind = request.Write; origin = origin; call = call }) _ s fits refl (record { origin = by; foreign = foreign_origin origin c.me h; call_from = least; call_to = most }))
+  as-keeps c from origin call (content.Inval page) s below foreign by least most fits =
+      either-keeps c (origin == from) _ _
+      (λ h. asked-keeps c page (record { kind = request.Invalidate; origin = origin; call = call }) _ s fits refl (record { origin = by; foreign = (λ e. foreign (sym (same_origin origin from h) ∙ e)); call_from = least; call_to = most }))
+      (λ h. breach-keeps c s)
   as-keeps c from origin call (content.ReadRep page bytes) s below foreign by least most fits =
       either-keeps c (origin == c.me) _ _ (λ h. copy_came-keeps c from call page bytes _ s below foreign fits.0 fits.1 refl) (λ h. breach-keeps c s)
-  as-keeps c from origin call (content.WriteReq page) s below foreign by least most fits = breach-keeps c s
-  as-keeps c from origin call (content.WriteRep page copies bytes) s below foreign by least most fits = breach-keeps c s
-  as-keeps c from origin call (content.Inval page) s below foreign by least most fits = breach-keeps c s
-  as-keeps c from origin call (content.InvalAck page) s below foreign by least most fits = breach-keeps c s
+  as-keeps c from origin call (content.WriteRep page copies bytes) s below foreign by least most fits =
+      either-keeps c (origin == c.me) _ _ (λ h. page_came-keeps c from call page copies bytes _ s below fits.0 fits.2 fits.1 least most refl) (λ h. breach-keeps c s)
+  as-keeps c from origin call (content.InvalAck page) s below foreign by least most fits =
+      either-keeps c (origin == c.me) _ _ (λ h. acknowledged-keeps c from call page _ s fits refl) (λ h. breach-keeps c s)
   as-keeps c from origin call (content.AllocReq size) s below foreign by least most fits = breach-keeps c s
   as-keeps c from origin call (content.AllocRep code addr) s below foreign by least most fits = breach-keeps c s
   as-keeps c from origin call (content.FreeReq addr) s below foreign by least most fits = breach-keeps c s
@@ -302,10 +491,11 @@ module _ {S : Type 0} {ops : Ops S} (laws : Laws ops) where
   unfolding handled
   handled-keeps c from m s below foreign fits = as-keeps c from m.origin m.call m.content s below foreign fits.origin fits.call_from fits.call_to fits.content
 
-  hit-keeps : (c : Coherent S) (page : ℕ) (w : Word) → IsSound ops c → page < c.config.pages → needs_write w ≡ false → KeepsBegun ops c (hit ops c page w)
-  hit-keeps c page w s inside reads =
+  pub hit-keeps : (c : Coherent S) (page : ℕ) (w : Word) → IsSound ops c → page < c.config.pages → IsWord c.config.page_size w → KeepsBegun ops c (hit ops c page w)
+  hit-keeps c page w s inside word =
       let now : List ℕ = (carried_out w (page_at c.table page)).bytes in
-      let within : page < length c.table.pages = (let e = s.pages in omega (arith, inside, e)) in (
+      let old : length (page_at c.table page) ≡ c.config.page_size = s.sized page inside in
+      let pages = other_page c page now s inside (length-carried_out w (page_at c.table page) (subst (λ n. IsWord n w) (sym old) word) ∙ old) in (
         record {
           limits = s.limits;
           here = s.here;
@@ -313,11 +503,8 @@ module _ {S : Type 0} {ops : Ops S} (laws : Laws ops) where
           managed = s.managed;
           size = s.size;
           entries = s.entries;
-          pages = length-set c.table.pages page now ∙ s.pages;
-          sized = λ p lt. elim (page_with c.table page now p within) [
-            | inl x ↦ ap length (x.1 ∙ read-bytes w (page_at c.table page) reads) ∙ s.sized page inside
-            | inr x ↦ ap length x.1 ∙ s.sized p lt
-          ];
+          pages = pages.count;
+          sized = pages.sized;
           each = s.each;
           hop = s.hop;
           away = s.away;
@@ -327,76 +514,78 @@ module _ {S : Type 0} {ops : Ops S} (laws : Laws ops) where
         all_none (FitsParcel c.config c.me),
       )
 
-  pub fault-keeps : (c : Coherent S) (page : ℕ) (w : Word) (call : ℕ) (i : IdleState) → IsSound ops c → page < c.config.pages → IsWord c.config.page_size w → needs_write w ≡ false → 1 ≤ call → call < 2 ^ 64
-      → entry_at c.table page ≡ entry.Idle i → i.owner ≡ false → c.locked ≡ None → KeepsBegun ops c (read_fault ops c page w call)
-  fault-keeps c page w call i s inside good reads least most is free none =
-      let e : Entry = awaiting_read w call in
-      let within : page < length c.table.entries = (let k = s.entries in omega (arith, inside, k)) in
-      let foreign : is_owner (entry_at c.table page) ≡ false = ap is_owner is ∙ free in (
-        record {
-          limits = s.limits;
-          here = s.here;
-          mine = s.mine;
-          managed = s.managed;
-          size = s.size;
-          entries = length-set c.table.entries page e ∙ s.entries;
-          pages = s.pages;
-          sized = s.sized;
-          each = λ p. elim (entry_with c.table page e p within) [
-            | inl x ↦ subst (IsSoundEntry c.config c.me) (sym x.1) (record { owner = λ t h o. absurd cc; word = λ v h. (let k : w ≡ v.word = cc in subst (λ y. IsWord c.config.page_size y × (needs_write y ≡ false)) k (good, reads)); put_off = all_none (CanPassOn c.config c.me); few = omega arith })
-            | inr x ↦ subst (IsSoundEntry c.config c.me) (sym x.1) (s.each p)
-          ];
-          hop = s.hop;
-          away = λ p lt h. elim (entry_with c.table page e p within) [
-            | inl x ↦ s.away p lt (ap (λ q. is_owner (entry_at c.table q)) x.0 ∙ foreign)
-            | inr x ↦ s.away p lt (ap is_owner (sym x.1) ∙ h)
-          ];
-          locked = λ p h. elim (entry_with c.table page e p within) [
-            | inl x ↦ ap is_locked x.1
-            | inr x ↦ absurd (x.0 (let f : Some page ≡ Some p = h in cc))
-          ];
-          others = λ p h. elim (entry_with c.table page e p within) [
-            | inl x ↦ ap Some (sym x.0)
-            | inr x ↦ absurd (let f : None ≡ Some p = sym none ∙ s.others p (ap is_locked (sym x.1) ∙ h) in cc)
-          ];
-        },
-        all_one (FitsParcel c.config c.me) _ (request_fits c.config c.me (ops.next_hop c.manager page) c.me call (content.ReadReq page) s.here (s.hop page inside) (s.away page inside foreign) s.here least most inside),
-      )
-
-  begun-cases : (c : Coherent S) (b : Bool) (x y : Begun S) → (b ≡ true → KeepsBegun ops c x) → (b ≡ false → KeepsBegun ops c y) → KeepsBegun ops c (if b then x else y)
-  begun-cases c true x y h k = h refl
-  begun-cases c false x y h k = k refl
+  -- a word waits at an entry that no word waited at
+  locking : (c : Coherent S) (page : ℕ) (e : Entry) → IsSound ops c → page < c.config.pages → c.locked ≡ None → IsSoundEntry c.config c.me e → is_locked e ≡ true
+      → (is_owner e ≡ false → is_owner (entry_at c.table page) ≡ false) → IsSound ops (record c { table = record { page_size = c.table.page_size; entries = set c.table.entries page e; pages = c.table.pages }; locked = Some page })
+  locking c page e s inside none good lock owner =
+      change-sound c page e c.table.pages c.manager (Some page) c.done c.breaches s
+      (record {
+        inside = inside;
+        entry = good;
+        sized = same_pages c s;
+        keeps = keeps_all c.manager page;
+        hop = s.hop page inside;
+        away = λ free. s.away page inside (owner free);
+        locks = subst (λ b. AreLocks page b c.locked (Some page)) (sym lock) (locks c page none);
+      })
 
   pub not_owner : (owner readable : Bool) → (owner ≡ true → readable ≡ true) → readable ≡ false → owner ≡ false
   not_owner true readable h r = absurd (let e : true ≡ false = sym (h refl) ∙ r in cc)
   not_owner false readable h r = refl
 
-  read_suffices : (access : Access) (w : Word) → needs_write w ≡ false → suffices access w ≡ reads access
-  read_suffices access w h = rw h refl
+  -- by whether the word writes, and whether this node owns the page
+  fault-keeps-at : (c : Coherent S) (page : ℕ) (w : Word) (call : ℕ) (i : IdleState) (write own : Bool) → IsSound ops c → page < c.config.pages → IsWord c.config.page_size w → 1 ≤ call → call < 2 ^ 64
+      → entry_at c.table page ≡ entry.Idle i → c.locked ≡ None → needs_write w ≡ write → i.owner ≡ own → suffices i.access w ≡ false → KeepsBegun ops c (faulted ops c page w call i)
+  fault-keeps-at c page w call i true true s inside word least most is none write own short =
+      let good : IsSoundIdle c.config c.me i = (entry_is c page (entry.Idle i) s is).idle i refl in
+      rw (write, own) (
+        locking c page (entry.AwaitAcks (record { left = i.copies; waiting = waiting_from w call })) s inside none
+            (collecting-sound c.config c.me (record { left = i.copies; waiting = waiting_from w call }) word write good.copies (all_none (CanBeServed c.config c.me)) (omega arith)) refl (λ h. absurd cc),
+        invalidations-fit c.config c.me page call i.copies s.here inside least most good.copies,
+      )
+  fault-keeps-at c page w call i true false s inside word least most is none write own short =
+      let free : is_owner (entry_at c.table page) ≡ false = ap is_owner is ∙ own in
+      rw (write, own) (
+        locking c page (entry.AwaitWrite (record { had_copy = reads i.access; waiting = waiting_from w call })) s inside none
+            (writing-sound c.config c.me (record { had_copy = reads i.access; waiting = waiting_from w call }) word write (all_none (CanBeServed c.config c.me)) (omega arith)) refl (λ h. free),
+        all_one (FitsParcel c.config c.me) _ (parcel_fits c.config c.me (ops.next_hop c.manager page) c.me call (content.WriteReq page) s.here (s.hop page inside) (s.away page inside free) s.here least most inside),
+      )
+  fault-keeps-at c page w call i false own s inside word least most is none write owns short =
+      let good : IsSoundIdle c.config c.me i = (entry_is c page (entry.Idle i) s is).idle i refl in
+      let unread : reads i.access ≡ false = rw write at short in
+      let free : is_owner (entry_at c.table page) ≡ false = ap is_owner is ∙ not_owner i.owner (reads i.access) good.owned unread in
+      rw write (
+        locking c page (entry.AwaitRead (waiting_from w call)) s inside none
+            (reading-sound c.config c.me (waiting_from w call) word write (all_none (CanBeServed c.config c.me)) (omega arith)) refl (λ h. free),
+        all_one (FitsParcel c.config c.me) _ (parcel_fits c.config c.me (ops.next_hop c.manager page) c.me call (content.ReadReq page) s.here (s.hop page inside) (s.away page inside free) s.here least most inside),
+      )
 
-  idle_accessed : (c : Coherent S) (page : ℕ) (w : Word) (call : ℕ) (i : IdleState) → IsSound ops c → page < c.config.pages → IsWord c.config.page_size w → needs_write w ≡ false → 1 ≤ call → call < 2 ^ 64
-      → entry_at c.table page ≡ entry.Idle i → c.locked ≡ None → KeepsBegun ops c (accessed ops c page w call (entry.Idle i))
-  idle_accessed c page w call i s inside good writes least most is none =
-      begun-cases c (suffices i.access w) _ _ (λ h. hit-keeps c page w s inside writes)
-      (λ h. fault-keeps c page w call i s inside good writes least most is (not_owner i.owner (reads i.access) ((entry_is c page (entry.Idle i) s is).owner i refl) (sym (read_suffices i.access w writes) ∙ h)) none)
+  pub fault-keeps : (c : Coherent S) (page : ℕ) (w : Word) (call : ℕ) (i : IdleState) → IsSound ops c → page < c.config.pages → IsWord c.config.page_size w → 1 ≤ call → call < 2 ^ 64
+      → entry_at c.table page ≡ entry.Idle i → c.locked ≡ None → suffices i.access w ≡ false → KeepsBegun ops c (faulted ops c page w call i)
+  fault-keeps c page w call i s inside word least most is none short = fault-keeps-at c page w call i (needs_write w) i.owner s inside word least most is none refl refl short
 
-  accessed-keeps : (c : Coherent S) (page : ℕ) (w : Word) (call : ℕ) (e : Entry) → IsSound ops c → page < c.config.pages → IsWord c.config.page_size w → needs_write w ≡ false → 1 ≤ call → call < 2 ^ 64
+  begun-cases : (c : Coherent S) (b : Bool) (x y : Begun S) → (b ≡ true → KeepsBegun ops c x) → (b ≡ false → KeepsBegun ops c y) → KeepsBegun ops c (if b then x else y)
+  begun-cases c true x y h k = h refl
+  begun-cases c false x y h k = k refl
+
+  accessed-keeps : (c : Coherent S) (page : ℕ) (w : Word) (call : ℕ) (e : Entry) → IsSound ops c → page < c.config.pages → IsWord c.config.page_size w → 1 ≤ call → call < 2 ^ 64
       → entry_at c.table page ≡ e → c.locked ≡ None → KeepsBegun ops c (accessed ops c page w call e)
-  accessed-keeps c page w call (entry.Idle i) s inside good writes least most is none = idle_accessed c page w call i s inside good writes least most is none
-  accessed-keeps c page w call (entry.AwaitRead i) s inside good writes least most is none = (s, all_none (FitsParcel c.config c.me))
-  accessed-keeps c page w call (entry.AwaitWrite i) s inside good writes least most is none = (s, all_none (FitsParcel c.config c.me))
-  accessed-keeps c page w call (entry.AwaitAcks i) s inside good writes least most is none = (s, all_none (FitsParcel c.config c.me))
+  accessed-keeps c page w call (entry.Idle i) s inside good least most is none =
+      begun-cases c (suffices i.access w) _ _ (λ h. hit-keeps c page w s inside good) (λ h. fault-keeps c page w call i s inside good least most is none h)
+  accessed-keeps c page w call (entry.AwaitRead i) s inside good least most is none = (s, all_none (FitsParcel c.config c.me))
+  accessed-keeps c page w call (entry.AwaitWrite i) s inside good least most is none = (s, all_none (FitsParcel c.config c.me))
+  accessed-keeps c page w call (entry.AwaitAcks i) s inside good least most is none = (s, all_none (FitsParcel c.config c.me))
 
-  at-keeps : (c : Coherent S) (page : ℕ) (w : Word) (call : ℕ) (o : Option ℕ) → IsSound ops c → page < c.config.pages → IsWord c.config.page_size w → needs_write w ≡ false → 1 ≤ call → call < 2 ^ 64
+  at-keeps : (c : Coherent S) (page : ℕ) (w : Word) (call : ℕ) (o : Option ℕ) → IsSound ops c → page < c.config.pages → IsWord c.config.page_size w → 1 ≤ call → call < 2 ^ 64
       → c.locked ≡ o → KeepsBegun ops c (begun_at ops c page w call o)
-  at-keeps c page w call None s inside good writes least most is = accessed-keeps c page w call _ s inside good writes least most refl is
-  at-keeps c page w call (Some p) s inside good writes least most is = (s, all_none (FitsParcel c.config c.me))
+  at-keeps c page w call None s inside good least most is = accessed-keeps c page w call _ s inside good least most refl is
+  at-keeps c page w call (Some p) s inside good least most is = (s, all_none (FitsParcel c.config c.me))
 
   -- an access of this node's program
-  pub begun-keeps : (c : Coherent S) (page : ℕ) (w : Word) (call : ℕ) → IsSound ops c → page < c.config.pages → IsWord c.config.page_size w → needs_write w ≡ false → 1 ≤ call → call < 2 ^ 64
+  pub begun-keeps : (c : Coherent S) (page : ℕ) (w : Word) (call : ℕ) → IsSound ops c → page < c.config.pages → IsWord c.config.page_size w → 1 ≤ call → call < 2 ^ 64
       → KeepsBegun ops c (begun ops c page w call)
   unfolding begun
-  begun-keeps c page w call s inside good writes least most = at-keeps c page w call _ s inside good writes least most refl
+  begun-keeps c page w call s inside good least most = at-keeps c page w call _ s inside good least most refl
 
 entry_first : (n p : ℕ) (e : Entry) → (get_or (replicate n e) p nothing ≡ e) ⊎ (get_or (replicate n e) p nothing ≡ nothing)
 entry_first zero p e = inr refl
@@ -404,8 +593,8 @@ entry_first (suc n) zero e = inl refl
 entry_first (suc n) (suc p) e = entry_first n p e
 
 first_entry-sound : (c : Config) (me : ℕ) (b : Bool) → IsSoundEntry c me (if b then owned else nothing)
-first_entry-sound c me true = idle-sound c me _ (λ o. refl)
-first_entry-sound c me false = idle-sound c me _ (λ o. absurd cc)
+first_entry-sound c me true = idle-sound c me owning (owning-sound c me)
+first_entry-sound c me false = idle-sound c me without (without-sound c me)
 
 first_entry-free : (b : Bool) → is_locked (if b then owned else nothing) ≡ false
 first_entry-free true = refl

@@ -1,6 +1,9 @@
-pub mod Pointing
-pub mod Keeping
+pub mod IdleServing
 pub mod Changing
-pub mod Opened
+pub mod Keeping
 pub mod Few
 pub mod Same
+pub mod Undoing
+pub mod ServingCounts
+pub mod Opened
+pub mod Reading

@@ -1,5 +1,7 @@
 pub mod Coherent
+pub mod Serving
 pub mod Steps
+pub mod Faults
 pub mod Sound
 pub use Rattle.ivy_model.specs.Config
 pub use Rattle.ivy_model.specs.Wants

@@ -1,11 +1,14 @@
 -- What holds of a node's coherence, whatever comes to it.
-use Rattle.std.specs.Prelude.{◌≡◌, ◌≢◌, ℕ, ◌<◌, ◌≤◌, ◌^◌, true, false, length, All, Some, None}
+use Rattle.std.specs.Prelude.{◌≡◌, ◌≢◌, ℕ, ◌<◌, ◌≤◌, ◌^◌, Bool, true, false, length, All, Some, None}
+use Rattle.std.specs.FinSet as set
 use Rattle.ivy_model.specs.declared.Config.{Config}
 use Rattle.ivy_model.specs.Config.{IsConfig}
 use Rattle.ivy_pagetable.specs.declared.Entry.{Entry}
 use Rattle.ivy_pagetable.specs.declared.Entry.TheVariants as entry
 use Rattle.ivy_pagetable.specs.declared.PutOff.{PutOff}
-use Rattle.ivy_pagetable.specs.States.{IdleState, WaitingState}
+use Rattle.ivy_pagetable.specs.declared.Word.{Word}
+use Rattle.ivy_pagetable.specs.NodeSets.{Nodes, IsBelow}
+use Rattle.ivy_pagetable.specs.States.{IdleState, WaitingState, AwaitWriteState, AwaitAcksState}
 use Rattle.ivy_pagetable.specs.Accesses.{reads}
 use Rattle.ivy_pagetable.specs.Entries.{is_owner, is_locked, put_offs}
 use Rattle.ivy_pagetable.specs.Tables.{entry_at, page_at, first_table}
@@ -13,19 +16,34 @@ use Rattle.ivy_pagetable.specs.Words.{IsWord, needs_write}
 use Rattle.ivy_pagetable.specs.Manager.{Ops}
 use Rattle.ivy_coherence.specs.Coherent.{Coherent}
 
--- a message of another node that can be sent again
-pub record CanPassOn (c : Config) (me : ℕ) (q : PutOff) : Type 0 where
+-- a message of another node that can be served
+pub record CanBeServed (c : Config) (me : ℕ) (q : PutOff) : Type 0 where
   pub origin : q.origin < c.nodes
   pub foreign : q.origin ≢ me
   pub call_from : 1 ≤ q.call
   pub call_to : q.call < 2 ^ 64
 
--- what holds of an entry: an owner may read its page, a word that waits lies in the page and reads, and what was
--- put off can go on
+-- other nodes of the configuration
+pub record AreOthers (c : Config) (me : ℕ) (nodes : Nodes) : Type 0 where
+  pub below : IsBelow c.nodes nodes
+  pub apart : set.contains nodes me ≡ false
+
+-- an owner may read its page, and other nodes have copies of it
+pub record IsSoundIdle (c : Config) (me : ℕ) (s : IdleState) : Type 0 where
+  pub owned : s.owner ≡ true → reads s.access ≡ true
+  pub copies : AreOthers c me s.copies
+
+-- a word that waits lies in the page, and reads or writes
+abbrev pub Waits : Config → Bool → Word → Type 0
+Waits c write w = IsWord c.page_size w × (needs_write w ≡ write)
+
+-- what holds of an entry; what was put off can be served
 pub record IsSoundEntry (c : Config) (me : ℕ) (e : Entry) : Type 0 where
-  pub owner : (s : IdleState) → e ≡ entry.Idle s → s.owner ≡ true → reads s.access ≡ true
-  pub word : (s : WaitingState) → e ≡ entry.AwaitRead s → IsWord c.page_size s.word × (needs_write s.word ≡ false)
-  pub put_off : All (CanPassOn c me) (put_offs e)
+  pub idle : (s : IdleState) → e ≡ entry.Idle s → IsSoundIdle c me s
+  pub reading : (s : WaitingState) → e ≡ entry.AwaitRead s → Waits c false s.word
+  pub writing : (s : AwaitWriteState) → e ≡ entry.AwaitWrite s → Waits c true s.waiting.word
+  pub collecting : (s : AwaitAcksState) → e ≡ entry.AwaitAcks s → Waits c true s.waiting.word × AreOthers c me s.left
+  pub put_off : All (CanBeServed c me) (put_offs e)
   pub few : length (put_offs e) ≤ 8
 
 pub record IsSound {S : Type 0} (ops : Ops S) (c : Coherent S) : Type 0 where

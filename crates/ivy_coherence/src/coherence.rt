@@ -3,30 +3,31 @@ ghost use Rattle.std.specs.Prelude.{◌≡◌, ◌≢◌, ◌<◌, ◌≤◌, �
 ghost use Rattle.ivy_model.specs.Config.{IsConfig};
 ghost use Rattle.ivy_model.specs.Wants.{IsWant};
 ghost use Rattle.ivy_wire.specs.Spelling.{FitsMessage};
-ghost use Rattle.ivy_pagetable.specs.Entries.{is_owner};
 ghost use Rattle.ivy_pagetable.specs.Tables.{entry_at, page_at};
 ghost use Rattle.ivy_pagetable.specs.Words.{IsWord, needs_write};
-ghost use Rattle.ivy_coherence.specs.Steps.{begun, handled, counted, read_asked, copy_came, put_aside};
+ghost use Rattle.ivy_coherence.specs.Faults.{suffices, IsIdleAt, fault_entry, fault_posted, begun};
 ghost use Rattle.ivy_coherence.specs.Sound.{first_coherent, IsSound};
 
 use crate::need::Need;
-use crate::passing::{post_one, post_passed};
+use crate::serving::{invalidate, post_one};
 use ivy_model::{Config, Fault};
-use ivy_pagetable::{Access, Entry, Idle, Manager, Out, PageTable, PutOff, Request, Waiting, Word};
-use ivy_wire::{Content, Message, Page, Post};
+use ivy_pagetable::{
+    Access, AwaitAcks, AwaitWrite, Entry, Idle, Manager, Out, PageTable, Waiting, Word,
+};
+use ivy_wire::{Content, Post};
 use std::alloc::Allocator;
 use std::marker::Model;
 
 /// The entries and pages of one node, with the manager that says where their owners are.
 #[derive(Drop)]
 pub struct Coherence<M: Manager, A: Allocator> {
-    config: Config,
-    me: u8,
-    table: PageTable<A>,
-    manager: M,
-    locked: Option<u32>,
-    done: Option<Out>,
-    breaches: u64,
+    pub(crate) config: Config,
+    pub(crate) me: u8,
+    pub(crate) table: PageTable<A>,
+    pub(crate) manager: M,
+    pub(crate) locked: Option<u32>,
+    pub(crate) done: Option<Out>,
+    pub(crate) breaches: u64,
 }
 
 impl<M: Manager, A: Allocator> Model for Coherence<M, A> {
@@ -45,12 +46,14 @@ impl<M: Manager, A: Allocator> Model for Coherence<M, A> {
     ghost invariant = { λ c. IsSound M.ops (record { config = c.config; me = c.me; table = c.table; manager = c.manager; locked = c.locked; done = c.done; breaches = c.breaches }) };
 }
 
-/// Counts a message that fits no rule.
-fn count(breaches: &mut u64)
-    ensures { breaches.new ≡ counted breaches.old }
+/// Whether a word can be carried out at once where this is the access.
+fn suffices(access: Access, word: Word) -> bool
+    ensures { result ≡ suffices access word }
 {
-    if *breaches < u64::MAX {
-        *breaches += 1;
+    if word.needs_write() {
+        access.writes()
+    } else {
+        access.reads()
     }
 }
 
@@ -96,7 +99,7 @@ impl<M: Manager, A: Allocator> Coherence<M, A> {
     }
 
     /// What holds of each node's coherence holds of this one.
-    fn sound(&self)
+    pub(crate) fn sound(&self)
         ensures { IsSound M.ops self.now }
     {
         let _ = &self.me;
@@ -117,10 +120,55 @@ impl<M: Manager, A: Allocator> Coherence<M, A> {
         self.done.take()
     }
 
-    #[tactic(auto, unfolding(crate::specs::Steps::begun))]
+    /// What the word's page is asked for by, and the entry that it waits at then.
+    fn fault<P: Post>(
+        &self,
+        page: u32,
+        word: Word,
+        call: u64,
+        idle: &Idle,
+        post: &mut P,
+    ) -> Result<Entry, Fault>
+        requires page { page < self.now.config.pages }
+        requires idle { IsIdleAt self.now.table page idle.now }
+        requires short { suffices idle.now.access word ≡ false }
+        requires call { 1 ≤ call }
+        requires config { P.config post.old ≡ self.now.config }
+        requires node { P.node post.old ≡ self.now.me }
+        ensures entry { IfOk result (λ e. e ≡ fault_entry word call idle.now) }
+        ensures posted { OnOk result (post.new ≡ P.after post.old (fault_posted M.ops self.now page word call idle.now)) }
+        ensures err { OnErr result (post.new ≡ post.old) }
+        ensures took { OnOk result (P.takes post.old (fault_posted M.ops self.now page word call idle.now)) }
+        ensures fault { IfErr result (P.refuses post.old (fault_posted M.ops self.now page word call idle.now)) }
+        ensures want { IfErr result IsWant }
+    {
+        let waiting = Waiting::new(word, call);
+        let hop = self.manager.next_hop(page);
+        if !word.needs_write() {
+            post_one(post, self.me, hop, self.me, call, Content::ReadReq { page })?;
+            return Ok(Entry::AwaitRead(waiting));
+        }
+        if idle.is_owner() {
+            let left = idle.copies().copied();
+            invalidate(self.me, page, call, &left, post)?;
+            return Ok(Entry::AwaitAcks(AwaitAcks::new(left, waiting)));
+        }
+        let had_copy = idle.access().reads();
+        post_one(
+            post,
+            self.me,
+            hop,
+            self.me,
+            call,
+            Content::WriteReq { page },
+        )?;
+        Ok(Entry::AwaitWrite(AwaitWrite::new(had_copy, waiting)))
+    }
+
+    #[tactic(auto, unfolding(crate::specs::Faults::begun))]
     /// An access of this node's program to a word of a page, by the call of this number [1, 17].
     ///
-    /// The word reads, lies within the page and is aligned; the page is below the number of pages.
+    /// The word lies within the page and is aligned; the page is below the number of pages.
     pub fn need<P: Post>(
         &mut self,
         page: u32,
@@ -130,7 +178,6 @@ impl<M: Manager, A: Allocator> Coherence<M, A> {
     ) -> Result<Need, Fault>
         requires page { page < self.old.config.pages }
         requires word { IsWord self.old.config.page_size word }
-        requires reads { needs_write word ≡ false }
         requires call { 1 ≤ call }
         requires config { P.config post.old ≡ self.old.config }
         requires node { P.node post.old ≡ self.old.me }
@@ -148,155 +195,15 @@ impl<M: Manager, A: Allocator> Coherence<M, A> {
         }
         match self.table.entry(page) {
             Entry::Idle(idle) => {
-                if idle.access().reads() {
+                if suffices(idle.access(), word) {
                     return Ok(Need::Have(self.table.carry_out(page, word)));
                 }
-                let hop = self.manager.next_hop(page);
-                post_one(post, self.me, hop, self.me, call, Content::ReadReq { page })?;
-                self.table
-                    .set_entry(page, Entry::AwaitRead(Waiting::new(word, call)));
+                let entry = self.fault(page, word, call, idle, post)?;
+                self.table.set_entry(page, entry);
                 self.locked = Some(page);
                 Ok(Need::Started)
             }
             Entry::AwaitRead(_) | Entry::AwaitWrite(_) | Entry::AwaitAcks(_) => Ok(Need::Busy),
         }
-    }
-
-    /// A request of another node for a copy.
-    fn read_asked<P: Post>(
-        &mut self,
-        origin: u8,
-        call: u64,
-        page: u32,
-        post: &mut P,
-    ) -> Result<(), Fault>
-        requires origin { origin < self.old.config.nodes }
-        requires foreign { origin ≢ self.old.me }
-        requires call { 1 ≤ call }
-        requires page { page < self.old.config.pages }
-        requires config { P.config post.old ≡ self.old.config }
-        requires node { P.node post.old ≡ self.old.me }
-        ensures ok { OnOk result (self.new ≡ (read_asked M.ops self.old origin call page (entry_at self.old.table page)).after) }
-        ensures posted { OnOk result (post.new ≡ P.after post.old (read_asked M.ops self.old origin call page (entry_at self.old.table page)).posted) }
-        ensures err { OnErr result ((self.new ≡ self.old) × (post.new ≡ post.old)) }
-        ensures took { OnOk result (P.takes post.old (read_asked M.ops self.old origin call page (entry_at self.old.table page)).posted) }
-        ensures fault { IfErr result (P.refuses post.old (read_asked M.ops self.old origin call page (entry_at self.old.table page)).posted) }
-        ensures want { IfErr result IsWant }
-    {
-        match self.table.entry(page) {
-            Entry::Idle(idle) => {
-                if idle.is_owner() {
-                    let shared = idle.with_reader(origin);
-                    let bytes = self.table.page(page);
-                    post_one(
-                        post,
-                        self.me,
-                        origin,
-                        origin,
-                        call,
-                        Content::ReadRep { page, bytes },
-                    )?;
-                    self.table.set_entry(page, Entry::Idle(shared));
-                } else {
-                    let hop = self.manager.next_hop(page);
-                    post_one(post, self.me, hop, origin, call, Content::ReadReq { page })?;
-                    self.manager.on_forward(page, false, origin);
-                }
-            }
-            Entry::AwaitRead(_) | Entry::AwaitWrite(_) | Entry::AwaitAcks(_) => {
-                let message = PutOff {
-                    kind: Request::Read,
-                    origin,
-                    call,
-                };
-                if !self.table.put_off(page, message) {
-                    count(&mut self.breaches);
-                }
-            }
-        }
-        Ok(())
-    }
-
-    /// A copy that comes: the word that waits for it is carried out, and what was put off goes on.
-    fn copy_came<P: Post>(
-        &mut self,
-        from: u8,
-        call: u64,
-        page: u32,
-        bytes: &[u8],
-        post: &mut P,
-    ) -> Result<(), Fault>
-        requires from { from < self.old.config.nodes }
-        requires foreign { from ≢ self.old.me }
-        requires page { page < self.old.config.pages }
-        requires sized { length bytes.now ≡ self.old.config.page_size }
-        requires config { P.config post.old ≡ self.old.config }
-        requires node { P.node post.old ≡ self.old.me }
-        ensures ok { OnOk result (self.new ≡ (copy_came M.ops self.old from call page bytes.now (entry_at self.old.table page)).after) }
-        ensures posted { OnOk result (post.new ≡ P.after post.old (copy_came M.ops self.old from call page bytes.now (entry_at self.old.table page)).posted) }
-        ensures err { OnErr result ((self.new ≡ self.old) × (post.new ≡ post.old)) }
-        ensures took { OnOk result (P.takes post.old (copy_came M.ops self.old from call page bytes.now (entry_at self.old.table page)).posted) }
-        ensures fault { IfErr result (P.refuses post.old (copy_came M.ops self.old from call page bytes.now (entry_at self.old.table page)).posted) }
-        ensures want { IfErr result IsWant }
-    {
-        match self.table.entry(page) {
-            Entry::AwaitRead(waiting) if waiting.call() == call => {
-                let word = waiting.word();
-                post_passed(
-                    &mut self.manager,
-                    self.me,
-                    page,
-                    from,
-                    waiting.put_offs(),
-                    post,
-                )?;
-                self.table
-                    .set_entry(page, Entry::Idle(Idle::plain(Access::Read)));
-                self.table.install(page, bytes);
-                self.done = Some(self.table.carry_out(page, word));
-                self.locked = None;
-            }
-            _ => count(&mut self.breaches),
-        }
-        Ok(())
-    }
-
-    #[tactic(auto, unfolding(crate::specs::Steps::handled))]
-    /// A message that comes from another node [1, 17]. One that fits no rule is counted, and changes
-    /// nothing else.
-    ///
-    /// The message fits the configuration, and `from` is another one of its nodes.
-    pub fn handle<P: Post>(
-        &mut self,
-        from: u8,
-        message: &Message<Page<A>>,
-        post: &mut P,
-    ) -> Result<(), Fault>
-        requires from { from < self.old.config.nodes }
-        requires foreign { from ≢ self.old.me }
-        requires fits { FitsMessage self.old.config message.now }
-        requires config { P.config post.old ≡ self.old.config }
-        requires node { P.node post.old ≡ self.old.me }
-        ensures ok { OnOk result (self.new ≡ (handled M.ops self.old from message.now).after) }
-        ensures few { length (handled M.ops self.old from message.now).posted ≤ 8 }
-        ensures posted { OnOk result (post.new ≡ P.after post.old (handled M.ops self.old from message.now).posted) }
-        ensures err { OnErr result ((self.new ≡ self.old) × (post.new ≡ post.old)) }
-        ensures took { OnOk result (P.takes post.old (handled M.ops self.old from message.now).posted) }
-        ensures fault { IfErr result (P.refuses post.old (handled M.ops self.old from message.now).posted) }
-        ensures want { IfErr result IsWant }
-    {
-        self.sound();
-        let origin = message.origin;
-        let call = message.call;
-        match &message.content {
-            Content::ReadReq { page } if origin != self.me => {
-                self.read_asked(origin, call, *page, post)?;
-            }
-            Content::ReadRep { page, bytes } if origin == self.me => {
-                self.copy_came(from, call, *page, bytes.bytes(), post)?;
-            }
-            _ => count(&mut self.breaches),
-        }
-        Ok(())
     }
 }

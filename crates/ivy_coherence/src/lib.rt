@@ -3,8 +3,9 @@
 #![tactic(auto)]
 
 mod coherence;
+mod handle;
 mod need;
-mod passing;
+mod serving;
 
 pub use coherence::Coherence;
 pub use need::Need;

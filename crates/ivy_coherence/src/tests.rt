@@ -18,13 +18,14 @@ const TRIO: Config = Config {
     manager: Kind::Fixed,
 };
 
-/// Keeps the messages of a node, in order.
+/// Keeps the messages of a node, in order, or refuses them.
 #[derive(Drop)]
 struct Posted {
     alloc: Global,
     config: Config,
     node: u8,
     parcels: Vec<Parcel<Page<Global>>, Global>,
+    is_full: bool,
 }
 
 impl Model for Posted {
@@ -67,6 +68,9 @@ impl Post for Posted {
     ghost refuses = { λ p parcels fault. fault ≡ Memory };
 
     fn post(&mut self, parcels: &[Parcel<&[u8]>]) -> Result<(), Fault> {
+        if self.is_full {
+            return Err(Fault::Memory);
+        }
         let mut taken = Vec::new(self.alloc);
         for parcel in parcels {
             taken.push(Parcel {
@@ -123,6 +127,7 @@ impl Node {
                 config: TRIO,
                 node: me,
                 parcels: Vec::new(alloc),
+                is_full: false,
             },
         })
     }
@@ -143,16 +148,46 @@ impl Node {
         Ok(need)
     }
 
+    /// The node's program stores 5 in the first word of page 1, once its last answer was taken out.
+    fn store(&mut self, call: u64) -> Result<Need, Fail>
+        requires call { 1 ≤ call }
+    {
+        if self.coherence.answer().is_some() {
+            return Err("an answer waits".into());
+        }
+        let word = Word::Store {
+            width: 8,
+            offset: 0,
+            value: 5,
+        };
+        let need = self.coherence.need(1, word, call, &mut self.posted)?;
+        Ok(need)
+    }
+
     /// A message of another node comes.
-    fn deliver(&mut self, from: u8, message: &Message<Page<Global>>) -> Result<(), Fail>
+    fn deliver(&mut self, from: u8, message: Message<Page<Global>>) -> Result<(), Fail>
         requires from { from < 3 }
-        requires fits { FitsMessage TRIO message.now }
+        requires fits { FitsMessage TRIO message }
     {
         if from == self.posted.node() {
             return Err("a message of the node itself".into());
         }
         self.coherence.handle(from, message, &mut self.posted)?;
         Ok(())
+    }
+
+    /// Whether a message of another node is refused.
+    fn refuses(&mut self, from: u8, message: Message<Page<Global>>) -> Result<bool, Fail>
+        requires from { from < 3 }
+        requires fits { FitsMessage TRIO message }
+    {
+        if from == self.posted.node() {
+            return Err("a message of the node itself".into());
+        }
+        match self.coherence.handle(from, message, &mut self.posted) {
+            Ok(()) => Ok(false),
+            Err(_) => Ok(true),
+        }
     }
 
     fn has_posted_at(&self, index: usize, wanted: &Parcel<Page<Global>>) -> bool {
@@ -196,6 +231,68 @@ fn copy(alloc: Global, origin: u8, call: u64, byte: u8) -> Result<Message<Page<G
     })
 }
 
+/// A request for page 1 itself.
+fn write_request(origin: u8, call: u64) -> Message<Page<Global>>
+    requires origin { origin < 3 }
+    requires call { 1 ≤ call }
+    ensures { FitsMessage TRIO result }
+{
+    Message {
+        origin,
+        call,
+        content: Content::WriteReq { page: 1 },
+    }
+}
+
+/// Page 1 itself, each byte of it the same, and the nodes that have a copy.
+fn whole(
+    alloc: Global,
+    origin: u8,
+    call: u64,
+    copies: u8,
+    byte: u8,
+) -> Result<Message<Page<Global>>, Fail>
+    requires origin { origin < 3 }
+    requires call { 1 ≤ call }
+    requires copies { copies < 8 }
+    ensures { IfOk result (FitsMessage TRIO) }
+{
+    Ok(Message {
+        origin,
+        call,
+        content: Content::WriteRep {
+            page: 1,
+            copies,
+            bytes: Page::new(alloc, &[byte; 64])?,
+        },
+    })
+}
+
+/// The order of a node that is to write page 1, and what acknowledges it.
+fn order(origin: u8, call: u64) -> Message<Page<Global>>
+    requires origin { origin < 3 }
+    requires call { 1 ≤ call }
+    ensures { FitsMessage TRIO result }
+{
+    Message {
+        origin,
+        call,
+        content: Content::Inval { page: 1 },
+    }
+}
+
+fn acknowledgement(origin: u8, call: u64) -> Message<Page<Global>>
+    requires origin { origin < 3 }
+    requires call { 1 ≤ call }
+    ensures { FitsMessage TRIO result }
+{
+    Message {
+        origin,
+        call,
+        content: Content::InvalAck { page: 1 },
+    }
+}
+
 fn parcel(source: u8, dest: u8, message: Message<Page<Global>>) -> Parcel<Page<Global>> {
     Parcel {
         source,
@@ -220,7 +317,7 @@ fn a_read_fault(rt: HostRuntime) -> Result<(), Fail> {
 #[test]
 fn an_owner_answers(rt: HostRuntime) -> Result<(), Fail> {
     let mut node = Node::new(rt.alloc(), 0)?;
-    node.deliver(1, &request(2, 7))?;
+    node.deliver(1, request(2, 7))?;
     assert!(rt; node.has_posted(&[parcel(0, 2, copy(rt.alloc(), 2, 7, 0)?)]));
     assert_eq!(rt; node.load(1, 1)?, Need::Have(Out::Value(0)));
     assert_eq!(rt; node.coherence.breaches(), 0);
@@ -231,7 +328,7 @@ fn an_owner_answers(rt: HostRuntime) -> Result<(), Fail> {
 #[test]
 fn a_request_goes_on(rt: HostRuntime) -> Result<(), Fail> {
     let mut node = Node::new(rt.alloc(), 1)?;
-    node.deliver(2, &request(2, 7))?;
+    node.deliver(2, request(2, 7))?;
     assert!(rt; node.has_posted(&[parcel(1, 0, request(2, 7))]));
     Ok(())
 }
@@ -243,11 +340,11 @@ fn requests_at_a_locked_entry(rt: HostRuntime) -> Result<(), Fail> {
     let mut node = Node::new(rt.alloc(), 1)?;
     assert_eq!(rt; node.load(1, 3)?, Need::Started);
     for call in 1..10u64 {
-        node.deliver(2, &request(2, call))?;
+        node.deliver(2, request(2, call))?;
     }
     assert!(rt; node.has_posted(&[parcel(1, 0, request(1, 3))]));
     assert_eq!(rt; node.coherence.breaches(), 1);
-    node.deliver(0, &copy(rt.alloc(), 1, 3, 255)?)?;
+    node.deliver(0, copy(rt.alloc(), 1, 3, 255)?)?;
     assert_eq!(rt; node.posted.parcels().len(), 9);
     for call in 1..9u64 {
         assert!(rt; node.has_posted_at(call as usize, &parcel(1, 0, request(2, call))));
@@ -265,14 +362,92 @@ fn requests_at_a_locked_entry(rt: HostRuntime) -> Result<(), Fail> {
 #[test]
 fn forged_messages(rt: HostRuntime) -> Result<(), Fail> {
     let mut node = Node::new(rt.alloc(), 2)?;
-    node.deliver(0, &copy(rt.alloc(), 2, 1, 255)?)?;
+    node.deliver(0, copy(rt.alloc(), 2, 1, 255)?)?;
     assert_eq!(rt; node.coherence.breaches(), 1);
     assert_eq!(rt; node.load(1, 2)?, Need::Started);
-    node.deliver(0, &copy(rt.alloc(), 2, 1, 255)?)?;
+    node.deliver(0, copy(rt.alloc(), 2, 1, 255)?)?;
     assert_eq!(rt; node.coherence.breaches(), 2);
-    node.deliver(1, &request(2, 2))?;
+    node.deliver(1, request(2, 2))?;
     assert_eq!(rt; node.coherence.breaches(), 3);
     assert_eq!(rt; node.coherence.answer(), None);
     assert!(rt; node.has_posted(&[parcel(2, 1, request(2, 2))]));
+    Ok(())
+}
+
+/// A node without the page asks for it. The page comes with a node that has a copy; once that gave it up the
+/// word is carried out, and the request that was put off is served with the bytes as they are then.
+#[test]
+fn a_write_fault(rt: HostRuntime) -> Result<(), Fail> {
+    let mut node = Node::new(rt.alloc(), 2)?;
+    assert_eq!(rt; node.store(4)?, Need::Started);
+    node.deliver(0, whole(rt.alloc(), 2, 4, 2, 0)?)?;
+    assert!(rt; node.has_posted(&[parcel(2, 1, write_request(2, 4)), parcel(2, 1, order(2, 4))]));
+    node.deliver(1, request(1, 9))?;
+    assert_eq!(rt; node.coherence.answer(), None);
+    node.deliver(1, acknowledgement(2, 4))?;
+    assert_eq!(rt; node.coherence.returned(), Some(Out::Done));
+    assert_eq!(rt; node.posted.parcels().len(), 3);
+    assert_eq!(rt; node.load(1, 5)?, Need::Have(Out::Value(5)));
+    assert_eq!(rt; node.coherence.breaches(), 0);
+    Ok(())
+}
+
+/// The owner gives the page up with the nodes that have a copy, and has nothing of it then.
+#[test]
+fn an_owner_gives_the_page(rt: HostRuntime) -> Result<(), Fail> {
+    let mut node = Node::new(rt.alloc(), 0)?;
+    node.deliver(1, request(1, 7))?;
+    node.deliver(1, write_request(2, 8))?;
+    assert!(rt; node.has_posted_at(1, &parcel(0, 2, whole(rt.alloc(), 2, 8, 2, 0)?)));
+    assert_eq!(rt; node.load(1, 1)?, Need::Started);
+    assert!(rt; node.has_posted_at(2, &parcel(0, 1, request(0, 1))));
+    Ok(())
+}
+
+/// An owner that shares its page tells the others to give their copies up before it stores.
+#[test]
+fn an_owner_stores(rt: HostRuntime) -> Result<(), Fail> {
+    let mut node = Node::new(rt.alloc(), 0)?;
+    node.deliver(1, request(1, 7))?;
+    node.deliver(1, request(2, 7))?;
+    assert_eq!(rt; node.store(1)?, Need::Started);
+    assert!(rt; node.has_posted_at(2, &parcel(0, 1, order(0, 1))));
+    assert!(rt; node.has_posted_at(3, &parcel(0, 2, order(0, 1))));
+    node.deliver(2, acknowledgement(0, 1))?;
+    assert_eq!(rt; node.coherence.answer(), None);
+    node.deliver(1, acknowledgement(0, 1))?;
+    assert_eq!(rt; node.coherence.returned(), Some(Out::Done));
+    assert_eq!(rt; node.load(1, 2)?, Need::Have(Out::Value(5)));
+    Ok(())
+}
+
+/// A copy is given up when the node that is to write says so; one that is still awaited, once it came.
+#[test]
+fn copies_given_up(rt: HostRuntime) -> Result<(), Fail> {
+    let mut node = Node::new(rt.alloc(), 2)?;
+    assert_eq!(rt; node.load(1, 1)?, Need::Started);
+    node.deliver(1, order(1, 6))?;
+    assert!(rt; node.has_posted(&[parcel(2, 1, request(2, 1))]));
+    node.deliver(0, copy(rt.alloc(), 2, 1, 255)?)?;
+    assert_eq!(rt; node.coherence.returned(), Some(Out::Value(u64::MAX)));
+    assert!(rt; node.has_posted_at(1, &parcel(2, 1, acknowledgement(1, 6))));
+    assert_eq!(rt; node.load(1, 2)?, Need::Started);
+    Ok(())
+}
+
+/// Where a post refuses what the last acknowledgement brings about, all is as it was.
+#[test]
+fn a_refused_acknowledgement(rt: HostRuntime) -> Result<(), Fail> {
+    let mut node = Node::new(rt.alloc(), 0)?;
+    node.deliver(1, request(1, 7))?;
+    assert_eq!(rt; node.store(1)?, Need::Started);
+    node.deliver(2, request(2, 3))?;
+    node.posted.is_full = true;
+    assert!(rt; node.refuses(1, acknowledgement(0, 1))?);
+    assert_eq!(rt; node.coherence.answer(), None);
+    node.posted.is_full = false;
+    node.deliver(1, acknowledgement(0, 1))?;
+    assert_eq!(rt; node.coherence.returned(), Some(Out::Done));
+    assert_eq!(rt; node.posted.parcels().len(), 3);
     Ok(())
 }

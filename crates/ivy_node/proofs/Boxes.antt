@@ -1,5 +1,5 @@
 -- What holds of an outbox stays, and how many strings an event adds.
-use Rattle.std.proofs.Common.{◌≡◌, ◌≢◌, ℕ, ◌+◌, ◌<◌, ◌≤◌, List, [], ◌∷◌, ◌++◌, All, length, map, get_or, take, Bool, true, false, refl, sym, ap, subst, ◌∙◌, arith}
+use Rattle.std.proofs.Common.{◌≡◌, ◌≢◌, ℕ, ◌+◌, ◌^◌, ◌<◌, ◌≤◌, List, [], ◌∷◌, ◌++◌, All, length, map, get_or, take, Bool, true, false, refl, sym, ap, subst, ◌∙◌, arith}
 use Rattle.std.specs.Borrow.{Bor}
 use Rattle.std.specs.Prelude.{IsErrOf, Ok, Err}
 use Rattle.std.proofs.lemmas.List.{length-map, get_or-map, map_more, map-append, length-append}
@@ -14,7 +14,7 @@ use Rattle.ivy_link.specs.Linked.{Linked, first_link, after_sends, frames_of, ha
 use Rattle.ivy_link.specs.Accepted.{accepted}
 use Rattle.ivy_link.specs.Pulsed.{frames_again, after_pulse, pulsed}
 use Rattle.ivy_link.specs.Fitting.{FitsLink}
-use Rattle.ivy_link.proofs.Fits.{sends-me, accepted-me, first-fits, sends-fits, frames-fit, fits-within, accepted-fits, pulsed-fits, again-fit, length-frames_of, few-again}
+use Rattle.ivy_link.proofs.Fits.{sends-me, accepted-me, first-fits, sends-fits, frames-fit, fits-within, heard-link-fits, pulsed-fits, again-fit, length-frames_of, few-again}
 use Rattle.ivy_ether.specs.Marks.{Pulse}
 use Rattle.ivy_node.specs.Shown.{pulse_marks}
 use Rattle.ivy_node.specs.Outboxes.{Outbox, IsSoundOutbox, with_sending, posted_by}
@@ -62,10 +62,10 @@ relinked n v same s l ws mine fits =
     subst (λ (x : Outbox). IsSoundOutbox (record { config = x.config; me = x.me; link = l; waiting = ws })) (sym same)
     (record { limits = at.limits; mine = mine ∙ at.mine; fits = fits at })
 
-pub accepted-box : (n v : Outbox) → v ≡ n → IsSoundOutbox v → (f : Frame) (l : Linked) → Fits n.config f → l ≡ accepted v.link f → IsSoundOutbox (record { config = v.config; me = v.me; link = l; waiting = v.waiting })
-accepted-box n v same s f l fits is =
+pub accepted-box : (n v : Outbox) → v ≡ n → IsSoundOutbox v → (f : Frame) (l : Linked) → f.number < 2 ^ 64 → l ≡ accepted v.link f → IsSoundOutbox (record { config = v.config; me = v.me; link = l; waiting = v.waiting })
+accepted-box n v same s f l small is =
     let now : l ≡ accepted n.link f = is ∙ ap (λ (x : Outbox). accepted x.link f) same in
-    relinked n v same s l v.waiting (ap (λ k. k.me) now ∙ accepted-me n.link f) (λ at. subst (FitsLink n.config) (sym now) (accepted-fits n.config n.link f at.fits fits))
+    relinked n v same s l v.waiting (ap (λ k. k.me) now ∙ accepted-me n.link f) (λ at. subst (FitsLink n.config) (sym now) (heard-link-fits n.config n.link f at.fits small))
 
 pub pulsed-box : (n v : Outbox) → v ≡ n → IsSoundOutbox v → (to : ℕ) (l : Linked) (ws : List (List ℕ)) → l ≡ after_pulse v.link to → IsSoundOutbox (record { config = v.config; me = v.me; link = l; waiting = ws })
 pulsed-box n v same s to l ws is =

@@ -26,7 +26,7 @@ use Rattle.ivy_program.specs.Runs.{IsRunTo}
 use Rattle.ivy_ether.specs.Cores.{Outcome}
 use Rattle.ivy_ether.specs.Ordered.{Ordered, Turns, Delivers, Steps, rests, turns, delivers}
 use Rattle.ivy_node.specs.Hosts.{Host, answered_by, turn_of, serving, host_rules, first_host}
-use Rattle.ivy_node.proofs.ExplainHosts.{owed, pending, config_of, Carries, resting, IsGood, IsLocal, SomeLocal}
+use Rattle.ivy_node.proofs.ExplainHosts.{owed, pending, config_of, Carries, Reads, resting, IsGood, IsLocal, SomeLocal}
 use Rattle.ivy_node.proofs.ExplainTurns.{turn_local}
 use Rattle.ivy_node.proofs.ExplainMessages.{message_local}
 
@@ -165,6 +165,12 @@ first-reads (suc n) zero true h = refl
 first-reads (suc n) zero false h = absurd cc
 first-reads (suc n) (suc p) b h = first-reads n p b h
 
+first-reading : (n p : ℕ) (b : Bool) → Reads (get_or (replicate n (if b then owned else nothing)) p nothing)
+first-reading zero p b = tt
+first-reading (suc n) zero true = tt
+first-reading (suc n) zero false = tt
+first-reading (suc n) (suc p) b = first-reading n p b
+
 first-awaits : (n p : ℕ) (b : Bool) (s : WaitingState) → get_or (replicate n (if b then owned else nothing)) p nothing ≡ entry.AwaitRead s → ⊥
 first-awaits zero p b s h = absurd cc
 first-awaits (suc n) zero true s h = absurd cc
@@ -181,6 +187,7 @@ module _ {S : Type 0} (ops : Ops S) (c : Config) (config : IsConfig c) where
     pages = length-replicate c.pages (replicate c.page_size 0);
     fresh = λ p lt h. get_or-replicate c.pages p (replicate c.page_size 0) [] lt ∙ sym (zero_page c p config lt);
     owned = λ p h. first-reads c.pages p (i == 0) h;
+    reading = λ p. first-reading c.pages p (i == 0);
     run = (0, refl);
     phase = resting refl refl (λ p s h. first-awaits c.pages p (i == 0) s h);
   }

@@ -15,12 +15,14 @@ use Rattle.ivy_model.specs.Legal.{Leads}
 use Rattle.ivy_model.specs.Explains.{part}
 use Rattle.ivy_wire.specs.declared.Content.TheVariants as content
 use Rattle.ivy_wire.specs.Data.{Content, Parcel}
+use Rattle.ivy_pagetable.specs.declared.Entry.{Entry}
 use Rattle.ivy_pagetable.specs.declared.Entry.TheVariants as entry
 use Rattle.ivy_pagetable.specs.declared.Out.{Out}
 use Rattle.ivy_pagetable.specs.States.{WaitingState}
 use Rattle.ivy_pagetable.specs.Entries.{readable, is_owner, nothing}
 use Rattle.ivy_pagetable.specs.TableState.{Table}
 use Rattle.ivy_pagetable.specs.Tables.{entry_at, page_at}
+use Rattle.ivy_coherence.proofs.Reading.{AreReads}
 use Rattle.ivy_program.specs.Steps.{Asks, step_of}
 use Rattle.ivy_program.specs.Runs.{IsRunTo}
 use Rattle.ivy_ether.specs.Cores.{Outcome}
@@ -43,18 +45,25 @@ config_of n = n.memory.coherence.config
 abbrev pub table_of : {S : Type 0} → Host S → Table
 table_of n = n.memory.coherence.table
 
--- the page that a message brings to read is the flat memory's
+-- the page that a message brings to read is the flat memory's, and no message is about a write
 abbrev pub Carries : Config → flat.Memory → Content → Type 0
 Carries c mem (content.ReadReq page) = Unit {0}
-Carries c mem (content.WriteReq page) = Unit {0}
+Carries c mem (content.WriteReq page) = ⊥
 Carries c mem (content.ReadRep page bytes) = bytes ≡ flat_page c mem page
-Carries c mem (content.WriteRep page copies bytes) = Unit {0}
-Carries c mem (content.Inval page) = Unit {0}
-Carries c mem (content.InvalAck page) = Unit {0}
+Carries c mem (content.WriteRep page copies bytes) = ⊥
+Carries c mem (content.Inval page) = ⊥
+Carries c mem (content.InvalAck page) = ⊥
 Carries c mem (content.AllocReq size) = Unit {0}
 Carries c mem (content.AllocRep code addr) = Unit {0}
 Carries c mem (content.FreeReq addr) = Unit {0}
 Carries c mem (content.FreeRep code) = Unit {0}
+
+-- no word waits to write, and what was put off are requests to read
+abbrev pub Reads : Entry → Type 0
+Reads (entry.Idle s) = Unit {0}
+Reads (entry.AwaitRead s) = AreReads s.put_off
+Reads (entry.AwaitWrite s) = ⊥
+Reads (entry.AwaitAcks s) = ⊥
 
 -- no page is awaited
 abbrev pub NoneAwaited : Table → Type 0
@@ -80,6 +89,7 @@ pub record IsGood {S : Type 0} (c : Config) (mem : flat.Memory) (i : ℕ) (n : H
   pub pages : length n.memory.coherence.table.pages ≡ c.pages
   pub fresh : (p : ℕ) → p < c.pages → readable (entry_at n.memory.coherence.table p) ≡ true → page_at n.memory.coherence.table p ≡ flat_page c mem p
   pub owned : (p : ℕ) → is_owner (entry_at n.memory.coherence.table p) ≡ true → readable (entry_at n.memory.coherence.table p) ≡ true
+  pub reading : (p : ℕ) → Reads (entry_at n.memory.coherence.table p)
   pub run : IsRunTo n.process.program n.history n.process.state
   pub phase : InPhase c n
 

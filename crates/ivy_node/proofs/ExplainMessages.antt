@@ -19,23 +19,25 @@ use Rattle.ivy_pagetable.specs.declared.Entry.{Entry}
 use Rattle.ivy_pagetable.specs.declared.Entry.TheVariants as entry
 use Rattle.ivy_pagetable.specs.declared.Out.TheVariants as out
 use Rattle.ivy_pagetable.specs.declared.PutOff.{PutOff}
-use Rattle.ivy_pagetable.specs.declared.Request.{Request}
 use Rattle.ivy_pagetable.specs.declared.Request.TheVariants as request
 use Rattle.ivy_pagetable.specs.States.{IdleState, WaitingState}
-use Rattle.ivy_pagetable.specs.Entries.{readable, is_owner, copy, nothing, with_reader, with_put_off, can_put_off}
+use Rattle.ivy_pagetable.specs.Entries.{readable, is_owner, copy, nothing, put_offs, with_reader, with_put_off, can_put_off}
 use Rattle.ivy_pagetable.specs.TableState.{Table}
 use Rattle.ivy_pagetable.specs.Tables.{entry_at, page_at, with_entry}
 use Rattle.ivy_pagetable.specs.Words.{Carried, carried_out, number_at}
 use Rattle.ivy_pagetable.specs.Manager.{Ops}
-use Rattle.ivy_coherence.specs.Steps.{Effect, breach, counted, shared, sent_on, put_aside, read_asked, passed_on, is_write, asked_again, unlocked, copy_came, handled_as, handled, parcel_to}
-use Rattle.ivy_coherence.proofs.Keeping.{entry_with, page_with, owner_put}
-use Rattle.ivy_coherence.proofs.Pointing.{all_one}
+use Rattle.ivy_coherence.specs.Serving.{counted, parcel_to}
+use Rattle.ivy_coherence.specs.Steps.{Effect, breach, put_aside, handled_as, handled}
+use Rattle.ivy_coherence.proofs.Keeping.{owner_put}
+use Rattle.ivy_coherence.proofs.Changing.{entry_with, page_with}
+use Rattle.ivy_coherence.proofs.IdleServing.{all_one}
+use Rattle.ivy_coherence.proofs.Reading.{AreReads, reads_push, shared, sent_on, read_asked, passed_on, unlocked, copy_came, request_handled, copy_handled}
 use Rattle.ivy_program.specs.Steps.{Asks, step_of}
 use Rattle.ivy_program.proofs.Running.{only_loads}
 use Rattle.ivy_ether.specs.Cores.{Outcome}
 use Rattle.ivy_node.specs.Memories.{reply_of, reply_there, word_loaded}
 use Rattle.ivy_node.specs.Hosts.{Host, number_of, serving}
-use Rattle.ivy_node.proofs.ExplainHosts.{owed, pending, pending-none, config_of, table_of, Carries, OneAwaited, InPhase, resting, asking, told, IsGood, SomeLocal, quiet, either-set, owner-inside, Good, Goes}
+use Rattle.ivy_node.proofs.ExplainHosts.{owed, pending, pending-none, config_of, table_of, Carries, Reads, OneAwaited, InPhase, resting, asking, told, IsGood, SomeLocal, quiet, either-set, owner-inside, Good, Goes}
 use Rattle.ivy_node.proofs.ExplainTurns.{load_serves, word_in}
 
 -- a table that can be read where the one before can, and where pages are awaited for the same words
@@ -44,6 +46,7 @@ record IsAlike (c : Config) (mem : flat.Memory) (t t' : Table) : Type 0 where
   pages : length t'.pages ≡ length t.pages
   fresh : (p : ℕ) → p < c.pages → readable (entry_at t' p) ≡ true → page_at t' p ≡ flat_page c mem p
   owned : (p : ℕ) → is_owner (entry_at t' p) ≡ true → readable (entry_at t' p) ≡ true
+  reading : (p : ℕ) → Reads (entry_at t' p)
   awaited : (p : ℕ) (s : WaitingState) → entry_at t' p ≡ entry.AwaitRead s → (r : WaitingState) × (entry_at t p ≡ entry.AwaitRead r) × (r.word ≡ s.word)
 
 readable_put : (e : Entry) (q : PutOff) → readable (with_put_off e q) ≡ readable e
@@ -61,17 +64,23 @@ awaited_put (entry.AwaitAcks w) q s h = absurd cc
 owner_reads : (e : Entry) (q : PutOff) → (is_owner e ≡ true → readable e ≡ true) → is_owner (with_put_off e q) ≡ true → readable (with_put_off e q) ≡ true
 owner_reads e q own h = readable_put e q ∙ own (sym (owner_put e q) ∙ h)
 
-again_carries : (c : Config) (mem : flat.Memory) (k : Request) (page : ℕ) → Carries c mem (asked_again k page)
-again_carries c mem request.Read page = tt
-again_carries c mem request.Write page = tt
-again_carries c mem request.Invalidate page = tt
+reads_put : (e : Entry) (q : PutOff) → Reads e → q.kind ≡ request.Read → Reads (with_put_off e q)
+reads_put (entry.Idle s) q all h = tt
+reads_put (entry.AwaitRead s) q all h = reads_push s.put_off q all h
+reads_put (entry.AwaitWrite s) q all h = all
+reads_put (entry.AwaitAcks s) q all h = all
+
+reads_there : (e : Entry) → Reads e → AreReads (put_offs e)
+reads_there (entry.Idle s) all = tt
+reads_there (entry.AwaitRead s) all = all
+reads_there (entry.AwaitWrite s) all = absurd all
+reads_there (entry.AwaitAcks s) all = absurd all
 
 module _ {S : Type 0} (ops : Ops S) (mem : flat.Memory) where
   passed_carries : (c : Config) (me page : ℕ) (m : S) (qs : List PutOff) → All (λ (p : Parcel). Carries c mem p.message.content) (passed_on ops me page m qs).posted
   passed_carries c me page m [] = All-nil (λ (p : Parcel). Carries c mem p.message.content)
   passed_carries c me page m (q ∷ qs) =
-      All-cons (λ (p : Parcel). Carries c mem p.message.content) (parcel_to me (ops.next_hop m page) q.origin q.call (asked_again q.kind page)) _
-      (again_carries c mem q.kind page) (passed_carries c me page (ops.on_forward m page (is_write q.kind) q.origin) qs)
+      All-cons (λ (p : Parcel). Carries c mem p.message.content) (parcel_to me (ops.next_hop m page) q.origin q.call (content.ReadReq page)) _ tt (passed_carries c me page (ops.on_forward m page false q.origin) qs)
 
   -- what the node becomes by an effect of its coherence
   abbrev by : Host S → Effect S → Outcome (Host S)
@@ -104,6 +113,7 @@ module _ {S : Type 0} (ops : Ops S) (mem : flat.Memory) where
           pages = alike.pages ∙ good.pages;
           fresh = alike.fresh;
           owned = alike.owned;
+          reading = alike.reading;
           run = good.run;
           phase = alike-phase n t m b alike good.phase;
         })
@@ -118,13 +128,14 @@ module _ {S : Type 0} (ops : Ops S) (mem : flat.Memory) where
     pages = refl;
     fresh = good.fresh;
     owned = good.owned;
+    reading = good.reading;
     awaited = λ p s h. (s, h, refl);
   }
 
-  alike-with : (n : Host S) (page : ℕ) (e : Entry) → Good mem n → (readable e ≡ true → readable (entry_at (table_of n) page) ≡ true) → (is_owner e ≡ true → readable e ≡ true)
+  alike-with : (n : Host S) (page : ℕ) (e : Entry) → Good mem n → Reads e → (readable e ≡ true → readable (entry_at (table_of n) page) ≡ true) → (is_owner e ≡ true → readable e ≡ true)
       → ((s : WaitingState) → e ≡ entry.AwaitRead s → (r : WaitingState) × (entry_at (table_of n) page ≡ entry.AwaitRead r) × (r.word ≡ s.word))
       → IsAlike (config_of n) mem (table_of n) (with_entry (table_of n) page e)
-  alike-with n page e good reads owns awaits =
+  alike-with n page e good all reads owns awaits =
       let t : Table = table_of n in
       record {
         entries = length-set t.entries page e;
@@ -137,6 +148,7 @@ module _ {S : Type 0} (ops : Ops S) (mem : flat.Memory) where
           | inl x ↦ ap readable x.1 ∙ owns (ap is_owner (sym x.1) ∙ h)
           | inr x ↦ ap readable x ∙ good.owned p (ap is_owner (sym x) ∙ h)
         ];
+        reading = λ p. elim (either-set t.entries page p e nothing) [ inl x ↦ subst Reads (sym x.1) all | inr x ↦ subst Reads (sym x) (good.reading p) ];
         awaited = λ p s h. elim (either-set t.entries page p e nothing) [
           | inl x ↦ (let r : (r : WaitingState) × (entry_at t page ≡ entry.AwaitRead r) × (r.word ≡ s.word) = awaits s (sym x.1 ∙ h) in (r.0, ap (entry_at t) x.0 ∙ r.1, r.2))
           | inr x ↦ (s, sym x ∙ h, refl)
@@ -159,7 +171,7 @@ module _ {S : Type 0} (ops : Ops S) (mem : flat.Memory) where
       let within : page < (config_of n).pages = omega (arith, owner-inside t page mine, long) in
       changed_local n (with_entry t page (with_reader (entry.Idle s) origin)) n.memory.coherence.manager n.memory.coherence.breaches
       (parcel_to n.memory.coherence.me origin origin number (content.ReadRep page (page_at t page)) ∷ []) good
-      (alike-with n page (with_reader (entry.Idle s) origin) good (λ h. good.owned page mine) (λ h. refl) (λ r h. absurd cc))
+      (alike-with n page (with_reader (entry.Idle s) origin) good tt (λ h. good.owned page mine) (λ h. refl) (λ r h. absurd cc))
       (all_one (λ (p : Parcel). Carries (config_of n) mem p.message.content) (parcel_to n.memory.coherence.me origin origin number (content.ReadRep page (page_at t page))) (good.fresh page within (good.owned page mine)))
 
   sent_on_local : (n : Host S) (origin number page : ℕ) → Good mem n → Goes mem n (by n (sent_on ops n.memory.coherence origin number page))
@@ -169,11 +181,11 @@ module _ {S : Type 0} (ops : Ops S) (mem : flat.Memory) where
       changed_local n (table_of n) (ops.on_forward m page false origin) n.memory.coherence.breaches (asked ∷ []) good (alike-same n good)
       (all_one (λ (p : Parcel). Carries (config_of n) mem p.message.content) asked tt)
 
-  put_aside_local : (n : Host S) (page : ℕ) (e : Entry) (q : PutOff) → Good mem n → entry_at (table_of n) page ≡ e → Goes mem n (by n (put_aside ops n.memory.coherence page e q))
-  put_aside_local n page e q good is =
+  put_aside_local : (n : Host S) (page : ℕ) (e : Entry) (q : PutOff) → Good mem n → q.kind ≡ request.Read → entry_at (table_of n) page ≡ e → Goes mem n (by n (put_aside ops n.memory.coherence page e q))
+  put_aside_local n page e q good kind is =
       if_local n (can_put_off e) _ _
       (changed_local n (with_entry (table_of n) page (with_put_off e q)) n.memory.coherence.manager n.memory.coherence.breaches [] good
-      (alike-with n page (with_put_off e q) good (λ h. ap readable is ∙ sym (readable_put e q) ∙ h) (owner_reads e q (λ h. ap readable (sym is) ∙ good.owned page (ap is_owner is ∙ h)))
+      (alike-with n page (with_put_off e q) good (reads_put e q (subst Reads is (good.reading page)) kind) (λ h. ap readable is ∙ sym (readable_put e q) ∙ h) (owner_reads e q (λ h. ap readable (sym is) ∙ good.owned page (ap is_owner is ∙ h)))
       (λ s h. (let r : (r : WaitingState) × (e ≡ entry.AwaitRead r) × (r.word ≡ s.word) = awaited_put e q s h in (r.0, is ∙ r.1, r.2))))
       (All-nil (λ (p : Parcel). Carries (config_of n) mem p.message.content)))
       (breach_local n good)
@@ -185,9 +197,9 @@ module _ {S : Type 0} (ops : Ops S) (mem : flat.Memory) where
 
   asked_local : (n : Host S) (origin number page : ℕ) (e : Entry) → Good mem n → entry_at (table_of n) page ≡ e → Goes mem n (by n (read_asked ops n.memory.coherence origin number page e))
   asked_local n origin number page (entry.Idle s) good is = idle_local n origin number page s s.owner good is refl
-  asked_local n origin number page (entry.AwaitRead s) good is = put_aside_local n page (entry.AwaitRead s) (record { kind = request.Read; origin = origin; call = number }) good is
-  asked_local n origin number page (entry.AwaitWrite s) good is = put_aside_local n page (entry.AwaitWrite s) (record { kind = request.Read; origin = origin; call = number }) good is
-  asked_local n origin number page (entry.AwaitAcks s) good is = put_aside_local n page (entry.AwaitAcks s) (record { kind = request.Read; origin = origin; call = number }) good is
+  asked_local n origin number page (entry.AwaitRead s) good is = put_aside_local n page (entry.AwaitRead s) (record { kind = request.Read; origin = origin; call = number }) good refl is
+  asked_local n origin number page (entry.AwaitWrite s) good is = put_aside_local n page (entry.AwaitWrite s) (record { kind = request.Read; origin = origin; call = number }) good refl is
+  asked_local n origin number page (entry.AwaitAcks s) good is = put_aside_local n page (entry.AwaitAcks s) (record { kind = request.Read; origin = origin; call = number }) good refl is
 
   -- the copy comes that a load waits for: the load is carried out on it
   module _ (n : Host S) (config : IsConfig (config_of n)) (good : Good mem n) (from page : ℕ) (bytes : List ℕ) (came : bytes ≡ flat_page (config_of n) mem page) (w : WaitingState) (is : entry_at (table_of n) page ≡ entry.AwaitRead w)
@@ -243,6 +255,7 @@ module _ {S : Type 0} (ops : Ops S) (mem : flat.Memory) where
             | inl y ↦ absurd (let f : false ≡ true = ap is_owner (sym y.1) ∙ h in cc)
             | inr y ↦ ap readable y.1 ∙ good.owned p (ap is_owner (sym y.1) ∙ h)
           ];
+          reading = λ p. elim (entry_with t page copy p within_entries) [ inl y ↦ subst Reads (sym y.1) tt | inr y ↦ subst Reads (sym y.1) (good.reading p) ];
           run = good.run;
           phase = told (call.Load width addr) (reply.Value value) a told_now asks (λ p s h. elim (entry_with t page copy p within_entries) [
             | inl y ↦ absurd (let f : copy ≡ entry.AwaitRead s = sym y.1 ∙ h in cc)
@@ -286,13 +299,15 @@ module _ {S : Type 0} (ops : Ops S) (mem : flat.Memory) where
 
   as_local : (n : Host S) (from origin number : ℕ) (m : Content) → IsConfig (config_of n) → Good mem n → Carries (config_of n) mem m → Goes mem n (by n (handled_as ops n.memory.coherence from origin number m))
   as_local n from origin number (content.ReadReq page) config good carries =
-      if_local n (origin == n.memory.coherence.me) _ _ (breach_local n good) (asked_local n origin number page (entry_at (table_of n) page) good refl)
+      subst (λ x. Goes mem n (by n x)) (sym (request_handled ops n.memory.coherence from origin number page))
+      (if_local n (origin == n.memory.coherence.me) _ _ (breach_local n good) (asked_local n origin number page (entry_at (table_of n) page) good refl))
   as_local n from origin number (content.ReadRep page bytes) config good carries =
-      if_local n (origin == n.memory.coherence.me) _ _ (copy_local n from number page bytes (entry_at (table_of n) page) config good carries refl) (breach_local n good)
-  as_local n from origin number (content.WriteReq page) config good carries = breach_local n good
-  as_local n from origin number (content.WriteRep page copies bytes) config good carries = breach_local n good
-  as_local n from origin number (content.Inval page) config good carries = breach_local n good
-  as_local n from origin number (content.InvalAck page) config good carries = breach_local n good
+      subst (λ x. Goes mem n (by n x)) (sym (copy_handled ops n.memory.coherence from origin number page bytes (reads_there (entry_at (table_of n) page) (good.reading page))))
+      (if_local n (origin == n.memory.coherence.me) _ _ (copy_local n from number page bytes (entry_at (table_of n) page) config good carries refl) (breach_local n good))
+  as_local n from origin number (content.WriteReq page) config good carries = absurd carries
+  as_local n from origin number (content.WriteRep page copies bytes) config good carries = absurd carries
+  as_local n from origin number (content.Inval page) config good carries = absurd carries
+  as_local n from origin number (content.InvalAck page) config good carries = absurd carries
   as_local n from origin number (content.AllocReq size) config good carries = breach_local n good
   as_local n from origin number (content.AllocRep code addr) config good carries = breach_local n good
   as_local n from origin number (content.FreeReq addr) config good carries = breach_local n good

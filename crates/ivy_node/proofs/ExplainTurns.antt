@@ -29,15 +29,17 @@ use Rattle.ivy_pagetable.specs.TableState.{Table}
 use Rattle.ivy_pagetable.specs.Tables.{entry_at, page_at, with_page}
 use Rattle.ivy_pagetable.specs.Words.{number_at}
 use Rattle.ivy_pagetable.specs.Manager.{Ops}
-use Rattle.ivy_coherence.specs.Steps.{Begun, hit, read_fault, accessed, begun_at, begun, parcel_to}
-use Rattle.ivy_coherence.proofs.Pointing.{all_one}
+use Rattle.ivy_coherence.specs.Serving.{parcel_to}
+use Rattle.ivy_coherence.specs.Faults.{Begun, hit, accessed, begun_at, begun}
+use Rattle.ivy_coherence.proofs.Reading.{read_fault}
+use Rattle.ivy_coherence.proofs.IdleServing.{all_one}
 use Rattle.ivy_program.specs.States.{State, first_state}
 use Rattle.ivy_program.specs.Steps.{Step, Local, Asks, Ends, step_of, at_state}
 use Rattle.ivy_program.proofs.Running.{runs_on, runs_answered, only_loads}
 use Rattle.ivy_ether.specs.Cores.{Outcome}
 use Rattle.ivy_node.specs.Memories.{reply_there, taken_out, word_loaded, needed, refused, loads, load_begun}
 use Rattle.ivy_node.specs.Hosts.{Host, number_of, recorded, quietly, replied, begins_with, begins, steps, turned_at, turn_of}
-use Rattle.ivy_node.proofs.ExplainHosts.{owed, pending, pending-none, pending-rest, config_of, table_of, Carries, NoneAwaited, InPhase, resting, asking, told, SomeLocal, quiet, nothing_local, either-set, Good, Goes}
+use Rattle.ivy_node.proofs.ExplainHosts.{owed, pending, pending-none, pending-rest, config_of, table_of, Carries, NoneAwaited, Reads, InPhase, resting, asking, told, SomeLocal, quiet, nothing_local, either-set, Good, Goes}
 
 -- a load is served by the bytes of its page
 pub load_serves : (c : Config) (mem : flat.Memory) (width addr : ℕ) (bytes : List ℕ) → IsConfig c → IsWidth width → access_refusal c width addr ≡ None → bytes ≡ flat_page c mem (addr / c.page_size)
@@ -98,6 +100,7 @@ module _ {S : Type 0} (ops : Ops S) (mem : flat.Memory) where
               pages = good.pages;
               fresh = good.fresh;
               owned = good.owned;
+              reading = good.reading;
               run = runs_answered n.process.program n.history first_state n.process.state given good.run made;
               phase = resting refl refl none;
             })
@@ -124,6 +127,7 @@ module _ {S : Type 0} (ops : Ops S) (mem : flat.Memory) where
               pages = good.pages;
               fresh = good.fresh;
               owned = good.owned;
+              reading = good.reading;
               run = runs_on n.process.program n.history first_state n.process.state s good.run is;
               phase = resting free rest.0 rest.1;
             })
@@ -153,6 +157,7 @@ module _ {S : Type 0} (ops : Ops S) (mem : flat.Memory) where
               pages = good.pages;
               fresh = good.fresh;
               owned = good.owned;
+              reading = good.reading;
               run = runs_answered n.process.program n.history first_state n.process.state given good.run asks;
               phase = resting free rest.0 rest.1;
             };
@@ -193,6 +198,7 @@ module _ {S : Type 0} (ops : Ops S) (mem : flat.Memory) where
                 pages = length-set t.pages page bytes ∙ good.pages;
                 fresh = λ p lt h. same_page t page p ∙ good.fresh p lt h;
                 owned = good.owned;
+                reading = good.reading;
                 run = runs_answered n.process.program n.history first_state n.process.state given good.run asks;
                 phase = resting refl rest.0 rest.1;
               };
@@ -228,6 +234,7 @@ module _ {S : Type 0} (ops : Ops S) (mem : flat.Memory) where
                     | inl x ↦ absurd (let f : false ≡ true = ap is_owner (sym x.1) ∙ h in cc)
                     | inr x ↦ ap readable x ∙ good.owned p (ap is_owner (sym x) ∙ h)
                   ];
+                  reading = λ p. elim (either-set t.entries page p e nothing) [ inl x ↦ subst Reads (sym x.1) tt | inr x ↦ subst Reads (sym x) (good.reading p) ];
                   run = good.run;
                   phase = asking width addr refl rest.0 permitted asks (λ p s h. elim (either-set t.entries page p e nothing) [
                     | inl x ↦ (x.0, ap (word_in word) (sym h ∙ x.1))

@@ -1,5 +1,5 @@
 -- A copy comes: what was put off goes on. And how many messages can be put off at a node. For every manager.
-use Rattle.std.proofs.Common.{◌≡◌, ◌≢◌, ◌<◌, ◌≤◌, ℕ, zero, suc, Bool, true, List, [], ◌∷◌, length, slice_get, Some, refl, sym, ap, ◌∙◌, subst, inl, inr, arith, if◌then◌else◌, ◌==◌}
+use Rattle.std.proofs.Common.{◌≡◌, ◌≢◌, ◌<◌, ◌≤◌, ℕ, zero, suc, Bool, true, false, List, [], ◌∷◌, length, slice_get, Some, refl, sym, ap, ◌∙◌, subst, inl, inr, arith, if◌then◌else◌, ◌==◌}
 use Rattle.std.proofs.lemmas.Bool.{cases_eq, eq-eqb, ne_eqb}
 use Rattle.std.proofs.lemmas.Option.{same_Some, none-some, slice_get-get_or}
 use Rattle.std.proofs.Math.ListN.{get_or}
@@ -14,8 +14,8 @@ use Rattle.ivy_pagetable.specs.declared.Request.TheVariants as request
 use Rattle.ivy_pagetable.specs.States.{WaitingState}
 use Rattle.ivy_pagetable.specs.Entries.{put_offs, readable, writable, is_owner, copies_of, copy}
 use Rattle.ivy_pagetable.specs.Manager.{Ops}
-use Rattle.ivy_coherence.specs.Steps.{passed_on, is_write, asked_again}
-use Rattle.ivy_node.specs.Ordering.{Place, Underway, Aside, IsReading, Awaits, IsCounted, Asks, Fits, IsNet}
+use Rattle.ivy_coherence.proofs.Reading.{passed_on}
+use Rattle.ivy_node.specs.Ordering.{Place, Underway, Aside, IsReading, Awaits, IsCounted, Asks, IsNet}
 use Rattle.ivy_node.proofs.OrderlyNet.{Absent, IsAside, asks_still, Follows, changed_net, AreFresh, post_all}
 use Rattle.ivy_node.proofs.OrderlyEvents.{IsSet, IsShared, other_node, fewer, set_follows}
 
@@ -29,16 +29,16 @@ module _ {S : Type 0} (ops : Ops S) (me page : ℕ) where
   passed_origin : (m : S) (qs : List PutOff) (k : ℕ) (p : Parcel) → slice_get (passed_on ops me page m qs).posted k ≡ Some p → (r : PutOff) × (slice_get qs k ≡ Some r) × (p.message.origin ≡ r.origin)
   passed_origin m [] k p h = absurd (none-some p h)
   passed_origin m (q ∷ qs) zero p h = (q, refl, ap (λ (x : Parcel). x.message.origin) (sym (same_Some _ p h)))
-  passed_origin m (q ∷ qs) (suc k) p h = passed_origin (ops.on_forward m page (is_write q.kind) q.origin) qs k p h
+  passed_origin m (q ∷ qs) (suc k) p h = passed_origin (ops.on_forward m page false q.origin) qs k p h
 
   -- wherever the manager sends them
   fresh_passed : (c : Config) (e : ℕ → ℕ → Entry) (sent : ℕ → ℕ → List Message) (done : ℕ → ℕ → ℕ) (m : S) (qs : List PutOff) → AreReady c e sent done page qs → AreFresh c e sent done (passed_on ops me page m qs).posted
   fresh_passed c e sent done m [] r = tt
   fresh_passed c e sent done m (q ∷ qs) r =
       let first : (q.kind ≡ request.Read) × Absent e sent done q.origin × Asks c e page q.origin q.call = r.each 0 q refl in
-      let next : S = ops.on_forward m page (is_write q.kind) q.origin in (
+      let next : S = ops.on_forward m page false q.origin in (
         first.1,
-        subst (λ k. Fits c e q.origin q.call (asked_again k page) (ops.next_hop m page)) (sym first.0) first.2,
+        first.2,
         λ k p is same. (
             let f : (z : PutOff) × (slice_get qs k ≡ Some z) × (p.message.origin ≡ z.origin) = passed_origin next qs k p is in
             let g : suc k ≡ zero = r.apart (suc k) zero f.0 q f.1 refl (sym f.2 ∙ same) in

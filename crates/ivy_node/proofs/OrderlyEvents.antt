@@ -18,7 +18,7 @@ use Rattle.ivy_pagetable.specs.declared.Request.TheVariants as request
 use Rattle.ivy_pagetable.specs.States.{WaitingState}
 use Rattle.ivy_pagetable.specs.NodeSets.{Nodes}
 use Rattle.ivy_pagetable.specs.Entries.{put_offs, readable, writable, is_owner, copies_of, shared_with, awaiting_read, one_more}
-use Rattle.ivy_coherence.specs.Steps.{parcel_to}
+use Rattle.ivy_coherence.specs.Serving.{parcel_to}
 use Rattle.ivy_node.specs.Ordering.{Place, Aside, IsReading, Awaits, IsCounted, Asks, Fits, IsNet}
 use Rattle.ivy_node.proofs.OrderlyNet.{get_append, Absent, IsAside, asks_still, moved, moved-here, moved-other, Follows, changed_net, post_one}
 

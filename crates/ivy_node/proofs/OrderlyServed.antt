@@ -19,8 +19,10 @@ use Rattle.ivy_pagetable.specs.Entries.{put_offs, is_locked, is_owner, copies_of
 use Rattle.ivy_pagetable.specs.Tables.{entry_at, page_at, with_entry}
 use Rattle.ivy_pagetable.specs.Manager.{Ops}
 use Rattle.ivy_coherence.specs.Coherent.{Coherent}
-use Rattle.ivy_coherence.specs.Steps.{Effect, breach, shared, sent_on, put_aside, read_asked, unlocked, copy_came, handled, handled_as, read_fault, parcel_to, passed_on}
-use Rattle.ivy_coherence.proofs.Keeping.{entry_with}
+use Rattle.ivy_coherence.specs.Serving.{parcel_to}
+use Rattle.ivy_coherence.specs.Steps.{Effect, breach, put_aside, handled, handled_as}
+use Rattle.ivy_coherence.proofs.Changing.{entry_with}
+use Rattle.ivy_coherence.proofs.Reading.{AreReads, reads_all, shared, sent_on, read_asked, passed_on, unlocked, copy_came, read_fault, request_handled, copy_handled}
 use Rattle.ivy_node.specs.Ordering.{Place, Underway, IsReading, Awaits, IsCounted, Asks, Fits, IsNet}
 use Rattle.ivy_node.proofs.OrderlyNet.{Absent, asks_still, moved, post_one, post_all}
 use Rattle.ivy_node.proofs.OrderlyEvents.{IsSet, fault_net, shared_net, put_net}
@@ -80,6 +82,10 @@ module _ {S : Type 0} (ops : Ops S) (c : Config) (e : ℕ → ℕ → Entry) (se
     | inr ne ↦ a.others j q ne
     | inl y ↦ ap (λ b. e' b q) y ∙ a.mine q ∙ sym (n.mine q) ∙ ap (λ b. e b q) (sym y)
   ]
+
+  -- what was put off here are requests to read
+  pub all_read : (p : ℕ) → AreReads (put_offs (entry_at k.table p))
+  all_read p = reads_all (put_offs (entry_at k.table p)) (λ i q h. (net.aside x p i q (ap (λ z. slice_get (put_offs z) i) (n.mine p) ∙ h)).0)
 
   -- no entry changes
   pub quiet-orders : (k' : Coherent S) → ((q : ℕ) → entry_at k'.table q ≡ entry_at k.table q) → Orders c e sent done x k' []
@@ -155,17 +161,20 @@ module _ {S : Type 0} (ops : Ops S) (c : Config) (e : ℕ → ℕ → Entry) (se
 
   -- the same where it may be this node's own
   asked_here : (from o call p : ℕ) → Absent e sent done o → Asks c e p o call → (o ≡ k.me) ⊎ (o ≢ k.me) → Goes (handled_as ops k from o call (content.ReadReq p))
-  asked_here from o call p gone asks (inl own) = subst (λ (b : Bool). Goes (if b then breach ops k else read_asked ops k o call p (entry_at k.table p))) (sym (eq-eqb o k.me own)) breach-orders
+  asked_here from o call p gone asks (inl own) =
+      subst Goes (sym (request_handled ops k from o call p)) (subst (λ (b : Bool). Goes (if b then breach ops k else read_asked ops k o call p (entry_at k.table p))) (sym (eq-eqb o k.me own)) breach-orders)
   asked_here from o call p gone asks (inr foreign) =
-      subst (λ (b : Bool). Goes (if b then breach ops k else read_asked ops k o call p (entry_at k.table p))) (sym (ne_eqb o k.me foreign)) (asked-orders o call p (λ h. foreign (h ∙ sym n.me)) gone asks)
+      subst Goes (sym (request_handled ops k from o call p))
+      (subst (λ (b : Bool). Goes (if b then breach ops k else read_asked ops k o call p (entry_at k.table p))) (sym (ne_eqb o k.me foreign)) (asked-orders o call p (λ h. foreign (h ∙ sym n.me)) gone asks))
 
   -- a message that was under way to this node
   as-orders : (from o call : ℕ) (m : Content) → Absent e sent done o → Fits c e o call m x → Goes (handled_as ops k from o call m)
   as-orders from o call (content.ReadReq page) gone f = asked_here from o call page gone f (cases_eq o k.me)
   as-orders from o call (content.ReadRep page bytes) gone f =
       let own : o ≡ x = sym f.at in
-      either-goes _ (copy_came ops k from call page bytes (entry_at k.table page)) (breach ops k)
-      (came-orders from call page bytes (entry_at k.table page) (subst (Absent e sent done) own gone) f.asked.inside (subst (IsCounted e page) own f.counted) refl) breach-orders
+      subst Goes (sym (copy_handled ops k from o call page bytes (all_read page)))
+      (either-goes _ (copy_came ops k from call page bytes (entry_at k.table page)) (breach ops k)
+      (came-orders from call page bytes (entry_at k.table page) (subst (Absent e sent done) own gone) f.asked.inside (subst (IsCounted e page) own f.counted) refl) breach-orders)
   as-orders from o call (content.WriteReq page) gone f = absurd f
   as-orders from o call (content.WriteRep page copies bytes) gone f = absurd f
   as-orders from o call (content.Inval page) gone f = absurd f

@@ -22,7 +22,8 @@ use Rattle.ivy_coherence.specs.declared.Need.{Need}
 use Rattle.ivy_coherence.specs.declared.Need.TheVariants as need
 use Rattle.ivy_coherence.specs.Coherent.{Coherent}
 use Rattle.ivy_coherence.specs.Sound.{IsSound}
-use Rattle.ivy_coherence.specs.Steps.{Begun, begun, begun_at, accessed, hit, read_fault}
+use Rattle.ivy_coherence.specs.Faults.{Begun, begun, begun_at, accessed, hit}
+use Rattle.ivy_coherence.proofs.Reading.{read_fault}
 use Rattle.ivy_program.specs.Steps.{Step, Local, Asks, Ends, step_of}
 use Rattle.ivy_ether.specs.Cores.{Outcome}
 use Rattle.ivy_node.specs.Memories.{Answer, needed, loads, load_begun, word_loaded, reply_there}
@@ -71,7 +72,7 @@ module _ {S : Type 0} (ops : Ops S) (c : Config) (k : Coherent S) (P : Coherent 
       free q = false_unless (is_locked (entry_at k.table q)) (λ h. none-some q (sym none ∙ sound.others q h))
 
       plain : reads s.access ≡ false → s.owner ≡ false
-      plain h = false_unless s.owner (λ own. (let f : true ≡ false = sym ((sound.each p).owner s is own) ∙ h in cc))
+      plain h = false_unless s.owner (λ own. (let f : true ≡ false = sym (((sound.each p).idle s is).owned own) ∙ h in cc))
 
       either : (b : Bool) → reads s.access ≡ b → Accesses (if b then hit ops k p w else read_fault ops k p w number)
       either true h = quiet (hit ops k p w).after refl refl (λ q. refl)

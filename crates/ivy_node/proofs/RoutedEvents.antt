@@ -9,10 +9,10 @@ use Rattle.ivy_link.specs.Paired.{posted, extended}
 use Rattle.ivy_pagetable.specs.declared.Entry.{Entry}
 use Rattle.ivy_pagetable.specs.declared.Entry.TheVariants as entry
 use Rattle.ivy_pagetable.specs.declared.PutOff.{PutOff}
-use Rattle.ivy_pagetable.specs.declared.Request.TheVariants as request
 use Rattle.ivy_pagetable.specs.Entries.{put_offs, is_owner}
-use Rattle.ivy_fixed.specs.Fixed.{Owners, fixed_ops, kept_if, hop_of}
-use Rattle.ivy_coherence.specs.Steps.{parcel_to, passed_on, is_write, asked_again}
+use Rattle.ivy_fixed.specs.Fixed.{Owners, fixed_ops, hop_of}
+use Rattle.ivy_coherence.specs.Serving.{parcel_to}
+use Rattle.ivy_coherence.proofs.Reading.{passed_on}
 use Rattle.ivy_ether.specs.Ordered.{one_more}
 use Rattle.ivy_node.specs.Ordering.{Awaits, Asks}
 use Rattle.ivy_node.specs.Routing.{Routed, IsRouted}
@@ -47,17 +47,14 @@ copy_routed c hop me dest origin call page bytes =
 
 -- requests to read that were put off
 pub passed_routed : (c : Config) (hop : ℕ → ℕ → ℕ) (me page : ℕ) (m : Owners) (qs : List PutOff)
-    → ((k : ℕ) (q : PutOff) → slice_get qs k ≡ Some q → (q.kind ≡ request.Read) × Routed c hop page q.origin (hop_of m page))
+    → ((k : ℕ) (q : PutOff) → slice_get qs k ≡ Some q → Routed c hop page q.origin (hop_of m page))
     → ((passed_on fixed_ops me page m qs).manager ≡ m) × AllRouted c hop (passed_on fixed_ops me page m qs).posted
 passed_routed c hop me page m [] all = (refl, none_routed c hop)
 passed_routed c hop me page m (q ∷ qs) all =
-    let here : (q.kind ≡ request.Read) × Routed c hop page q.origin (hop_of m page) = all 0 q refl in
-    let same : kept_if (is_write q.kind) m page q.origin ≡ m = ap (λ k. kept_if (is_write k) m page q.origin) here.0 in
     let rest : ((passed_on fixed_ops me page m qs).manager ≡ m) × AllRouted c hop (passed_on fixed_ops me page m qs).posted = passed_routed c hop me page m qs (λ k r h. all (suc k) r h) in (
-      ap (λ n. (passed_on fixed_ops me page n qs).manager) same ∙ rest.0,
-      more_routed c hop (parcel_to me (hop_of m page) q.origin q.call (asked_again q.kind page)) (passed_on fixed_ops me page (kept_if (is_write q.kind) m page q.origin) qs).posted
-          (λ b h. subst (λ z. Routed c hop z q.origin (hop_of m page)) (same_page page b (ap (λ k. asked_again k page) (sym here.0) ∙ h)) here.1)
-          (subst (λ n. AllRouted c hop (passed_on fixed_ops me page n qs).posted) (sym same) rest.1),
+      rest.0,
+      more_routed c hop (parcel_to me (hop_of m page) q.origin q.call (content.ReadReq page)) (passed_on fixed_ops me page m qs).posted
+          (λ b h. subst (λ z. Routed c hop z q.origin (hop_of m page)) (same_page page b h) (all 0 q refl)) rest.1,
     )
 
 -- where a message that is posted comes from

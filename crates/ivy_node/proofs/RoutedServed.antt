@@ -19,7 +19,8 @@ use Rattle.ivy_pagetable.specs.Tables.{entry_at, page_at, with_entry}
 use Rattle.ivy_fixed.specs.Fixed.{Owners, fixed_ops, hop_of}
 use Rattle.ivy_coherence.specs.Coherent.{Coherent}
 use Rattle.ivy_coherence.specs.Sound.{IsSound}
-use Rattle.ivy_coherence.specs.Steps.{Effect, breach, shared, sent_on, put_aside, read_asked, unlocked, copy_came, handled, handled_as, passed_on, read_fault}
+use Rattle.ivy_coherence.specs.Steps.{Effect, breach, put_aside, handled, handled_as}
+use Rattle.ivy_coherence.proofs.Reading.{shared, sent_on, read_asked, passed_on, unlocked, copy_came, read_fault, request_handled, copy_handled}
 use Rattle.ivy_ether.specs.Cores.{Outcome}
 use Rattle.ivy_node.specs.Hosts.{Host, turn_of}
 use Rattle.ivy_node.specs.Ordering.{Place, IsReading, Awaits, Asks, Fits, IsNet}
@@ -27,7 +28,7 @@ use Rattle.ivy_node.specs.Routing.{Routed, IsRouted}
 use Rattle.ivy_node.proofs.OrderlyNet.{get_append}
 use Rattle.ivy_node.proofs.OrderlyEvents.{IsSet}
 use Rattle.ivy_node.proofs.OrderlyCopies.{few_aside}
-use Rattle.ivy_node.proofs.OrderlyServed.{IsNode, AreWith, set_of, same_of}
+use Rattle.ivy_node.proofs.OrderlyServed.{IsNode, AreWith, set_of, same_of, all_read}
 use Rattle.ivy_node.proofs.OrderlyTurns.{turn-keeps}
 use Rattle.ivy_node.proofs.RoutedEvents.{AllRouted, none_routed, request_routed, copy_routed, passed_routed, set_passes, same_passes, routed_on, goes_on}
 
@@ -118,13 +119,10 @@ module _ (c : Config) (e : ℕ → ℕ → Entry) (hop : ℕ → ℕ → ℕ) (s
       = passed_routed c hop k.me p k.manager w.put_off each in
       set-routes p copy (unlocked fixed_ops k from p bytes w).after (unlocked fixed_ops k from p bytes w).posted lt rest.0 refl (λ q. refl) (sym (ap is_owner is)) (λ i q h. absurd (none-some q h)) rest.1
     where
-      each : (i : ℕ) (q : PutOff) → slice_get w.put_off i ≡ Some q → (q.kind ≡ request.Read) × Routed c hop p q.origin (hop_of k.manager p)
+      each : (i : ℕ) (q : PutOff) → slice_get w.put_off i ≡ Some q → Routed c hop p q.origin (hop_of k.manager p)
       each i q h =
           let there : slice_get (put_offs (e x p)) i ≡ Some q = ap (λ z. slice_get (put_offs z) i) (n.mine p ∙ is) ∙ h in
-          let f = net.aside x p i q there in (
-            f.0,
-            subst (Routed c hop p q.origin) (at p) (goes_on c e hop sent done routed x p q.origin q.call n.below (ap is_owner (n.mine p ∙ is)) f.2 (routed.aside x p i q there)),
-          )
+          subst (Routed c hop p q.origin) (at p) (goes_on c e hop sent done routed x p q.origin q.call n.below (ap is_owner (n.mine p ∙ is)) (net.aside x p i q there).2 (routed.aside x p i q there))
 
   came-routes : (from call p : ℕ) (bytes : List ℕ) (z : Entry) → p < c.pages → Awaits z call → entry_at k.table p ≡ z → Good (copy_came fixed_ops k from call p bytes z)
   came-routes from call p bytes (entry.Idle s) lt awaits is = absurd awaits
@@ -137,11 +135,12 @@ module _ (c : Config) (e : ℕ → ℕ → Entry) (hop : ℕ → ℕ → ℕ) (s
   as-routes : IsConfig c → (from o call : ℕ) (m : Content) → Fits c e o call m x → ((page : ℕ) → m ≡ content.ReadReq page → Routed c hop page o x) → Good (handled_as fixed_ops k from o call m)
   as-routes limits from o call (content.ReadReq page) f r =
       let here : Routed c hop page o x = r page refl in
-      subst Good (ap (λ (b : Bool). if b then breach fixed_ops k else read_asked fixed_ops k o call page (entry_at k.table page)) (sym (ne_eqb o k.me (λ h. here.away (h ∙ n.me)))))
+      subst Good (ap (λ (b : Bool). if b then breach fixed_ops k else read_asked fixed_ops k o call page (entry_at k.table page)) (sym (ne_eqb o k.me (λ h. here.away (h ∙ n.me)))) ∙ sym (request_handled fixed_ops k from o call page))
       (asked-routes limits o call page (entry_at k.table page) f here refl)
   as-routes limits from o call (content.ReadRep page bytes) f r =
       let own : o ≡ x = sym f.at in
-      subst Good (ap (λ (b : Bool). if b then copy_came fixed_ops k from call page bytes (entry_at k.table page) else breach fixed_ops k) (sym (eq-eqb o k.me (own ∙ sym n.me))))
+      subst Good (ap (λ (b : Bool). if b then copy_came fixed_ops k from call page bytes (entry_at k.table page) else breach fixed_ops k) (sym (eq-eqb o k.me (own ∙ sym n.me)))
+      ∙ sym (copy_handled fixed_ops k from o call page bytes (all_read fixed_ops c e sent done place net x k n page)))
       (came-routes from call page bytes (entry_at k.table page) f.asked.inside (subst (λ z. Awaits z call) (n.mine page) (subst (λ a. Awaits (e a page) call) own f.asked.awaits)) refl)
   as-routes limits from o call (content.WriteReq page) f r = absurd f
   as-routes limits from o call (content.WriteRep page copies bytes) f r = absurd f

@@ -1,6 +1,7 @@
 -- Turns and messages keep what holds of a node, and post only what can be sent. For every manager that keeps the laws.
 use Rattle.std.proofs.Common.{◌≡◌, ◌≢◌, ℕ, zero, suc, ◌+◌, ◌*◌, ◌/◌, ◌%◌, ◌^◌, ◌<◌, ◌≤◌, ◌⊎◌, inl, inr, Bool, true, false, List, [], ◌∷◌, length, Option, Some, None, Result, Ok, Err, OnOk, OnErr, IsErrAnd, IfErr, nat_lt, slice_get, refl, sym, ap, ◌∙◌, subst, arith, if◌then◌else◌, ◌==◌}
 use Rattle.std.specs.Prelude.{All}
+use Rattle.std.specs.FinSet as set
 use Rattle.std.proofs.lemmas.Bool.{eqb-true, ltb-true}
 use Rattle.std.proofs.lemmas.List.Elements.{All-contains, All-from_recursion}
 use Rattle.std.proofs.lemmas.Option.{same_Some, none-some}
@@ -24,17 +25,20 @@ use Rattle.ivy_pagetable.specs.declared.PutOff.{PutOff}
 use Rattle.ivy_pagetable.specs.declared.Request.TheVariants as request
 use Rattle.ivy_pagetable.specs.declared.Word.{Word}
 use Rattle.ivy_pagetable.specs.declared.Word.TheVariants as word
-use Rattle.ivy_pagetable.specs.Entries.{is_locked, can_put_off}
-use Rattle.ivy_pagetable.specs.Tables.{entry_at}
-use Rattle.ivy_pagetable.specs.Words.{IsWord, needs_write}
+use Rattle.ivy_pagetable.specs.NodeSets.{Nodes, nodes_with}
+use Rattle.ivy_pagetable.specs.States.{IdleState, WaitingState}
+use Rattle.ivy_pagetable.specs.Entries.{is_locked, can_put_off, copying, owning}
+use Rattle.ivy_pagetable.specs.Tables.{entry_at, page_at}
+use Rattle.ivy_pagetable.specs.Words.{IsWord}
 use Rattle.ivy_pagetable.specs.Manager.{Ops, Laws}
 use Rattle.ivy_coherence.specs.declared.Need.{Need}
 use Rattle.ivy_coherence.specs.declared.Need.TheVariants as need
 use Rattle.ivy_coherence.specs.Coherent.{Coherent}
-use Rattle.ivy_coherence.specs.Steps.{Effect, Begun, breach, put_aside, read_asked, copy_came, handled, handled_as, hit, read_fault, accessed, begun, begun_at, busy, suffices}
+use Rattle.ivy_coherence.specs.Steps.{Effect, is_none, is_order, breach, unlocked, put_aside, given_up, asked, copy_came, owned_with, page_came, left_with, acknowledged, handled, handled_as}
+use Rattle.ivy_coherence.specs.Faults.{Begun, hit, faulted, accessed, begun, begun_at, busy, suffices}
 use Rattle.ivy_coherence.specs.Sound.{IsSound, first_coherent}
 use Rattle.ivy_coherence.proofs.Keeping.{handled-keeps, begun-keeps, first-sound}
-use Rattle.ivy_coherence.proofs.Pointing.{all_none}
+use Rattle.ivy_coherence.proofs.IdleServing.{all_none}
 use Rattle.ivy_program.specs.declared.Instruction.{Instruction}
 use Rattle.ivy_program.specs.Steps.{Step, Local, Asks, Ends, step_of, at_state}
 use Rattle.ivy_program.proofs.Running.{only_loads}
@@ -57,7 +61,7 @@ aligned_of false o h = absurd (none-some 3 (sym h))
 
 -- a load that is not refused reads an aligned word of a page
 pub load-word : (c : Config) (width addr : ℕ) → IsConfig c → IsWidth width → access_refusal c width addr ≡ None
-    → (addr / c.page_size < c.pages) × IsWord c.page_size (word_loaded c width addr) × (needs_write (word_loaded c width addr) ≡ false)
+    → (addr / c.page_size < c.pages) × IsWord c.page_size (word_loaded c width addr)
 load-word c width addr config w none =
     let placed : IsPlaced c width addr = access_placed c width addr config w none in
     let s = page_has_words c.page_size config.page_size in
@@ -68,7 +72,6 @@ load-word c width addr config w none =
     let split : 8 * (page * (c.page_size / 8)) + offset ≡ addr = omega (arith, placed.split, words) in (
       placed.page_to,
       record { width = w; aligned = offset_aligned width (page * (c.page_size / 8)) offset w (ap (λ a. a % width) split ∙ aligned); within = placed.within },
-      refl,
     )
 
 -- the node stays who it is
@@ -125,26 +128,60 @@ module _ {S : Type 0} (ops : Ops S) where
   put_aside-told : (c : Coherent S) (page : ℕ) (e : Entry) (q : PutOff) → Told c (put_aside ops c page e q).after
   put_aside-told c page e q = either-told c (can_put_off e) _ _ (stays refl refl refl refl) (stays refl refl refl refl)
 
-  read_asked-told : (c : Coherent S) (origin call page : ℕ) (e : Entry) → Told c (read_asked ops c origin call page e).after
-  read_asked-told c origin call page (entry.Idle s) = either-told c s.owner _ _ (stays refl refl refl refl) (stays refl refl refl refl)
-  read_asked-told c origin call page (entry.AwaitRead s) = put_aside-told c page (entry.AwaitRead s) (record { kind = request.Read; origin = origin; call = call })
-  read_asked-told c origin call page (entry.AwaitWrite s) = put_aside-told c page (entry.AwaitWrite s) (record { kind = request.Read; origin = origin; call = call })
-  read_asked-told c origin call page (entry.AwaitAcks s) = put_aside-told c page (entry.AwaitAcks s) (record { kind = request.Read; origin = origin; call = call })
+  asked-told : (c : Coherent S) (page : ℕ) (q : PutOff) (e : Entry) → Told c (asked ops c page q e).after
+  asked-told c page q (entry.Idle s) = stays refl refl refl refl
+  asked-told c page q (entry.AwaitRead s) = put_aside-told c page (entry.AwaitRead s) q
+  asked-told c page q (entry.AwaitWrite s) = either-told c (is_order q.kind) (given_up ops c page s.waiting q) (put_aside ops c page (entry.AwaitWrite s) q) (stays refl refl refl refl) (put_aside-told c page (entry.AwaitWrite s) q)
+  asked-told c page q (entry.AwaitAcks s) = either-told c (is_order q.kind) (breach ops c) (put_aside ops c page (entry.AwaitAcks s) q) (stays refl refl refl refl) (put_aside-told c page (entry.AwaitAcks s) q)
+
+  -- the word that waited was carried out
+  unlocked-told : (c : Coherent S) (from page : ℕ) (idle : IdleState) (reply : Option Bool) (bytes : List ℕ) (s : WaitingState) → c.locked ≡ Some page → Told c (unlocked ops c from page idle reply bytes s).after
+  unlocked-told c from page idle reply bytes s locked = (record { config = refl; me = refl }, inr (page, locked, refl))
 
   copy_came-told : (c : Coherent S) (from call page : ℕ) (bytes : List ℕ) (e : Entry) → IsSound ops c → entry_at c.table page ≡ e → Told c (copy_came ops c from call page bytes e).after
   copy_came-told c from call page bytes (entry.Idle s) sound is = stays refl refl refl refl
   copy_came-told c from call page bytes (entry.AwaitRead s) sound is =
-      either-told c (s.call == call) _ _ (record { config = refl; me = refl }, inr (page, sound.others page (ap is_locked is), refl)) (stays refl refl refl refl)
+      either-told c (s.call == call) _ _ (unlocked-told c from page copying (Some false) bytes s (sound.others page (ap is_locked is))) (stays refl refl refl refl)
   copy_came-told c from call page bytes (entry.AwaitWrite s) sound is = stays refl refl refl refl
   copy_came-told c from call page bytes (entry.AwaitAcks s) sound is = stays refl refl refl refl
 
+  page_came-told : (c : Coherent S) (from call page : ℕ) (copies : Nodes) (bytes : List ℕ) (e : Entry) → IsSound ops c → entry_at c.table page ≡ e → Told c (page_came ops c from call page copies bytes e).after
+  page_came-told c from call page copies bytes (entry.Idle s) sound is = stays refl refl refl refl
+  page_came-told c from call page copies bytes (entry.AwaitRead s) sound is = stays refl refl refl refl
+  page_came-told c from call page copies bytes (entry.AwaitWrite s) sound is =
+      either-told c _ (owned_with ops c from call page copies bytes s.waiting) (breach ops c)
+      (either-told c (is_none copies) _ _ (unlocked-told c from page owning (Some true) bytes s.waiting (sound.others page (ap is_locked is))) (stays refl refl refl refl))
+      (stays refl refl refl refl)
+  page_came-told c from call page copies bytes (entry.AwaitAcks s) sound is = stays refl refl refl refl
+
+  acknowledged-told : (c : Coherent S) (from call page : ℕ) (e : Entry) → IsSound ops c → entry_at c.table page ≡ e → Told c (acknowledged ops c from call page e).after
+  acknowledged-told c from call page (entry.Idle s) sound is = stays refl refl refl refl
+  acknowledged-told c from call page (entry.AwaitRead s) sound is = stays refl refl refl refl
+  acknowledged-told c from call page (entry.AwaitWrite s) sound is = stays refl refl refl refl
+  acknowledged-told c from call page (entry.AwaitAcks s) sound is =
+      either-told c _ (left_with ops c from page (set.remove s.left from) s.waiting) (breach ops c)
+      (either-told c (is_none (set.remove s.left from)) _ _ (unlocked-told c from page owning None (page_at c.table page) s.waiting (sound.others page (ap is_locked is))) (stays refl refl refl refl))
+      (stays refl refl refl refl)
+
+  -- this node's own request comes to none
+  foreign-told : (c : Coherent S) (origin page : ℕ) (q : PutOff) → Told c (if origin == c.me then breach ops c else asked ops c page q (entry_at c.table page)).after
+  foreign-told c origin page q = either-told c (origin == c.me) (breach ops c) (asked ops c page q (entry_at c.table page)) (stays refl refl refl refl) (asked-told c page q (entry_at c.table page))
+
+  -- the order of the node that is to write
+  order-told : (c : Coherent S) (from origin page : ℕ) (q : PutOff) → Told c (if origin == from then asked ops c page q (entry_at c.table page) else breach ops c).after
+  order-told c from origin page q = either-told c (origin == from) (asked ops c page q (entry_at c.table page)) (breach ops c) (asked-told c page q (entry_at c.table page)) (stays refl refl refl refl)
+
+  -- a reply comes to this node
+  reply-told : (c : Coherent S) (origin : ℕ) (x : Effect S) → Told c x.after → Told c (if origin == c.me then x else breach ops c).after
+  reply-told c origin x h = either-told c (origin == c.me) x (breach ops c) h (stays refl refl refl refl)
+
   as-told : (c : Coherent S) (from origin call : ℕ) (m : Content) → IsSound ops c → Told c (handled_as ops c from origin call m).after
-  as-told c from origin call (content.ReadReq page) s = either-told c (origin == c.me) (breach ops c) (read_asked ops c origin call page (entry_at c.table page)) (stays refl refl refl refl) (read_asked-told c origin call page (entry_at c.table page))
-  as-told c from origin call (content.ReadRep page bytes) s = either-told c (origin == c.me) (copy_came ops c from call page bytes (entry_at c.table page)) (breach ops c) (copy_came-told c from call page bytes (entry_at c.table page) s refl) (stays refl refl refl refl)
-  as-told c from origin call (content.WriteReq page) s = stays refl refl refl refl
-  as-told c from origin call (content.WriteRep page copies bytes) s = stays refl refl refl refl
-  as-told c from origin call (content.Inval page) s = stays refl refl refl refl
-  as-told c from origin call (content.InvalAck page) s = stays refl refl refl refl
+  as-told c from origin call (content.ReadReq page) s = foreign-told c origin page (record { kind = request.Read; origin = origin; call = call })
+  as-told c from origin call (content.ReadRep page bytes) s = reply-told c origin (copy_came ops c from call page bytes (entry_at c.table page)) (copy_came-told c from call page bytes (entry_at c.table page) s refl)
+  as-told c from origin call (content.WriteReq page) s = foreign-told c origin page (record { kind = request.Write; origin = origin; call = call })
+  as-told c from origin call (content.WriteRep page copies bytes) s = reply-told c origin (page_came ops c from call page (nodes_with copies) bytes (entry_at c.table page)) (page_came-told c from call page (nodes_with copies) bytes (entry_at c.table page) s refl)
+  as-told c from origin call (content.Inval page) s = order-told c from origin page (record { kind = request.Invalidate; origin = origin; call = call })
+  as-told c from origin call (content.InvalAck page) s = reply-told c origin (acknowledged ops c from call page (entry_at c.table page)) (acknowledged-told c from call page (entry_at c.table page) s refl)
   as-told c from origin call (content.AllocReq size) s = stays refl refl refl refl
   as-told c from origin call (content.AllocRep code addr) s = stays refl refl refl refl
   as-told c from origin call (content.FreeReq addr) s = stays refl refl refl refl
@@ -157,14 +194,14 @@ module _ {S : Type 0} (ops : Ops S) where
   hit-begins : (c : Coherent S) (page : ℕ) (w : Word) → Begins c (hit ops c page w)
   hit-begins c page w = record { same = record { config = refl; me = refl }; done = refl; lock = λ o h. refl; busy = λ h. absurd cc; none = λ h. absurd cc }
 
-  fault-begins : (c : Coherent S) (page : ℕ) (w : Word) (number : ℕ) → Begins c (read_fault ops c page w number)
-  fault-begins c page w number = record { same = record { config = refl; me = refl }; done = refl; lock = λ o h. absurd cc; busy = λ h. absurd cc; none = λ h. absurd cc }
+  fault-begins : (c : Coherent S) (page : ℕ) (w : Word) (number : ℕ) (s : IdleState) → Begins c (faulted ops c page w number s)
+  fault-begins c page w number s = record { same = record { config = refl; me = refl }; done = refl; lock = λ o h. absurd cc; busy = λ h. absurd cc; none = λ h. absurd cc }
 
   busy-begins : (c : Coherent S) → Begins c (busy ops c)
   busy-begins c = record { same = record { config = refl; me = refl }; done = refl; lock = λ o h. refl; busy = λ h. refl; none = λ h. refl }
 
   accessed-begins : (c : Coherent S) (page : ℕ) (w : Word) (number : ℕ) (e : Entry) → Begins c (accessed ops c page w number e)
-  accessed-begins c page w number (entry.Idle s) = either-begins c (suffices s.access w) _ _ (hit-begins c page w) (fault-begins c page w number)
+  accessed-begins c page w number (entry.Idle s) = either-begins c (suffices s.access w) _ _ (hit-begins c page w) (fault-begins c page w number s)
   accessed-begins c page w number (entry.AwaitRead s) = busy-begins c
   accessed-begins c page w number (entry.AwaitWrite s) = busy-begins c
   accessed-begins c page w number (entry.AwaitAcks s) = busy-begins c
@@ -270,7 +307,7 @@ module _ {S : Type 0} {ops : Ops S} (laws : Laws ops) where
       let w0 : Word = word_loaded m.coherence.config width addr in
       let page : ℕ = addr / m.coherence.config.page_size in
       let good = load-word m.coherence.config width addr s.coherent.limits w is in
-      let kept = begun-keeps laws m.coherence page w0 number s.coherent good.0 good.1 good.2 least most in
+      let kept = begun-keeps laws m.coherence page w0 number s.coherent good.0 good.1 least most in
       let marks : Begins m.coherence (begun ops m.coherence page w0 number) = begun-begins ops m.coherence page w0 number in (
         needed-sound m (call.Load width addr) (begun ops m.coherence page w0 number) (begun ops m.coherence page w0 number).need s idle marks kept.0 refl,
         needed-fits m.coherence.config m.coherence.me m (call.Load width addr) (begun ops m.coherence page w0 number) (begun ops m.coherence page w0 number).need kept.1,
@@ -399,7 +436,7 @@ module _ {S : Type 0} {ops : Ops S} (laws : Laws ops) where
     access-sound : IsSound ops (access ops v size width addr number).after
     access-sound =
         let good = load-word v.coherence.config width addr l.sound.coherent.limits l.one unrefused in
-        subst (λ z. IsSound ops (access ops v z width addr number).after) (sym paged) (begun-keeps laws v.coherence _ _ number l.sound.coherent good.0 good.1 good.2 l.least l.most).0
+        subst (λ z. IsSound ops (access ops v z width addr number).after) (sym paged) (begun-keeps laws v.coherence _ _ number l.sound.coherent good.0 good.1 l.least l.most).0
 
     resting : v.asked ≡ None
     resting = ap (λ (x : Memory S). x.asked) l.same ∙ l.idle

@@ -15,7 +15,8 @@ use Rattle.ivy_pagetable.specs.Manager.{Ops}
 use Rattle.ivy_coherence.specs.declared.Need.{Need}
 use Rattle.ivy_coherence.specs.declared.Need.TheVariants as need
 use Rattle.ivy_coherence.specs.Coherent.{Coherent}
-use Rattle.ivy_coherence.specs.Steps.{Begun, begun, handled}
+use Rattle.ivy_coherence.specs.Steps.{handled}
+use Rattle.ivy_coherence.specs.Faults.{Begun, begun}
 
 pub record Memory (S : Type 0) : Type 0 where
   pub coherence : Coherent S

@@ -145,20 +145,20 @@ impl<M: Manager, A: Allocator> Memory<M, A> {
     pub(crate) fn handle<P: Post>(
         &mut self,
         from: u8,
-        message: &Message<Page<A>>,
+        message: Message<Page<A>>,
         post: &mut P,
     ) -> Result<(), Fault>
         requires from { from < self.old.coherence.config.nodes }
         requires foreign { from ≢ self.old.coherence.me }
-        requires fits { FitsMessage self.old.coherence.config message.now }
+        requires fits { FitsMessage self.old.coherence.config message }
         requires config { P.config post.old ≡ self.old.coherence.config }
         requires node { P.node post.old ≡ self.old.coherence.me }
-        ensures few { length (handled M.ops self.old.coherence from message.now).posted ≤ 8 }
-        ensures ok { OnOk result (self.new ≡ memory_told M.ops self.old from message.now) }
-        ensures posted { OnOk result (post.new ≡ P.after post.old (handled M.ops self.old.coherence from message.now).posted) }
-        ensures took { OnOk result (P.takes post.old (handled M.ops self.old.coherence from message.now).posted) }
+        ensures few { length (handled M.ops self.old.coherence from message).posted ≤ 8 }
+        ensures ok { OnOk result (self.new ≡ memory_told M.ops self.old from message) }
+        ensures posted { OnOk result (post.new ≡ P.after post.old (handled M.ops self.old.coherence from message).posted) }
+        ensures took { OnOk result (P.takes post.old (handled M.ops self.old.coherence from message).posted) }
         ensures err { OnErr result ((self.new ≡ self.old) × (post.new ≡ post.old)) }
-        ensures fault { IfErr result (P.refuses post.old (handled M.ops self.old.coherence from message.now).posted) }
+        ensures fault { IfErr result (P.refuses post.old (handled M.ops self.old.coherence from message).posted) }
         ensures want { IfErr result IsWant }
     {
         self.coherence.handle(from, message, post)

@@ -1,5 +1,5 @@
 //! A node's link, and the strings that wait to be put on the wire.
-ghost use Rattle.std.specs.Prelude.{◌≡◌, ◌≢◌, ◌↔◌, ◌+◌, ◌<◌, ◌≤◌, [], map, All, IfOk, OnOk, OnErr, IsOkUnless, IsTrue, length};
+ghost use Rattle.std.specs.Prelude.{◌≡◌, ◌≢◌, ◌↔◌, ◌+◌, ◌<◌, ◌≤◌, ◌^◌, [], map, All, IfOk, OnOk, OnErr, IsOkUnless, IsTrue, length};
 ghost use Rattle.ivy_model.specs.Config.{IsConfig};
 ghost use Rattle.ivy_wire.specs.Lent.{owned_frame};
 ghost use Rattle.ivy_wire.specs.Spelling.{spelling, Fits};
@@ -104,7 +104,8 @@ impl<A: Allocator + Copy> Outbox<A> {
 
     /// Takes the acknowledgement of a frame, and counts its message where it is the next.
     pub(crate) fn accept(&mut self, frame: &Frame<Page<A>>)
-        requires fits { Fits self.old.config frame.now }
+        requires source { frame.now.source < self.old.config.nodes }
+        requires number { frame.now.number < 2 ^ 64 }
         ensures { self.new ≡ with_link self.old (accepted self.old.link frame.now) }
     {
         self.link.accept(frame);

@@ -197,7 +197,7 @@ impl<A: Allocator + Copy> Site<A> {
         ensures spent { IfErr result (IsSpentDelivery self.old bytes.now) }
     {
         let config = self.outbox.config();
-        let frame = decode(self.alloc, &config, bytes)?;
+        let mut frame = decode(self.alloc, &config, bytes)?;
         let verdict = self.outbox.offer(&frame);
         if verdict == Verdict::NotMine {
             return Ok(verdict);
@@ -205,7 +205,7 @@ impl<A: Allocator + Copy> Site<A> {
         self.events.reserve()?;
         let copy = Bytes::new(self.alloc, bytes)?;
         if verdict == Verdict::Next {
-            if let Some(message) = &frame.body {
+            if let Some(message) = frame.body.take() {
                 self.memory.handle(frame.source, message, &mut self.outbox)?;
             }
         }

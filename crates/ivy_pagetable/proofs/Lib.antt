@@ -1,2 +1,3 @@
 pub mod NodeSets
 pub mod Words
+pub mod Bits

@@ -136,13 +136,13 @@ lists_without least (x ∷ xs) (suc i) q up lt =
 pub contains_list : (xs : List ℕ) (q : ℕ) → set.contains {R = nat_cmp} (set.from_list xs) q ≡ lists xs q
 contains_list xs q = contains-from_list_nat xs q
 
-tied : (q k : ℕ) (s : Nodes) → set.contains (set.insert s k) q ≡ (eqb k q || set.contains s q)
+pub tied : (q k : ℕ) (s : Nodes) → set.contains (set.insert s k) q ≡ (eqb k q || set.contains s q)
 tied q k s = contains-insert nat_cmp_total s k q ∙ ap (λ b. b || set.contains s q) (unsigned_tied q k ∙ swapped q k)
 
-untied : (q k : ℕ) (s : Nodes) → set.contains (set.remove s k) q ≡ (not (eqb k q) && set.contains s q)
+pub untied : (q k : ℕ) (s : Nodes) → set.contains (set.remove s k) q ≡ (not (eqb k q) && set.contains s q)
 untied q k s = contains-remove nat_cmp_total s k q ∙ ap (λ b. not b && set.contains s q) (unsigned_tied q k ∙ swapped q k)
 
-sets_equal : (s t : Nodes) → ((q : ℕ) → set.contains s q ≡ set.contains t q) → s ≡ t
+pub sets_equal : (s t : Nodes) → ((q : ℕ) → set.contains s q ≡ set.contains t q) → s ≡ t
 sets_equal s t each = same_set nat_cmp_total nat_cmp-IsAntisymmetric s t each
 
 pub set_with : (xs : List ℕ) (i node : ℕ) → i ≤ length xs → set.from_list {R = nat_cmp} (insert xs i node) ≡ set.insert (set.from_list xs) node

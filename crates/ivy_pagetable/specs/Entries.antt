@@ -8,7 +8,7 @@ use Rattle.ivy_pagetable.specs.declared.put_off.PutOff.{PutOff}
 use Rattle.ivy_pagetable.specs.declared.word.Word.{Word}
 use Rattle.ivy_pagetable.specs.Accesses.{reads, writes}
 use Rattle.ivy_pagetable.specs.NodeSets.{Nodes}
-use Rattle.ivy_pagetable.specs.States.{WaitingState}
+use Rattle.ivy_pagetable.specs.States.{IdleState, WaitingState}
 
 -- a word waits for the page
 abbrev pub is_locked : Entry → Bool
@@ -49,19 +49,31 @@ copies_of (entry.AwaitRead s) = set.empty
 copies_of (entry.AwaitWrite s) = set.empty
 copies_of (entry.AwaitAcks s) = s.left
 
--- idle: nothing of the page; the whole page; a copy of another node's page
-abbrev pub nothing : Entry
-nothing = entry.Idle (record { access = Nil; owner = false; copies = set.empty })
+-- idle: nothing of the page; a copy of another node's page; the whole page; the owner's page, which these nodes have too
+abbrev pub without : IdleState
+without = record { access = Nil; owner = false; copies = set.empty }
 
-abbrev pub owned : Entry
-owned = entry.Idle (record { access = Write; owner = true; copies = set.empty })
+abbrev pub copying : IdleState
+copying = record { access = Read; owner = false; copies = set.empty }
+
+abbrev pub owning : IdleState
+owning = record { access = Write; owner = true; copies = set.empty }
+
+abbrev pub sharing : Nodes → IdleState
+sharing nodes = record { access = Read; owner = true; copies = nodes }
+
+-- the entries of these
+abbrev pub nothing : Entry
+nothing = entry.Idle without
 
 abbrev pub copy : Entry
-copy = entry.Idle (record { access = Read; owner = false; copies = set.empty })
+copy = entry.Idle copying
 
--- idle: the owner's page, which these nodes have too
+abbrev pub owned : Entry
+owned = entry.Idle owning
+
 abbrev pub shared_with : Nodes → Entry
-shared_with nodes = entry.Idle (record { access = Read; owner = true; copies = nodes })
+shared_with nodes = entry.Idle (sharing nodes)
 
 -- an idle owner after it gave a node a copy
 abbrev pub with_reader : Entry → ℕ → Entry

@@ -70,6 +70,17 @@ impl Idle {
         }
     }
 
+    /// The same state.
+    pub fn copied(&self) -> Idle
+        ensures { result ≡ self.now }
+    {
+        Idle {
+            access: self.access,
+            owner: self.owner,
+            copies: self.copies.copied(),
+        }
+    }
+
     /// What this node may do with the page.
     pub fn access(&self) -> Access
         ensures access { result ≡ self.now.access }

@@ -1,6 +1,6 @@
 ghost use Rattle.std.specs.Prelude.{◌≡◌, ◌<◌, ◌↔◌, IsTrue};
 ghost use Rattle.std.specs.FinSet as set;
-ghost use Rattle.ivy_pagetable.specs.NodeSets.{nodes_of};
+ghost use Rattle.ivy_pagetable.specs.NodeSets.{nodes_of, IsBelow, bits_of, nodes_with};
 
 use arrayvec::ArrayVec;
 use std::marker::Model;
@@ -93,5 +93,31 @@ impl NodeSet {
         NodeSet {
             nodes: copied(&self.nodes),
         }
+    }
+
+    /// The nodes as the bits of a number, bit 0 the least: a frame carries a copy set so. Each node
+    /// lies below 8.
+    pub fn bits(&self) -> u8
+        requires { IsBelow 8 self.now }
+        ensures { result ≡ bits_of self.now }
+    {
+        let mut bits = 0;
+        for &node in self.nodes.as_slice() {
+            bits |= 1 << node;
+        }
+        bits
+    }
+
+    /// The nodes whose bits the number has.
+    pub fn from_bits(bits: u8) -> NodeSet
+        ensures { result ≡ nodes_with bits }
+    {
+        let mut set = NodeSet::new();
+        for node in 0..8 {
+            if bits >> node & 1 == 1 {
+                set.insert(node);
+            }
+        }
+        set
     }
 }

@@ -1,5 +1,5 @@
-ghost use Rattle.std.specs.Prelude.{◌≡◌, ℕ, List, length, replicate, IfOk};
-ghost use Rattle.ivy_pagetable.specs.Words.{IsWord, carried_out};
+ghost use Rattle.std.specs.Prelude.{◌≡◌, ◌<◌, All, ℕ, List, length, replicate, IfOk};
+ghost use Rattle.ivy_pagetable.specs.Words.{IsWord, carried_out, width_of, offset_of, number_at};
 
 use crate::word::{Out, Word};
 use std::alloc::{AllocError, Allocator};
@@ -48,6 +48,14 @@ impl<A: Allocator> Page<A> {
         ensures { self.new ≡ bytes.now }
     {
         self.bytes.copy_from_slice(bytes);
+    }
+
+    pub(crate) fn number(&self, word: Word) -> u64
+        requires { IsWord (length self.now) word }
+        ensures number { result ≡ number_at (width_of word) (offset_of word) self.now }
+        ensures fact { All (λ b. b < 256) self.now }
+    {
+        word.number(&self.bytes)
     }
 
     pub(crate) fn carry_out(&mut self, word: Word) -> Out

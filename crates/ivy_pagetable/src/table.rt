@@ -1,8 +1,8 @@
-ghost use Rattle.std.specs.Prelude.{◌≡◌, ◌<◌, length, replicate, if◌then◌else◌, IfOk, IsOkUnless};
+ghost use Rattle.std.specs.Prelude.{◌≡◌, ◌<◌, All, length, replicate, if◌then◌else◌, IfOk, IsOkUnless};
 ghost use Rattle.ivy_model.specs.Config.{IsConfig};
 ghost use Rattle.ivy_pagetable.specs.Entries.{can_put_off, with_put_off};
 ghost use Rattle.ivy_pagetable.specs.Tables.{first_entry, entry_at, page_at, with_entry, with_page, first_table};
-ghost use Rattle.ivy_pagetable.specs.Words.{IsWord, carried_out};
+ghost use Rattle.ivy_pagetable.specs.Words.{IsWord, carried_out, width_of, offset_of, number_at};
 
 use crate::access::Access;
 use crate::entry::Entry;
@@ -144,6 +144,16 @@ impl<A: Allocator> PageTable<A> {
         ensures { self.new ≡ with_page self.old page bytes.now }
     {
         self.pages[page as usize].copy_from(bytes);
+    }
+
+    /// The number that stands where the word lies in the page.
+    pub fn number(&self, page: u32, word: Word) -> u64
+        requires page { page < length self.now.entries }
+        requires word { IsWord self.now.page_size word }
+        ensures number { result ≡ number_at (width_of word) (offset_of word) (page_at self.now page) }
+        ensures fact { All (λ b. b < 256) (page_at self.now page) }
+    {
+        self.pages[page as usize].number(word)
     }
 
     /// Carries a word out on the page.

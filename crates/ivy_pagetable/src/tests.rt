@@ -33,6 +33,14 @@ fn all_nodes_in_a_set(rt: HostRuntime) {
     assert_eq!(rt; set.nodes().len(), 32);
 }
 
+/// Bit i of the number stands for node i.
+#[test]
+fn sets_as_numbers(rt: HostRuntime) {
+    let set = NodeSet::from_bits(0b1000_0010);
+    assert_eq!(rt; set.nodes().as_slice(), [1, 7].as_slice());
+    assert_eq!(rt; set.bits(), 130);
+}
+
 #[test]
 fn numbers_have_their_highest_byte_first(rt: HostRuntime) -> Result<(), Fail> {
     let mut table = PageTable::new(rt.alloc(), &CONFIG, 0)?;
@@ -51,6 +59,20 @@ fn numbers_have_their_highest_byte_first(rt: HostRuntime) -> Result<(), Fail> {
     Ok(())
 }
 
+/// The number that stands where a word is to be stored.
+#[test]
+fn number_of_a_word(rt: HostRuntime) -> Result<(), Fail> {
+    let mut table = PageTable::new(rt.alloc(), &CONFIG, 0)?;
+    table.install(1, [1u8; 128].as_slice());
+    let store = Word::Store {
+        width: 2,
+        offset: 64,
+        value: 3,
+    };
+    assert_eq!(rt; table.number(1, store), 257);
+    Ok(())
+}
+
 #[test]
 fn eventcounts(rt: HostRuntime) {
     let mut bytes = [0u8; 64];
@@ -64,6 +86,7 @@ fn eventcounts(rt: HostRuntime) {
         Out::Done
     );
     assert_eq!(rt; least.carry_out(&mut bytes), Out::Value(1));
+    assert_eq!(rt; (least.width(), least.offset()), (8, 8));
 }
 
 #[test]
@@ -138,6 +161,7 @@ fn messages_are_put_off_in_order(rt: HostRuntime) -> Result<(), Fail> {
     match table.entry(0) {
         Entry::AwaitRead(waiting) => {
             assert_eq!(rt; waiting.put_offs(), [first, second].as_slice());
+            assert_eq!(rt; waiting.copied().put_offs(), [first, second].as_slice());
             assert_eq!(rt; (waiting.word(), waiting.call()), (word, 9));
             assert!(rt; !waiting.is_full());
         }

@@ -85,4 +85,17 @@ impl Waiting {
     {
         self.call
     }
+
+    /// The same word, call and messages.
+    pub fn copied(&self) -> Waiting
+        ensures { result ≡ self.now }
+    {
+        let mut put_off = ArrayVec::new();
+        put_off.try_extend_from_slice(&self.put_off).unwrap();
+        Waiting {
+            word: self.word,
+            call: self.call,
+            put_off,
+        }
+    }
 }

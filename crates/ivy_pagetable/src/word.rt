@@ -1,8 +1,8 @@
-ghost use Rattle.std.specs.Prelude.{◌≡◌, ◌+◌, ◌^◌, ◌≤◌, length, if◌then◌else◌, ◌==◌};
+ghost use Rattle.std.specs.Prelude.{◌≡◌, ◌+◌, ◌^◌, ◌<◌, ◌≤◌, length, All, if◌then◌else◌, ◌==◌};
 ghost use Rattle.byteorder.specs.Endian.{big_bytes};
 ghost use Rattle.ivy_model.specs.Legal.{IsWidth};
 ghost use Rattle.ivy_model.specs.Serves.{overwrite};
-ghost use Rattle.ivy_pagetable.specs.Words.{IsWord, needs_write, number_at, advanced, awaited, carried_out};
+ghost use Rattle.ivy_pagetable.specs.Words.{IsWord, needs_write, width_of, offset_of, number_at, advanced, awaited, carried_out};
 
 use byteorder::{BigEndian, ByteOrder};
 
@@ -46,6 +46,37 @@ impl Word {
             Word::Store { .. } | Word::Advance { .. } => true,
             Word::Load { .. } | Word::Count { .. } | Word::Await { .. } => false,
         }
+    }
+
+    /// Its number of bytes.
+    pub fn width(self) -> u8
+        ensures { result ≡ width_of self }
+    {
+        match self {
+            Word::Load { width, .. } | Word::Store { width, .. } => width,
+            Word::Count { .. } | Word::Advance { .. } | Word::Await { .. } => COUNT_WIDTH,
+        }
+    }
+
+    /// The place of its first byte in the page.
+    pub fn offset(self) -> u32
+        ensures { result ≡ offset_of self }
+    {
+        match self {
+            Word::Load { offset, .. }
+            | Word::Store { offset, .. }
+            | Word::Count { offset }
+            | Word::Advance { offset }
+            | Word::Await { offset, .. } => offset,
+        }
+    }
+
+    pub(crate) fn number(self, bytes: &[u8]) -> u64
+        requires { IsWord (length bytes.now) self }
+        ensures number { result ≡ number_at (width_of self) (offset_of self) bytes.now }
+        ensures fact { All (λ b. b < 256) bytes.now }
+    {
+        number_at(bytes, self.width(), self.offset())
     }
 
     /// Carries the word out on the bytes of its page.

@@ -1,6 +1,9 @@
-use Rattle.std.proofs.Common.{rules, ◌≡◌, ◌≢◌, List, ◌++◌, ◌∷◌, [], None, ap, ◌∙◌}
+use Rattle.std.proofs.Common.{rules, ◌≡◌, ◌≢◌, List, ◌++◌, ◌∷◌, [], None, sym, refl, ap, ◌∙◌}
 use Rattle.ivy_link.specs.declared.Verdict.TheVariants as verdict
+use Rattle.ivy_link.specs.Linked.{Linked}
+use Rattle.ivy_link.specs.Accepted.{accepted}
 use Rattle.ivy_ether.specs.Marks.{Mark, Delivery}
+use Rattle.ivy_node.specs.Outboxes.{Outbox, with_link}
 use Rattle.ivy_node.specs.Sites.{IsSpentDelivery, host_of}
 use Rattle.ivy_node.proofs.Tame.{err_there}
 use Rattle.ivy_node.proofs.Delivering.{IsHeard, spent_reading, not_mine, spent_message, heard_quietly, heard_message, heard_delivers, heard_site, heard_few}
@@ -17,7 +20,7 @@ module _ (g : Over) (c : After-accept g) where
   heard = elim c.if-eq-2.branch [
     | then-eq-2+in-Some+in_ok-handle w ↦
         let next : c.offer-verdict.result ≡ verdict.Next = search rules in
-        rw w.self-inside-is (heard_message _ c.in_ok-frame.frame c.offer-verdict.result w.in-Some.message _ _ next w.in-Some.is w.in_ok-handle.ensures.ok w.in_ok-handle.ensures.took w.in_ok-handle.ensures.few w.in_ok-handle.ensures.posted)
+        rw w.self-inside-is (heard_message _ c.in_ok-frame.frame c.offer-verdict.result w.in-Some.message _ _ next (sym w.take.ensures.value ∙ w.in-Some.is) w.in_ok-handle.ensures.ok w.in_ok-handle.ensures.took w.in_ok-handle.ensures.few w.in_ok-handle.ensures.posted)
     | then-eq-2+in_default w ↦
         let none : c.in_ok-frame.frame.body ≡ None = search rules in
         rw w.self-inside-is (heard_quietly _ c.in_ok-frame.frame c.offer-verdict.result apart (λ n. none))
@@ -25,6 +28,18 @@ module _ (g : Over) (c : After-accept g) where
         let other : c.offer-verdict.result ≢ verdict.Next = search rules in
         rw w.self-inside-is (heard_quietly _ c.in_ok-frame.frame c.offer-verdict.result apart (λ n. absurd (other n)))
   ]
+
+  -- the frame is accepted without its message, of which nothing is read then
+  without_body : (l : Linked) → accepted l c.if-eq-2.frame ≡ accepted l c.in_ok-frame.frame
+  without_body l = elim c.if-eq-2.branch [
+    | then-eq-2+in-Some+in_ok-handle w ↦ rw w.frame-is refl
+    | then-eq-2+in_default w ↦ rw w.frame-is refl
+    | else-eq-2 w ↦ rw w.frame-is refl
+  ]
+
+  accepts : (new : Outbox) → new ≡ with_link c.if-eq-2.self-inside.outbox (accepted c.if-eq-2.self-inside.outbox.link c.if-eq-2.frame)
+      → new ≡ with_link c.if-eq-2.self-inside.outbox (accepted c.if-eq-2.self-inside.outbox.link c.in_ok-frame.frame)
+  accepts new is = is ∙ ap (with_link c.if-eq-2.self-inside.outbox) (without_body c.if-eq-2.self-inside.outbox.link)
 
 pub returns-in_err-frame-clause-spent : goal.returns-in_err-frame-clause-spent
 returns-in_err-frame-clause-spent g c =
@@ -42,11 +57,11 @@ returns-in_err-handle-clause-spent g c =
     let next : c.offer-verdict.result ≡ verdict.Next = search rules in
     err_there c.from_residual-in_err-handle.result (IsSpentDelivery c.args.self.now c.args.bytes.now) _ c.from_residual-in_err-handle.ensures.1
     (spent_message _ _ c.self.view_is c.config-config.result c.in_ok-frame.frame c.args.bytes.now c.offer-verdict.result
-    (record { config = c.config-config.ensures.is; limits = c.config-config.ensures.limits; spelled = c.in_ok-frame.ensures.found; is = c.offer-verdict.ensures }) next c.in-Some.message c.in-Some.is _ c.in_err-handle.ensures.fault)
+    (record { config = c.config-config.ensures.is; limits = c.config-config.ensures.limits; spelled = c.in_ok-frame.ensures.found; is = c.offer-verdict.ensures }) next c.in-Some.message (sym c.take.ensures.value ∙ c.in-Some.is) _ c.in_err-handle.ensures.fault)
 
 pub invariant_of-self-2 : goal.invariant_of-self-2
 invariant_of-self-2 g c =
-    heard_site _ c.in_ok-frame.frame c.offer-verdict.result _ _ c.accept.new.self c.push_delivery.new.self.marks c.self.invariant (heard g (goal.at.invariant_of-self-2 g c).After-accept) c.accept.ensures
+    heard_site _ c.in_ok-frame.frame c.offer-verdict.result _ _ c.accept.new.self c.push_delivery.new.self.marks c.self.invariant (heard g (goal.at.invariant_of-self-2 g c).After-accept) (accepts g (goal.at.invariant_of-self-2 g c).After-accept _ c.accept.ensures)
 
 pub returns-clause-done : goal.returns-clause-done
 returns-clause-done g c =
@@ -59,8 +74,8 @@ returns-clause-done g c =
     c.push_delivery.ensures ∙ (ap (λ (ms : List Mark). ms ++ Delivery c.in_ok-copy.copy ∷ []) kept ∙ ap (λ b. c.self.inside.events.marks ++ Delivery b ∷ []) c.in_ok-copy.ensures) in
     heard_delivers _ _ c.self.view_is c.config-config.result c.in_ok-frame.frame c.args.bytes.now c.offer-verdict.result
     (record { config = c.config-config.ensures.is; limits = c.config-config.ensures.limits; spelled = c.in_ok-frame.ensures.found; is = c.offer-verdict.ensures })
-    (apart g (goal.at.returns-clause-done g c).After-accept) _ _ c.accept.new.self c.push_delivery.new.self.marks (heard g (goal.at.returns-clause-done g c).After-accept) c.accept.ensures listed
+    (apart g (goal.at.returns-clause-done g c).After-accept) _ _ c.accept.new.self c.push_delivery.new.self.marks (heard g (goal.at.returns-clause-done g c).After-accept) (accepts g (goal.at.returns-clause-done g c).After-accept _ c.accept.ensures) listed
 
 pub returns-clause-few : goal.returns-clause-few
 returns-clause-few g c =
-    heard_few _ _ c.self.view_is c.in_ok-frame.frame c.offer-verdict.result _ _ c.accept.new.self (heard g (goal.at.returns-clause-few g c).After-accept) c.accept.ensures
+    heard_few _ _ c.self.view_is c.in_ok-frame.frame c.offer-verdict.result _ _ c.accept.new.self (heard g (goal.at.returns-clause-few g c).After-accept) (accepts g (goal.at.returns-clause-few g c).After-accept _ c.accept.ensures)

@@ -1,0 +1,83 @@
+-- What an access of this node's program comes to (Li and Hudak 1989): what the program is told, the state after, and
+-- what is posted, in order.
+use Rattle.std.specs.Prelude.{◌≡◌, ℕ, Bool, true, false, List, [], ◌∷◌, Option, Some, None, if◌then◌else◌}
+use Rattle.ivy_wire.specs.declared.Content.TheVariants as content
+use Rattle.ivy_wire.specs.Data.{Parcel}
+use Rattle.ivy_pagetable.specs.declared.Access.{Access}
+use Rattle.ivy_pagetable.specs.declared.Entry.{Entry}
+use Rattle.ivy_pagetable.specs.declared.Entry.TheVariants as entry
+use Rattle.ivy_pagetable.specs.declared.Word.{Word}
+use Rattle.ivy_pagetable.specs.States.{IdleState, WaitingState}
+use Rattle.ivy_pagetable.specs.Accesses.{reads, writes}
+use Rattle.ivy_pagetable.specs.TableState.{Table}
+use Rattle.ivy_pagetable.specs.Tables.{entry_at, page_at, with_entry, with_page}
+use Rattle.ivy_pagetable.specs.Words.{carried_out, needs_write}
+use Rattle.ivy_pagetable.specs.Manager.{Ops}
+use Rattle.ivy_coherence.specs.declared.need.Need.{Need}
+use Rattle.ivy_coherence.specs.declared.need.Need.TheVariants.{Have, Started, Busy}
+use Rattle.ivy_coherence.specs.Coherent.{Coherent}
+use Rattle.ivy_coherence.specs.Serving.{parcel_to}
+use Rattle.ivy_coherence.specs.Steps.{invalidations}
+
+pub record Begun (S : Type 0) : Type 0 where
+  pub need : Need
+  pub after : Coherent S
+  pub posted : List Parcel
+
+abbrev pub suffices : Access → Word → Bool
+suffices access word = if needs_write word then writes access else reads access
+
+-- no word waits for the page
+abbrev pub IsIdleAt : Table → ℕ → IdleState → Type 0
+IsIdleAt t page s = entry_at t page ≡ entry.Idle s
+
+-- the word of this call, and nothing put off yet
+abbrev pub waiting_from : Word → ℕ → WaitingState
+waiting_from word call = record { word = word; call = call; put_off = [] }
+
+-- the entry that it waits at
+abbrev pub fault_entry : Word → ℕ → IdleState → Entry
+fault_entry word call s =
+    if needs_write word
+    then (if s.owner then entry.AwaitAcks (record { left = s.copies; waiting = waiting_from word call }) else entry.AwaitWrite (record { had_copy = reads s.access; waiting = waiting_from word call }))
+    else entry.AwaitRead (waiting_from word call)
+
+module _ {S : Type 0} (ops : Ops S) where
+  abbrev pub busy : Coherent S → Begun S
+  busy c = record { need = Busy; after = c; posted = [] }
+
+  -- access suffices: the word is carried out at once
+  abbrev pub hit : Coherent S → ℕ → Word → Begun S
+  hit c page word =
+      let carried = carried_out word (page_at c.table page) in
+      record { need = Have carried.out; after = record c { table = with_page c.table page carried.bytes }; posted = [] }
+
+  -- A read fault: a copy is asked for where the owner is believed to be. A write fault: the owner tells those that
+  -- have a copy to give it up, another node asks for the page.
+  abbrev pub fault_posted : Coherent S → ℕ → Word → ℕ → IdleState → List Parcel
+  fault_posted c page word call s =
+      if needs_write word
+      then (if s.owner then invalidations c.me page call s.copies else parcel_to c.me (ops.next_hop c.manager page) c.me call (content.WriteReq page) ∷ [])
+      else parcel_to c.me (ops.next_hop c.manager page) c.me call (content.ReadReq page) ∷ []
+
+  -- the word waits then
+  abbrev pub faulted : Coherent S → ℕ → Word → ℕ → IdleState → Begun S
+  faulted c page word call s = record {
+    need = Started;
+    after = record c { table = with_entry c.table page (fault_entry word call s); locked = Some page };
+    posted = fault_posted c page word call s;
+  }
+
+  abbrev pub accessed : Coherent S → ℕ → Word → ℕ → Entry → Begun S
+  accessed c page word call (entry.Idle s) =
+      if suffices s.access word then hit c page word else faulted c page word call s
+  accessed c page word call (entry.AwaitRead s) = busy c
+  accessed c page word call (entry.AwaitWrite s) = busy c
+  accessed c page word call (entry.AwaitAcks s) = busy c
+
+  abbrev pub begun_at : Coherent S → ℕ → Word → ℕ → Option ℕ → Begun S
+  begun_at c page word call None = accessed c page word call (entry_at c.table page)
+  begun_at c page word call (Some locked) = busy c
+
+  unfoldable pub begun : Coherent S → ℕ → Word → ℕ → Begun S
+  begun c page word call = begun_at c page word call c.locked

@@ -1,0 +1,478 @@
+//! Messages of other nodes.
+ghost use Rattle.std.specs.FinSet as set;
+ghost use Rattle.std.specs.Prelude.{◌≡◌, ◌≢◌, ◌<◌, ◌≤◌, ◌^◌, ℕ, true, false, Some, None, OnOk, OnErr, IfErr, length};
+ghost use Rattle.ivy_model.specs.Wants.{IsWant};
+ghost use Rattle.ivy_wire.specs.Spelling.{FitsMessage};
+ghost use Rattle.ivy_pagetable.specs.Entries.{owning};
+ghost use Rattle.ivy_pagetable.specs.Tables.{entry_at, page_at};
+ghost use Rattle.ivy_pagetable.specs.NodeSets.{IsBelow};
+ghost use Rattle.ivy_coherence.specs.Sound.{CanBeServed, AreOthers};
+ghost use Rattle.ivy_coherence.specs.Steps.{IsWaiting, IsCollecting, is_none, unlocked_as, unlocked, put_aside, given_up, asked, copy_came, owned_with, page_came, left_with, acknowledged, handled};
+
+use crate::coherence::Coherence;
+use crate::serving::{Place, count, invalidate, post_one, settle};
+use ivy_model::Fault;
+use ivy_pagetable::{
+    Access, AwaitAcks, AwaitWrite, Entry, Idle, Manager, NodeSet, PutOff, Request, Waiting, Word,
+};
+use ivy_wire::{Content, Message, Page, Post};
+use std::alloc::Allocator;
+
+/// The entry once the page, or a copy, came.
+fn unlocked_as(write: bool) -> Idle
+    ensures { result ≡ unlocked_as write }
+{
+    if write {
+        Idle::owned()
+    } else {
+        Idle::plain(Access::Read)
+    }
+}
+
+/// Whether the set has no node.
+fn is_none(nodes: &NodeSet) -> bool
+    ensures none { result ≡ is_none nodes.now }
+    ensures some { result ≡ false → nodes.now ≢ set.empty }
+{
+    nodes.is_empty()
+}
+
+impl<M: Manager, A: Allocator> Coherence<M, A> {
+    /// A request of another node for a copy or for the page, or its order to give a copy up.
+    fn asked<P: Post>(&mut self, page: u32, message: PutOff, post: &mut P) -> Result<(), Fault>
+        requires page { page < self.old.config.pages }
+        requires message { CanBeServed self.old.config self.old.me message }
+        requires config { P.config post.old ≡ self.old.config }
+        requires node { P.node post.old ≡ self.old.me }
+        ensures ok { OnOk result (self.new ≡ (asked M.ops self.old page message (entry_at self.old.table page)).after) }
+        ensures posted { OnOk result (post.new ≡ P.after post.old (asked M.ops self.old page message (entry_at self.old.table page)).posted) }
+        ensures err { OnErr result ((self.new ≡ self.old) × (post.new ≡ post.old)) }
+        ensures took { OnOk result (P.takes post.old (asked M.ops self.old page message (entry_at self.old.table page)).posted) }
+        ensures fault { IfErr result (P.refuses post.old (asked M.ops self.old page message (entry_at self.old.table page)).posted) }
+        ensures want { IfErr result IsWant }
+    {
+        match self.table.entry(page) {
+            Entry::Idle(idle) => {
+                let at = Place {
+                    me: self.me,
+                    from: message.origin,
+                    page,
+                    bytes: self.table.page(page),
+                };
+                let idle = idle.copied();
+                let breaches = &mut self.breaches;
+                let after = settle(
+                    at,
+                    None,
+                    idle,
+                    &mut self.manager,
+                    breaches,
+                    &[message],
+                    post,
+                )?;
+                self.table.set_entry(page, Entry::Idle(after));
+            }
+            Entry::AwaitRead(_) => self.put_aside(page, message),
+            Entry::AwaitWrite(state) => {
+                if message.kind == Request::Invalidate {
+                    let waiting = state.waiting().copied();
+                    self.give_up(page, waiting, message, post)?;
+                } else {
+                    self.put_aside(page, message);
+                }
+            }
+            Entry::AwaitAcks(_) => {
+                if message.kind == Request::Invalidate {
+                    count(&mut self.breaches);
+                } else {
+                    self.put_aside(page, message);
+                }
+            }
+        }
+        Ok(())
+    }
+
+    /// At a locked entry a message waits until it is unlocked.
+    fn put_aside(&mut self, page: u32, message: PutOff)
+        requires page { page < self.old.config.pages }
+        requires message { CanBeServed self.old.config self.old.me message }
+        ensures { self.new ≡ (put_aside M.ops self.old page (entry_at self.old.table page) message).after }
+    {
+        if !self.table.put_off(page, message) {
+            count(&mut self.breaches);
+        }
+    }
+
+    /// A node that waits to write gives up at once the copy that it had.
+    fn give_up<P: Post>(
+        &mut self,
+        page: u32,
+        waiting: Waiting,
+        message: PutOff,
+        post: &mut P,
+    ) -> Result<(), Fault>
+        requires page { page < self.old.config.pages }
+        requires message { CanBeServed self.old.config self.old.me message }
+        requires waits { IsWaiting (entry_at self.old.table page) true waiting }
+        requires config { P.config post.old ≡ self.old.config }
+        requires node { P.node post.old ≡ self.old.me }
+        ensures ok { OnOk result (self.new ≡ (given_up M.ops self.old page waiting message).after) }
+        ensures posted { OnOk result (post.new ≡ P.after post.old (given_up M.ops self.old page waiting message).posted) }
+        ensures err { OnErr result ((self.new ≡ self.old) × (post.new ≡ post.old)) }
+        ensures took { OnOk result (P.takes post.old (given_up M.ops self.old page waiting message).posted) }
+        ensures fault { IfErr result (P.refuses post.old (given_up M.ops self.old page waiting message).posted) }
+        ensures want { IfErr result IsWant }
+    {
+        let PutOff { origin, call, .. } = message;
+        post_one(
+            post,
+            self.me,
+            origin,
+            origin,
+            call,
+            Content::InvalAck { page },
+        )?;
+        let entry = Entry::AwaitWrite(AwaitWrite::new(false, waiting));
+        self.table.set_entry(page, entry);
+        self.manager.on_invalidated(page, origin);
+        Ok(())
+    }
+
+    /// The page's bytes come for the word that waits, to read or to write. The word is carried out on them, and
+    /// what was put off is served.
+    fn unlock<P: Post>(
+        &mut self,
+        from: u8,
+        page: u32,
+        write: bool,
+        waiting: &Waiting,
+        bytes: &mut [u8],
+        post: &mut P,
+    ) -> Result<(), Fault>
+        requires from { from < self.old.config.nodes }
+        requires foreign { from ≢ self.old.me }
+        requires page { page < self.old.config.pages }
+        requires sized { length bytes.old ≡ self.old.config.page_size }
+        requires waits { IsWaiting (entry_at self.old.table page) write waiting.now }
+        requires config { P.config post.old ≡ self.old.config }
+        requires node { P.node post.old ≡ self.old.me }
+        ensures ok { OnOk result (self.new ≡ (unlocked M.ops self.old from page (unlocked_as write) (Some write) bytes.old waiting.now).after) }
+        ensures posted { OnOk result (post.new ≡ P.after post.old (unlocked M.ops self.old from page (unlocked_as write) (Some write) bytes.old waiting.now).posted) }
+        ensures err { OnErr result ((self.new ≡ self.old) × (post.new ≡ post.old)) }
+        ensures took { OnOk result (P.takes post.old (unlocked M.ops self.old from page (unlocked_as write) (Some write) bytes.old waiting.now).posted) }
+        ensures fault { IfErr result (P.refuses post.old (unlocked M.ops self.old from page (unlocked_as write) (Some write) bytes.old waiting.now).posted) }
+        ensures want { IfErr result IsWant }
+    {
+        let me = self.me;
+        let out = waiting.word().carry_out(bytes);
+        let at = Place {
+            me,
+            from,
+            page,
+            bytes,
+        };
+        let idle = unlocked_as(write);
+        let breaches = &mut self.breaches;
+        let messages = waiting.put_offs();
+        let reply = Some(write);
+        let after = settle(at, reply, idle, &mut self.manager, breaches, messages, post)?;
+        self.table.set_entry(page, Entry::Idle(after));
+        self.table.install(page, bytes);
+        self.done = Some(out);
+        self.locked = None;
+        Ok(())
+    }
+
+    /// A copy comes for the word that waits to read.
+    fn copy_came<P: Post>(
+        &mut self,
+        from: u8,
+        call: u64,
+        page: u32,
+        bytes: &mut [u8],
+        post: &mut P,
+    ) -> Result<(), Fault>
+        requires from { from < self.old.config.nodes }
+        requires foreign { from ≢ self.old.me }
+        requires page { page < self.old.config.pages }
+        requires sized { length bytes.old ≡ self.old.config.page_size }
+        requires config { P.config post.old ≡ self.old.config }
+        requires node { P.node post.old ≡ self.old.me }
+        ensures ok { OnOk result (self.new ≡ (copy_came M.ops self.old from call page bytes.old (entry_at self.old.table page)).after) }
+        ensures posted { OnOk result (post.new ≡ P.after post.old (copy_came M.ops self.old from call page bytes.old (entry_at self.old.table page)).posted) }
+        ensures err { OnErr result ((self.new ≡ self.old) × (post.new ≡ post.old)) }
+        ensures took { OnOk result (P.takes post.old (copy_came M.ops self.old from call page bytes.old (entry_at self.old.table page)).posted) }
+        ensures fault { IfErr result (P.refuses post.old (copy_came M.ops self.old from call page bytes.old (entry_at self.old.table page)).posted) }
+        ensures want { IfErr result IsWant }
+    {
+        match self.table.entry(page) {
+            Entry::AwaitRead(waiting) if waiting.call() == call => {
+                let waiting = waiting.copied();
+                self.unlock(from, page, false, &waiting, bytes, post)?;
+            }
+            _ => count(&mut self.breaches),
+        }
+        Ok(())
+    }
+
+    /// The page itself comes, with the nodes that have a copy.
+    fn page_came<P: Post>(
+        &mut self,
+        from: u8,
+        call: u64,
+        page: u32,
+        copies: NodeSet,
+        bytes: &mut [u8],
+        post: &mut P,
+    ) -> Result<(), Fault>
+        requires from { from < self.old.config.nodes }
+        requires foreign { from ≢ self.old.me }
+        requires page { page < self.old.config.pages }
+        requires sized { length bytes.old ≡ self.old.config.page_size }
+        requires call { 1 ≤ call }
+        requires copies { IsBelow self.old.config.nodes copies }
+        requires config { P.config post.old ≡ self.old.config }
+        requires node { P.node post.old ≡ self.old.me }
+        ensures ok { OnOk result (self.new ≡ (page_came M.ops self.old from call page copies bytes.old (entry_at self.old.table page)).after) }
+        ensures posted { OnOk result (post.new ≡ P.after post.old (page_came M.ops self.old from call page copies bytes.old (entry_at self.old.table page)).posted) }
+        ensures err { OnErr result ((self.new ≡ self.old) × (post.new ≡ post.old)) }
+        ensures took { OnOk result (P.takes post.old (page_came M.ops self.old from call page copies bytes.old (entry_at self.old.table page)).posted) }
+        ensures fault { IfErr result (P.refuses post.old (page_came M.ops self.old from call page copies bytes.old (entry_at self.old.table page)).posted) }
+        ensures want { IfErr result IsWant }
+    {
+        match self.table.entry(page) {
+            Entry::AwaitWrite(state)
+                if state.waiting().call() == call && !copies.contains(self.me) => {
+                let waiting = state.waiting().copied();
+                self.owned_with(from, call, page, copies, waiting, bytes, post)?;
+            }
+            _ => count(&mut self.breaches),
+        }
+        Ok(())
+    }
+
+    /// The page is this node's, and these nodes have a copy: they give it up before the word is carried out.
+    fn owned_with<P: Post>(
+        &mut self,
+        from: u8,
+        call: u64,
+        page: u32,
+        copies: NodeSet,
+        waiting: Waiting,
+        bytes: &mut [u8],
+        post: &mut P,
+    ) -> Result<(), Fault>
+        requires from { from < self.old.config.nodes }
+        requires foreign { from ≢ self.old.me }
+        requires page { page < self.old.config.pages }
+        requires sized { length bytes.old ≡ self.old.config.page_size }
+        requires call { 1 ≤ call }
+        requires below { IsBelow self.old.config.nodes copies }
+        requires apart { set.contains copies self.old.me ≡ false }
+        requires waits { IsWaiting (entry_at self.old.table page) true waiting }
+        requires config { P.config post.old ≡ self.old.config }
+        requires node { P.node post.old ≡ self.old.me }
+        ensures ok { OnOk result (self.new ≡ (owned_with M.ops self.old from call page copies bytes.old waiting).after) }
+        ensures posted { OnOk result (post.new ≡ P.after post.old (owned_with M.ops self.old from call page copies bytes.old waiting).posted) }
+        ensures err { OnErr result ((self.new ≡ self.old) × (post.new ≡ post.old)) }
+        ensures took { OnOk result (P.takes post.old (owned_with M.ops self.old from call page copies bytes.old waiting).posted) }
+        ensures fault { IfErr result (P.refuses post.old (owned_with M.ops self.old from call page copies bytes.old waiting).posted) }
+        ensures want { IfErr result IsWant }
+    {
+        if is_none(&copies) {
+            self.unlock(from, page, true, &waiting, bytes, post)?;
+            return Ok(());
+        }
+        invalidate(self.me, page, call, &copies, post)?;
+        self.manager.on_replied(page, true, from);
+        let entry = Entry::AwaitAcks(AwaitAcks::new(copies, waiting));
+        self.table.set_entry(page, entry);
+        self.table.install(page, bytes);
+        Ok(())
+    }
+
+    /// A copy was given up.
+    fn acknowledged<P: Post>(
+        &mut self,
+        from: u8,
+        call: u64,
+        page: u32,
+        post: &mut P,
+    ) -> Result<(), Fault>
+        requires from { from < self.old.config.nodes }
+        requires foreign { from ≢ self.old.me }
+        requires page { page < self.old.config.pages }
+        requires config { P.config post.old ≡ self.old.config }
+        requires node { P.node post.old ≡ self.old.me }
+        ensures ok { OnOk result (self.new ≡ (acknowledged M.ops self.old from call page (entry_at self.old.table page)).after) }
+        ensures posted { OnOk result (post.new ≡ P.after post.old (acknowledged M.ops self.old from call page (entry_at self.old.table page)).posted) }
+        ensures err { OnErr result ((self.new ≡ self.old) × (post.new ≡ post.old)) }
+        ensures took { OnOk result (P.takes post.old (acknowledged M.ops self.old from call page (entry_at self.old.table page)).posted) }
+        ensures fault { IfErr result (P.refuses post.old (acknowledged M.ops self.old from call page (entry_at self.old.table page)).posted) }
+        ensures want { IfErr result IsWant }
+    {
+        match self.table.entry(page) {
+            Entry::AwaitAcks(state)
+                if state.waiting().call() == call && state.left().contains(from) => {
+                let waiting = state.waiting().copied();
+                let mut left = state.left().copied();
+                left.remove(from);
+                self.left_with(from, page, left, waiting, post)?;
+            }
+            _ => count(&mut self.breaches),
+        }
+        Ok(())
+    }
+
+    /// The acknowledgements of these nodes are missing still; with the last one the word is carried out.
+    fn left_with<P: Post>(
+        &mut self,
+        from: u8,
+        page: u32,
+        left: NodeSet,
+        waiting: Waiting,
+        post: &mut P,
+    ) -> Result<(), Fault>
+        requires from { from < self.old.config.nodes }
+        requires foreign { from ≢ self.old.me }
+        requires page { page < self.old.config.pages }
+        requires left { AreOthers self.old.config self.old.me left }
+        requires waits { IsCollecting (entry_at self.old.table page) waiting }
+        requires config { P.config post.old ≡ self.old.config }
+        requires node { P.node post.old ≡ self.old.me }
+        ensures ok { OnOk result (self.new ≡ (left_with M.ops self.old from page left waiting).after) }
+        ensures posted { OnOk result (post.new ≡ P.after post.old (left_with M.ops self.old from page left waiting).posted) }
+        ensures err { OnErr result ((self.new ≡ self.old) × (post.new ≡ post.old)) }
+        ensures took { OnOk result (P.takes post.old (left_with M.ops self.old from page left waiting).posted) }
+        ensures fault { IfErr result (P.refuses post.old (left_with M.ops self.old from page left waiting).posted) }
+        ensures want { IfErr result IsWant }
+    {
+        if is_none(&left) {
+            self.write(from, page, &waiting, post)?;
+            return Ok(());
+        }
+        let entry = Entry::AwaitAcks(AwaitAcks::new(left, waiting));
+        self.table.set_entry(page, entry);
+        Ok(())
+    }
+
+    /// The last copy was given up: the word is carried out on the page here, and what was put off is served.
+    /// Where that is refused, the number that stood there is put back.
+    fn write<P: Post>(
+        &mut self,
+        from: u8,
+        page: u32,
+        waiting: &Waiting,
+        post: &mut P,
+    ) -> Result<(), Fault>
+        requires from { from < self.old.config.nodes }
+        requires foreign { from ≢ self.old.me }
+        requires page { page < self.old.config.pages }
+        requires waits { IsCollecting (entry_at self.old.table page) waiting.now }
+        requires config { P.config post.old ≡ self.old.config }
+        requires node { P.node post.old ≡ self.old.me }
+        ensures ok { OnOk result (self.new ≡ (unlocked M.ops self.old from page owning None (page_at self.old.table page) waiting.now).after) }
+        ensures posted { OnOk result (post.new ≡ P.after post.old (unlocked M.ops self.old from page owning None (page_at self.old.table page) waiting.now).posted) }
+        ensures err { OnErr result ((self.new ≡ self.old) × (post.new ≡ post.old)) }
+        ensures took { OnOk result (P.takes post.old (unlocked M.ops self.old from page owning None (page_at self.old.table page) waiting.now).posted) }
+        ensures fault { IfErr result (P.refuses post.old (unlocked M.ops self.old from page owning None (page_at self.old.table page) waiting.now).posted) }
+        ensures want { IfErr result IsWant }
+    {
+        let word = waiting.word();
+        let before = Word::Store {
+            width: word.width(),
+            offset: word.offset(),
+            value: self.table.number(page, word),
+        };
+        let out = self.table.carry_out(page, word);
+        let at = Place {
+            me: self.me,
+            from,
+            page,
+            bytes: self.table.page(page),
+        };
+        let breaches = &mut self.breaches;
+        let messages = waiting.put_offs();
+        match settle(
+            at,
+            None,
+            Idle::owned(),
+            &mut self.manager,
+            breaches,
+            messages,
+            post,
+        ) {
+            Ok(after) => self.table.set_entry(page, Entry::Idle(after)),
+            Err(fault) => {
+                let _ = self.table.carry_out(page, before);
+                return Err(fault);
+            }
+        }
+        self.done = Some(out);
+        self.locked = None;
+        Ok(())
+    }
+
+    #[tactic(auto, unfolding(crate::specs::Steps::handled))]
+    /// A message that comes from another node [1, 17]. One that fits no rule is counted, and changes
+    /// nothing else.
+    ///
+    /// The message fits the configuration, and `from` is another one of its nodes.
+    pub fn handle<P: Post>(
+        &mut self,
+        from: u8,
+        message: Message<Page<A>>,
+        post: &mut P,
+    ) -> Result<(), Fault>
+        requires from { from < self.old.config.nodes }
+        requires foreign { from ≢ self.old.me }
+        requires fits { FitsMessage self.old.config message }
+        requires config { P.config post.old ≡ self.old.config }
+        requires node { P.node post.old ≡ self.old.me }
+        ensures ok { OnOk result (self.new ≡ (handled M.ops self.old from message).after) }
+        ensures few { length (handled M.ops self.old from message).posted ≤ 8 }
+        ensures posted { OnOk result (post.new ≡ P.after post.old (handled M.ops self.old from message).posted) }
+        ensures err { OnErr result ((self.new ≡ self.old) × (post.new ≡ post.old)) }
+        ensures took { OnOk result (P.takes post.old (handled M.ops self.old from message).posted) }
+        ensures fault { IfErr result (P.refuses post.old (handled M.ops self.old from message).posted) }
+        ensures want { IfErr result IsWant }
+    {
+        self.sound();
+        let Message {
+            origin,
+            call,
+            content,
+        } = message;
+        let mine = origin == self.me;
+        match content {
+            Content::ReadReq { page } if !mine => {
+                let kind = Request::Read;
+                self.asked(page, PutOff { kind, origin, call }, post)?;
+            }
+            Content::WriteReq { page } if !mine => {
+                let kind = Request::Write;
+                self.asked(page, PutOff { kind, origin, call }, post)?;
+            }
+            Content::Inval { page } if origin == from => {
+                let kind = Request::Invalidate;
+                self.asked(page, PutOff { kind, origin, call }, post)?;
+            }
+            Content::ReadRep { page, bytes } if mine => {
+                self.copy_came(from, call, page, &mut bytes.into_bytes(), post)?;
+            }
+            Content::WriteRep {
+                page,
+                copies,
+                bytes,
+            } if mine => {
+                let copies = NodeSet::from_bits(copies);
+                self.page_came(from, call, page, copies, &mut bytes.into_bytes(), post)?;
+            }
+            Content::InvalAck { page } if mine => {
+                self.acknowledged(from, call, page, post)?;
+            }
+            _ => count(&mut self.breaches),
+        }
+        Ok(())
+    }
+}
