@@ -1,1 +1,4 @@
 pub mod Printed
+pub mod Nodes
+pub mod Drawn
+pub mod UnderWay

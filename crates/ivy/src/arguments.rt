@@ -34,6 +34,13 @@ pub enum Request<'a> {
         schedule: &'a str,
         settings: Settings,
     },
+    /// Runs the programs of a file by so many moves, which the generator of a seed draws.
+    Sim {
+        file: &'a str,
+        seed: u64,
+        moves: u64,
+        settings: Settings,
+    },
 }
 
 /// The options of `run` beside those of every configuration, and the number that stands for a
@@ -43,6 +50,14 @@ const TURNS: (&str, u64) = ("turns", 100_000_000);
 const CAPACITY: (&str, u64) = ("capacity", 256);
 
 const PULSE: (&str, u64) = ("pulse", 1024);
+
+/// The options of `sim` beside those of every configuration.
+const SEED: (&str, u64) = ("seed", 1);
+
+const MOVES: (&str, u64) = ("moves", 10_000);
+
+/// How many moves can be asked for.
+const MOST_MOVES: u64 = 1_000_000;
 
 const PAGES: (&str, u64) = ("pages", 16);
 
@@ -77,10 +92,14 @@ fn command<'a>(alloc: Global) -> Result<Command<'a>, AllocError> {
         .arg(option(alloc, CAPACITY.0))?
         .arg(option(alloc, PULSE.0))?;
     let step = subcommand(alloc, "step")?.arg(file(alloc, SCHEDULE))?;
+    let sim = subcommand(alloc, "sim")?
+        .arg(option(alloc, SEED.0))?
+        .arg(option(alloc, MOVES.0))?;
     Command::new(alloc, "ivy")
         .subcommand_required(true)
         .subcommand(run)?
-        .subcommand(step)
+        .subcommand(step)?
+        .subcommand(sim)
 }
 
 /// The word that a required argument was given.
@@ -134,6 +153,19 @@ fn step_of<'a>(matches: &ArgMatches<'a>) -> Result<Request<'a>, Failure<'a>> {
     })
 }
 
+fn sim_of<'a>(matches: &ArgMatches<'a>) -> Result<Request<'a>, Failure<'a>> {
+    let moves = number_of(matches, MOVES)?;
+    if moves > MOST_MOVES {
+        return Err(Failure::BadCommandLine);
+    }
+    Ok(Request::Sim {
+        file: word_of(matches, FILE)?,
+        seed: number_of(matches, SEED)?,
+        moves,
+        settings: settings_of(matches)?,
+    })
+}
+
 impl<'a> Request<'a> {
     /// What the words ask for. The first is the program's name.
     ///
@@ -143,6 +175,7 @@ impl<'a> Request<'a> {
         match matches.subcommand() {
             Some(("run", matches)) => run_of(matches),
             Some(("step", matches)) => step_of(matches),
+            Some(("sim", matches)) => sim_of(matches),
             _ => Err(Failure::BadCommandLine),
         }
     }

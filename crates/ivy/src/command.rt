@@ -6,6 +6,7 @@ use crate::failure::Failure;
 use crate::print::{print_ends, print_outputs};
 use crate::rounds::run_in_rounds;
 use crate::schedule::parse_schedule;
+use crate::simulation::run_drawn;
 use crate::texts::Texts;
 use crate::trace::trace_moves;
 use ivy_node::{World, parse};
@@ -26,7 +27,7 @@ fn run<'a, T: Texts, W: Write>(
     let programs = parse(alloc, text_of(files, file)?.as_str())?;
     let config = settings.config(programs.len())?;
     let mut world = World::new(alloc, config, programs)?;
-    run_in_rounds(alloc, &config, &mut world, turns)?;
+    run_in_rounds(&config, &mut world, turns)?;
     print_outputs(&world, out)?;
     Ok(())
 }
@@ -42,7 +43,23 @@ fn step<'a, T: Texts, W: Write>(
     let moves = parse_schedule(alloc, text_of(files, schedule)?.as_str())?;
     let config = settings.config(programs.len())?;
     let mut world = World::new(alloc, config, programs)?;
-    trace_moves(alloc, &config, &mut world, &moves, out)?;
+    trace_moves(&config, &mut world, &moves, out)?;
+    print_outputs(&world, out)?;
+    print_ends(&world, out)?;
+    Ok(())
+}
+
+/// Runs the programs of a file by moves that the generator of a seed draws, and prints what they printed.
+fn sim<'a, T: Texts, W: Write>(
+    alloc: Global,
+    (file, seed, moves, settings): (&'a str, u64, u64, Settings),
+    files: &T,
+    out: &mut W,
+) -> Result<(), Failure<'a>> {
+    let programs = parse(alloc, text_of(files, file)?.as_str())?;
+    let config = settings.config(programs.len())?;
+    let mut world = World::new(alloc, config, programs)?;
+    run_drawn(&config, &mut world, seed, moves)?;
     print_outputs(&world, out)?;
     print_ends(&world, out)?;
     Ok(())
@@ -66,6 +83,12 @@ fn carry_out<'a, T: Texts, W: Write>(
             schedule,
             settings,
         } => step(alloc, (file, schedule, settings), files, out),
+        Request::Sim {
+            file,
+            seed,
+            moves,
+            settings,
+        } => sim(alloc, (file, seed, moves, settings), files, out),
     }
 }
 

@@ -6,10 +6,17 @@
 
 mod arguments;
 mod command;
+mod draw;
+#[cfg(test)]
+mod draws;
+#[cfg(test)]
+mod examples;
 mod failure;
+mod moves;
 mod print;
 mod rounds;
 mod schedule;
+mod simulation;
 #[cfg(test)]
 mod tests;
 mod texts;

@@ -1,5 +1,7 @@
 //! What is printed of calls, replies, moves and nodes.
-ghost use Rattle.std.specs.Prelude.{Some, decimal};
+ghost use Rattle.std.specs.Prelude.{◌≡◌, Some, OnOk, decimal, flat_map, length};
+ghost use Rattle.std.specs.Io.KnownBytes.{Appends};
+ghost use Rattle.ivy.specs.Nodes.{value_line, end_line, outputs_text, ends_text};
 ghost use Rattle.ivy.specs.Printed.{call_text, reply_text, record_text, move_text};
 
 use itoa::Buffer;
@@ -114,29 +116,43 @@ pub fn kind_name(kind: FrameKind) -> &'static str {
     }
 }
 
-/// Prints a line for each value that each program printed, by node.
-pub fn print_outputs<A: Allocator + Copy, W: Write>(
-    world: &World<A>,
-    out: &mut W,
-) -> io::Result<()> {
-    for node in 0..world.nodes() {
-        print_output(node, world.output(node), out)?;
-    }
-    Ok(())
-}
-
-fn print_output<W: Write>(node: u64, output: &[u64], out: &mut W) -> io::Result<()> {
+fn print_output<W: Write>(node: u64, output: &[u64], out: &mut W) -> io::Result<()>
+    ensures { OnOk result (Appends (W.contents out.old) (W.contents out.new) (flat_map (value_line node) output.now)) }
+{
     for value in output {
         writeln!(out, "node {}: {}", Decimal(node), Decimal(*value))?;
     }
     Ok(())
 }
 
-/// Prints a line for each node, which says whether its program has ended.
-pub fn print_ends<A: Allocator + Copy, W: Write>(world: &World<A>, out: &mut W) -> io::Result<()> {
+/// Prints a line for each value that each program printed, by node.
+pub fn print_outputs<A: Allocator + Copy, W: Write>(world: &World<A>, out: &mut W) -> io::Result<()>
+    requires { length world.now.world.nodes ≡ world.now.config.nodes }
+    ensures { OnOk result (Appends (W.contents out.old) (W.contents out.new) (outputs_text world.now.world.nodes)) }
+{
     for node in 0..world.nodes() {
-        let end = if world.ended(node) { "ended" } else { "open" };
-        writeln!(out, "node {} {end}", Decimal(node))?;
+        print_output(node, world.output(node), out)?;
+    }
+    Ok(())
+}
+
+fn print_end<W: Write>(node: u64, has_ended: bool, out: &mut W) -> io::Result<()>
+    ensures { OnOk result (Appends (W.contents out.old) (W.contents out.new) (end_line node has_ended)) }
+{
+    if has_ended {
+        writeln!(out, "node {} ended", Decimal(node))
+    } else {
+        writeln!(out, "node {} open", Decimal(node))
+    }
+}
+
+/// Prints a line for each node, which says whether its program has ended.
+pub fn print_ends<A: Allocator + Copy, W: Write>(world: &World<A>, out: &mut W) -> io::Result<()>
+    requires { length world.now.world.nodes ≡ world.now.config.nodes }
+    ensures { OnOk result (Appends (W.contents out.old) (W.contents out.new) (ends_text world.now.world.nodes)) }
+{
+    for node in 0..world.nodes() {
+        print_end(node, world.ended(node), out)?;
     }
     Ok(())
 }

@@ -1,23 +1,22 @@
 //! Worlds that run in rounds, with no schedule.
+ghost use Rattle.std.specs.Prelude.{OnOk};
 ghost use Rattle.ivy_model.specs.Config.{IsConfig};
+ghost use Rattle.ivy.specs.UnderWay.{IsUnderWay};
 
+use crate::moves::make;
 use ivy_model::{Config, Fault};
 use ivy_node::{Move, World};
-use ivy_wire::decode;
+use ivy_wire::read;
 use std::alloc::Allocator;
-
-fn make<A: Allocator + Copy>(world: &mut World<A>, step: Move) -> Result<(), Fault> {
-    match world.run(&[step]) {
-        Ok(()) => Ok(()),
-        Err((_place, fault)) => Err(fault),
-    }
-}
 
 fn all_ended<A: Allocator + Copy>(world: &World<A>) -> bool {
     (0..world.nodes()).all(|node| world.ended(node))
 }
 
-fn turn_each<A: Allocator + Copy>(world: &mut World<A>) -> Result<(), Fault> {
+fn turn_each<A: Allocator + Copy>(world: &mut World<A>) -> Result<(), Fault>
+    requires { IsUnderWay world.old }
+    ensures { OnOk result (IsUnderWay world.new) }
+{
     for node in 0..world.nodes() {
         make(world, Move::Turn(node))?;
     }
@@ -26,7 +25,6 @@ fn turn_each<A: Allocator + Copy>(world: &mut World<A>) -> Result<(), Fault> {
 
 /// The node that a string of a world goes to.
 fn destination<A: Allocator + Copy>(
-    alloc: A,
     config: &Config,
     world: &World<A>,
     index: usize,
@@ -34,22 +32,23 @@ fn destination<A: Allocator + Copy>(
     requires { IsConfig config.now }
 {
     let string = world.sent().get(index).ok_or(Fault::NoSuchFrame)?;
-    let frame = decode(alloc, config, string.bytes())?;
+    let frame = read(config, string.bytes())?;
     Ok(frame.dest)
 }
 
 /// Delivers the strings from this one up to that one, in the order sent.
 fn deliver_each<A: Allocator + Copy>(
-    alloc: A,
     config: &Config,
     world: &mut World<A>,
     from: usize,
     to: usize,
 ) -> Result<(), Fault>
-    requires { IsConfig config.now }
+    requires limits { IsConfig config.now }
+    requires under_way { IsUnderWay world.old }
+    ensures { OnOk result (IsUnderWay world.new) }
 {
     for index in from..to {
-        let dest = destination(alloc, config, world, index)?;
+        let dest = destination(config, world, index)?;
         let step = Move::Deliver {
             index: index as u64,
             to: u64::from(dest),
@@ -64,12 +63,13 @@ fn deliver_each<A: Allocator + Copy>(
 ///
 /// 1 and 17 as the world's moves, and 21 where not all have ended after so many rounds.
 pub fn run_in_rounds<A: Allocator + Copy>(
-    alloc: A,
     config: &Config,
     world: &mut World<A>,
     rounds: u64,
 ) -> Result<(), Fault>
-    requires { IsConfig config.now }
+    requires limits { IsConfig config.now }
+    requires under_way { IsUnderWay world.old }
+    ensures { OnOk result (IsUnderWay world.new) }
 {
     let mut delivered = 0;
     for _ in 0..rounds {
@@ -78,7 +78,7 @@ pub fn run_in_rounds<A: Allocator + Copy>(
         }
         turn_each(world)?;
         let sent = world.sent().len();
-        deliver_each(alloc, config, world, delivered, sent)?;
+        deliver_each(config, world, delivered, sent)?;
         delivered = sent;
     }
     if all_ended(world) {

@@ -93,18 +93,16 @@ fn words_of(alloc: Global, line: &str) -> Result<Vec<String>, AllocError> {
     Ok(words)
 }
 
-/// Performs a command line over the files. Asserts its status and what it prints on both streams.
-fn check<R: Abort + AllocGlobal>(
+/// Performs a command line over files. Asserts its status and what it prints on both streams.
+pub fn check_over<R: Abort + AllocGlobal>(
     rt: &R,
+    files: &[(&str, &str)],
     line: &str,
     (status, out, err): (u8, &str, &str),
 ) -> Result<(), Fail> {
     let alloc = rt.alloc();
     let words = words_of(alloc, line)?;
-    let files = Shelf {
-        alloc,
-        files: &FILES,
-    };
+    let files = Shelf { alloc, files };
     let mut printed: Vec<u8> = Vec::new(alloc);
     let mut told: Vec<u8> = Vec::new(alloc);
     let answer = perform(alloc, &words, &files, &mut printed, &mut told);
@@ -112,6 +110,10 @@ fn check<R: Abort + AllocGlobal>(
     assert_eq!(rt; String::from_utf8(told)?.as_str(), err, "{line}");
     assert_eq!(rt; answer, status, "{line}");
     Ok(())
+}
+
+fn check<R: Abort + AllocGlobal>(rt: &R, line: &str, answer: (u8, &str, &str)) -> Result<(), Fail> {
+    check_over(rt, &FILES, line, answer)
 }
 
 #[test]
@@ -133,6 +135,14 @@ fn done(rt: HostRuntime) -> Result<(), Fail> {
             "1 turn 1\n2 turn 1\n  sent 0 ReadReq 1 0 1\nnode 0 ended\nnode 1 open\n",
         ),
         ("step empty none", "", "node 0 ended\nnode 1 ended\n"),
+        ("sim empty", "", "node 0 ended\nnode 1 ended\n"),
+        ("sim load --moves 0", small, "node 0 ended\nnode 1 open\n"),
+        // Of the first eight moves of this seed seven are turns of node 0, and one is a pulse.
+        (
+            "sim load --seed 1 --moves 8",
+            small,
+            "node 0 ended\nnode 1 open\n",
+        ),
     ] {
         let line = format!(in rt.alloc(); "{command} {options}")?;
         check(&rt, line.as_str(), (0, out, ""))?;
@@ -185,6 +195,14 @@ fn refused(rt: HostRuntime) -> Result<(), Fail> {
         ("run load --pages 4294967298", 2, "", "ivy: 2 BadConfig\n"),
         ("run load --page-size 96", 2, "", "ivy: 2 BadConfig\n"),
         ("run lone", 2, "", "ivy: 2 BadConfig\n"),
+        ("sim missing --moves 0", 2, "", "ivy: cannot read missing\n"),
+        (
+            "sim faulty --pages 1",
+            2,
+            "",
+            "ivy: 20 ProgramFault line 2\n",
+        ),
+        ("sim load --pages 1", 2, "", "ivy: 2 BadConfig\n"),
         ("run nine", 2, "", "ivy: 2 BadConfig\n"),
     ] {
         check(&rt, line, (status, out, err))?;
@@ -201,6 +219,10 @@ fn bad_command_lines(rt: HostRuntime) -> Result<(), Fail> {
         "run load moves",
         "step load",
         "step load moves --turns 1",
+        "sim",
+        "sim load --moves 1000001",
+        "sim load --seed 18446744073709551616",
+        "sim load --turns 1",
         "run load --turns",
         "run load --turns 1 --turns 1",
         "run load --pages +3",
@@ -212,6 +234,35 @@ fn bad_command_lines(rt: HostRuntime) -> Result<(), Fail> {
         "run --help",
     ] {
         check(&rt, line, (2, "", "ivy: bad command line\n"))?;
+    }
+    Ok(())
+}
+
+/// What a command line prints over the files.
+fn printed_by<R: Abort + AllocGlobal>(rt: &R, line: &str) -> Result<Vec<u8>, Fail> {
+    let alloc = rt.alloc();
+    let words = words_of(alloc, line)?;
+    let files = Shelf {
+        alloc,
+        files: &FILES,
+    };
+    let mut printed: Vec<u8> = Vec::new(alloc);
+    let mut told: Vec<u8> = Vec::new(alloc);
+    let answer = perform(alloc, &words, &files, &mut printed, &mut told);
+    assert_eq!(rt; answer, 0, "{line}");
+    Ok(printed)
+}
+
+/// Two runs of one seed print the same bytes.
+#[test]
+fn drawn_again(rt: HostRuntime) -> Result<(), Fail> {
+    for line in [
+        "sim load --page-size 64",
+        "sim load --page-size 64 --seed 18446744073709551615 --moves 100",
+    ] {
+        let first = printed_by(&rt, line)?;
+        let again = printed_by(&rt, line)?;
+        assert!(rt; first == again);
     }
     Ok(())
 }

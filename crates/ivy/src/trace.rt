@@ -5,36 +5,9 @@ use crate::failure::Failure;
 use crate::print::{Decimal, MoveText, RecordText, kind_name};
 use ivy_model::{Config, Fault, Record};
 use ivy_node::{Move, World};
-use ivy_wire::{Bytes, decode};
+use ivy_wire::{Bytes, read};
 use std::alloc::Allocator;
 use std::io::{self, Write};
-
-/// The number of a fault.
-fn code_of(fault: Fault) -> u8 {
-    match fault {
-        Fault::Memory => 1,
-        Fault::BadConfig => 2,
-        Fault::Misaligned => 3,
-        Fault::OutOfRange => 4,
-        Fault::Reserved => 5,
-        Fault::NoSuchCount => 6,
-        Fault::CountFull => 7,
-        Fault::ZeroSize => 8,
-        Fault::NoRoom => 9,
-        Fault::NotABlock => 10,
-        Fault::ShortFrame => 11,
-        Fault::BadMagic => 12,
-        Fault::BadVersion => 13,
-        Fault::BadKind => 14,
-        Fault::BadNode => 15,
-        Fault::BadBody => 16,
-        Fault::NumbersSpent => 17,
-        Fault::Busy => 18,
-        Fault::NoSuchFrame => 19,
-        Fault::ProgramFault(_) => 20,
-        Fault::TurnLimit => 21,
-    }
-}
 
 /// What the node was answered so far, or nothing where it is not there.
 fn history_of<A: Allocator + Copy>(world: &World<A>, node: u64) -> &[Record] {
@@ -56,7 +29,6 @@ fn node_of(step: Move) -> u64 {
 
 /// Prints a line for each string from this one on.
 fn trace_sent<A: Allocator + Copy, W: Write>(
-    alloc: A,
     config: &Config,
     sent: &[Bytes<A>],
     from: usize,
@@ -65,8 +37,8 @@ fn trace_sent<A: Allocator + Copy, W: Write>(
     requires { IsConfig config.now }
 {
     for index in from..sent.len() {
-        let frame = decode(alloc, config, sent[index].bytes())?;
-        let name = kind_name(frame.lent().kind());
+        let frame = read(config, sent[index].bytes())?;
+        let name = kind_name(frame.kind());
         let source = Decimal(u64::from(frame.source));
         let dest = Decimal(u64::from(frame.dest));
         let number = Decimal(frame.number);
@@ -89,7 +61,6 @@ fn trace_records<W: Write>(history: &[Record], from: usize, out: &mut W) -> io::
 
 /// Makes a move and prints what came of it.
 fn trace_move<A: Allocator + Copy, W: Write>(
-    alloc: A,
     config: &Config,
     world: &mut World<A>,
     step: Move,
@@ -100,10 +71,10 @@ fn trace_move<A: Allocator + Copy, W: Write>(
     let sent = world.sent().len();
     let records = history_of(world, node_of(step)).len();
     if let Err((_place, fault)) = world.run(&[step]) {
-        writeln!(out, "  refused {}", Decimal(u64::from(code_of(fault))))?;
+        writeln!(out, "  refused {}", Decimal(u64::from(fault.number())))?;
         return Err(Failure::Refused(fault));
     }
-    trace_sent(alloc, config, world.sent(), sent, out)?;
+    trace_sent(config, world.sent(), sent, out)?;
     trace_records(history_of(world, node_of(step)), records, out)?;
     Ok(())
 }
@@ -114,7 +85,6 @@ fn trace_move<A: Allocator + Copy, W: Write>(
 /// The refusal of a move, where one is; and where standard output took no more, nothing is printed
 /// after that.
 pub fn trace_moves<A: Allocator + Copy, W: Write>(
-    alloc: A,
     config: &Config,
     world: &mut World<A>,
     moves: &[Move],
@@ -124,7 +94,7 @@ pub fn trace_moves<A: Allocator + Copy, W: Write>(
 {
     for (before, step) in moves.iter().enumerate() {
         writeln!(out, "{} {}", Decimal(before as u64 + 1), MoveText(*step))?;
-        trace_move(alloc, config, world, *step, out)?;
+        trace_move(config, world, *step, out)?;
     }
     Ok(())
 }

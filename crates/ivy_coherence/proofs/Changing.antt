@@ -11,6 +11,7 @@ use Rattle.ivy_pagetable.specs.Tables.{entry_at, page_at, with_entry, with_page}
 use Rattle.ivy_pagetable.specs.Manager.{Ops, Keeps}
 use Rattle.ivy_coherence.specs.Coherent.{Coherent}
 use Rattle.ivy_coherence.specs.Sound.{IsSoundEntry, IsSound}
+use Rattle.ivy_coherence.proofs.NextHop.{IsManaged}
 use Rattle.ivy_coherence.proofs.IdleServing.{IsPlace}
 
 -- an entry that is written, and any other
@@ -79,6 +80,7 @@ module _ {S : Type 0} {ops : Ops S} where
         here = s.here;
         mine = h.keeps.me ∙ s.mine;
         managed = h.keeps.size ∙ s.managed;
+        nodes = h.keeps.nodes ∙ s.nodes;
         size = s.size;
         entries = length-set c.table.entries page e ∙ s.entries;
         pages = h.sized.count;
@@ -139,4 +141,21 @@ module _ {S : Type 0} {ops : Ops S} where
   }
 
   pub place : (c : Coherent S) (page : ℕ) (bytes : List ℕ) → IsSound ops c → page < c.config.pages → length bytes ≡ c.config.page_size → IsPlace ops c.config c.me page bytes c.manager
-  place c page bytes s inside sized = record { limits = s.limits; here = s.here; inside = inside; sized = sized; mine = s.mine; managed = s.managed }
+  place c page bytes s inside sized = record {
+    limits = s.limits;
+    here = s.here;
+    inside = inside;
+    sized = sized;
+    mine = s.mine;
+    managed = s.managed;
+    nodes = s.nodes;
+  }
+
+  pub managed : (c : Coherent S) (page : ℕ) → IsSound ops c → page < c.config.pages → IsManaged ops c.config c.me page c.manager
+  managed c page s inside = record {
+    here = s.here;
+    mine = s.mine;
+    nodes = s.nodes;
+    inside = let k = s.managed in omega (arith, inside, k);
+    hop = s.hop page inside;
+  }

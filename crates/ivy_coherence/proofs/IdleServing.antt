@@ -24,6 +24,7 @@ use Rattle.ivy_pagetable.proofs.NodeSets.{tied, untied}
 use Rattle.ivy_coherence.specs.Serving.{Serving, counted, parcel_to, served, served_by_owner, served_by_other, all_served, told, settled, serving}
 use Rattle.ivy_coherence.specs.Steps.{invalidations}
 use Rattle.ivy_coherence.specs.Sound.{CanBeServed, AreOthers, IsSoundIdle}
+use Rattle.ivy_coherence.proofs.NextHop.{IsManaged, forwarded-node, given-node, invalidated-node, forwarded-away, given-away, invalidated-away}
 
 pub all_none : {X : Type 0} (P : X → Type 0) → All P []
 all_none P = All-from_recursion P [] tt
@@ -93,28 +94,24 @@ pub record IsPlace {S : Type 0} (ops : Ops S) (c : Config) (me page : ℕ) (byte
   pub sized : length bytes ≡ c.page_size
   pub mine : ops.me first ≡ me
   pub managed : ops.size first ≡ c.pages
-
--- a hop that is the old one or another node
-pub hop_to : (c : Config) (n old other : ℕ) → (n ≡ old) ⊎ (n ≡ other) → old < c.nodes → other < c.nodes → n < c.nodes
-hop_to c n old other either k l = elim either [ inl e ↦ subst (λ x. x < c.nodes) (sym e) k | inr e ↦ subst (λ x. x < c.nodes) (sym e) l ]
-
-pub hop_away : (me n old other : ℕ) → (n ≡ old) ⊎ (n ≡ other) → old ≢ me → other ≢ me → n ≢ me
-hop_away me n old other either k l h = elim either [ inl e ↦ k (sym e ∙ h) | inr e ↦ l (sym e ∙ h) ]
+  pub nodes : ops.nodes first ≡ c.nodes
 
 module _ {S : Type 0} {ops : Ops S} where
   pub keeps_all : (m : S) (page : ℕ) → Keeps ops m page m
-  keeps_all m page = record { me = refl; size = refl; others = λ q h. refl }
+  keeps_all m page = record { me = refl; size = refl; nodes = refl; others = λ q h. refl }
 
   pub keeps_on : (a b d : S) (page : ℕ) → Keeps ops a page b → Keeps ops b page d → Keeps ops a page d
-  keeps_on a b d page one two = record { me = two.me ∙ one.me; size = two.size ∙ one.size; others = λ q h. two.others q h ∙ one.others q h }
+  keeps_on a b d page one two = record { me = two.me ∙ one.me; size = two.size ∙ one.size; nodes = two.nodes ∙ one.nodes; others = λ q h. two.others q h ∙ one.others q h }
 
 module _ {S : Type 0} {ops : Ops S} (laws : Laws ops) (c : Config) (me page : ℕ) (bytes : List ℕ) (first : S) (at : IsPlace ops c me page bytes first) where
-  -- the page is one of the manager's
-  managed_now : (m : S) → Keeps ops first page m → page < ops.size m
-  managed_now m k = let a = k.size in let b = at.managed in let d = at.inside in omega (arith, a, b, d)
-
-  mine_now : (m : S) → Keeps ops first page m → ops.me m ≡ me
-  mine_now m k = k.me ∙ at.mine
+  managed_now : (v : Serving S) → IsServing ops c me page first v → IsManaged ops c me page v.manager
+  managed_now v s = record {
+    here = at.here;
+    mine = s.keeps.me ∙ at.mine;
+    nodes = s.keeps.nodes ∙ at.nodes;
+    inside = let a = s.keeps.size in let b = at.managed in let d = at.inside in omega (arith, a, b, d);
+    hop = s.hop;
+  }
 
   owner-keeps : (v : Serving S) (origin call : ℕ) (k : Request) → IsServing ops c me page first v → v.idle.owner ≡ true → origin < c.nodes → origin ≢ me → 1 ≤ call → call < 2 ^ 64
       → IsServing ops c me page first (served_by_owner ops me page bytes v origin call k)
@@ -127,8 +124,8 @@ module _ {S : Type 0} {ops : Ops S} (laws : Laws ops) (c : Config) (me page : �
   }
   owner-keeps v origin call request.Write s own by foreign from to = record {
     keeps = keeps_on first v.manager (ops.on_given v.manager page origin) page s.keeps (laws.keeps_given v.manager page origin);
-    hop = hop_to c _ _ _ (laws.hop_given v.manager page origin (managed_now v.manager s.keeps)) s.hop by;
-    away = λ o h. laws.gone_given v.manager page origin (managed_now v.manager s.keeps) (λ e. foreign (e ∙ mine_now v.manager s.keeps)) (h ∙ sym (mine_now v.manager s.keeps));
+    hop = given-node laws c me page v.manager (managed_now v s) origin by;
+    away = λ o. given-away laws c me page v.manager (managed_now v s) origin foreign;
     idle = without-sound c me;
     fits = All-push (FitsParcel c me) v.posted _ s.fits
         (parcel_fits c me origin origin call (content.WriteRep page (bits_of (set.remove v.idle.copies origin)) bytes) at.here by foreign by from to
@@ -140,22 +137,22 @@ module _ {S : Type 0} {ops : Ops S} (laws : Laws ops) (c : Config) (me page : �
       → IsServing ops c me page first (served_by_other ops me page bytes v origin call k)
   other-keeps v origin call request.Read s free by foreign from to = record {
     keeps = keeps_on first v.manager (ops.on_forward v.manager page false origin) page s.keeps (laws.keeps_forward v.manager page false origin);
-    hop = hop_to c _ _ _ (laws.hop_forward v.manager page false origin (managed_now v.manager s.keeps)) s.hop by;
-    away = λ o. hop_away me _ _ _ (laws.hop_forward v.manager page false origin (managed_now v.manager s.keeps)) (s.away free) foreign;
+    hop = forwarded-node laws c me page v.manager (managed_now v s) false origin by;
+    away = λ o. forwarded-away laws c me page v.manager (managed_now v s) false origin foreign (s.away free);
     idle = s.idle;
     fits = All-push (FitsParcel c me) v.posted _ s.fits (parcel_fits c me (ops.next_hop v.manager page) origin call (content.ReadReq page) at.here s.hop (s.away free) by from to at.inside);
   }
   other-keeps v origin call request.Write s free by foreign from to = record {
     keeps = keeps_on first v.manager (ops.on_forward v.manager page true origin) page s.keeps (laws.keeps_forward v.manager page true origin);
-    hop = hop_to c _ _ _ (laws.hop_forward v.manager page true origin (managed_now v.manager s.keeps)) s.hop by;
-    away = λ o. hop_away me _ _ _ (laws.hop_forward v.manager page true origin (managed_now v.manager s.keeps)) (s.away free) foreign;
+    hop = forwarded-node laws c me page v.manager (managed_now v s) true origin by;
+    away = λ o. forwarded-away laws c me page v.manager (managed_now v s) true origin foreign (s.away free);
     idle = s.idle;
     fits = All-push (FitsParcel c me) v.posted _ s.fits (parcel_fits c me (ops.next_hop v.manager page) origin call (content.WriteReq page) at.here s.hop (s.away free) by from to at.inside);
   }
   other-keeps v origin call request.Invalidate s free by foreign from to = record {
     keeps = keeps_on first v.manager (ops.on_invalidated v.manager page origin) page s.keeps (laws.keeps_invalidated v.manager page origin);
-    hop = hop_to c _ _ _ (laws.hop_invalidated v.manager page origin (managed_now v.manager s.keeps)) s.hop by;
-    away = λ o. hop_away me _ _ _ (laws.hop_invalidated v.manager page origin (managed_now v.manager s.keeps)) (s.away free) foreign;
+    hop = invalidated-node laws c me page v.manager (managed_now v s) origin by;
+    away = λ o. invalidated-away laws c me page v.manager (managed_now v s) origin foreign (s.away free);
     idle = without-sound c me;
     fits = All-push (FitsParcel c me) v.posted _ s.fits (parcel_fits c me origin origin call (content.InvalAck page) at.here by foreign by from to at.inside);
   }

@@ -19,6 +19,7 @@ use Rattle.ivy_pagetable.specs.declared.Request.{Request}
 use Rattle.ivy_pagetable.specs.declared.Request.TheVariants as request
 use Rattle.ivy_pagetable.specs.declared.Word.{Word}
 use Rattle.ivy_pagetable.specs.Accesses.{reads}
+use Rattle.ivy_pagetable.specs.Limits.{most_put_off}
 use Rattle.ivy_pagetable.specs.NodeSets.{Nodes, nodes_of, nodes_with}
 use Rattle.ivy_pagetable.specs.States.{IdleState, WaitingState, AwaitWriteState, AwaitAcksState}
 use Rattle.ivy_pagetable.specs.Entries.{nothing, owned, is_owner, is_locked, put_offs, with_put_off, can_put_off, without, copying, owning}
@@ -29,11 +30,13 @@ use Rattle.ivy_pagetable.proofs.Bits.{with_below}
 use Rattle.ivy_pagetable.proofs.Words.{length-carried_out}
 use Rattle.ivy_coherence.specs.Coherent.{Coherent}
 use Rattle.ivy_coherence.specs.Serving.{Serving, serving, told, settled, all_served, parcel_to}
-use Rattle.ivy_coherence.specs.Steps.{Effect, collected, still_collecting, IsWaiting, IsCollecting, unlocked_as, is_none, is_order, invalidations, breach, after_serving, unlocked, put_aside, given_up, asked, copy_came, owned_with, page_came, left_with, acknowledged, handled, handled_as}
-use Rattle.ivy_coherence.specs.Faults.{Begun, hit, faulted, fault_entry, fault_posted, waiting_from, accessed, begun, begun_at, suffices}
+use Rattle.ivy_coherence.specs.Steps.{Effect, collected, still_collecting, IsWaiting, IsCollecting, unlocked_as, invalidations, breach, after_serving, unlocked, put_by, given_up, asked, handled}
+use Rattle.ivy_coherence.specs.Faults.{Begun, hit, faulted, waiting_from, begun, suffices}
 use Rattle.ivy_coherence.specs.Sound.{CanBeServed, AreOthers, IsSoundIdle, IsSoundEntry, IsSound, first_coherent}
-use Rattle.ivy_coherence.proofs.IdleServing.{IsServing, IsPlace, all_none, all_one, parcel_fits, no_others, fewer_others, without-sound, copying-sound, owning-sound, keeps_all, hop_to, hop_away, all_served-keeps}
-use Rattle.ivy_coherence.proofs.Changing.{IsChange, AreLocks, change-sound, same_pages, other_page, same_locks, unlocks, locks, place}
+use Rattle.ivy_coherence.proofs.IdleServing.{IsServing, IsPlace, all_none, all_one, parcel_fits, no_others, fewer_others, without-sound, copying-sound, owning-sound, keeps_all, all_served-keeps}
+use Rattle.ivy_coherence.proofs.Rows.{Rows, AccessRows, MayAsk, asking-fits, asker_foreign, handled-by_rows, fault-by_rows, begun-by_rows}
+use Rattle.ivy_coherence.proofs.Changing.{IsChange, AreLocks, change-sound, same_pages, other_page, same_locks, unlocks, locks, place, managed}
+use Rattle.ivy_coherence.proofs.NextHop.{IsManaged, replied-node, invalidated-node, read-away, invalidated-away}
 
 -- what an event has to keep
 abbrev pub Keeps : {S : Type 0} → Ops S → Coherent S → Effect S → Type 0
@@ -54,7 +57,7 @@ idle-sound c me s good = record {
   few = omega arith;
 }
 
-reading-sound : (c : Config) (me : ℕ) (s : WaitingState) → IsWord c.page_size s.word → needs_write s.word ≡ false → All (CanBeServed c me) s.put_off → length s.put_off ≤ 8 → IsSoundEntry c me (entry.AwaitRead s)
+reading-sound : (c : Config) (me : ℕ) (s : WaitingState) → IsWord c.page_size s.word → needs_write s.word ≡ false → All (CanBeServed c me) s.put_off → length s.put_off ≤ most_put_off → IsSoundEntry c me (entry.AwaitRead s)
 reading-sound c me s word reads can few = record {
   idle = λ t h. absurd cc;
   reading = λ t h. (let e : s ≡ t = cc in subst (λ (x : WaitingState). IsWord c.page_size x.word × (needs_write x.word ≡ false)) e (word, reads));
@@ -64,7 +67,7 @@ reading-sound c me s word reads can few = record {
   few = few;
 }
 
-writing-sound : (c : Config) (me : ℕ) (s : AwaitWriteState) → IsWord c.page_size s.waiting.word → needs_write s.waiting.word ≡ true → All (CanBeServed c me) s.waiting.put_off → length s.waiting.put_off ≤ 8 → IsSoundEntry c me (entry.AwaitWrite s)
+writing-sound : (c : Config) (me : ℕ) (s : AwaitWriteState) → IsWord c.page_size s.waiting.word → needs_write s.waiting.word ≡ true → All (CanBeServed c me) s.waiting.put_off → length s.waiting.put_off ≤ most_put_off → IsSoundEntry c me (entry.AwaitWrite s)
 writing-sound c me s word writes can few = record {
   idle = λ t h. absurd cc;
   reading = λ t h. absurd cc;
@@ -74,7 +77,7 @@ writing-sound c me s word writes can few = record {
   few = few;
 }
 
-collecting-sound : (c : Config) (me : ℕ) (s : AwaitAcksState) → IsWord c.page_size s.waiting.word → needs_write s.waiting.word ≡ true → AreOthers c me s.left → All (CanBeServed c me) s.waiting.put_off → length s.waiting.put_off ≤ 8 → IsSoundEntry c me (entry.AwaitAcks s)
+collecting-sound : (c : Config) (me : ℕ) (s : AwaitAcksState) → IsWord c.page_size s.waiting.word → needs_write s.waiting.word ≡ true → AreOthers c me s.left → All (CanBeServed c me) s.waiting.put_off → length s.waiting.put_off ≤ most_put_off → IsSoundEntry c me (entry.AwaitAcks s)
 collecting-sound c me s word writes left can few = record {
   idle = λ t h. absurd cc;
   reading = λ t h. absurd cc;
@@ -96,8 +99,8 @@ locked_put (entry.AwaitRead s) q = refl
 locked_put (entry.AwaitWrite s) q = refl
 locked_put (entry.AwaitAcks s) q = refl
 
-room : (qs : List PutOff) (q : PutOff) → ltb (length qs) 8 ≡ true → length (qs ++ q ∷ []) ≤ 8
-room qs q h = let e : length qs < 8 = ltb-true (length qs) 8 h in omega (arith, e, length-append qs (q ∷ []))
+room : (qs : List PutOff) (q : PutOff) → ltb (length qs) most_put_off ≡ true → length (qs ++ q ∷ []) ≤ most_put_off
+room qs q h = let e : length qs < most_put_off = ltb-true (length qs) most_put_off h in omega (arith, e, length-append qs (q ∷ []))
 
 -- an entry with one more message put off
 pub put_entry-sound : (c : Config) (me : ℕ) (e : Entry) (q : PutOff) → IsSoundEntry c me e → CanBeServed c me q → can_put_off e ≡ true → IsSoundEntry c me (with_put_off e q)
@@ -135,6 +138,7 @@ module _ {S : Type 0} {ops : Ops S} where
       here = s.here;
       mine = s.mine;
       managed = s.managed;
+      nodes = s.nodes;
       size = s.size;
       entries = s.entries;
       pages = s.pages;
@@ -147,10 +151,6 @@ module _ {S : Type 0} {ops : Ops S} where
     },
     all_none (FitsParcel c.config c.me),
   )
-
-  either-keeps : (c : Coherent S) (b : Bool) (x y : Effect S) → (b ≡ true → Keeps ops c x) → (b ≡ false → Keeps ops c y) → Keeps ops c (if b then x else y)
-  either-keeps c true x y h k = h refl
-  either-keeps c false x y h k = k refl
 
   pub entry_is : (c : Coherent S) (page : ℕ) (e : Entry) → IsSound ops c → entry_at c.table page ≡ e → IsSoundEntry c.config c.me e
   entry_is c page e s is = subst (IsSoundEntry c.config c.me) is (s.each page)
@@ -168,18 +168,15 @@ module _ {S : Type 0} {ops : Ops S} where
     locks = same_locks c page (is_locked f) s (lock ∙ sym (ap is_locked is));
   }
 
-  put_aside-keeps : (c : Coherent S) (page : ℕ) (e : Entry) (q : PutOff) → IsSound ops c → page < c.config.pages → entry_at c.table page ≡ e → CanBeServed c.config c.me q → Keeps ops c (put_aside ops c page e q)
-  put_aside-keeps c page e q s inside is can =
-      either-keeps c (can_put_off e) _ _
-      (λ h. (
-        change-sound c page (with_put_off e q) c.table.pages c.manager c.locked c.done c.breaches s
-            (entry-sound c page e (with_put_off e q) s inside is (put_entry-sound c.config c.me e q (entry_is c page e s is) can h) (owner_put e q) (locked_put e q)),
-        all_none (FitsParcel c.config c.me),
-      ))
-      (λ h. breach-keeps c s)
+  put_by-keeps : (c : Coherent S) (page : ℕ) (e : Entry) (q : PutOff) → IsSound ops c → page < c.config.pages → entry_at c.table page ≡ e → CanBeServed c.config c.me q → can_put_off e ≡ true → Keeps ops c (put_by ops c page e q)
+  put_by-keeps c page e q s inside is can room = (
+    change-sound c page (with_put_off e q) c.table.pages c.manager c.locked c.done c.breaches s
+        (entry-sound c page e (with_put_off e q) s inside is (put_entry-sound c.config c.me e q (entry_is c page e s is) can room) (owner_put e q) (locked_put e q)),
+    all_none (FitsParcel c.config c.me),
+  )
 
   -- before anything is served at an entry that is idle
-  idle-start : (c : Coherent S) (page : ℕ) (i : IdleState) → IsSound ops c → page < c.config.pages → entry_at c.table page ≡ entry.Idle i → IsServing ops c.config c.me page c.manager (serving i c.manager c.breaches [])
+  pub idle-start : (c : Coherent S) (page : ℕ) (i : IdleState) → IsSound ops c → page < c.config.pages → entry_at c.table page ≡ entry.Idle i → IsServing ops c.config c.me page c.manager (serving i c.manager c.breaches [])
   idle-start c page i s inside is = record {
     keeps = keeps_all c.manager page;
     hop = s.hop page inside;
@@ -189,7 +186,8 @@ module _ {S : Type 0} {ops : Ops S} where
   }
 
 module _ {S : Type 0} {ops : Ops S} (laws : Laws ops) where
-  idle_asked-keeps : (c : Coherent S) (page : ℕ) (q : PutOff) (i : IdleState) → IsSound ops c → page < c.config.pages → entry_at c.table page ≡ entry.Idle i → CanBeServed c.config c.me q → Keeps ops c (asked ops c page q (entry.Idle i))
+  -- served at an entry that no word waits at
+  pub idle_asked-keeps : (c : Coherent S) (page : ℕ) (q : PutOff) (i : IdleState) → IsSound ops c → page < c.config.pages → entry_at c.table page ≡ entry.Idle i → CanBeServed c.config c.me q → Keeps ops c (asked ops c page q (entry.Idle i))
   idle_asked-keeps c page q i s inside is can =
       let v : Serving S = settled ops c.me q.origin page (page_at c.table page) i c.manager c.breaches None (q ∷ []) in
       let h : IsServing ops c.config c.me page c.manager v
@@ -213,53 +211,37 @@ module _ {S : Type 0} {ops : Ops S} (laws : Laws ops) where
       let word = good.writing w refl in
       let m : S = ops.on_invalidated c.manager page q.origin in
       let free : is_owner (entry_at c.table page) ≡ false = ap is_owner is in
-      let in_size : page < ops.size c.manager = (let k = s.managed in omega (arith, inside, k)) in (
+      let at : IsManaged ops c.config c.me page c.manager = managed c page s inside in (
         change-sound c page (entry.AwaitWrite (record { had_copy = false; waiting = w.waiting })) c.table.pages m c.locked c.done c.breaches s
             (record {
               inside = inside;
               entry = writing-sound c.config c.me (record { had_copy = false; waiting = w.waiting }) word.0 word.1 good.put_off good.few;
               sized = same_pages c s;
               keeps = laws.keeps_invalidated c.manager page q.origin;
-              hop = hop_to c.config _ _ _ (laws.hop_invalidated c.manager page q.origin in_size) (s.hop page inside) can.origin;
-              away = λ o. hop_away c.me _ _ _ (laws.hop_invalidated c.manager page q.origin in_size) (s.away page inside free) can.foreign;
+              hop = invalidated-node laws c.config c.me page c.manager at q.origin can.origin;
+              away = λ o. invalidated-away laws c.config c.me page c.manager at q.origin can.foreign (s.away page inside free);
               locks = same_locks c page true s (sym (ap is_locked is));
             }),
         all_one (FitsParcel c.config c.me) _ (parcel_fits c.config c.me q.origin q.origin q.call (content.InvalAck page) s.here can.origin can.foreign can.origin can.call_from can.call_to inside),
       )
 
-  pub asked-keeps : (c : Coherent S) (page : ℕ) (q : PutOff) (e : Entry) → IsSound ops c → page < c.config.pages → entry_at c.table page ≡ e → CanBeServed c.config c.me q → Keeps ops c (asked ops c page q e)
-  asked-keeps c page q (entry.Idle i) s inside is can = idle_asked-keeps c page q i s inside is can
-  asked-keeps c page q (entry.AwaitRead w) s inside is can = put_aside-keeps c page (entry.AwaitRead w) q s inside is can
-  asked-keeps c page q (entry.AwaitWrite w) s inside is can =
-      either-keeps c (is_order q.kind) _ _ (λ h. given_up-keeps c page w q s inside is can) (λ h. put_aside-keeps c page (entry.AwaitWrite w) q s inside is can)
-  asked-keeps c page q (entry.AwaitAcks w) s inside is can =
-      either-keeps c (is_order q.kind) _ _ (λ h. breach-keeps c s) (λ h. put_aside-keeps c page (entry.AwaitAcks w) q s inside is can)
-
   -- before what was put off is served, once a copy came, the page itself, or the last acknowledgement
-  copy-start : (c : Coherent S) (page from : ℕ) → IsSound ops c → page < c.config.pages → is_owner (entry_at c.table page) ≡ false → from < c.config.nodes → from ≢ c.me
+  pub copy-start : (c : Coherent S) (page from : ℕ) → IsSound ops c → page < c.config.pages → is_owner (entry_at c.table page) ≡ false → from < c.config.nodes → from ≢ c.me
       → IsServing ops c.config c.me page c.manager (serving copying (told ops from page c.manager (Some false)) c.breaches [])
   copy-start c page from s inside free below foreign =
-      let in_size : page < ops.size c.manager = (let k = s.managed in omega (arith, inside, k)) in
+      let at : IsManaged ops c.config c.me page c.manager = managed c page s inside in
       record {
         keeps = laws.keeps_replied c.manager page false from;
-        hop = hop_to c.config _ _ _ (laws.hop_read c.manager page from in_size) (s.hop page inside) below;
-        away = λ o. hop_away c.me _ _ _ (laws.hop_read c.manager page from in_size) (s.away page inside free) foreign;
+        hop = replied-node laws c.config c.me page c.manager at false from below;
+        away = λ o. read-away laws c.config c.me page c.manager at from foreign (s.away page inside free);
         idle = copying-sound c.config c.me;
         fits = all_none (FitsParcel c.config c.me);
       }
 
   pub written_hop : (c : Coherent S) (page from : ℕ) → IsSound ops c → page < c.config.pages → from < c.config.nodes → ops.next_hop (ops.on_replied c.manager page true from) page < c.config.nodes
-  written_hop c page from s inside below =
-      let in_size : page < ops.size c.manager = (let k = s.managed in omega (arith, inside, k)) in
-      elim (laws.hop_written c.manager page from in_size) [
-        | inl e ↦ subst (λ n. n < c.config.nodes) (sym e) (s.hop page inside)
-        | inr k ↦ elim k [
-          | inl e ↦ subst (λ n. n < c.config.nodes) (sym (e ∙ s.mine)) s.here
-          | inr e ↦ subst (λ n. n < c.config.nodes) (sym e) below
-        ]
-      ]
+  written_hop c page from s inside below = replied-node laws c.config c.me page c.manager (managed c page s inside) true from below
 
-  page-start : (c : Coherent S) (page from : ℕ) → IsSound ops c → page < c.config.pages → from < c.config.nodes
+  pub page-start : (c : Coherent S) (page from : ℕ) → IsSound ops c → page < c.config.pages → from < c.config.nodes
       → IsServing ops c.config c.me page c.manager (serving owning (told ops from page c.manager (Some true)) c.breaches [])
   page-start c page from s inside below = record {
     keeps = laws.keeps_replied c.manager page true from;
@@ -269,7 +251,7 @@ module _ {S : Type 0} {ops : Ops S} (laws : Laws ops) where
     fits = all_none (FitsParcel c.config c.me);
   }
 
-  last-start : (c : Coherent S) (page from : ℕ) → IsSound ops c → page < c.config.pages → IsServing ops c.config c.me page c.manager (serving owning (told ops from page c.manager None) c.breaches [])
+  pub last-start : (c : Coherent S) (page from : ℕ) → IsSound ops c → page < c.config.pages → IsServing ops c.config c.me page c.manager (serving owning (told ops from page c.manager None) c.breaches [])
   last-start c page from s inside = record {
     keeps = keeps_all c.manager page;
     hop = s.hop page inside;
@@ -300,78 +282,23 @@ module _ {S : Type 0} {ops : Ops S} (laws : Laws ops) where
         h.fits,
       )
 
-  -- the word that waits at an entry, for a copy, for the page or for acknowledgements
-  word_at : (k : Config) (me : ℕ) (e : Entry) (write : Bool) (w : WaitingState) → IsSoundEntry k me e → IsWaiting e write w → IsWord k.page_size w.word
-  word_at k me (entry.Idle t) write w good waits = absurd waits
-  word_at k me (entry.AwaitRead t) write w good waits = subst (λ (x : WaitingState). IsWord k.page_size x.word) (sym waits.1) (good.reading t refl).0
-  word_at k me (entry.AwaitWrite t) write w good waits = subst (λ (x : WaitingState). IsWord k.page_size x.word) (sym waits.1) (good.writing t refl).0
-  word_at k me (entry.AwaitAcks t) write w good waits = absurd waits
-
-  pub waiting_word : (c : Coherent S) (page : ℕ) (write : Bool) (w : WaitingState) → IsSound ops c → IsWaiting (entry_at c.table page) write w → IsWord c.config.page_size w.word
-  waiting_word c page write w s waits = word_at c.config c.me (entry_at c.table page) write w (s.each page) waits
-
-  collected_at : (k : Config) (me : ℕ) (e : Entry) (w : WaitingState) → IsSoundEntry k me e → IsCollecting e w → IsWord k.page_size w.word
-  collected_at k me (entry.Idle t) w good waits = absurd waits
-  collected_at k me (entry.AwaitRead t) w good waits = absurd waits
-  collected_at k me (entry.AwaitWrite t) w good waits = absurd waits
-  collected_at k me (entry.AwaitAcks t) w good waits = subst (λ (x : WaitingState). IsWord k.page_size x.word) (sym waits) (good.collecting t refl).0.0
-
-  pub collecting_word : (c : Coherent S) (page : ℕ) (w : WaitingState) → IsSound ops c → IsCollecting (entry_at c.table page) w → IsWord c.config.page_size w.word
-  collecting_word c page w s waits = collected_at c.config c.me (entry_at c.table page) w (s.each page) waits
-
-  unlocking_at : (c : Coherent S) (from page : ℕ) (write : Bool) (bytes : List ℕ) (w : WaitingState) (e : Entry) → IsSound ops c → from < c.config.nodes → from ≢ c.me → page < c.config.pages → length bytes ≡ c.config.page_size
-      → entry_at c.table page ≡ e → IsWaiting e write w → Keeps ops c (unlocked ops c from page (unlocked_as write) (Some write) bytes w)
-  unlocking_at c from page write bytes w (entry.Idle t) s below foreign inside sized is waits = absurd waits
-  unlocking_at c from page write bytes w (entry.AwaitRead t) s below foreign inside sized is waits =
-      let good : IsSoundEntry c.config c.me (entry.AwaitRead t) = entry_is c page (entry.AwaitRead t) s is in
-      subst (λ b. Keeps ops c (unlocked ops c from page (unlocked_as b) (Some b) bytes w)) (sym waits.0)
-      (subst (λ x. Keeps ops c (unlocked ops c from page copying (Some false) bytes x)) (sym waits.1)
-      (unlocked-keeps c from page copying (Some false) bytes t s inside sized (ap is_locked is) (good.reading t refl).0 good.put_off (copy-start c page from s inside (ap is_owner is) below foreign)))
-  unlocking_at c from page write bytes w (entry.AwaitWrite t) s below foreign inside sized is waits =
-      let good : IsSoundEntry c.config c.me (entry.AwaitWrite t) = entry_is c page (entry.AwaitWrite t) s is in
-      subst (λ b. Keeps ops c (unlocked ops c from page (unlocked_as b) (Some b) bytes w)) (sym waits.0)
-      (subst (λ x. Keeps ops c (unlocked ops c from page owning (Some true) bytes x)) (sym waits.1)
-      (unlocked-keeps c from page owning (Some true) bytes t.waiting s inside sized (ap is_locked is) (good.writing t refl).0 good.put_off (page-start c page from s inside below)))
-  unlocking_at c from page write bytes w (entry.AwaitAcks t) s below foreign inside sized is waits = absurd waits
-
-  -- the bytes come for the word that waits
-  pub unlocking-keeps : (c : Coherent S) (from page : ℕ) (write : Bool) (bytes : List ℕ) (w : WaitingState) → IsSound ops c → from < c.config.nodes → from ≢ c.me → page < c.config.pages → length bytes ≡ c.config.page_size
-      → IsWaiting (entry_at c.table page) write w → Keeps ops c (unlocked ops c from page (unlocked_as write) (Some write) bytes w)
-  unlocking-keeps c from page write bytes w s below foreign inside sized waits = unlocking_at c from page write bytes w (entry_at c.table page) s below foreign inside sized refl waits
-
-  last_at : (c : Coherent S) (from page : ℕ) (w : WaitingState) (e : Entry) → IsSound ops c → page < c.config.pages → entry_at c.table page ≡ e → IsCollecting e w → Keeps ops c (unlocked ops c from page owning None (page_at c.table page) w)
-  last_at c from page w (entry.Idle t) s inside is waits = absurd waits
-  last_at c from page w (entry.AwaitRead t) s inside is waits = absurd waits
-  last_at c from page w (entry.AwaitWrite t) s inside is waits = absurd waits
-  last_at c from page w (entry.AwaitAcks t) s inside is waits =
-      let good : IsSoundEntry c.config c.me (entry.AwaitAcks t) = entry_is c page (entry.AwaitAcks t) s is in
-      subst (λ x. Keeps ops c (unlocked ops c from page owning None (page_at c.table page) x)) (sym waits)
-      (unlocked-keeps c from page owning None (page_at c.table page) t.waiting s inside (s.sized page inside) (ap is_locked is) (good.collecting t refl).0.0 good.put_off (last-start c page from s inside))
-
-  -- the last acknowledgement comes
-  pub last-keeps : (c : Coherent S) (from page : ℕ) (w : WaitingState) → IsSound ops c → page < c.config.pages → IsCollecting (entry_at c.table page) w → Keeps ops c (unlocked ops c from page owning None (page_at c.table page) w)
-  last-keeps c from page w s inside waits = last_at c from page w (entry_at c.table page) s inside refl waits
-
-  giving_at : (c : Coherent S) (page : ℕ) (w : WaitingState) (q : PutOff) (e : Entry) → IsSound ops c → page < c.config.pages → entry_at c.table page ≡ e → IsWaiting e true w → CanBeServed c.config c.me q → Keeps ops c (given_up ops c page w q)
-  giving_at c page w q (entry.Idle t) s inside is waits can = absurd waits
-  giving_at c page w q (entry.AwaitRead t) s inside is waits can = absurd (let f : true ≡ false = waits.0 in cc)
-  giving_at c page w q (entry.AwaitWrite t) s inside is waits can = subst (λ x. Keeps ops c (given_up ops c page x q)) (sym waits.1) (given_up-keeps c page t q s inside is can)
-  giving_at c page w q (entry.AwaitAcks t) s inside is waits can = absurd waits
-
-  -- a node that waits to write gives its copy up
-  pub giving-keeps : (c : Coherent S) (page : ℕ) (w : WaitingState) (q : PutOff) → IsSound ops c → page < c.config.pages → IsWaiting (entry_at c.table page) true w → CanBeServed c.config c.me q → Keeps ops c (given_up ops c page w q)
-  giving-keeps c page w q s inside waits can = giving_at c page w q (entry_at c.table page) s inside refl waits can
-
-  pub copy_came-keeps : (c : Coherent S) (from call page : ℕ) (bytes : List ℕ) (e : Entry) → IsSound ops c → from < c.config.nodes → from ≢ c.me → page < c.config.pages → length bytes ≡ c.config.page_size
-      → entry_at c.table page ≡ e → Keeps ops c (copy_came ops c from call page bytes e)
-  copy_came-keeps c from call page bytes (entry.Idle i) s below foreign inside sized is = breach-keeps c s
-  copy_came-keeps c from call page bytes (entry.AwaitRead w) s below foreign inside sized is =
+  -- a copy comes for the word that waits to read; the page comes alone for one that waits to write; the last copy was given up
+  copy-keeps : (c : Coherent S) (from page : ℕ) (bytes : List ℕ) (w : WaitingState) → IsSound ops c → from < c.config.nodes → from ≢ c.me → page < c.config.pages → length bytes ≡ c.config.page_size
+      → entry_at c.table page ≡ entry.AwaitRead w → Keeps ops c (unlocked ops c from page copying (Some false) bytes w)
+  copy-keeps c from page bytes w s below foreign inside sized is =
       let good : IsSoundEntry c.config c.me (entry.AwaitRead w) = entry_is c page (entry.AwaitRead w) s is in
-      either-keeps c (w.call == call) _ _
-      (λ h. unlocked-keeps c from page copying (Some false) bytes w s inside sized (ap is_locked is) (good.reading w refl).0 good.put_off (copy-start c page from s inside (ap is_owner is) below foreign))
-      (λ h. breach-keeps c s)
-  copy_came-keeps c from call page bytes (entry.AwaitWrite w) s below foreign inside sized is = breach-keeps c s
-  copy_came-keeps c from call page bytes (entry.AwaitAcks w) s below foreign inside sized is = breach-keeps c s
+      unlocked-keeps c from page copying (Some false) bytes w s inside sized (ap is_locked is) (good.reading w refl).0 good.put_off (copy-start c page from s inside (ap is_owner is) below foreign)
+
+  alone-keeps : (c : Coherent S) (from page : ℕ) (bytes : List ℕ) (w : AwaitWriteState) → IsSound ops c → from < c.config.nodes → page < c.config.pages → length bytes ≡ c.config.page_size
+      → entry_at c.table page ≡ entry.AwaitWrite w → Keeps ops c (unlocked ops c from page owning (Some true) bytes w.waiting)
+  alone-keeps c from page bytes w s below inside sized is =
+      let good : IsSoundEntry c.config c.me (entry.AwaitWrite w) = entry_is c page (entry.AwaitWrite w) s is in
+      unlocked-keeps c from page owning (Some true) bytes w.waiting s inside sized (ap is_locked is) (good.writing w refl).0 good.put_off (page-start c page from s inside below)
+
+  last_copy-keeps : (c : Coherent S) (from page : ℕ) (w : AwaitAcksState) → IsSound ops c → page < c.config.pages → entry_at c.table page ≡ entry.AwaitAcks w → Keeps ops c (unlocked ops c from page owning None (page_at c.table page) w.waiting)
+  last_copy-keeps c from page w s inside is =
+      let good : IsSoundEntry c.config c.me (entry.AwaitAcks w) = entry_is c page (entry.AwaitAcks w) s is in
+      unlocked-keeps c from page owning None (page_at c.table page) w.waiting s inside (s.sized page inside) (ap is_locked is) (good.collecting w refl).0.0 good.put_off (last-start c page from s inside)
 
   -- the page came, and other nodes have a copy of it
   collecting-page : (c : Coherent S) (from page : ℕ) (copies : Nodes) (bytes : List ℕ) (w : AwaitWriteState) → IsSound ops c → from < c.config.nodes → page < c.config.pages → length bytes ≡ c.config.page_size
@@ -390,106 +317,96 @@ module _ {S : Type 0} {ops : Ops S} (laws : Laws ops) where
         locks = same_locks c page true s (sym (ap is_locked is));
       })
 
-  collecting_at : (c : Coherent S) (from page : ℕ) (copies : Nodes) (bytes : List ℕ) (w : WaitingState) (e : Entry) → IsSound ops c → from < c.config.nodes → page < c.config.pages → length bytes ≡ c.config.page_size
-      → entry_at c.table page ≡ e → IsWaiting e true w → AreOthers c.config c.me copies → IsSound ops (collected ops c from page copies bytes w)
-  collecting_at c from page copies bytes w (entry.Idle t) s below inside sized is waits others = absurd waits
-  collecting_at c from page copies bytes w (entry.AwaitRead t) s below inside sized is waits others = absurd (let f : true ≡ false = waits.0 in cc)
-  collecting_at c from page copies bytes w (entry.AwaitWrite t) s below inside sized is waits others = subst (λ x. IsSound ops (collected ops c from page copies bytes x)) (sym waits.1) (collecting-page c from page copies bytes t s below inside sized is others)
-  collecting_at c from page copies bytes w (entry.AwaitAcks t) s below inside sized is waits others = absurd waits
+  -- an acknowledgement came, and others are missing
+  left_page : (c : Coherent S) (page : ℕ) (left : Nodes) (w : AwaitAcksState) → IsSound ops c → page < c.config.pages → entry_at c.table page ≡ entry.AwaitAcks w → AreOthers c.config c.me left
+      → IsSound ops (still_collecting ops c page left w.waiting)
+  left_page c page left w s inside is others =
+      let good : IsSoundEntry c.config c.me (entry.AwaitAcks w) = entry_is c page (entry.AwaitAcks w) s is in
+      let word = (good.collecting w refl).0 in
+      let e : Entry = entry.AwaitAcks (record { left = left; waiting = w.waiting }) in
+      change-sound c page e c.table.pages c.manager c.locked c.done c.breaches s
+      (entry-sound c page (entry.AwaitAcks w) e s inside is (collecting-sound c.config c.me (record { left = left; waiting = w.waiting }) word.0 word.1 others good.put_off good.few) refl refl)
+
+  -- the entry that a word waits at
+  reads-at : (e : Entry) (w : WaitingState) → IsWaiting e false w → e ≡ entry.AwaitRead w
+  reads-at (entry.AwaitRead t) w waits = ap entry.AwaitRead (sym waits.1)
+  reads-at (entry.AwaitWrite t) w waits = absurd (let f : false ≡ true = waits.0 in cc)
+  reads-at e w waits = absurd waits
+
+  writes-at : (e : Entry) (w : WaitingState) → IsWaiting e true w → (t : AwaitWriteState) × ((e ≡ entry.AwaitWrite t) × (w ≡ t.waiting))
+  writes-at (entry.AwaitRead t) w waits = absurd (let f : true ≡ false = waits.0 in cc)
+  writes-at (entry.AwaitWrite t) w waits = (t, (refl, waits.1))
+  writes-at e w waits = absurd waits
+
+  collects-at : (e : Entry) (w : WaitingState) → IsCollecting e w → (t : AwaitAcksState) × ((e ≡ entry.AwaitAcks t) × (w ≡ t.waiting))
+  collects-at (entry.AwaitAcks t) w waits = (t, (refl, waits))
+  collects-at e w waits = absurd waits
+
+  -- the same for the word that waits, whatever else its entry says
+  pub waiting_word : (c : Coherent S) (page : ℕ) (write : Bool) (w : WaitingState) → IsSound ops c → IsWaiting (entry_at c.table page) write w → IsWord c.config.page_size w.word
+  waiting_word c page true w s waits =
+      let h = writes-at (entry_at c.table page) w waits in
+      subst (λ (x : WaitingState). IsWord c.config.page_size x.word) (sym h.1.1) ((entry_is c page (entry.AwaitWrite h.0) s h.1.0).writing h.0 refl).0
+  waiting_word c page false w s waits = ((entry_is c page (entry.AwaitRead w) s (reads-at (entry_at c.table page) w waits)).reading w refl).0
+
+  pub collecting_word : (c : Coherent S) (page : ℕ) (w : WaitingState) → IsSound ops c → IsCollecting (entry_at c.table page) w → IsWord c.config.page_size w.word
+  collecting_word c page w s waits =
+      let h = collects-at (entry_at c.table page) w waits in
+      subst (λ (x : WaitingState). IsWord c.config.page_size x.word) (sym h.1.1) ((entry_is c page (entry.AwaitAcks h.0) s h.1.0).collecting h.0 refl).0.0
+
+  pub unlocking-keeps : (c : Coherent S) (from page : ℕ) (write : Bool) (bytes : List ℕ) (w : WaitingState) → IsSound ops c → from < c.config.nodes → from ≢ c.me → page < c.config.pages → length bytes ≡ c.config.page_size
+      → IsWaiting (entry_at c.table page) write w → Keeps ops c (unlocked ops c from page (unlocked_as write) (Some write) bytes w)
+  unlocking-keeps c from page true bytes w s below foreign inside sized waits =
+      let h = writes-at (entry_at c.table page) w waits in
+      subst (λ x. Keeps ops c (unlocked ops c from page owning (Some true) bytes x)) (sym h.1.1) (alone-keeps c from page bytes h.0 s below inside sized h.1.0)
+  unlocking-keeps c from page false bytes w s below foreign inside sized waits = copy-keeps c from page bytes w s below foreign inside sized (reads-at (entry_at c.table page) w waits)
+
+  pub last-keeps : (c : Coherent S) (from page : ℕ) (w : WaitingState) → IsSound ops c → page < c.config.pages → IsCollecting (entry_at c.table page) w → Keeps ops c (unlocked ops c from page owning None (page_at c.table page) w)
+  last-keeps c from page w s inside waits =
+      let h = collects-at (entry_at c.table page) w waits in
+      subst (λ x. Keeps ops c (unlocked ops c from page owning None (page_at c.table page) x)) (sym h.1.1) (last_copy-keeps c from page h.0 s inside h.1.0)
+
+  pub giving-keeps : (c : Coherent S) (page : ℕ) (w : WaitingState) (q : PutOff) → IsSound ops c → page < c.config.pages → IsWaiting (entry_at c.table page) true w → CanBeServed c.config c.me q → Keeps ops c (given_up ops c page w q)
+  giving-keeps c page w q s inside waits can =
+      let h = writes-at (entry_at c.table page) w waits in
+      subst (λ x. Keeps ops c (given_up ops c page x q)) (sym h.1.1) (given_up-keeps c page h.0 q s inside h.1.0 can)
 
   pub collecting-keeps : (c : Coherent S) (from page : ℕ) (copies : Nodes) (bytes : List ℕ) (w : WaitingState) → IsSound ops c → from < c.config.nodes → page < c.config.pages → length bytes ≡ c.config.page_size
       → IsWaiting (entry_at c.table page) true w → AreOthers c.config c.me copies → IsSound ops (collected ops c from page copies bytes w)
-  collecting-keeps c from page copies bytes w s below inside sized waits others = collecting_at c from page copies bytes w (entry_at c.table page) s below inside sized refl waits others
-
-  owned_with-keeps : (c : Coherent S) (from call page : ℕ) (copies : Nodes) (bytes : List ℕ) (w : AwaitWriteState) → IsSound ops c → from < c.config.nodes → page < c.config.pages → length bytes ≡ c.config.page_size
-      → entry_at c.table page ≡ entry.AwaitWrite w → 1 ≤ call → call < 2 ^ 64 → AreOthers c.config c.me copies → Keeps ops c (owned_with ops c from call page copies bytes w.waiting)
-  owned_with-keeps c from call page copies bytes w s below inside sized is least most others =
-      let good : IsSoundEntry c.config c.me (entry.AwaitWrite w) = entry_is c page (entry.AwaitWrite w) s is in
-      either-keeps c (is_none copies) _ _
-      (λ h. unlocked-keeps c from page owning (Some true) bytes w.waiting s inside sized (ap is_locked is) (good.writing w refl).0 good.put_off (page-start c page from s inside below))
-      (λ h. (collecting-page c from page copies bytes w s below inside sized is others, invalidations-fit c.config c.me page call copies s.here inside least most others))
-
-  not_true : (b : Bool) → not b ≡ true → b ≡ false
-  not_true true h = absurd cc
-  not_true false h = refl
-
-  pub page_came-keeps : (c : Coherent S) (from call page bits : ℕ) (bytes : List ℕ) (e : Entry) → IsSound ops c → from < c.config.nodes → page < c.config.pages → length bytes ≡ c.config.page_size → bits < 2 ^ c.config.nodes
-      → 1 ≤ call → call < 2 ^ 64 → entry_at c.table page ≡ e → Keeps ops c (page_came ops c from call page (nodes_with bits) bytes e)
-  page_came-keeps c from call page bits bytes (entry.Idle i) s below inside sized small least most is = breach-keeps c s
-  page_came-keeps c from call page bits bytes (entry.AwaitRead w) s below inside sized small least most is = breach-keeps c s
-  page_came-keeps c from call page bits bytes (entry.AwaitWrite w) s below inside sized small least most is =
-      either-keeps c (w.waiting.call == call && not (nodes.contains (nodes_with bits) c.me)) _ _
-      (λ h. owned_with-keeps c from call page (nodes_with bits) bytes w s below inside sized is least most
-      (record { below = with_below c.config.nodes bits small; apart = not_true (nodes.contains (nodes_with bits) c.me) (and_parts (w.waiting.call == call) _ h).1 }))
-      (λ h. breach-keeps c s)
-  page_came-keeps c from call page bits bytes (entry.AwaitAcks w) s below inside sized small least most is = breach-keeps c s
-
-  -- an acknowledgement came, and others are missing
-  left_at : (c : Coherent S) (page : ℕ) (left : Nodes) (w : WaitingState) (e : Entry) → IsSound ops c → page < c.config.pages → entry_at c.table page ≡ e → IsCollecting e w → AreOthers c.config c.me left
-      → IsSound ops (still_collecting ops c page left w)
-  left_at c page left w (entry.Idle t) s inside is waits others = absurd waits
-  left_at c page left w (entry.AwaitRead t) s inside is waits others = absurd waits
-  left_at c page left w (entry.AwaitWrite t) s inside is waits others = absurd waits
-  left_at c page left w (entry.AwaitAcks t) s inside is waits others =
-      let good : IsSoundEntry c.config c.me (entry.AwaitAcks t) = entry_is c page (entry.AwaitAcks t) s is in
-      let word = (good.collecting t refl).0 in
-      let e : Entry = entry.AwaitAcks (record { left = left; waiting = t.waiting }) in
-      subst (λ x. IsSound ops (still_collecting ops c page left x)) (sym waits)
-      (change-sound c page e c.table.pages c.manager c.locked c.done c.breaches s
-      (entry-sound c page (entry.AwaitAcks t) e s inside is (collecting-sound c.config c.me (record { left = left; waiting = t.waiting }) word.0 word.1 others good.put_off good.few) refl refl))
+  collecting-keeps c from page copies bytes w s below inside sized waits others =
+      let h = writes-at (entry_at c.table page) w waits in
+      subst (λ x. IsSound ops (collected ops c from page copies bytes x)) (sym h.1.1) (collecting-page c from page copies bytes h.0 s below inside sized h.1.0 others)
 
   pub left-keeps : (c : Coherent S) (page : ℕ) (left : Nodes) (w : WaitingState) → IsSound ops c → page < c.config.pages → IsCollecting (entry_at c.table page) w → AreOthers c.config c.me left
       → IsSound ops (still_collecting ops c page left w)
-  left-keeps c page left w s inside waits others = left_at c page left w (entry_at c.table page) s inside refl waits others
+  left-keeps c page left w s inside waits others =
+      let h = collects-at (entry_at c.table page) w waits in
+      subst (λ x. IsSound ops (still_collecting ops c page left x)) (sym h.1.1) (left_page c page left h.0 s inside h.1.0 others)
 
-  left_with-keeps : (c : Coherent S) (from page : ℕ) (w : AwaitAcksState) → IsSound ops c → page < c.config.pages → entry_at c.table page ≡ entry.AwaitAcks w → Keeps ops c (left_with ops c from page (nodes.remove w.left from) w.waiting)
-  left_with-keeps c from page w s inside is =
-      let good : IsSoundEntry c.config c.me (entry.AwaitAcks w) = entry_is c page (entry.AwaitAcks w) s is in
-      let all = good.collecting w refl in
-      either-keeps c (is_none (nodes.remove w.left from)) _ _
-      (λ h. unlocked-keeps c from page owning None (page_at c.table page) w.waiting s inside (s.sized page inside) (ap is_locked is) all.0.0 good.put_off (last-start c page from s inside))
-      (λ h. (left_at c page (nodes.remove w.left from) w.waiting (entry.AwaitAcks w) s inside is refl (fewer_others c.config c.me from w.left all.1), all_none (FitsParcel c.config c.me)))
-
-  pub acknowledged-keeps : (c : Coherent S) (from call page : ℕ) (e : Entry) → IsSound ops c → page < c.config.pages → entry_at c.table page ≡ e → Keeps ops c (acknowledged ops c from call page e)
-  acknowledged-keeps c from call page (entry.Idle i) s inside is = breach-keeps c s
-  acknowledged-keeps c from call page (entry.AwaitRead w) s inside is = breach-keeps c s
-  acknowledged-keeps c from call page (entry.AwaitWrite w) s inside is = breach-keeps c s
-  acknowledged-keeps c from call page (entry.AwaitAcks w) s inside is =
-      either-keeps c (w.waiting.call == call && nodes.contains w.left from) _ _ (λ h. left_with-keeps c from page w s inside is) (λ h. breach-keeps c s)
-
-  foreign_origin : (a b : ℕ) → (a == b) ≡ false → a ≢ b
-  foreign_origin a b h = elim (eqb_tells a b) [ inl x ↦ absurd (let f : true ≡ false = sym x.0 ∙ h in cc) | inr x ↦ x.1 ]
-
-  same_origin : (a b : ℕ) → (a == b) ≡ true → a ≡ b
-  same_origin a b h = elim (eqb_tells a b) [ inl x ↦ x.1 | inr x ↦ absurd (let f : false ≡ true = sym x.0 ∙ h in cc) ]
-
-  as-keeps : (c : Coherent S) (from origin call : ℕ) (m : Content) → IsSound ops c → from < c.config.nodes → from ≢ c.me → origin < c.config.nodes → 1 ≤ call → call < 2 ^ 64 → FitsContent c.config m
-      → Keeps ops c (handled_as ops c from origin call m)
-  as-keeps c from origin call (content.ReadReq page) s below foreign by least most fits =
-      either-keeps c (origin == c.me) _ _ (λ h. breach-keeps c s)
-      (λ h. asked-keeps c page (record { kind = request.Read; origin = origin; call = call }) _ s fits refl (record { origin = by; foreign = foreign_origin origin c.me h; call_from = least; call_to = most }))
-  as-keeps c from origin call (content.WriteReq page) s below foreign by least most fits =
-      either-keeps c (origin == c.me) _ _ (λ h. breach-keeps c s)
-      (λ h. asked-keeps c page (record { kind = request.Write; origin = origin; call = call }) _ s fits refl (record { origin = by; foreign = foreign_origin origin c.me h; call_from = least; call_to = most }))
-  as-keeps c from origin call (content.Inval page) s below foreign by least most fits =
-      either-keeps c (origin == from) _ _
-      (λ h. asked-keeps c page (record { kind = request.Invalidate; origin = origin; call = call }) _ s fits refl (record { origin = by; foreign = (λ e. foreign (sym (same_origin origin from h) ∙ e)); call_from = least; call_to = most }))
-      (λ h. breach-keeps c s)
-  as-keeps c from origin call (content.ReadRep page bytes) s below foreign by least most fits =
-      either-keeps c (origin == c.me) _ _ (λ h. copy_came-keeps c from call page bytes _ s below foreign fits.0 fits.1 refl) (λ h. breach-keeps c s)
-  as-keeps c from origin call (content.WriteRep page copies bytes) s below foreign by least most fits =
-      either-keeps c (origin == c.me) _ _ (λ h. page_came-keeps c from call page copies bytes _ s below fits.0 fits.2 fits.1 least most refl) (λ h. breach-keeps c s)
-  as-keeps c from origin call (content.InvalAck page) s below foreign by least most fits =
-      either-keeps c (origin == c.me) _ _ (λ h. acknowledged-keeps c from call page _ s fits refl) (λ h. breach-keeps c s)
-  as-keeps c from origin call (content.AllocReq size) s below foreign by least most fits = breach-keeps c s
-  as-keeps c from origin call (content.AllocRep code addr) s below foreign by least most fits = breach-keeps c s
-  as-keeps c from origin call (content.FreeReq addr) s below foreign by least most fits = breach-keeps c s
-  as-keeps c from origin call (content.FreeRep code) s below foreign by least most fits = breach-keeps c s
+  message-rows : (c : Coherent S) (from origin call : ℕ) → IsSound ops c → from < c.config.nodes → from ≢ c.me → origin < c.config.nodes → 1 ≤ call → call < 2 ^ 64
+      → Rows ops c from origin call (λ m e. FitsContent c.config m → Keeps ops c e)
+  message-rows c from origin call s below foreign by least most =
+      let can : (kind : Request) → MayAsk c from origin kind → CanBeServed c.config c.me (record { kind = kind; origin = origin; call = call })
+      = λ kind may. record { origin = by; foreign = asker_foreign c from origin kind foreign may; call_from = least; call_to = most } in
+      record {
+        breach = λ m why fits. breach-keeps c s;
+        served = λ kind page i may is order fits. idle_asked-keeps c page (record { kind = kind; origin = origin; call = call }) i s (asking-fits c.config kind page fits) is (can kind may);
+        put_off = λ kind page e may is room at fits. put_by-keeps c page e (record { kind = kind; origin = origin; call = call }) s (asking-fits c.config kind page fits) is (can kind may) room;
+        given_up = λ page w from_is is fits. given_up-keeps c page w (record { kind = request.Invalidate; origin = origin; call = call }) s fits is (can request.Invalidate from_is);
+        copy = λ page bytes w mine is this fits. copy-keeps c from page bytes w s below foreign fits.0 fits.1 is;
+        alone = λ page copies bytes w mine is this none fits. alone-keeps c from page bytes w s below fits.0 fits.2 is;
+        shared = λ page copies bytes w mine is this some apart fits.
+            let others : AreOthers c.config c.me (nodes_with copies) = record { below = with_below c.config.nodes copies fits.1; apart = apart } in
+            (collecting-page c from page (nodes_with copies) bytes w s below fits.0 fits.2 is others, invalidations-fit c.config c.me page call (nodes_with copies) s.here fits.0 least most others);
+        acknowledged = λ page w mine is this missing some fits.
+            let good : IsSoundEntry c.config c.me (entry.AwaitAcks w) = entry_is c page (entry.AwaitAcks w) s is in
+            (left_page c page (nodes.remove w.left from) w s fits is (fewer_others c.config c.me from w.left (good.collecting w refl).1), all_none (FitsParcel c.config c.me));
+        last = λ page w mine is this missing none fits. last_copy-keeps c from page w s fits is;
+      }
 
   -- a message that comes
   pub handled-keeps : (c : Coherent S) (from : ℕ) (m : Message) → IsSound ops c → from < c.config.nodes → from ≢ c.me → FitsMessage c.config m → Keeps ops c (handled ops c from m)
-  unfolding handled
-  handled-keeps c from m s below foreign fits = as-keeps c from m.origin m.call m.content s below foreign fits.origin fits.call_from fits.call_to fits.content
+  handled-keeps c from m s below foreign fits = handled-by_rows m (message-rows c from m.origin m.call s below foreign fits.origin fits.call_from fits.call_to) fits.content
 
   pub hit-keeps : (c : Coherent S) (page : ℕ) (w : Word) → IsSound ops c → page < c.config.pages → IsWord c.config.page_size w → KeepsBegun ops c (hit ops c page w)
   hit-keeps c page w s inside word =
@@ -501,6 +418,7 @@ module _ {S : Type 0} {ops : Ops S} (laws : Laws ops) where
           here = s.here;
           mine = s.mine;
           managed = s.managed;
+          nodes = s.nodes;
           size = s.size;
           entries = s.entries;
           pages = pages.count;
@@ -533,59 +451,41 @@ module _ {S : Type 0} {ops : Ops S} (laws : Laws ops) where
   not_owner true readable h r = absurd (let e : true ≡ false = sym (h refl) ∙ r in cc)
   not_owner false readable h r = refl
 
-  -- by whether the word writes, and whether this node owns the page
-  fault-keeps-at : (c : Coherent S) (page : ℕ) (w : Word) (call : ℕ) (i : IdleState) (write own : Bool) → IsSound ops c → page < c.config.pages → IsWord c.config.page_size w → 1 ≤ call → call < 2 ^ 64
-      → entry_at c.table page ≡ entry.Idle i → c.locked ≡ None → needs_write w ≡ write → i.owner ≡ own → suffices i.access w ≡ false → KeepsBegun ops c (faulted ops c page w call i)
-  fault-keeps-at c page w call i true true s inside word least most is none write own short =
-      let good : IsSoundIdle c.config c.me i = (entry_is c page (entry.Idle i) s is).idle i refl in
-      rw (write, own) (
-        locking c page (entry.AwaitAcks (record { left = i.copies; waiting = waiting_from w call })) s inside none
-            (collecting-sound c.config c.me (record { left = i.copies; waiting = waiting_from w call }) word write good.copies (all_none (CanBeServed c.config c.me)) (omega arith)) refl (λ h. absurd cc),
-        invalidations-fit c.config c.me page call i.copies s.here inside least most good.copies,
-      )
-  fault-keeps-at c page w call i true false s inside word least most is none write own short =
-      let free : is_owner (entry_at c.table page) ≡ false = ap is_owner is ∙ own in
-      rw (write, own) (
-        locking c page (entry.AwaitWrite (record { had_copy = reads i.access; waiting = waiting_from w call })) s inside none
-            (writing-sound c.config c.me (record { had_copy = reads i.access; waiting = waiting_from w call }) word write (all_none (CanBeServed c.config c.me)) (omega arith)) refl (λ h. free),
-        all_one (FitsParcel c.config c.me) _ (parcel_fits c.config c.me (ops.next_hop c.manager page) c.me call (content.WriteReq page) s.here (s.hop page inside) (s.away page inside free) s.here least most inside),
-      )
-  fault-keeps-at c page w call i false own s inside word least most is none write owns short =
-      let good : IsSoundIdle c.config c.me i = (entry_is c page (entry.Idle i) s is).idle i refl in
-      let unread : reads i.access ≡ false = rw write at short in
-      let free : is_owner (entry_at c.table page) ≡ false = ap is_owner is ∙ not_owner i.owner (reads i.access) good.owned unread in
-      rw write (
-        locking c page (entry.AwaitRead (waiting_from w call)) s inside none
-            (reading-sound c.config c.me (waiting_from w call) word write (all_none (CanBeServed c.config c.me)) (omega arith)) refl (λ h. free),
-        all_one (FitsParcel c.config c.me) _ (parcel_fits c.config c.me (ops.next_hop c.manager page) c.me call (content.ReadReq page) s.here (s.hop page inside) (s.away page inside free) s.here least most inside),
-      )
+  access-rows : (c : Coherent S) (page : ℕ) (w : Word) (call : ℕ) → IsSound ops c → page < c.config.pages → IsWord c.config.page_size w → 1 ≤ call → call < 2 ^ 64
+      → AccessRows ops c page w call (KeepsBegun ops c)
+  access-rows c page w call s inside word least most = record {
+    busy = (s, all_none (FitsParcel c.config c.me));
+    hit = λ i none is enough. hit-keeps c page w s inside word;
+    read = λ i none is short reading.
+        let good : IsSoundIdle c.config c.me i = (entry_is c page (entry.Idle i) s is).idle i refl in
+        let unread : reads i.access ≡ false = rw reading at short in
+        let free : is_owner (entry_at c.table page) ≡ false = ap is_owner is ∙ not_owner i.owner (reads i.access) good.owned unread in (
+          locking c page (entry.AwaitRead (waiting_from w call)) s inside none
+              (reading-sound c.config c.me (waiting_from w call) word reading (all_none (CanBeServed c.config c.me)) (omega arith)) refl (λ h. free),
+          all_one (FitsParcel c.config c.me) _ (parcel_fits c.config c.me (ops.next_hop c.manager page) c.me call (content.ReadReq page) s.here (s.hop page inside) (s.away page inside free) s.here least most inside),
+        );
+    write = λ i none is short writing other.
+        let free : is_owner (entry_at c.table page) ≡ false = ap is_owner is ∙ other in (
+          locking c page (entry.AwaitWrite (record { had_copy = reads i.access; waiting = waiting_from w call })) s inside none
+              (writing-sound c.config c.me (record { had_copy = reads i.access; waiting = waiting_from w call }) word writing (all_none (CanBeServed c.config c.me)) (omega arith)) refl (λ h. free),
+          all_one (FitsParcel c.config c.me) _ (parcel_fits c.config c.me (ops.next_hop c.manager page) c.me call (content.WriteReq page) s.here (s.hop page inside) (s.away page inside free) s.here least most inside),
+        );
+    owner = λ i none is short writing own.
+        let good : IsSoundIdle c.config c.me i = (entry_is c page (entry.Idle i) s is).idle i refl in (
+          locking c page (entry.AwaitAcks (record { left = i.copies; waiting = waiting_from w call })) s inside none
+              (collecting-sound c.config c.me (record { left = i.copies; waiting = waiting_from w call }) word writing good.copies (all_none (CanBeServed c.config c.me)) (omega arith)) refl (λ h. absurd cc),
+          invalidations-fit c.config c.me page call i.copies s.here inside least most good.copies,
+        );
+  }
 
   pub fault-keeps : (c : Coherent S) (page : ℕ) (w : Word) (call : ℕ) (i : IdleState) → IsSound ops c → page < c.config.pages → IsWord c.config.page_size w → 1 ≤ call → call < 2 ^ 64
       → entry_at c.table page ≡ entry.Idle i → c.locked ≡ None → suffices i.access w ≡ false → KeepsBegun ops c (faulted ops c page w call i)
-  fault-keeps c page w call i s inside word least most is none short = fault-keeps-at c page w call i (needs_write w) i.owner s inside word least most is none refl refl short
-
-  begun-cases : (c : Coherent S) (b : Bool) (x y : Begun S) → (b ≡ true → KeepsBegun ops c x) → (b ≡ false → KeepsBegun ops c y) → KeepsBegun ops c (if b then x else y)
-  begun-cases c true x y h k = h refl
-  begun-cases c false x y h k = k refl
-
-  accessed-keeps : (c : Coherent S) (page : ℕ) (w : Word) (call : ℕ) (e : Entry) → IsSound ops c → page < c.config.pages → IsWord c.config.page_size w → 1 ≤ call → call < 2 ^ 64
-      → entry_at c.table page ≡ e → c.locked ≡ None → KeepsBegun ops c (accessed ops c page w call e)
-  accessed-keeps c page w call (entry.Idle i) s inside good least most is none =
-      begun-cases c (suffices i.access w) _ _ (λ h. hit-keeps c page w s inside good) (λ h. fault-keeps c page w call i s inside good least most is none h)
-  accessed-keeps c page w call (entry.AwaitRead i) s inside good least most is none = (s, all_none (FitsParcel c.config c.me))
-  accessed-keeps c page w call (entry.AwaitWrite i) s inside good least most is none = (s, all_none (FitsParcel c.config c.me))
-  accessed-keeps c page w call (entry.AwaitAcks i) s inside good least most is none = (s, all_none (FitsParcel c.config c.me))
-
-  at-keeps : (c : Coherent S) (page : ℕ) (w : Word) (call : ℕ) (o : Option ℕ) → IsSound ops c → page < c.config.pages → IsWord c.config.page_size w → 1 ≤ call → call < 2 ^ 64
-      → c.locked ≡ o → KeepsBegun ops c (begun_at ops c page w call o)
-  at-keeps c page w call None s inside good least most is = accessed-keeps c page w call _ s inside good least most refl is
-  at-keeps c page w call (Some p) s inside good least most is = (s, all_none (FitsParcel c.config c.me))
+  fault-keeps c page w call i s inside word least most is none short = fault-by_rows (access-rows c page w call s inside word least most) i none is short
 
   -- an access of this node's program
   pub begun-keeps : (c : Coherent S) (page : ℕ) (w : Word) (call : ℕ) → IsSound ops c → page < c.config.pages → IsWord c.config.page_size w → 1 ≤ call → call < 2 ^ 64
       → KeepsBegun ops c (begun ops c page w call)
-  unfolding begun
-  begun-keeps c page w call s inside good least most = at-keeps c page w call _ s inside good least most refl
+  begun-keeps c page w call s inside word least most = begun-by_rows (access-rows c page w call s inside word least most)
 
 entry_first : (n p : ℕ) (e : Entry) → (get_or (replicate n e) p nothing ≡ e) ⊎ (get_or (replicate n e) p nothing ≡ nothing)
 entry_first zero p e = inr refl
@@ -615,6 +515,7 @@ module _ {S : Type 0} {ops : Ops S} (laws : Laws ops) where
     here = here;
     mine = laws.first_me c me limits here;
     managed = laws.first_size c me limits here;
+    nodes = laws.first_nodes c me limits here;
     size = refl;
     entries = length-replicate c.pages (first_entry me);
     pages = length-replicate c.pages (replicate c.page_size 0);

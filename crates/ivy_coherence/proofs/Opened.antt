@@ -13,6 +13,7 @@ use Rattle.ivy_pagetable.specs.declared.Entry.TheVariants as entry
 use Rattle.ivy_pagetable.specs.declared.Out.{Out}
 use Rattle.ivy_pagetable.specs.declared.PutOff.{PutOff}
 use Rattle.ivy_pagetable.specs.declared.Word.{Word}
+use Rattle.ivy_pagetable.specs.Limits.{most_nodes_in_a_byte}
 use Rattle.ivy_pagetable.specs.NodeSets.{Nodes, IsBelow, nodes_of}
 use Rattle.ivy_pagetable.proofs.Bits.{empty_below}
 use Rattle.ivy_pagetable.specs.States.{IdleState, WaitingState, AwaitAcksState}
@@ -23,6 +24,7 @@ use Rattle.ivy_pagetable.specs.Words.{IsWord, width_of, offset_of, number_at, ca
 use Rattle.ivy_pagetable.proofs.Words.{taken_back}
 use Rattle.ivy_pagetable.specs.Manager.{Ops, Laws}
 use Rattle.ivy_coherence.specs.Coherent.{Coherent}
+use Rattle.ivy_coherence.specs.Limits.{most_posted}
 use Rattle.ivy_coherence.specs.Serving.{settled}
 use Rattle.ivy_coherence.specs.Steps.{IsWaiting, IsCollecting, is_none, unlocked_as, invalidations, owned_with}
 use Rattle.ivy_coherence.specs.Faults.{IsIdleAt, suffices, fault_entry}
@@ -30,8 +32,8 @@ use Rattle.ivy_coherence.specs.Sound.{CanBeServed, AreOthers, IsSoundIdle, IsSou
 use Rattle.ivy_pagetable.specs.Entries.{can_put_off, with_put_off, owning}
 use Rattle.ivy_coherence.proofs.IdleServing.{fewer_others}
 use Rattle.ivy_coherence.proofs.Changing.{change-sound}
-use Rattle.ivy_coherence.proofs.ServingCounts.{nodes-few}
-use Rattle.ivy_coherence.proofs.Keeping.{entry_is, entry-sound, put_entry-sound, owner_put, locked_put, asked-keeps, hit-keeps, fault-keeps, invalidations-fit, waiting_word, collecting_word, unlocking-keeps, last-keeps, giving-keeps, collecting-keeps, left-keeps}
+use Rattle.ivy_coherence.proofs.Few.{nodes-few}
+use Rattle.ivy_coherence.proofs.Keeping.{entry_is, entry-sound, put_entry-sound, owner_put, locked_put, idle_asked-keeps, hit-keeps, fault-keeps, invalidations-fit, waiting_word, collecting_word, unlocking-keeps, last-keeps, giving-keeps, collecting-keeps, left-keeps}
 
 pub none_of : (o : Option ℕ) → is_some o ≡ false → o ≡ None
 none_of None h = refl
@@ -46,9 +48,9 @@ module _ {S : Type 0} (n v : Coherent S) (same : v ≡ n) where
       subst (λ x. All (FitsParcel k x) ps) me_is (subst (λ x. All (FitsParcel x v.me) ps) k_is fits)
 
 -- the nodes that have a copy of a page that just came
-pub unlocked_below : (write : Bool) → IsBelow 8 (unlocked_as write).copies
-unlocked_below true = empty_below 8
-unlocked_below false = empty_below 8
+pub unlocked_below : (write : Bool) → IsBelow most_nodes_in_a_byte (unlocked_as write).copies
+unlocked_below true = empty_below most_nodes_in_a_byte
+unlocked_below false = empty_below most_nodes_in_a_byte
 
 -- a set without a node is the empty set
 pub none_is : (nodes : Nodes) (b : Bool) → (IsTrue b → nodes ≡ set.empty) → (nodes ≡ set.empty → IsTrue b) → b ≡ is_none nodes
@@ -96,14 +98,14 @@ module _ {S : Type 0} {ops : Ops S} (n v : Coherent S) (same : v ≡ n) (s : IsS
   idle_there : (page : ℕ) (i : IdleState) → IsIdleAt n.table page i → IsSoundIdle v.config v.me i
   idle_there page i is = (entry_is v page (entry.Idle i) s (here (λ x. entry_at x.table page ≡ entry.Idle i) is)).idle i refl
 
-  pub told_few : (page : ℕ) (i : IdleState) → IsIdleAt n.table page i → length (nodes_of i.copies) ≤ 8
+  pub told_few : (page : ℕ) (i : IdleState) → IsIdleAt n.table page i → length (nodes_of i.copies) ≤ most_posted
   told_few page i is = let k = nodes-few v.config.nodes i.copies (idle_there page i is).copies.below in let most = s.limits.nodes_to in omega (arith, k, most)
 
   pub told_fit : (page call : ℕ) (i : IdleState) (k : Config) (node : ℕ) → IsIdleAt n.table page i → page < n.config.pages → 1 ≤ call → call < 2 ^ 64 → k ≡ n.config → node ≡ n.me → All (FitsParcel k node) (invalidations v.me page call i.copies)
   told_fit page call i k node is inside least most config me =
       fits_at n v same k node config me _ (invalidations-fit v.config v.me page call i.copies s.here (here (λ x. page < x.config.pages) inside) least most (idle_there page i is).copies)
 
-  pub others_few : (copies : Nodes) → IsBelow n.config.nodes copies → length (nodes_of copies) ≤ 8
+  pub others_few : (copies : Nodes) → IsBelow n.config.nodes copies → length (nodes_of copies) ≤ most_posted
   others_few copies below = let k = nodes-few v.config.nodes copies (here (λ x. IsBelow x.config.nodes copies) below) in let most = s.limits.nodes_to in omega (arith, k, most)
 
   are_others : (copies : Nodes) → IsBelow n.config.nodes copies → set.contains copies n.me ≡ false → AreOthers v.config v.me copies
@@ -194,7 +196,7 @@ module _ {S : Type 0} {ops : Ops S} (laws : Laws ops) (n v : Coherent S) (same :
   pub asked_fits : (page : ℕ) (q : PutOff) (i j : IdleState) (bytes : List ℕ) (k : Config) (node : ℕ) → page < n.config.pages → entry_at v.table page ≡ entry.Idle i → CanBeServed n.config n.me q → bytes ≡ page_at v.table page → j ≡ i
       → k ≡ n.config → node ≡ n.me → All (FitsParcel k node) (settled ops v.me q.origin page bytes j v.manager v.breaches None (q ∷ [])).posted
   asked_fits page q i j bytes k node inside is can bytes_are copied config me =
-      let keeps = asked-keeps laws v page q (entry.Idle i) s (subst (λ (x : Coherent S). page < x.config.pages) (sym same) inside) is (subst (λ (x : Coherent S). CanBeServed x.config x.me q) (sym same) can) in
+      let keeps = idle_asked-keeps laws v page q i s (subst (λ (x : Coherent S). page < x.config.pages) (sym same) inside) is (subst (λ (x : Coherent S). CanBeServed x.config x.me q) (sym same) can) in
       rw (bytes_are, copied) (fits_at n v same k node config me _ keeps.1)
 
   pub asked_sound : (page : ℕ) (q : PutOff) (i j after : IdleState) (bytes : List ℕ) (t : Table) (m : S) (b : ℕ) → page < n.config.pages → entry_at v.table page ≡ entry.Idle i → CanBeServed n.config n.me q → bytes ≡ page_at v.table page → j ≡ i
@@ -202,7 +204,7 @@ module _ {S : Type 0} {ops : Ops S} (laws : Laws ops) (n v : Coherent S) (same :
       → m ≡ (settled ops v.me q.origin page bytes j v.manager v.breaches None (q ∷ [])).manager → b ≡ (settled ops v.me q.origin page bytes j v.manager v.breaches None (q ∷ [])).breaches
       → IsSound ops (record v { table = t; manager = m; breaches = b })
   asked_sound page q i j after bytes t m b inside is can bytes_are copied idle_is table manager breaches =
-      let keeps = asked-keeps laws v page q (entry.Idle i) s (subst (λ (x : Coherent S). page < x.config.pages) (sym same) inside) is (subst (λ (x : Coherent S). CanBeServed x.config x.me q) (sym same) can) in
+      let keeps = idle_asked-keeps laws v page q i s (subst (λ (x : Coherent S). page < x.config.pages) (sym same) inside) is (subst (λ (x : Coherent S). CanBeServed x.config x.me q) (sym same) can) in
       rw (table, manager, breaches, idle_is, bytes_are, copied) keeps.0
 
   -- an access of this node's program

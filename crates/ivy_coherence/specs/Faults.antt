@@ -1,6 +1,6 @@
 -- What an access of this node's program comes to (Li and Hudak 1989): what the program is told, the state after, and
 -- what is posted, in order.
-use Rattle.std.specs.Prelude.{◌≡◌, ℕ, Bool, true, false, List, [], ◌∷◌, Option, Some, None, if◌then◌else◌}
+use Rattle.std.specs.Prelude.{◌≡◌, ◌≢◌, ◌⊎◌, ℕ, Bool, true, false, List, [], ◌∷◌, Option, Some, None, if◌then◌else◌}
 use Rattle.ivy_wire.specs.declared.Content.TheVariants as content
 use Rattle.ivy_wire.specs.Data.{Parcel}
 use Rattle.ivy_pagetable.specs.declared.Access.{Access}
@@ -31,6 +31,11 @@ suffices access word = if needs_write word then writes access else reads access
 abbrev pub IsIdleAt : Table → ℕ → IdleState → Type 0
 IsIdleAt t page s = entry_at t page ≡ entry.Idle s
 
+-- nothing has to be asked for: an entry is locked already, or access suffices
+abbrev pub IsAtHand : {S : Type 0} → Coherent S → ℕ → Word → Type 0
+IsAtHand c page word =
+    (c.locked ≢ None) ⊎ ((s : IdleState) × (IsIdleAt c.table page s × (suffices s.access word ≡ true)))
+
 -- the word of this call, and nothing put off yet
 abbrev pub waiting_from : Word → ℕ → WaitingState
 waiting_from word call = record { word = word; call = call; put_off = [] }
@@ -60,20 +65,21 @@ module _ {S : Type 0} (ops : Ops S) where
       then (if s.owner then invalidations c.me page call s.copies else parcel_to c.me (ops.next_hop c.manager page) c.me call (content.WriteReq page) ∷ [])
       else parcel_to c.me (ops.next_hop c.manager page) c.me call (content.ReadReq page) ∷ []
 
-  -- the word waits then
-  abbrev pub faulted : Coherent S → ℕ → Word → ℕ → IdleState → Begun S
-  faulted c page word call s = record {
+  -- the word waits at this entry then
+  abbrev pub started : Coherent S → ℕ → Entry → List Parcel → Begun S
+  started c page e posted = record {
     need = Started;
-    after = record c { table = with_entry c.table page (fault_entry word call s); locked = Some page };
-    posted = fault_posted c page word call s;
+    after = record c { table = with_entry c.table page e; locked = Some page };
+    posted = posted;
   }
+
+  abbrev pub faulted : Coherent S → ℕ → Word → ℕ → IdleState → Begun S
+  faulted c page word call s = started c page (fault_entry word call s) (fault_posted c page word call s)
 
   abbrev pub accessed : Coherent S → ℕ → Word → ℕ → Entry → Begun S
   accessed c page word call (entry.Idle s) =
       if suffices s.access word then hit c page word else faulted c page word call s
-  accessed c page word call (entry.AwaitRead s) = busy c
-  accessed c page word call (entry.AwaitWrite s) = busy c
-  accessed c page word call (entry.AwaitAcks s) = busy c
+  accessed c page word call e = busy c
 
   abbrev pub begun_at : Coherent S → ℕ → Word → ℕ → Option ℕ → Begun S
   begun_at c page word call None = accessed c page word call (entry_at c.table page)

@@ -1,4 +1,5 @@
 pub mod Coherent
+pub mod Limits
 pub mod Serving
 pub mod Steps
 pub mod Faults

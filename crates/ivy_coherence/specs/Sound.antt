@@ -7,6 +7,7 @@ use Rattle.ivy_pagetable.specs.declared.Entry.{Entry}
 use Rattle.ivy_pagetable.specs.declared.Entry.TheVariants as entry
 use Rattle.ivy_pagetable.specs.declared.PutOff.{PutOff}
 use Rattle.ivy_pagetable.specs.declared.Word.{Word}
+use Rattle.ivy_pagetable.specs.Limits.{most_put_off}
 use Rattle.ivy_pagetable.specs.NodeSets.{Nodes, IsBelow}
 use Rattle.ivy_pagetable.specs.States.{IdleState, WaitingState, AwaitWriteState, AwaitAcksState}
 use Rattle.ivy_pagetable.specs.Accesses.{reads}
@@ -44,13 +45,14 @@ pub record IsSoundEntry (c : Config) (me : ℕ) (e : Entry) : Type 0 where
   pub writing : (s : AwaitWriteState) → e ≡ entry.AwaitWrite s → Waits c true s.waiting.word
   pub collecting : (s : AwaitAcksState) → e ≡ entry.AwaitAcks s → Waits c true s.waiting.word × AreOthers c me s.left
   pub put_off : All (CanBeServed c me) (put_offs e)
-  pub few : length (put_offs e) ≤ 8
+  pub few : length (put_offs e) ≤ most_put_off
 
 pub record IsSound {S : Type 0} (ops : Ops S) (c : Coherent S) : Type 0 where
   pub limits : IsConfig c.config
   pub here : c.me < c.config.nodes
   pub mine : ops.me c.manager ≡ c.me
   pub managed : ops.size c.manager ≡ c.config.pages
+  pub nodes : ops.nodes c.manager ≡ c.config.nodes
   pub size : c.table.page_size ≡ c.config.page_size
   pub entries : length c.table.entries ≡ c.config.pages
   pub pages : length c.table.pages ≡ c.config.pages

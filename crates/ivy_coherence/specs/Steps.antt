@@ -23,17 +23,14 @@ pub record Effect (S : Type 0) : Type 0 where
 
 -- the word of this call waits at the entry: for a copy to read, or for the page to write
 abbrev pub IsWaiting : Entry → Bool → WaitingState → Type 0
-IsWaiting (entry.Idle s) write waiting = ⊥
 IsWaiting (entry.AwaitRead s) write waiting = (write ≡ false) × (waiting ≡ s)
 IsWaiting (entry.AwaitWrite s) write waiting = (write ≡ true) × (waiting ≡ s.waiting)
-IsWaiting (entry.AwaitAcks s) write waiting = ⊥
+IsWaiting e write waiting = ⊥
 
 -- it waits for acknowledgements
 abbrev pub IsCollecting : Entry → WaitingState → Type 0
-IsCollecting (entry.Idle s) waiting = ⊥
-IsCollecting (entry.AwaitRead s) waiting = ⊥
-IsCollecting (entry.AwaitWrite s) waiting = ⊥
 IsCollecting (entry.AwaitAcks s) waiting = waiting ≡ s.waiting
+IsCollecting e waiting = ⊥
 
 -- the entry once the page, or a copy, came
 abbrev pub unlocked_as : Bool → IdleState
@@ -45,9 +42,8 @@ is_none nodes = set.len nodes == 0
 
 -- an order to give a copy up
 abbrev pub is_order : Request → Bool
-is_order request.Read = false
-is_order request.Write = false
 is_order request.Invalidate = true
+is_order kind = false
 
 -- each of these nodes is told to give its copy up
 abbrev pub invalidations : ℕ → ℕ → ℕ → Nodes → List Parcel
@@ -72,11 +68,11 @@ module _ {S : Type 0} (ops : Ops S) where
       (settled ops c.me from page now.bytes idle c.manager c.breaches reply s.put_off)
 
   -- at a locked entry a message waits until it is unlocked
+  abbrev pub put_by : Coherent S → ℕ → Entry → PutOff → Effect S
+  put_by c page e q = record { after = record c { table = with_entry c.table page (with_put_off e q) }; posted = [] }
+
   abbrev pub put_aside : Coherent S → ℕ → Entry → PutOff → Effect S
-  put_aside c page e q =
-      if can_put_off e
-      then record { after = record c { table = with_entry c.table page (with_put_off e q) }; posted = [] }
-      else breach c
+  put_aside c page e q = if can_put_off e then put_by c page e q else breach c
 
   -- a node that waits to write gives up at once the copy that it had
   abbrev pub given_up : Coherent S → ℕ → WaitingState → PutOff → Effect S
@@ -91,17 +87,15 @@ module _ {S : Type 0} (ops : Ops S) where
   -- a request for a copy or for the page, or the order to give a copy up
   abbrev pub asked : Coherent S → ℕ → PutOff → Entry → Effect S
   asked c page q (entry.Idle s) = after_serving c page (settled ops c.me q.origin page (page_at c.table page) s c.manager c.breaches None (q ∷ []))
-  asked c page q (entry.AwaitRead s) = put_aside c page (entry.AwaitRead s) q
   asked c page q (entry.AwaitWrite s) = if is_order q.kind then given_up c page s.waiting q else put_aside c page (entry.AwaitWrite s) q
   asked c page q (entry.AwaitAcks s) = if is_order q.kind then breach c else put_aside c page (entry.AwaitAcks s) q
+  asked c page q e = put_aside c page e q
 
   -- a copy comes for the word that waits to read
   abbrev pub copy_came : Coherent S → ℕ → ℕ → ℕ → List ℕ → Entry → Effect S
-  copy_came c from call page bytes (entry.Idle s) = breach c
   copy_came c from call page bytes (entry.AwaitRead s) =
       if s.call == call then unlocked c from page copying (Some false) bytes s else breach c
-  copy_came c from call page bytes (entry.AwaitWrite s) = breach c
-  copy_came c from call page bytes (entry.AwaitAcks s) = breach c
+  copy_came c from call page bytes e = breach c
 
   -- the page came, and these other nodes have a copy of it: the word waits until they gave it up
   abbrev pub collected : Coherent S → ℕ → ℕ → Nodes → List ℕ → WaitingState → Coherent S
@@ -118,11 +112,9 @@ module _ {S : Type 0} (ops : Ops S) where
       else record { after = collected c from page copies bytes s; posted = invalidations c.me page call copies }
 
   abbrev pub page_came : Coherent S → ℕ → ℕ → ℕ → Nodes → List ℕ → Entry → Effect S
-  page_came c from call page copies bytes (entry.Idle s) = breach c
-  page_came c from call page copies bytes (entry.AwaitRead s) = breach c
   page_came c from call page copies bytes (entry.AwaitWrite s) =
       if s.waiting.call == call && not (set.contains copies c.me) then owned_with c from call page copies bytes s.waiting else breach c
-  page_came c from call page copies bytes (entry.AwaitAcks s) = breach c
+  page_came c from call page copies bytes e = breach c
 
   -- these nodes have not given their copy up yet
   abbrev pub still_collecting : Coherent S → ℕ → Nodes → WaitingState → Coherent S
@@ -136,11 +128,9 @@ module _ {S : Type 0} (ops : Ops S) where
       else record { after = still_collecting c page left s; posted = [] }
 
   abbrev pub acknowledged : Coherent S → ℕ → ℕ → ℕ → Entry → Effect S
-  acknowledged c from call page (entry.Idle s) = breach c
-  acknowledged c from call page (entry.AwaitRead s) = breach c
-  acknowledged c from call page (entry.AwaitWrite s) = breach c
   acknowledged c from call page (entry.AwaitAcks s) =
       if s.waiting.call == call && set.contains s.left from then left_with c from page (set.remove s.left from) s.waiting else breach c
+  acknowledged c from call page e = breach c
 
   -- What a message is about. No node asks itself; an order to give a copy up comes from the node that is to write; a
   -- reply comes to the node that asked. The kinds of the allocator fit no rule yet.
@@ -157,10 +147,7 @@ module _ {S : Type 0} (ops : Ops S) where
       if origin == c.me then page_came c from call page (nodes_with copies) bytes (entry_at c.table page) else breach c
   handled_as c from origin call (content.InvalAck page) =
       if origin == c.me then acknowledged c from call page (entry_at c.table page) else breach c
-  handled_as c from origin call (content.AllocReq size) = breach c
-  handled_as c from origin call (content.AllocRep code addr) = breach c
-  handled_as c from origin call (content.FreeReq addr) = breach c
-  handled_as c from origin call (content.FreeRep code) = breach c
+  handled_as c from origin call m = breach c
 
   unfoldable pub handled : Coherent S → ℕ → Message → Effect S
   handled c from m = handled_as c from m.origin m.call m.content

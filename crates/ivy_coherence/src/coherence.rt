@@ -1,11 +1,11 @@
 //! The entries and pages of one node, and the rules by which they change.
-ghost use Rattle.std.specs.Prelude.{◌≡◌, ◌≢◌, ◌<◌, ◌≤◌, ◌^◌, ℕ, true, false, None, List, IfOk, IfErr, OnOk, OnErr, IsOkUnless, length};
+ghost use Rattle.std.specs.Prelude.{◌≡◌, ◌≢◌, ◌<◌, ◌≤◌, ◌^◌, ℕ, true, false, None, List, IfOk, IfErr, OnOk, OnErr, IsOk, IsOkUnless, length};
 ghost use Rattle.ivy_model.specs.Config.{IsConfig};
 ghost use Rattle.ivy_model.specs.Wants.{IsWant};
 ghost use Rattle.ivy_wire.specs.Spelling.{FitsMessage};
 ghost use Rattle.ivy_pagetable.specs.Tables.{entry_at, page_at};
 ghost use Rattle.ivy_pagetable.specs.Words.{IsWord, needs_write};
-ghost use Rattle.ivy_coherence.specs.Faults.{suffices, IsIdleAt, fault_entry, fault_posted, begun};
+ghost use Rattle.ivy_coherence.specs.Faults.{suffices, IsIdleAt, IsAtHand, fault_entry, fault_posted, begun};
 ghost use Rattle.ivy_coherence.specs.Sound.{first_coherent, IsSound};
 
 use crate::need::Need;
@@ -168,7 +168,8 @@ impl<M: Manager, A: Allocator> Coherence<M, A> {
     #[tactic(auto, unfolding(crate::specs::Faults::begun))]
     /// An access of this node's program to a word of a page, by the call of this number [1, 17].
     ///
-    /// The word lies within the page and is aligned; the page is below the number of pages.
+    /// The word lies within the page and is aligned; the page is below the number of pages. Where access
+    /// suffices, and where an entry is locked already, it asks the post nothing, takes no memory and succeeds.
     pub fn need<P: Post>(
         &mut self,
         page: u32,
@@ -182,6 +183,7 @@ impl<M: Manager, A: Allocator> Coherence<M, A> {
         requires config { P.config post.old ≡ self.old.config }
         requires node { P.node post.old ≡ self.old.me }
         requires taken { self.old.done ≡ None }
+        ensures sure { IsAtHand self.old page word → IsOk result }
         ensures need { IfOk result (λ need. need ≡ (begun M.ops self.old page word call).need) }
         ensures ok { OnOk result (self.new ≡ (begun M.ops self.old page word call).after) }
         ensures posted { OnOk result (post.new ≡ P.after post.old (begun M.ops self.old page word call).posted) }

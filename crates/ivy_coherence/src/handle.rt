@@ -7,6 +7,7 @@ ghost use Rattle.ivy_pagetable.specs.Entries.{owning};
 ghost use Rattle.ivy_pagetable.specs.Tables.{entry_at, page_at};
 ghost use Rattle.ivy_pagetable.specs.NodeSets.{IsBelow};
 ghost use Rattle.ivy_coherence.specs.Sound.{CanBeServed, AreOthers};
+ghost use Rattle.ivy_coherence.specs.Limits.{most_posted};
 ghost use Rattle.ivy_coherence.specs.Steps.{IsWaiting, IsCollecting, is_none, unlocked_as, unlocked, put_aside, given_up, asked, copy_came, owned_with, page_came, left_with, acknowledged, handled};
 
 use crate::coherence::Coherence;
@@ -430,7 +431,7 @@ impl<M: Manager, A: Allocator> Coherence<M, A> {
         requires config { P.config post.old ≡ self.old.config }
         requires node { P.node post.old ≡ self.old.me }
         ensures ok { OnOk result (self.new ≡ (handled M.ops self.old from message).after) }
-        ensures few { length (handled M.ops self.old from message).posted ≤ 8 }
+        ensures few { length (handled M.ops self.old from message).posted ≤ most_posted }
         ensures posted { OnOk result (post.new ≡ P.after post.old (handled M.ops self.old from message).posted) }
         ensures err { OnErr result ((self.new ≡ self.old) × (post.new ≡ post.old)) }
         ensures took { OnOk result (P.takes post.old (handled M.ops self.old from message).posted) }

@@ -1,5 +1,8 @@
 //! Faults and requests at one node: what an access of its program comes to, and what a message of another
 //! node does, over any manager and any post.
+//!
+//! A bracket such as `[1, 17]` in a doc comment has the numbers of the faults that the call may answer: 1 is a
+//! growth that was refused, 17 that no message numbers are left. A call without one answers no fault.
 #![tactic(auto)]
 
 mod coherence;

@@ -3,9 +3,11 @@ ghost use Rattle.std.specs.Prelude.{◌≡◌, ◌+◌, ◌<◌, ◌≤◌, ◌+
 ghost use Rattle.ivy_model.specs.Wants.{IsWant};
 ghost use Rattle.ivy_wire.specs.Lent.{owned_content, owned_parcel};
 ghost use Rattle.ivy_wire.specs.Spelling.{FitsParcel};
+ghost use Rattle.ivy_pagetable.specs.Limits.{most_nodes_in_a_byte};
 ghost use Rattle.ivy_pagetable.specs.NodeSets.{IsBelow, nodes_of};
 ghost use Rattle.ivy_pagetable.specs.Manager.{brought_back};
 ghost use Rattle.ivy_coherence.specs.Serving.{serving, settled, counted, parcel_to, served_by_owner, served_by_other, served, all_served};
+ghost use Rattle.ivy_coherence.specs.Limits.{most_posted};
 ghost use Rattle.ivy_coherence.specs.Steps.{invalidations};
 
 use arrayvec::ArrayVec;
@@ -87,12 +89,12 @@ fn serve_as_owner<'a, M: Manager>(
     message: PutOff,
     out: &mut Parcels<'a>,
 )
-    requires room { length out.old.items < 8 }
+    requires room { length out.old.items < most_posted }
     requires owner { idle.old.owner ≡ true }
-    requires below { IsBelow 8 idle.old.copies }
-    requires origin { message.origin < 8 }
+    requires below { IsBelow most_nodes_in_a_byte idle.old.copies }
+    requires origin { message.origin < most_nodes_in_a_byte }
     ensures after { serving idle.new manager.new breaches.new (map owned_parcel out.new.items) ≡ served_by_owner M.ops at.entry.me at.entry.page at.entry.bytes.now (serving idle.old manager.old breaches.old (map owned_parcel out.old.items)) message.origin message.call message.kind }
-    ensures below { IsBelow 8 idle.new.copies }
+    ensures below { IsBelow most_nodes_in_a_byte idle.new.copies }
     ensures room { length out.new.items ≤ length out.old.items + 1 }
 {
     let PutOff { kind, origin, call } = message;
@@ -137,10 +139,10 @@ fn serve_as_other<'a, M: Manager>(
     message: PutOff,
     out: &mut Parcels<'a>,
 )
-    requires room { length out.old.items < 8 }
-    requires below { IsBelow 8 idle.old.copies }
+    requires room { length out.old.items < most_posted }
+    requires below { IsBelow most_nodes_in_a_byte idle.old.copies }
     ensures after { (breaches : ℕ) → serving idle.new manager.new breaches (map owned_parcel out.new.items) ≡ served_by_other M.ops at.entry.me at.entry.page at.entry.bytes.now (serving idle.old manager.old breaches (map owned_parcel out.old.items)) message.origin message.call message.kind }
-    ensures below { IsBelow 8 idle.new.copies }
+    ensures below { IsBelow most_nodes_in_a_byte idle.new.copies }
     ensures room { length out.new.items ≤ length out.old.items + 1 }
 {
     let PutOff { kind, origin, call } = message;
@@ -173,11 +175,11 @@ fn serve<'a, M: Manager>(
     message: PutOff,
     out: &mut Parcels<'a>,
 )
-    requires room { length out.old.items < 8 }
-    requires below { IsBelow 8 idle.old.copies }
-    requires origin { message.origin < 8 }
+    requires room { length out.old.items < most_posted }
+    requires below { IsBelow most_nodes_in_a_byte idle.old.copies }
+    requires origin { message.origin < most_nodes_in_a_byte }
     ensures after { serving idle.new manager.new breaches.new (map owned_parcel out.new.items) ≡ served M.ops at.entry.me at.entry.page at.entry.bytes.now (serving idle.old manager.old breaches.old (map owned_parcel out.old.items)) message }
-    ensures below { IsBelow 8 idle.new.copies }
+    ensures below { IsBelow most_nodes_in_a_byte idle.new.copies }
     ensures room { length out.new.items ≤ length out.old.items + 1 }
 {
     if idle.is_owner() {
@@ -196,10 +198,10 @@ fn serve_all<'a, M: Manager>(
     messages: &[PutOff],
     out: &mut Parcels<'a>,
 )
-    requires few { length messages.now ≤ 8 }
+    requires few { length messages.now ≤ most_posted }
     requires empty { out.old.items ≡ [] }
-    requires below { IsBelow 8 idle.old.copies }
-    requires origins { All (λ q. q.origin < 8) messages.now }
+    requires below { IsBelow most_nodes_in_a_byte idle.old.copies }
+    requires origins { All (λ q. q.origin < most_nodes_in_a_byte) messages.now }
     ensures after { serving idle.new manager.new breaches.new (map owned_parcel out.new.items) ≡ all_served M.ops at.entry.me at.entry.page at.entry.bytes.now (serving idle.old manager.old breaches.old []) messages.now }
 {
     for message in messages {
@@ -231,9 +233,9 @@ pub(crate) fn settle<M: Manager, P: Post>(
     post: &mut P,
 ) -> Result<Idle, Fault>
     requires mine { at.me ≡ M.ops.me manager.old }
-    requires few { length messages.now ≤ 8 }
-    requires below { IsBelow 8 idle.copies }
-    requires origins { All (λ q. q.origin < 8) messages.now }
+    requires few { length messages.now ≤ most_posted }
+    requires below { IsBelow most_nodes_in_a_byte idle.copies }
+    requires origins { All (λ q. q.origin < most_nodes_in_a_byte) messages.now }
     requires fits { All (FitsParcel (P.config post.old) (P.node post.old)) (settled M.ops at.me at.from at.page at.bytes.now idle manager.old breaches.old reply messages.now).posted }
     ensures idle { IfOk result (λ after. after ≡ (settled M.ops at.entry.me at.entry.from at.entry.page at.entry.bytes.now idle manager.old breaches.old reply messages.now).idle) }
     ensures manager { OnOk result (manager.new ≡ (settled M.ops at.entry.me at.entry.from at.entry.page at.entry.bytes.now idle manager.old breaches.old reply messages.now).manager) }
@@ -275,7 +277,7 @@ pub(crate) fn invalidate<P: Post>(
     nodes: &NodeSet,
     post: &mut P,
 ) -> Result<(), Fault>
-    requires few { length (nodes_of nodes.now) ≤ 8 }
+    requires few { length (nodes_of nodes.now) ≤ most_posted }
     requires fits { All (FitsParcel (P.config post.old) (P.node post.old)) (invalidations me page call nodes.now) }
     ensures ok { OnOk result (post.new ≡ P.after post.old (invalidations me page call nodes.now)) }
     ensures took { OnOk result (P.takes post.old (invalidations me page call nodes.now)) }

@@ -53,7 +53,7 @@ impl Posted {
 }
 
 impl Post for Posted {
-    ghost use Rattle.std.specs.Prelude.{◌≡◌, ◌++◌};
+    ghost use Rattle.std.specs.Prelude.{◌≡◌, ◌≢◌, [], ◌++◌, refl};
     ghost use Rattle.std.proofs.Common.{ap, append-nil};
     ghost use Rattle.ivy_model.specs.declared.Fault.TheVariants.{Memory};
 
@@ -65,9 +65,12 @@ impl Post for Posted {
 
     ghost after = { λ p parcels. (p.0, p.1, p.2 ++ parcels) };
 
-    ghost refuses = { λ p parcels fault. fault ≡ Memory };
+    ghost refuses = { λ p parcels fault. (parcels ≢ []) × (fault ≡ Memory) };
 
     fn post(&mut self, parcels: &[Parcel<&[u8]>]) -> Result<(), Fault> {
+        if parcels.is_empty() {
+            return Ok(());
+        }
         if self.is_full {
             return Err(Fault::Memory);
         }
@@ -86,6 +89,8 @@ impl Post for Posted {
     ghost takes_none = { λ p. tt };
 
     ghost after_none = { λ p. ap (λ xs. (p.0, p.1, xs)) (append-nil p.2) };
+
+    ghost refuses_none = { λ p fault why. why.0 refl };
 }
 
 /// One of the three nodes, and what it posts.

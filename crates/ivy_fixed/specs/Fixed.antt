@@ -32,6 +32,7 @@ abbrev pub fixed_ops : Ops Owners
 fixed_ops = record {
   me = λ s. s.me;
   size = λ s. length s.owners;
+  nodes = λ s. s.nodes;
   first = first_owners;
   next_hop = hop_of;
   on_forward = λ s page write origin. kept_if write s page origin;

@@ -1,6 +1,6 @@
 -- The laws of a manager, for the managing nodes.
 use Rattle.std.specs.Prelude.{◌≡◌, ◌≢◌, ◌⊎◌, ◌<◌, ◌%◌, ℕ, Bool, true, false, List, [], ◌∷◌, length, replicate, if◌then◌else◌, refl}
-use Rattle.std.proofs.Common.{ap, sym, ◌∙◌, get_or, set, inl, inr, arith, mod-lt, set-set, get_or-set_same, get_or-set_other}
+use Rattle.std.proofs.Common.{ap, sym, subst, ◌∙◌, get_or, set, inl, inr, arith, mod-lt, set-set, get_or-set_same, get_or-set_other}
 use Rattle.std.proofs.lemmas.List.{set-get_or, length-set, get_or-replicate, length-replicate}
 use Rattle.std.proofs.lemmas.Bool.Decides.{eqb_tells}
 use Rattle.ivy_model.specs.declared.Config.{Config}
@@ -24,11 +24,12 @@ keeps : (s : Owners) (p o : ℕ) → Keeps fixed_ops s p (owner_kept s p o)
 keeps s p o = record {
   me = refl;
   size = size_written (manages s p) s.owners p o;
+  nodes = refl;
   others = λ q. other (manages s q) (manages s p) s.owners p o q (q % s.nodes);
 }
 
 stays : (s : Owners) (p : ℕ) → Keeps fixed_ops s p s
-stays s p = record { me = refl; size = refl; others = λ q n. refl }
+stays s p = record { me = refl; size = refl; nodes = refl; others = λ q n. refl }
 
 keeps_if : (write : Bool) (s : Owners) (p o : ℕ) → Keeps fixed_ops s p (kept_if write s p o)
 keeps_if true s p o = keeps s p o
@@ -47,9 +48,14 @@ hop_kept_if : (write : Bool) (s : Owners) (p o : ℕ) → p < length s.owners �
 hop_kept_if true s p o lt = hop_kept s p o lt
 hop_kept_if false s p o lt = inl refl
 
-hop_written : (s : Owners) (p from : ℕ) → p < length s.owners
-    → (hop_of (owner_kept s p s.me) p ≡ hop_of s p) ⊎ (hop_of (owner_kept s p s.me) p ≡ s.me) ⊎ (hop_of (owner_kept s p s.me) p ≡ from)
-hop_written s p from lt = elim (hop_kept s p s.me lt) [ inl e ↦ inl e | inr e ↦ inr (inl e) ]
+-- a node, and another one than this
+hop_node : (write : Bool) (s : Owners) (p o n : ℕ) → p < length s.owners → o < n → hop_of s p < n → hop_of (kept_if write s p o) p < n
+hop_node write s p o n lt node was =
+    elim (hop_kept_if write s p o lt) [ inl e ↦ subst (λ h. h < n) (sym e) was | inr e ↦ subst (λ h. h < n) (sym e) node ]
+
+hop_away : (write : Bool) (s : Owners) (p o : ℕ) → p < length s.owners → o ≢ s.me → hop_of s p ≢ s.me → hop_of (kept_if write s p o) p ≢ s.me
+hop_away write s p o lt other was =
+    elim (hop_kept_if write s p o lt) [ inl e ↦ λ h. was (sym e ∙ h) | inr e ↦ λ h. other (sym e ∙ h) ]
 
 gone : (s : Owners) (p o : ℕ) → p < length s.owners → o ≢ s.me → hop_of (owner_kept s p o) p ≢ s.me
 gone s p o lt n =
@@ -107,17 +113,20 @@ pub fixed_laws : Laws fixed_ops
 fixed_laws = record {
   first_me = λ c i _ _. refl;
   first_size = λ c i _ _. length-replicate c.pages 0;
+  first_nodes = λ c i _ _. refl;
   first_hop = λ c i p h _ lt. first_below (manages (first_owners c i) p) c.pages p (p % c.nodes) c.nodes lt (omega (arith, h.nodes_from)) (mod-lt p (omega (arith, h.nodes_from)));
   first_own = λ c i p _ _ lt. first_zero c i p lt;
   keeps_forward = λ s p write origin. keeps_if write s p origin;
   keeps_given = keeps;
   keeps_replied = λ s p write from. keeps_if write s p s.me;
   keeps_invalidated = λ s p by. stays s p;
-  hop_forward = λ s p write origin. hop_kept_if write s p origin;
-  hop_given = hop_kept;
+  hop_forward = λ s p write origin r node. hop_node write s p origin s.nodes r.page node r.hop;
+  hop_given = λ s p to r node. hop_node true s p to s.nodes r.page node r.hop;
+  hop_replied = λ s p write from r node. hop_node write s p s.me s.nodes r.page r.me r.hop;
+  hop_invalidated = λ s p by r node. r.hop;
+  away_forward = λ s p write origin lt other was. hop_away write s p origin lt other was;
+  away_read = λ s p from lt other was. was;
+  away_invalidated = λ s p by lt other was. was;
   gone_given = gone;
-  hop_read = λ s p from _. inl refl;
-  hop_written = hop_written;
-  hop_invalidated = λ s p by _. inl refl;
   undo = undone;
 }

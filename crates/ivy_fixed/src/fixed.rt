@@ -7,8 +7,8 @@ use ivy_pagetable::Manager;
 use std::alloc::Allocator;
 use std::marker::Model;
 
-/// The manager by managing nodes, after Li and Hudak (1989): node p mod N, of N nodes, keeps the
-/// owner of page p, at first node 0. The other nodes ask that node.
+/// The manager by managing nodes, the fixed distributed manager of Li and Hudak (1989): node p mod
+/// N, of N nodes, keeps the owner of page p, at first node 0. The other nodes ask that node.
 #[derive(Drop)]
 pub struct FixedManager<A: Allocator> {
     me: u8,
@@ -28,7 +28,7 @@ impl<A: Allocator> Model for FixedManager<A> {
 }
 
 impl<A: Allocator> FixedManager<A> {
-    /// The manager of a node, at first. Refused with 1.
+    /// The manager of a node, at first: one byte a page, and no memory is taken after [1].
     pub fn new(alloc: A, config: &Config, me: u8) -> Result<Self, Fault>
         requires { IsConfig config.now }
         ensures first { IfOk result (λ m. m ≡ first_owners config.now me) }

@@ -1,3 +1,4 @@
+pub mod Limits
 pub mod Linked
 pub mod Accepted
 pub mod Pulsed

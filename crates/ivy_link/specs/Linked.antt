@@ -1,6 +1,7 @@
 -- What a node knows of its traffic with the others, and what sending does to it.
-use Rattle.std.specs.Prelude.{All, ◌<◌, ℕ, ◌+◌, ◌-◌, ◌^◌, List, length, [], ◌∷◌, ◌++◌, replicate, slice_index_or, slice_set, Bool, true, false, ◌&&◌, nat_lt, Some}
+use Rattle.std.specs.Prelude.{All, ◌<◌, ℕ, ◌+◌, List, length, [], ◌∷◌, ◌++◌, replicate, slice_index_or, slice_set, Bool, true, false, ◌&&◌, nat_lt, Some}
 use Rattle.ivy_wire.specs.Data.{Message, Frame, Parcel}
+use Rattle.ivy_link.specs.Limits.{greatest_number}
 
 -- what a node knows of another one: how many messages it sent there, the last of them, which are not acknowledged yet,
 -- how many of the other's messages were delivered here, and whether it owes the other an acknowledgement
@@ -48,10 +49,10 @@ abbrev pub frames_of : Linked → List Parcel → List Frame
 frames_of l [] = []
 frames_of l (p ∷ ps) = frame_of l p ∷ frames_of (sent_one l p) ps
 
--- whether each of the parcels has a number left, the greatest one being 2^64 - 1
+-- whether each of the parcels has a number left
 abbrev pub has_numbers : Linked → List Parcel → Bool
 has_numbers l [] = true
-has_numbers l (p ∷ ps) = nat_lt (peer_at l p.dest).sent (2 ^ 64 - 1) && has_numbers (sent_one l p) ps
+has_numbers l (p ∷ ps) = nat_lt (peer_at l p.dest).sent greatest_number && has_numbers (sent_one l p) ps
 
 -- what a link is afterwards, and the frames that it made
 pub record Sending : Type 0 where

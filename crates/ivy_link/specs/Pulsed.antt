@@ -1,6 +1,7 @@
 -- What a node sends another again.
 use Rattle.std.specs.Prelude.{ℕ, ◌+◌, ◌-◌, List, [], ◌∷◌, length, take, false, Some, None, if◌then◌else◌}
 use Rattle.ivy_wire.specs.Data.{Message, Frame}
+use Rattle.ivy_link.specs.Limits.{most_again}
 use Rattle.ivy_link.specs.Linked.{Peer, Linked, Sending, peer_at, with_peer}
 
 -- the messages in frames, numbered upwards from the first one's number
@@ -16,9 +17,9 @@ ack_alone me to ack = record { source = me; dest = to; number = 0; ack = ack; bo
 abbrev pub acknowledging : ℕ → ℕ → Peer → List Frame
 acknowledging me to p = if p.owed then ack_alone me to p.delivered ∷ [] else []
 
--- at most 32 of the kept messages, in order
+-- the first of the kept messages, in order
 abbrev pub repeated : ℕ → ℕ → Peer → List Frame
-repeated me to p = numbered me to p.delivered (p.sent - length p.kept + 1) (take 32 p.kept)
+repeated me to p = numbered me to p.delivered (p.sent - length p.kept + 1) (take most_again p.kept)
 
 abbrev pub pulse_of : List Message → ℕ → ℕ → Peer → List Frame
 pulse_of [] me to p = acknowledging me to p

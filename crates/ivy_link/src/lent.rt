@@ -1,6 +1,6 @@
 //! Messages and frames whose pages are lent, lent again or copied.
 ghost use Rattle.std.specs.Prelude.{◌≡◌, [], ◌∷◌, ◌++◌, map, IfOk, OnOk};
-ghost use Rattle.ivy_wire.specs.Lent.{owned_message, owned_body, owned_parcel, owned_frame};
+ghost use Rattle.ivy_wire.specs.Lent.{owned_message, owned_parcel, owned_frame};
 ghost use Rattle.ivy_link.specs.Sides.{message_of};
 
 use ivy_wire::{Content, Frame, Message, Page, Parcel};
@@ -69,18 +69,6 @@ pub(crate) fn copies<A: Allocator + Copy>(
     Ok(copies)
 }
 
-fn copied_body<A: Allocator>(
-    alloc: A,
-    body: &Option<Message<&[u8]>>,
-) -> Result<Option<Message<Page<A>>>, AllocError>
-    ensures { IfOk result (λ copy. copy ≡ owned_body body.now) }
-{
-    match body {
-        None => Ok(None),
-        Some(message) => Ok(Some(message.owned(alloc)?)),
-    }
-}
-
 /// The frames with copies of their pages.
 pub(crate) fn copied<A: Allocator + Copy>(
     alloc: A,
@@ -90,13 +78,7 @@ pub(crate) fn copied<A: Allocator + Copy>(
 {
     let mut copies = Vec::with_capacity(alloc, frames.len())?;
     for frame in frames {
-        copies.push(Frame {
-            source: frame.source,
-            dest: frame.dest,
-            number: frame.number,
-            ack: frame.ack,
-            body: copied_body(alloc, &frame.body)?,
-        })?;
+        copies.push(frame.owned(alloc)?)?;
     }
     Ok(copies)
 }

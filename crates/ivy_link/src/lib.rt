@@ -4,6 +4,9 @@
 //! acknowledged, tells by its [`Verdict`] which frames carry the next message, and sends what is kept
 //! again. So each node is given the messages of another one in the order in which they were sent, each
 //! once ([`delivers_in_order`]).
+//!
+//! Numbers in brackets at the end of a sentence, as in `[1, 17]`, are those of the faults that a call may
+//! answer ([`ivy_model::Fault::number`]).
 #![tactic(auto)]
 
 mod lent;
@@ -12,7 +15,7 @@ mod order;
 mod side;
 mod verdict;
 
-pub use link::Link;
+pub use link::{Link, MOST_AGAIN};
 pub use order::delivers_in_order;
 pub use verdict::Verdict;
 

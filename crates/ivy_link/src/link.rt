@@ -3,6 +3,7 @@ ghost use Rattle.std.specs.Prelude.{◌≡◌, ◌≢◌, ◌↔◌, ℕ, ◌<�
 ghost use Rattle.ivy_model.specs.Wants.{IsWant};
 ghost use Rattle.ivy_model.specs.declared.Fault.TheVariants.{Memory, NumbersSpent};
 ghost use Rattle.ivy_wire.specs.Lent.{owned_message, owned_parcel, owned_frame};
+ghost use Rattle.ivy_link.specs.Limits.{most_named};
 ghost use Rattle.ivy_link.specs.Linked.{first_link, peer_at, after_sends, frames_of, has_numbers, AreWithin};
 ghost use Rattle.ivy_link.specs.Accepted.{offered, accepted};
 ghost use Rattle.ivy_link.specs.Pulsed.{repeated, frames_again, after_pulse};
@@ -18,10 +19,10 @@ use std::collections::VecDeque;
 use std::marker::Model;
 
 /// How many nodes a number of one byte can name.
-const NODES: usize = 256;
+const MOST_NAMED: usize = 256;
 
-/// At most so many kept messages are sent again at once.
-const AGAIN: usize = 32;
+/// How many kept messages are sent again at once.
+pub const MOST_AGAIN: usize = 32;
 
 /// One node's side of its links to all others.
 #[derive(Drop)]
@@ -36,6 +37,7 @@ pub struct Link<A: Allocator> {
 
 impl<A: Allocator> Model for Link<A> {
     ghost use Rattle.std.specs.Prelude.{◌≤◌, length, map};
+    ghost use Rattle.ivy_link.specs.Limits.{most_named};
     ghost use Rattle.ivy_link.specs.Linked.{Linked};
     ghost use Rattle.ivy_link.specs.Sides.{peer_of};
 
@@ -43,7 +45,7 @@ impl<A: Allocator> Model for Link<A> {
 
     ghost view = { λ l. record { me = l.me; peers = map peer_of l.sides.items } };
 
-    ghost invariant = { λ l. length l.sides.items ≤ 256 };
+    ghost invariant = { λ l. length l.sides.items ≤ most_named };
 }
 
 impl<A: Allocator + Copy> Link<A> {
@@ -91,12 +93,12 @@ impl<A: Allocator + Copy> Link<A> {
         self.sides[usize::from(to)].settle();
     }
 
-    fn counts(&self) -> [u64; NODES]
+    fn counts(&self) -> [u64; MOST_NAMED]
         ensures counts { AreCounts self.now result }
         ensures small { AreNumbers result }
         ensures long { length self.now.peers ≤ length result }
     {
-        let mut counts = [0; NODES];
+        let mut counts = [0; MOST_NAMED];
         for node in 0..self.sides.len() {
             counts[node] = self.sides[node].sent();
         }
@@ -104,7 +106,7 @@ impl<A: Allocator + Copy> Link<A> {
     }
 
     /// How many messages each node was sent once the parcels are sent too. None where a number is missing.
-    fn counts_after(&self, parcels: &[Parcel<&[u8]>]) -> Option<[u64; NODES]>
+    fn counts_after(&self, parcels: &[Parcel<&[u8]>]) -> Option<[u64; MOST_NAMED]>
         requires within { AreWithin self.now (map owned_parcel parcels.now) }
         ensures numbers { MatchOption result (has_numbers self.now (map owned_parcel parcels.now) ≡ false) (λ _. has_numbers self.now (map owned_parcel parcels.now) ≡ true) }
         ensures counts { MatchOption result (Unit {0}) (AreCounts (after_sends self.now (map owned_parcel parcels.now))) }
@@ -144,7 +146,8 @@ impl<A: Allocator + Copy> Link<A> {
         Ok(frames)
     }
 
-    /// The frames that [`Link::send`] would give now [1, 17].
+    /// The frames that [`Link::send`] would give now [1, 17]. They number the messages that
+    /// [`Link::keep`] keeps.
     pub fn frames<'p>(&self, parcels: &[Parcel<&'p [u8]>]) -> Result<Vec<Frame<&'p [u8]>, A>, Fault>
         requires within { AreWithin self.now (map owned_parcel parcels.now) }
         ensures ok { IfOk result (λ frames. map owned_frame frames.items ≡ frames_of self.now (map owned_parcel parcels.now)) }
@@ -157,9 +160,31 @@ impl<A: Allocator + Copy> Link<A> {
         Ok(self.numbered(parcels)?)
     }
 
-    /// Numbers the messages, keeps copies of them until they are acknowledged, and gives their frames
-    /// [1, 17]: all of them, or none and the link stays as it was. 17 is answered exactly where a number
-    /// above 2^64 - 1 would be needed.
+    /// Numbers the messages and keeps copies of them until they are acknowledged [1, 17]: all of them, or
+    /// none and the link stays as it was. 17 is answered exactly where a number above 2^64 - 1 would be
+    /// needed.
+    ///
+    /// It makes no frames. A caller that has more to do before the messages count as sent, such as to
+    /// spell their frames, takes these from [`Link::frames`] first, and calls this with the same parcels
+    /// last.
+    pub fn keep(&mut self, parcels: &[Parcel<&[u8]>]) -> Result<(), Fault>
+        requires within { AreWithin self.old (map owned_parcel parcels.now) }
+        ensures ok { OnOk result (self.new ≡ after_sends self.old (map owned_parcel parcels.now)) }
+        ensures nodes { length self.new.peers ≡ length self.old.peers }
+        ensures err { OnErr result (self.new ≡ self.old) }
+        ensures spent { IsErrOf result NumbersSpent ↔ (has_numbers self.old (map owned_parcel parcels.now) ≡ false) }
+        ensures want { IfErr result IsWant }
+    {
+        let Some(counts) = self.counts_after(parcels) else {
+            return Err(Fault::NumbersSpent);
+        };
+        let copies = copies(self.alloc, parcels)?;
+        reserve(&mut self.sides, &counts)?;
+        keep_each(&mut self.sides, parcels, copies);
+        Ok(())
+    }
+
+    /// Keeps the messages, as [`Link::keep`] does, and gives their frames [1, 17].
     pub fn send<'p>(
         &mut self,
         parcels: &[Parcel<&'p [u8]>],
@@ -172,18 +197,13 @@ impl<A: Allocator + Copy> Link<A> {
         ensures spent { IsErrOf result NumbersSpent ↔ (has_numbers self.old (map owned_parcel parcels.now) ≡ false) }
         ensures want { IfErr result IsWant }
     {
-        let Some(counts) = self.counts_after(parcels) else {
-            return Err(Fault::NumbersSpent);
-        };
-        let frames = self.numbered(parcels)?;
-        let copies = copies(self.alloc, parcels)?;
-        reserve(&mut self.sides, &counts)?;
-        keep(&mut self.sides, parcels, copies);
+        let frames = self.frames(parcels)?;
+        self.keep(parcels)?;
         Ok(frames)
     }
 
-    /// The frames that [`Link::pulse`] would give now [1]: the first 32 kept messages again, in order,
-    /// or an acknowledgement alone, where one is owed and nothing is kept.
+    /// The frames that [`Link::pulse`] would give now [1]: the first [`MOST_AGAIN`] kept messages again,
+    /// in order, or an acknowledgement alone, where one is owed and nothing is kept.
     pub fn pulse_frames(&self, to: u8) -> Result<Vec<Frame<&[u8]>, A>, Fault>
         requires to { to < length self.now.peers }
         ensures ok { IfOk result (λ frames. map owned_frame frames.items ≡ frames_again self.now to) }
@@ -227,7 +247,7 @@ impl<A: Allocator + Copy> Link<A> {
     {
         let side = &self.sides[usize::from(to)];
         let kept = side.kept();
-        let count = kept.len().min(AGAIN);
+        let count = kept.len().min(MOST_AGAIN);
         let acknowledged = side.sent() - kept.len() as u64;
         let mut frames = Vec::with_capacity(self.alloc, count)?;
         for i in 0..count {
@@ -247,9 +267,9 @@ impl<A: Allocator + Copy> Link<A> {
 /// Makes room at each node for the messages that bring its count to the given one.
 fn reserve<A: Allocator>(
     sides: &mut Vec<Side<A>, A>,
-    counts: &[u64; NODES],
+    counts: &[u64; MOST_NAMED],
 ) -> Result<(), AllocError>
-    requires limit { length sides.old.items ≤ 256 }
+    requires limit { length sides.old.items ≤ most_named }
     requires reached { AreReached sides.old.items counts.now }
     ensures peers { map peer_of sides.new.items ≡ map peer_of sides.old.items }
     ensures room { OnOk result (HaveRoom sides.new.items counts.now) }
@@ -262,7 +282,7 @@ fn reserve<A: Allocator>(
 }
 
 /// Keeps the messages of the parcels, each at its node.
-fn keep<A: Allocator>(
+fn keep_each<A: Allocator>(
     sides: &mut Vec<Side<A>, A>,
     parcels: &[Parcel<&[u8]>],
     mut copies: VecDeque<Message<Page<A>>, A>,

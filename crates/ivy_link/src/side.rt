@@ -1,5 +1,6 @@
 //! What a link knows of one other node.
-ghost use Rattle.std.specs.Prelude.{◌≡◌, ◌+◌, ◌≤◌, length, drop, OnOk};
+ghost use Rattle.std.specs.Prelude.{◌≡◌, ◌+◌, ◌<◌, ◌≤◌, length, drop, OnOk};
+ghost use Rattle.ivy_link.specs.Limits.{greatest_number};
 ghost use Rattle.ivy_link.specs.Linked.{with_message};
 
 use crate::verdict::Verdict;
@@ -86,7 +87,7 @@ impl<A: Allocator> Side<A> {
     /// One more message was sent: it is kept, in the room that was made, and nothing is owed.
     pub(crate) fn keep(&mut self, message: Message<Page<A>>)
         requires room { 1 ≤ self.old.room }
-        requires number { self.old.peer.sent + 1 ≤ 18446744073709551615 }
+        requires number { self.old.peer.sent < greatest_number }
         ensures peer { self.new.peer ≡ with_message self.old.peer message }
         ensures room { self.new.room + 1 ≡ self.old.room }
     {

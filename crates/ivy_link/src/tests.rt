@@ -115,7 +115,7 @@ fn request_sent_again(rt: HostRuntime) -> Result<(), Fail> {
 #[test]
 fn answer_acknowledged(rt: HostRuntime) -> Result<(), Fail> {
     let mut owner = Link::new(rt.alloc(), 0, 2)?;
-    let _ = owner.send(&[reply()])?;
+    owner.keep(&[reply()])?;
     let s0 = frame(request(), 0);
     owner.accept(&s0);
     assert_eq!(rt; owner.offer(&s0), Verdict::Repeat);

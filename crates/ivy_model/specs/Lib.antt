@@ -1,3 +1,5 @@
+pub mod Limits
+pub mod Numbers
 pub mod PageSize
 pub mod Config
 pub mod Memory

@@ -1,5 +1,6 @@
 ghost use Rattle.std.specs.Prelude.{◌≡◌, ℕ};
 ghost use Rattle.ivy_model.specs.declared.fault.Fault.TheVariants.{Memory};
+ghost use Rattle.ivy_model.specs.Numbers.{fault_number};
 
 use std::alloc::{AllocError, AllocFailed};
 use thiserror::Error;
@@ -72,6 +73,37 @@ pub enum Fault {
     /// The turns of a run were used up before all programs ended.
     #[error("21 TurnLimit")]
     TurnLimit,
+}
+
+impl Fault {
+    /// The number of the fault, 1 to 21.
+    pub fn number(self) -> u8
+        ensures { result ≡ fault_number self }
+    {
+        match self {
+            Fault::Memory => 1,
+            Fault::BadConfig => 2,
+            Fault::Misaligned => 3,
+            Fault::OutOfRange => 4,
+            Fault::Reserved => 5,
+            Fault::NoSuchCount => 6,
+            Fault::CountFull => 7,
+            Fault::ZeroSize => 8,
+            Fault::NoRoom => 9,
+            Fault::NotABlock => 10,
+            Fault::ShortFrame => 11,
+            Fault::BadMagic => 12,
+            Fault::BadVersion => 13,
+            Fault::BadKind => 14,
+            Fault::BadNode => 15,
+            Fault::BadBody => 16,
+            Fault::NumbersSpent => 17,
+            Fault::Busy => 18,
+            Fault::NoSuchFrame => 19,
+            Fault::ProgramFault(_) => 20,
+            Fault::TurnLimit => 21,
+        }
+    }
 }
 
 impl From<AllocError> for Fault {

@@ -1,90 +1,124 @@
 -- A call of the program that begins, as the code has it.
-use Rattle.std.proofs.Common.{◌≡◌, ℕ, ◌+◌, ◌<◌, ◌^◌, false, List, [], ◌∷◌, ◌++◌, length, Option, Some, None, refl, sym, ap, ◌∙◌, subst, if◌then◌else◌}
+use Rattle.std.proofs.Common.{◌≡◌, ℕ, ◌+◌, ◌<◌, ◌≤◌, ◌^◌, true, false, List, [], ◌∷◌, ◌++◌, length, Option, Some, None, refl, sym, ap, ◌∙◌, subst, arith, if◌then◌else◌}
 use Rattle.std.proofs.lemmas.Bool.{lt-ltb}
 use Rattle.ivy_model.specs.declared.Call.{Call}
-use Rattle.ivy_model.specs.declared.Call.TheVariants as call
 use Rattle.ivy_model.specs.declared.Fault.{Fault}
 use Rattle.ivy_model.specs.declared.Record.{Record}
 use Rattle.ivy_model.specs.declared.Reply.{Reply}
+use Rattle.ivy_wire.specs.Data.{Parcel}
 use Rattle.ivy_link.specs.Linked.{has_numbers}
-use Rattle.ivy_fixed.specs.Fixed.{Owners, fixed_ops}
+use Rattle.ivy_coherence.specs.declared.Need.{Need}
+use Rattle.ivy_coherence.specs.declared.Need.TheVariants as need
+use Rattle.ivy_coherence.specs.Faults.{Begun, begun}
+use Rattle.ivy_host.specs.Managers.{Managed, managed_ops}
 use Rattle.ivy_program.specs.Steps.{Process, answered_with}
 use Rattle.ivy_ether.specs.Cores.{Outcome}
-use Rattle.ivy_node.specs.Memories.{Memory, Answer, load_begun}
-use Rattle.ivy_node.specs.Hosts.{Host, begins, begins_with, number_of}
-use Rattle.ivy_node.specs.Outboxes.{Outbox, HasNumbers, Refuses, IsRefused, posted_by}
-use Rattle.ivy_node.specs.Sites.{Begins, CannotBegin, host_of}
+use Rattle.ivy_memory.specs.declared.Answer.{Answer}
+use Rattle.ivy_memory.specs.declared.Answer.TheVariants.{Given, Awaited, Unserved}
+use Rattle.ivy_memory.specs.declared.Asked.{Asked}
+use Rattle.ivy_memory.specs.declared.Asked.TheVariants as asked
+use Rattle.ivy_memory.specs.Asking.{asked_of}
+use Rattle.ivy_memory.specs.Memories.{Memory, CallBegun, reply_of, answered, needed, begun_as, call_begun}
+use Rattle.ivy_host.specs.Hosts.{Host, begins, begins_as, begins_with, number_of, recorded}
+use Rattle.ivy_node.specs.Outboxes.{Outbox, HasNumbers, Refuses, IsRefused, posted_by, takes_none, after_none}
+use Rattle.ivy_node.specs.Sites.{Begins, AfterBegin, CannotBegin, host_of}
+use Rattle.ivy_node.proofs.Boxes.{as_many-wait}
 
 abbrev H : Type 0
-H = Host Owners
+H = Host Managed
 
-abbrev loaded : H → ℕ → ℕ → Answer Owners
-loaded h width addr = load_begun fixed_ops h.memory width addr (length h.history + 1)
+-- a call that does not begin posts nothing, and changes nothing
+abbrev ChangesNothing : Memory Managed → CallBegun Managed → Type 0
+ChangesNothing m a = a.answer ≡ Unserved → (a.after ≡ m) × (a.posted ≡ [])
 
-begins_load : (h : H) (width addr : ℕ) → length h.history + 1 < 2 ^ 64 → begins fixed_ops h (call.Load width addr) ≡ Some (begins_with h (call.Load width addr) (loaded h width addr) (loaded h width addr).reply)
-begins_load h width addr lt =
-    ap (λ b. if b then Some (begins_with h (call.Load width addr) (loaded h width addr) (loaded h width addr).reply) else None) (lt-ltb (length h.history + 1) (2 ^ 64) lt)
+answered-changes : (m : Memory Managed) (k : Call) (b : Begun Managed) (r : Option Reply) → ChangesNothing m (answered k b r)
+answered-changes m k b None is = absurd cc
+answered-changes m k b (Some r) is = absurd cc
 
-with_posted : (h : H) (k : Call) (a : Answer Owners) (r : Option Reply) → (begins_with h k a r).posted ≡ a.posted
-with_posted h k a None = refl
-with_posted h k a (Some r) = refl
+needed-changes : (m : Memory Managed) (k : Call) (b : Begun Managed) (d : Need) → ChangesNothing m (needed m k b d)
+needed-changes m k b (need.Have o) is = answered-changes m k b (reply_of o) is
+needed-changes m k b need.Started is = absurd cc
+needed-changes m k b need.Busy is = (refl, refl)
 
--- numbers are at an end for what the load would post
-pub cannot_load : (h : H) (box : Outbox) (k : Call) (width addr number : ℕ) (f : Fault) → k ≡ call.Load width addr → number ≡ length h.history + 1 → number < 2 ^ 64 → Refuses box (load_begun fixed_ops h.memory width addr number).posted f → CannotBegin k h box f
-cannot_load h box k width addr number f is numbered lt refuses spent =
-    let a = loaded h width addr in
-    let o : Outcome H = begins_with h (call.Load width addr) a a.reply in
-    let small : length h.history + 1 < 2 ^ 64 = subst (λ n. n < 2 ^ 64) numbered lt in
-    let none : has_numbers box.link (load_begun fixed_ops h.memory width addr number).posted ≡ false = subst (λ (x : Fault). IsRefused x box (load_begun fixed_ops h.memory width addr number).posted) spent refuses in (
-      o,
-      ap (begins fixed_ops h) is ∙ begins_load h width addr small,
-      ap (has_numbers box.link) (with_posted h (call.Load width addr) a a.reply ∙ ap (λ n. (load_begun fixed_ops h.memory width addr n).posted) (sym numbered)) ∙ none,
-    )
+as-changes : (m : Memory Managed) (k : Call) (number : ℕ) (x : Asked) → ChangesNothing m (begun_as managed_ops m k number x)
+as-changes m k number (asked.Refused code) is = absurd cc
+as-changes m k number (asked.Word page w) is = let b : Begun Managed = begun managed_ops m.coherence page w number in needed-changes m k b b.need is
+as-changes m k number asked.Heap is = (refl, refl)
 
--- the load has a reply at once
-pub begun_answered : (h : H) (box after : Outbox) (k : Call) (width addr number node : ℕ) (memory : Memory Owners) (process : Process) (history : List Record) (answer : Option Reply) (r : Reply)
-    → k ≡ call.Load width addr → number ≡ length h.history + 1 → number < 2 ^ 64 → node ≡ number_of h
-    → answer ≡ (load_begun fixed_ops h.memory width addr number).reply → answer ≡ Some r
-    → memory ≡ (load_begun fixed_ops h.memory width addr number).after
-    → HasNumbers box (load_begun fixed_ops h.memory width addr number).posted → after ≡ posted_by box (load_begun fixed_ops h.memory width addr number).posted
-    → history ≡ h.history ++ record { node = node; call = call.Load width addr; reply = r } ∷ [] → process ≡ answered_with h.process r
-    → Begins k h box (host_of memory process history) after
-begun_answered h box after k width addr number node memory process history answer r is numbered lt mine replied here next numbers sent recorded goes =
-    let a = loaded h width addr in
-    let o : Outcome H = begins_with h (call.Load width addr) a (Some r) in
-    let small : length h.history + 1 < 2 ^ 64 = subst (λ n. n < 2 ^ 64) numbered lt in
-    let at : a.reply ≡ Some r = ap (λ n. (load_begun fixed_ops h.memory width addr n).reply) (sym numbered) ∙ (sym replied ∙ here) in
-    let post : (load_begun fixed_ops h.memory width addr number).posted ≡ o.posted = ap (λ n. (load_begun fixed_ops h.memory width addr n).posted) numbered in
-    let one : host_of memory process history ≡ host_of a.after process history = ap (λ m. host_of m process history) (next ∙ ap (λ n. (load_begun fixed_ops h.memory width addr n).after) numbered) in
-    let two : host_of a.after process history ≡ host_of a.after (answered_with h.process r) history = ap (λ p. host_of a.after p history) goes in
-    let three : host_of a.after (answered_with h.process r) history ≡ host_of a.after (answered_with h.process r) (h.history ++ record { node = node; call = call.Load width addr; reply = r } ∷ []) = ap (λ rs. host_of a.after (answered_with h.process r) rs) recorded in
-    let four : host_of a.after (answered_with h.process r) (h.history ++ record { node = node; call = call.Load width addr; reply = r } ∷ []) ≡ host_of a.after (answered_with h.process r) (h.history ++ record { node = number_of h; call = call.Load width addr; reply = r } ∷ [])
-    = ap (λ n. host_of a.after (answered_with h.process r) (h.history ++ record { node = n; call = call.Load width addr; reply = r } ∷ [])) mine in
-    record {
-      outcome = o;
-      begun = ap (begins fixed_ops h) is ∙ (begins_load h width addr small ∙ ap (λ x. Some (begins_with h (call.Load width addr) a x)) at);
-      host = one ∙ (two ∙ (three ∙ four));
-      numbers = subst (HasNumbers box) post numbers;
-      sent = sent ∙ ap (posted_by box) post;
-    }
+unserved_is : (m : Memory Managed) (k : Call) (number : ℕ) → ChangesNothing m (call_begun managed_ops m k number)
+unfolding call_begun
+unserved_is m k number is = as-changes m k number (asked_of m.coherence.config k) is
 
--- the load is in progress
-pub begun_asked : (h : H) (box after : Outbox) (k : Call) (width addr number : ℕ) (memory : Memory Owners) (answer : Option Reply)
-    → k ≡ call.Load width addr → number ≡ length h.history + 1 → number < 2 ^ 64
-    → answer ≡ (load_begun fixed_ops h.memory width addr number).reply → answer ≡ None
-    → memory ≡ (load_begun fixed_ops h.memory width addr number).after
-    → HasNumbers box (load_begun fixed_ops h.memory width addr number).posted → after ≡ posted_by box (load_begun fixed_ops h.memory width addr number).posted
-    → Begins k h box (host_of memory h.process h.history) after
-begun_asked h box after k width addr number memory answer is numbered lt replied none next numbers sent =
-    let a = loaded h width addr in
-    let o : Outcome H = begins_with h (call.Load width addr) a None in
-    let small : length h.history + 1 < 2 ^ 64 = subst (λ n. n < 2 ^ 64) numbered lt in
-    let at : a.reply ≡ None = ap (λ n. (load_begun fixed_ops h.memory width addr n).reply) (sym numbered) ∙ (sym replied ∙ none) in
-    let post : (load_begun fixed_ops h.memory width addr number).posted ≡ o.posted = ap (λ n. (load_begun fixed_ops h.memory width addr n).posted) numbered in
-    record {
-      outcome = o;
-      begun = ap (begins fixed_ops h) is ∙ (begins_load h width addr small ∙ ap (λ x. Some (begins_with h (call.Load width addr) a x)) at);
-      host = ap (λ m. host_of m h.process h.history) (next ∙ ap (λ n. (load_begun fixed_ops h.memory width addr n).after) numbered);
-      numbers = subst (HasNumbers box) post numbers;
-      sent = sent ∙ ap (posted_by box) post;
-    }
+-- few strings are added
+pub begun_few : (box after : Outbox) (posted : List Parcel) → length posted ≤ 8 → after ≡ posted_by box posted → length after.waiting ≤ length box.waiting + 8
+begun_few box after posted few sent =
+    let grown : length after.waiting ≡ length box.waiting + length posted = ap (λ (x : Outbox). length x.waiting) sent ∙ as_many-wait box posted in
+    omega (arith, grown, few)
+
+-- the number of a call, as the code has it
+pub record IsNumbered (h : H) (k : Call) (number : ℕ) : Type 0 where
+  pub is : number ≡ length h.history + 1
+  pub below : number < 2 ^ 64
+
+module _ (h : H) (k : Call) (number : ℕ) (n : IsNumbered h k number) where
+  abbrev a : CallBegun Managed
+  a = call_begun managed_ops h.memory k number
+
+  below : length h.history + 1 < 2 ^ 64
+  below = subst (λ m. m < 2 ^ 64) n.is n.below
+
+  begins-is : begins managed_ops h k ≡ begins_as h k a
+  begins-is =
+      ap (λ b. if b then begins_as h k (call_begun managed_ops h.memory k (length h.history + 1)) else None) (lt-ltb (length h.history + 1) (2 ^ 64) below)
+      ∙ ap (λ m. begins_as h k (call_begun managed_ops h.memory k m)) (sym n.is)
+
+  by_answer : (answer r : Answer) → answer ≡ a.answer → answer ≡ r → begins managed_ops h k ≡ begins_with h k a r
+  by_answer answer r same is = begins-is ∙ ap (begins_with h k a) (sym same ∙ is)
+
+  -- it has a reply at once
+  pub begun_answered : (box after : Outbox) (node : ℕ) (memory : Memory Managed) (process : Process) (history : List Record) (answer : Answer) (r : Reply)
+      → node ≡ number_of h → answer ≡ a.answer → answer ≡ Given r → memory ≡ a.after → HasNumbers box a.posted → after ≡ posted_by box a.posted
+      → history ≡ h.history ++ record { node = node; call = k; reply = r } ∷ [] → process ≡ answered_with h.process r
+      → Begins k h box (host_of memory process history) after
+  begun_answered box after node memory process history answer r mine same is next numbers sent kept goes = record {
+    outcome = record { after = recorded h a.after k r; posted = a.posted };
+    begun = by_answer answer (Given r) same is;
+    host = ap (λ m. host_of m process history) next ∙ (ap (λ p. host_of a.after p history) goes
+        ∙ (ap (λ rs. host_of a.after (answered_with h.process r) rs) kept
+        ∙ ap (λ i. host_of a.after (answered_with h.process r) (h.history ++ record { node = i; call = k; reply = r } ∷ [])) mine));
+    numbers = numbers;
+    sent = sent;
+  }
+
+  -- it is in progress
+  pub begun_awaited : (box after : Outbox) (memory : Memory Managed) (answer : Answer) → answer ≡ a.answer → answer ≡ Awaited → memory ≡ a.after → HasNumbers box a.posted → after ≡ posted_by box a.posted
+      → Begins k h box (host_of memory h.process h.history) after
+  begun_awaited box after memory answer same is next numbers sent = record {
+    outcome = record { after = record h { memory = a.after }; posted = a.posted };
+    begun = by_answer answer Awaited same is;
+    host = ap (λ m. host_of m h.process h.history) next;
+    numbers = numbers;
+    sent = sent;
+  }
+
+  -- it does not begin
+  pub not_begun : (box after : Outbox) (memory : Memory Managed) (answer : Answer) → answer ≡ a.answer → answer ≡ Unserved → memory ≡ a.after → after ≡ posted_by box a.posted
+      → AfterBegin false k h box (host_of memory h.process h.history) after
+  not_begun box after memory answer same is next sent =
+      let none = unserved_is h.memory k number (sym same ∙ is) in (
+        by_answer answer Unserved same is,
+        ap (λ m. host_of m h.process h.history) (next ∙ none.0),
+        sent ∙ (ap (posted_by box) none.1 ∙ after_none box),
+      )
+
+  -- numbers are at an end for what it would post
+  cannot_by : (box : Outbox) → has_numbers box.link a.posted ≡ false → (r : Answer) → a.answer ≡ r
+      → (outcome : Outcome H) × (begins managed_ops h k ≡ Some outcome) × (has_numbers box.link outcome.posted ≡ false)
+  cannot_by box none (Given r) is = (record { after = recorded h a.after k r; posted = a.posted }, begins-is ∙ ap (begins_with h k a) is, none)
+  cannot_by box none Awaited is = (record { after = record h { memory = a.after }; posted = a.posted }, begins-is ∙ ap (begins_with h k a) is, none)
+  cannot_by box none Unserved is =
+      let t : has_numbers box.link a.posted ≡ true = ap (has_numbers box.link) (unserved_is h.memory k number is).1 ∙ takes_none box in
+      let f : true ≡ false = sym t ∙ none in absurd cc
+
+  pub cannot_begin : (box : Outbox) (f : Fault) → Refuses box a.posted f → CannotBegin k h box f
+  cannot_begin box f refuses spent = cannot_by box (subst (λ (x : Fault). IsRefused x box a.posted) spent refuses) a.answer refl

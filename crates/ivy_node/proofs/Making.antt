@@ -1,5 +1,5 @@
 -- One move over the sites of a world changes one site.
-use Rattle.std.proofs.Common.{◌≡◌, ◌⊎◌, ℕ, Bool, false, inl, inr, zero, suc, ◌+◌, ◌<◌, List, [], ◌∷◌, ◌++◌, length, map, set, slice_get, Option, Some, None, Ok, MatchResult, Contains, option_map, true, false, nat_lt, if◌then◌else◌, ◌&&◌, ◌==◌, ◌≢◌, not, refl, sym, ap, subst, ◌∙◌, append-nil, ⊎_elim}
+use Rattle.std.proofs.Common.{◌≡◌, ◌⊎◌, ℕ, Bool, false, inl, inr, zero, suc, ◌+◌, ◌^◌, ◌<◌, List, [], ◌∷◌, ◌++◌, length, map, set, slice_get, Option, Some, None, Ok, MatchResult, Contains, option_map, true, false, nat_lt, if◌then◌else◌, ◌&&◌, ◌==◌, ◌≢◌, not, refl, sym, ap, subst, ◌∙◌, append-nil, ⊎_elim}
 use Rattle.std.proofs.lemmas.Bool.{lt-ltb, ne_eqb}
 use Rattle.std.proofs.lemmas.List.{map-set, length-map}
 use Rattle.std.proofs.lemmas.Option.{same_Some, none-some, slice_get-map, slice_get_within, get_or_from_slice_get}
@@ -9,7 +9,7 @@ use Rattle.ivy_model.specs.declared.Call.TheVariants as call
 use Rattle.ivy_model.specs.declared.Reply.{Reply}
 use Rattle.ivy_model.specs.declared.Fault.{Fault}
 use Rattle.ivy_model.specs.Wants.{IsWant}
-use Rattle.ivy_fixed.specs.Fixed.{Owners, fixed_ops}
+use Rattle.ivy_host.specs.Managers.{Managed, managed_ops}
 use Rattle.ivy_program.specs.Steps.{Step, Local, Asks, Ends, step_of, at_state}
 use Rattle.ivy_wire.specs.Data.{Parcel, Frame, Message}
 use Rattle.ivy_wire.specs.Faults.{checked}
@@ -28,9 +28,11 @@ use Rattle.ivy_ether.specs.Nodes.{Node, Effect, stays, posting, turned, turned_t
 use Rattle.ivy_ether.specs.Worlds as worlds
 use Rattle.ivy_node.specs.declared.turn.Turn as turn
 use Rattle.ivy_node.specs.declared.turn.Turn.TheVariants.{Idle, Moved, Ended}
-use Rattle.ivy_node.specs.Hosts.{Host, host_rules, turn_of, serving, turned_at, steps, begins, begins_with, replied, quietly, recorded}
-use Rattle.ivy_node.specs.Memories.{Answer, reply_there, load_begun, taken_out}
-use Rattle.ivy_node.specs.Holding.{AllSpell}
+use Rattle.ivy_host.specs.Hosts.{Host, host_rules, turn_of, serving, turned_at, steps, begins, begins_as, begins_with, replied, quietly, recorded}
+use Rattle.ivy_memory.specs.declared.Answer.{Answer}
+use Rattle.ivy_memory.specs.declared.Answer.TheVariants.{Given, Awaited, Unserved}
+use Rattle.ivy_memory.specs.Memories.{CallBegun, reply_there, call_begun, taken_out}
+use Rattle.ivy_host.specs.Holding.{AllSpell}
 use Rattle.ivy_node.specs.Runs.{IsRefusedBy}
 use Rattle.ivy_node.specs.Shown.{Shown, after_pulse_to, after_delivery}
 use Rattle.ivy_node.specs.Sites.{AfterTurn, IsSpentTurn, Delivers, IsSpentDelivery}
@@ -51,7 +53,7 @@ set-cases (z ∷ xs) (suc i) (suc j) y x e = ⊎_elim (λ p. inl (ap suc p.0, p.
 
 -- one site changed
 
-record IsGone (old new : Shown) (e : Effect (Host Owners)) : Type 0 where
+record IsGone (old new : Shown) (e : Effect (Host Managed)) : Type 0 where
   pub node : new.node ≡ e.after
   pub waiting : new.waiting ≡ old.waiting ++ e.sent
   pub config : new.config ≡ old.config
@@ -60,7 +62,7 @@ record IsGone (old new : Shown) (e : Effect (Host Owners)) : Type 0 where
 
 -- what a call of `make` did: the move, with one site changed
 pub record Went (c : Config) (sites sites' : List Shown) (sent sent' : List (List ℕ)) (step : Move) : Type 0 where
-  pub made : worlds.moved (host_rules fixed_ops) c (world_of sites sent) step ≡ Some (world_of sites' sent')
+  pub made : worlds.moved (host_rules managed_ops) c (world_of sites sent) step ≡ Some (world_of sites' sent')
   pub are : AreSites c sites'
   pub programs : programs_of sites' ≡ programs_of sites
 
@@ -76,7 +78,7 @@ changed_are c sites i old new h there config me none = record {
   none_waits = λ j s e. ⊎_elim (λ p. ap (λ (x : Shown). x.waiting) p.1 ∙ none) (λ q. h.none_waits j s q) (set-cases sites i j new s e);
 }
 
-changed_world : (sites : List Shown) (sent : List (List ℕ)) (i : ℕ) (new : Shown) (more : List (List ℕ)) (e : Effect (Host Owners)) → new.node ≡ e.after → more ≡ e.sent
+changed_world : (sites : List Shown) (sent : List (List ℕ)) (i : ℕ) (new : Shown) (more : List (List ℕ)) (e : Effect (Host Managed)) → new.node ≡ e.after → more ≡ e.sent
     → worlds.gone_on (world_of sites sent) i e ≡ world_of (set sites i new) (sent ++ more)
 changed_world sites sent i new more e node is =
     let back = sym is in λ k. record {
@@ -84,56 +86,50 @@ changed_world sites sent i new more e node is =
       sent = sent ++ back k;
     }
 
-went : (c : Config) (sites : List Shown) (sent : List (List ℕ)) (i : ℕ) (old done : Shown) (e : Effect (Host Owners)) (step : Move)
+went : (c : Config) (sites : List Shown) (sent : List (List ℕ)) (i : ℕ) (old done : Shown) (e : Effect (Host Managed)) (step : Move)
     → AreSites c sites → slice_get sites i ≡ Some old → IsGone old done e
-    → worlds.moved (host_rules fixed_ops) c (world_of sites sent) step ≡ Some (worlds.gone_on (world_of sites sent) i e)
+    → worlds.moved (host_rules managed_ops) c (world_of sites sent) step ≡ Some (worlds.gone_on (world_of sites sent) i e)
     → Went c sites (set sites i (record done { waiting = [] })) sent (sent ++ done.waiting) step
 went c sites sent i old done e step h there gone moved =
     let waits : done.waiting ≡ e.sent = gone.waiting ∙ ap (λ l. l ++ e.sent) (h.none_waits i old there) in record {
       made = moved ∙ ap Some (changed_world sites sent i (record done { waiting = [] }) done.waiting e gone.node waits);
       are = changed_are c sites i old (record done { waiting = [] }) h there gone.config gone.me refl;
-      programs = same_map (λ (s : Shown). s.node.core.process.program) sites i old (record done { waiting = [] }) there (ap (λ (n : Node (Host Owners)). n.core.process.program) gone.node ∙ gone.program);
+      programs = same_map (λ (s : Shown). s.node.core.process.program) sites i old (record done { waiting = [] }) there (ap (λ (n : Node (Host Managed)). n.core.process.program) gone.node ∙ gone.program);
     }
 
 -- a turn keeps the program
 
 module _ where
-  replied-program : (n : Host Owners) (c : Call) (r : Option Reply) (o : Outcome (Host Owners)) → replied n c r ≡ Some o → o.after.process.program ≡ n.process.program
+  replied-program : (n : Host Managed) (c : Call) (r : Option Reply) (o : Outcome (Host Managed)) → replied n c r ≡ Some o → o.after.process.program ≡ n.process.program
   replied-program n c None o e = absurd (none-some o e)
-  replied-program n c (Some r) o e = ap (λ (x : Outcome (Host Owners)). x.after.process.program) (sym (same_Some (quietly (recorded n (taken_out n.memory) c r)) o e))
+  replied-program n c (Some r) o e = ap (λ (x : Outcome (Host Managed)). x.after.process.program) (sym (same_Some (quietly (recorded n (taken_out n.memory) c r)) o e))
 
-  with-program : (n : Host Owners) (c : Call) (a : Answer Owners) (r : Option Reply) → (begins_with n c a r).after.process.program ≡ n.process.program
-  with-program n c a None = refl
-  with-program n c a (Some r) = refl
+  with-program : (n : Host Managed) (c : Call) (a : CallBegun Managed) (r : Answer) (o : Outcome (Host Managed)) → begins_with n c a r ≡ Some o → o.after.process.program ≡ n.process.program
+  with-program n c a (Given r) o e = ap (λ (x : Outcome (Host Managed)). x.after.process.program) (sym (same_Some (record { after = recorded n a.after c r; posted = a.posted }) o e))
+  with-program n c a Awaited o e = ap (λ (x : Outcome (Host Managed)). x.after.process.program) (sym (same_Some (record { after = record n { memory = a.after }; posted = a.posted }) o e))
+  with-program n c a Unserved o e = absurd (none-some o e)
 
-  begun-program : (n : Host Owners) (c : Call) (o : Outcome (Host Owners)) → begins fixed_ops n c ≡ Some o → o.after.process.program ≡ n.process.program
-  begun-program n (call.Load width addr) o e =
-      let a = load_begun fixed_ops n.memory width addr (length n.history + 1) in
-      let is = guarded _ (Some (begins_with n (call.Load width addr) a a.reply)) o e in
-      ap (λ (x : Outcome (Host Owners)). x.after.process.program) (sym (same_Some (begins_with n (call.Load width addr) a a.reply) o is.1)) ∙ with-program n (call.Load width addr) a a.reply
-  begun-program n (call.Store width addr value) o e = absurd (none-some o e)
-  begun-program n (call.Count k) o e = absurd (none-some o e)
-  begun-program n (call.Advance k) o e = absurd (none-some o e)
-  begun-program n (call.Await k least) o e = absurd (none-some o e)
-  begun-program n (call.Alloc size) o e = absurd (none-some o e)
-  begun-program n (call.Free addr) o e = absurd (none-some o e)
+  begun-program : (n : Host Managed) (c : Call) (o : Outcome (Host Managed)) → begins managed_ops n c ≡ Some o → o.after.process.program ≡ n.process.program
+  begun-program n c o e =
+      let a = call_begun managed_ops n.memory c (length n.history + 1) in
+      with-program n c a a.answer o (guarded (nat_lt (length n.history + 1) (2 ^ 64)) (begins_as n c a) o e).1
 
-  stepped-program : (n : Host Owners) (s : Step) (o : Outcome (Host Owners)) → steps fixed_ops n s ≡ Some o → o.after.process.program ≡ n.process.program
-  stepped-program n (Local s) o e = ap (λ (x : Outcome (Host Owners)). x.after.process.program) (sym (same_Some (quietly (record n { process = at_state n.process s })) o e))
+  stepped-program : (n : Host Managed) (s : Step) (o : Outcome (Host Managed)) → steps managed_ops n s ≡ Some o → o.after.process.program ≡ n.process.program
+  stepped-program n (Local s) o e = ap (λ (x : Outcome (Host Managed)). x.after.process.program) (sym (same_Some (quietly (record n { process = at_state n.process s })) o e))
   stepped-program n (Asks c) o e = begun-program n c o e
   stepped-program n Ends o e = absurd (none-some o e)
 
-  asked-program : (n : Host Owners) (asked : Option Call) (o : Outcome (Host Owners)) → turned_at fixed_ops n asked ≡ Some o → o.after.process.program ≡ n.process.program
+  asked-program : (n : Host Managed) (asked : Option Call) (o : Outcome (Host Managed)) → turned_at managed_ops n asked ≡ Some o → o.after.process.program ≡ n.process.program
   asked-program n (Some c) o e = replied-program n c (reply_there n.memory.coherence.done) o e
   asked-program n None o e = stepped-program n (step_of n.process) o e
 
-  turned-program : (n : Host Owners) (o : Outcome (Host Owners)) → turn_of fixed_ops n ≡ Some o → o.after.process.program ≡ n.process.program
+  turned-program : (n : Host Managed) (o : Outcome (Host Managed)) → turn_of managed_ops n ≡ Some o → o.after.process.program ≡ n.process.program
   unfolding turn_of
   turned-program n o e = asked-program n n.memory.asked o e
 
-posting-core : (n : Node (Host Owners)) (core : Host Owners) (ps : List Parcel) (e : Effect (Host Owners)) → posting n core ps ≡ Some e → e.after.core ≡ core
+posting-core : (n : Node (Host Managed)) (core : Host Managed) (ps : List Parcel) (e : Effect (Host Managed)) → posting n core ps ≡ Some e → e.after.core ≡ core
 posting-core n core ps e is =
-    ap (λ (x : Effect (Host Owners)). x.after.core) (sym (same_Some (record { after = record { core = core; link = (sends n.link ps).after }; sent = map spelling (sends n.link ps).frames }) e (guarded (has_numbers n.link ps) _ e is).1))
+    ap (λ (x : Effect (Host Managed)). x.after.core) (sym (same_Some (record { after = record { core = core; link = (sends n.link ps).after }; sent = map spelling (sends n.link ps).frames }) e (guarded (has_numbers n.link ps) _ e is).1))
 
 still_gone : (old new : Shown) → new ≡ old → IsGone old new (stays old.node)
 still_gone old new same = record {
@@ -144,21 +140,21 @@ still_gone old new same = record {
   program = refl;
 }
 
-turn_gone : (t : turn.Turn) (old new : Shown) → AfterTurn t old new → (e : Effect (Host Owners)) × (turned (host_rules fixed_ops) old.node ≡ Some e) × IsGone old new e
+turn_gone : (t : turn.Turn) (old new : Shown) → AfterTurn t old new → (e : Effect (Host Managed)) × (turned (host_rules managed_ops) old.node ≡ Some e) × IsGone old new e
 unfolding turned
-turn_gone Idle old new h = (stays old.node, ap (turned_to (host_rules fixed_ops) old.node) h.0, still_gone old new h.1)
+turn_gone Idle old new h = (stays old.node, ap (turned_to (host_rules managed_ops) old.node) h.0, still_gone old new h.1)
 turn_gone Moved old new h = (
   h.effect,
-  ap (turned_to (host_rules fixed_ops) old.node) h.turn ∙ h.sent,
+  ap (turned_to (host_rules managed_ops) old.node) h.turn ∙ h.sent,
   record {
     node = ap (λ (s : Shown). s.node) h.after;
     waiting = ap (λ (s : Shown). s.waiting) h.after;
     config = ap (λ (s : Shown). s.config) h.after;
     me = ap (λ (s : Shown). s.me) h.after;
-    program = ap (λ (k : Host Owners). k.process.program) (posting-core old.node h.outcome.after h.outcome.posted h.effect h.sent) ∙ turned-program old.node.core h.outcome h.turn;
+    program = ap (λ (k : Host Managed). k.process.program) (posting-core old.node h.outcome.after h.outcome.posted h.effect h.sent) ∙ turned-program old.node.core h.outcome h.turn;
   },
 )
-turn_gone Ended old new h = (stays old.node, ap (turned_to (host_rules fixed_ops) old.node) h.1, still_gone old new h.2)
+turn_gone Ended old new h = (stays old.node, ap (turned_to (host_rules managed_ops) old.node) h.1, still_gone old new h.2)
 
 module _ (c : Config) (sites : List Shown) (sent : List (List ℕ)) (i : ℕ) (old : Shown) (there : slice_get sites i ≡ Some old) where
   node_there : slice_get (map (λ (s : Shown). s.node) sites) i ≡ Some old.node
@@ -167,11 +163,11 @@ module _ (c : Config) (sites : List Shown) (sent : List (List ℕ)) (i : ℕ) (o
   named : nat_lt i (length (map (λ (s : Shown). s.node) sites)) ≡ true
   named = lt-ltb i (length (map (λ (s : Shown). s.node) sites)) (slice_get_within (map (λ (s : Shown). s.node) sites) i old.node node_there)
 
-  turn_is : worlds.moved (host_rules fixed_ops) c (world_of sites sent) (move.Turn i) ≡ worlds.goes_on (world_of sites sent) i (turned (host_rules fixed_ops) old.node)
+  turn_is : worlds.moved (host_rules managed_ops) c (world_of sites sent) (move.Turn i) ≡ worlds.goes_on (world_of sites sent) i (turned (host_rules managed_ops) old.node)
   unfolding worlds.moved
   turn_is =
-      ap (λ b. if b then worlds.made_by (host_rules fixed_ops) c (world_of sites sent) (move.Turn i) else None) named
-      ∙ ap (worlds.turn_of (host_rules fixed_ops) c (world_of sites sent) i) node_there
+      ap (λ b. if b then worlds.made_by (host_rules managed_ops) c (world_of sites sent) (move.Turn i) else None) named
+      ∙ ap (worlds.turn_of (host_rules managed_ops) c (world_of sites sent) i) node_there
 
 -- a turn of the site, and its strings put on the wire
 pub turn_went : (c : Config) (sites : List Shown) (sent : List (List ℕ)) (i : ℕ) (old done site : Shown) (t : turn.Turn) (step : Move) (more : List (List ℕ))
@@ -197,15 +193,15 @@ pulse_gone old new to after = record {
 }
 
 pulse_is : (c : Config) (sites : List Shown) (sent : List (List ℕ)) (i to : ℕ) (old : Shown) → slice_get sites i ≡ Some old → to < length sites → i ≢ to
-    → worlds.moved (host_rules fixed_ops) c (world_of sites sent) (move.Pulse i to) ≡ Some (worlds.gone_on (world_of sites sent) i (pulsing old.node to))
+    → worlds.moved (host_rules managed_ops) c (world_of sites sent) (move.Pulse i to) ≡ Some (worlds.gone_on (world_of sites sent) i (pulsing old.node to))
 unfolding worlds.moved
 pulse_is c sites sent i to old there within apart =
     let nodes = map (λ (s : Shown). s.node) sites in
     let long : to < length nodes = subst (λ k. to < k) (sym (length-map sites (λ (s : Shown). s.node))) within in
     let known : (nat_lt i (length nodes) && (nat_lt to (length nodes) && not (i == to))) ≡ true =
     ap (λ b. b && (nat_lt to (length nodes) && not (i == to))) (named c sites sent i old there) ∙ (ap (λ b. b && not (i == to)) (lt-ltb to (length nodes) long) ∙ ap not (ne_eqb i to apart)) in
-    ap (λ b. if b then worlds.made_by (host_rules fixed_ops) c (world_of sites sent) (move.Pulse i to) else None) known
-    ∙ ap (worlds.pulse_of (host_rules fixed_ops) c (world_of sites sent) i to) (node_there c sites sent i old there)
+    ap (λ b. if b then worlds.made_by (host_rules managed_ops) c (world_of sites sent) (move.Pulse i to) else None) known
+    ∙ ap (worlds.pulse_of (host_rules managed_ops) c (world_of sites sent) i to) (node_there c sites sent i old there)
 
 -- a pulse of the site, and its strings put on the wire
 pub pulse_went : (c : Config) (sites : List Shown) (sent : List (List ℕ)) (i to : ℕ) (old done site : Shown) (step : Move) (more : List (List ℕ))
@@ -216,40 +212,40 @@ pulse_went c sites sent i to old done site step more h there within apart after 
 
 -- a delivery keeps the program
 
-accepting-core : (f : Frame) (o : Option (Effect (Host Owners))) (e : Effect (Host Owners)) → accepting f o ≡ Some e → (x : Effect (Host Owners)) × (o ≡ Some x) × (e.after.core ≡ x.after.core)
+accepting-core : (f : Frame) (o : Option (Effect (Host Managed))) (e : Effect (Host Managed)) → accepting f o ≡ Some e → (x : Effect (Host Managed)) × (o ≡ Some x) × (e.after.core ≡ x.after.core)
 accepting-core f None e is = absurd (none-some e is)
 accepting-core f (Some x) e is =
-    (x, refl, ap (λ (y : Effect (Host Owners)). y.after.core) (sym (same_Some (record { after = record { core = x.after.core; link = accepted x.after.link f }; sent = x.sent }) e is)))
+    (x, refl, ap (λ (y : Effect (Host Managed)). y.after.core) (sym (same_Some (record { after = record { core = x.after.core; link = accepted x.after.link f }; sent = x.sent }) e is)))
 
-kept-program : (n : Node (Host Owners)) (f : Frame) (e : Effect (Host Owners)) → accepting f (Some (stays n)) ≡ Some e → e.after.core.process.program ≡ n.core.process.program
+kept-program : (n : Node (Host Managed)) (f : Frame) (e : Effect (Host Managed)) → accepting f (Some (stays n)) ≡ Some e → e.after.core.process.program ≡ n.core.process.program
 kept-program n f e is =
     let x = accepting-core f (Some (stays n)) e is in
-    ap (λ (k : Host Owners). k.process.program) (x.2 ∙ ap (λ (y : Effect (Host Owners)). y.after.core) (sym (same_Some (stays n) x.0 x.1)))
+    ap (λ (k : Host Managed). k.process.program) (x.2 ∙ ap (λ (y : Effect (Host Managed)). y.after.core) (sym (same_Some (stays n) x.0 x.1)))
 
-served-program : (n : Node (Host Owners)) (f : Frame) (body : Option Message) (e : Effect (Host Owners)) → served (host_rules fixed_ops) n f body ≡ Some e → e.after.core.process.program ≡ n.core.process.program
+served-program : (n : Node (Host Managed)) (f : Frame) (body : Option Message) (e : Effect (Host Managed)) → served (host_rules managed_ops) n f body ≡ Some e → e.after.core.process.program ≡ n.core.process.program
 unfolding serving
 served-program n f None e is = kept-program n f e is
 served-program n f (Some m) e is =
-    let o = serving fixed_ops n.core f.source m in
+    let o = serving managed_ops n.core f.source m in
     let x = accepting-core f (posting n o.after o.posted) e is in
-    ap (λ (k : Host Owners). k.process.program) (x.2 ∙ posting-core n o.after o.posted x.0 x.1)
+    ap (λ (k : Host Managed). k.process.program) (x.2 ∙ posting-core n o.after o.posted x.0 x.1)
 
-received-program : (v : Verdict) (n : Node (Host Owners)) (f : Frame) (e : Effect (Host Owners)) → received_as (host_rules fixed_ops) v n f ≡ Some e → e.after.core.process.program ≡ n.core.process.program
-received-program verdict.NotMine n f e is = ap (λ (y : Effect (Host Owners)). y.after.core.process.program) (sym (same_Some (stays n) e is))
+received-program : (v : Verdict) (n : Node (Host Managed)) (f : Frame) (e : Effect (Host Managed)) → received_as (host_rules managed_ops) v n f ≡ Some e → e.after.core.process.program ≡ n.core.process.program
+received-program verdict.NotMine n f e is = ap (λ (y : Effect (Host Managed)). y.after.core.process.program) (sym (same_Some (stays n) e is))
 received-program verdict.Next n f e is = served-program n f f.body e is
 received-program verdict.Repeat n f e is = kept-program n f e is
 received-program verdict.Ahead n f e is = kept-program n f e is
 
-delivered-is : (c : Config) → IsConfig c → (n : Node (Host Owners)) (f : Frame) (bytes : List ℕ) → Spells c f bytes → delivered (host_rules fixed_ops) c n bytes ≡ received_as (host_rules fixed_ops) (offered n.link f) n f
+delivered-is : (c : Config) → IsConfig c → (n : Node (Host Managed)) (f : Frame) (bytes : List ℕ) → Spells c f bytes → delivered (host_rules managed_ops) c n bytes ≡ received_as (host_rules managed_ops) (offered n.link f) n f
 unfolding delivered received
 delivered-is c config n f bytes spells =
     let once = spelled_once c f bytes config spells in
-    ap (λ r. delivered_as (host_rules fixed_ops) r n bytes) once.0 ∙ ap (λ g. received (host_rules fixed_ops) n g) once.1
+    ap (λ r. delivered_as (host_rules managed_ops) r n bytes) once.0 ∙ ap (λ g. received (host_rules managed_ops) n g) once.1
 
-event_gone : (old new : Shown) (e : Effect (Host Owners)) → new.node ≡ e.after → new.waiting ≡ old.waiting ++ e.sent → new.config ≡ old.config → new.me ≡ old.me → e.after.core.process.program ≡ old.node.core.process.program → IsGone old new e
+event_gone : (old new : Shown) (e : Effect (Host Managed)) → new.node ≡ e.after → new.waiting ≡ old.waiting ++ e.sent → new.config ≡ old.config → new.me ≡ old.me → e.after.core.process.program ≡ old.node.core.process.program → IsGone old new e
 event_gone old new e node waiting config me program = record { node = node; waiting = waiting; config = config; me = me; program = program }
 
-after_gone : (v : Verdict) (old new : Shown) (f : Frame) (bytes : List ℕ) (e : Effect (Host Owners)) → new ≡ after_delivery old bytes v e → received_as (host_rules fixed_ops) v old.node f ≡ Some e → IsGone old new e
+after_gone : (v : Verdict) (old new : Shown) (f : Frame) (bytes : List ℕ) (e : Effect (Host Managed)) → new ≡ after_delivery old bytes v e → received_as (host_rules managed_ops) v old.node f ≡ Some e → IsGone old new e
 after_gone verdict.NotMine old new f bytes e after is = subst (IsGone old new) (same_Some (stays old.node) e is) (still_gone old new after)
 after_gone verdict.Next old new f bytes e after is = event_gone old new e (ap (λ (s : Shown). s.node) after) (ap (λ (s : Shown). s.waiting) after) (ap (λ (s : Shown). s.config) after) (ap (λ (s : Shown). s.me) after) (received-program verdict.Next old.node f e is)
 after_gone verdict.Repeat old new f bytes e after is = event_gone old new e (ap (λ (s : Shown). s.node) after) (ap (λ (s : Shown). s.waiting) after) (ap (λ (s : Shown). s.config) after) (ap (λ (s : Shown). s.me) after) (received-program verdict.Repeat old.node f e is)
@@ -258,18 +254,18 @@ after_gone verdict.Ahead old new f bytes e after is = event_gone old new e (ap (
 delivery_gone : (old new : Shown) (bytes : List ℕ) (v : Verdict) → IsConfig old.config → (h : Delivers bytes v old new) → IsGone old new h.effect
 delivery_gone old new bytes v config h =
     after_gone v old new h.frame bytes h.effect h.after
-    (ap (λ x. received_as (host_rules fixed_ops) x old.node h.frame) h.is ∙ (sym (delivered-is old.config config old.node h.frame bytes h.spelled) ∙ h.delivered))
+    (ap (λ x. received_as (host_rules managed_ops) x old.node h.frame) h.is ∙ (sym (delivered-is old.config config old.node h.frame bytes h.spelled) ∙ h.delivered))
 
 delivery_is : (c : Config) (sites : List Shown) (sent : List (List ℕ)) (index i : ℕ) (old : Shown) (bytes : List ℕ) → slice_get sites i ≡ Some old → slice_get sent index ≡ Some bytes
-    → worlds.moved (host_rules fixed_ops) c (world_of sites sent) (move.Deliver index i) ≡ worlds.goes_on (world_of sites sent) i (delivered (host_rules fixed_ops) c old.node bytes)
+    → worlds.moved (host_rules managed_ops) c (world_of sites sent) (move.Deliver index i) ≡ worlds.goes_on (world_of sites sent) i (delivered (host_rules managed_ops) c old.node bytes)
 unfolding worlds.moved
 delivery_is c sites sent index i old bytes there found =
     let nodes = map (λ (s : Shown). s.node) sites in
     let known : (nat_lt i (length nodes) && nat_lt index (length sent)) ≡ true =
     ap (λ b. b && nat_lt index (length sent)) (named c sites sent i old there) ∙ lt-ltb index (length sent) (slice_get_within sent index bytes found) in
-    ap (λ b. if b then worlds.made_by (host_rules fixed_ops) c (world_of sites sent) (move.Deliver index i) else None) known
-    ∙ (ap (λ o. worlds.delivery_of (host_rules fixed_ops) c (world_of sites sent) i o (slice_get sent index)) (node_there c sites sent i old there)
-    ∙ ap (worlds.delivery_of (host_rules fixed_ops) c (world_of sites sent) i (Some old.node)) found)
+    ap (λ b. if b then worlds.made_by (host_rules managed_ops) c (world_of sites sent) (move.Deliver index i) else None) known
+    ∙ (ap (λ o. worlds.delivery_of (host_rules managed_ops) c (world_of sites sent) i o (slice_get sent index)) (node_there c sites sent i old there)
+    ∙ ap (worlds.delivery_of (host_rules managed_ops) c (world_of sites sent) i (Some old.node)) found)
 
 -- a delivery to the site, and its strings put on the wire
 pub delivery_went : (c : Config) (sites : List Shown) (sent : List (List ℕ)) (index i : ℕ) (old done site : Shown) (bytes : List ℕ) (v : Verdict) (step : Move) (more : List (List ℕ))
@@ -277,7 +273,7 @@ pub delivery_went : (c : Config) (sites : List Shown) (sent : List (List ℕ)) (
     → Went c sites (set sites i site) sent more step
 delivery_went c sites sent index i old done site bytes v step more limits h there found d is same added =
     let config : old.config ≡ c = h.config i old there in
-    let given : delivered (host_rules fixed_ops) c old.node bytes ≡ Some d.effect = subst (λ k. delivered (host_rules fixed_ops) k old.node bytes ≡ Some d.effect) config d.delivered in
+    let given : delivered (host_rules managed_ops) c old.node bytes ≡ Some d.effect = subst (λ k. delivered (host_rules managed_ops) k old.node bytes ≡ Some d.effect) config d.delivered in
     rw is (rw same (rw added (went c sites sent i old done d.effect (move.Deliver index i) h there (delivery_gone old done bytes v (subst IsConfig (sym config) limits) d)
     (delivery_is c sites sent index i old bytes there found ∙ ap (worlds.goes_on (world_of sites sent) i) given))))
 
@@ -292,4 +288,4 @@ delivery_refused c sites sent index i old bytes step fault Is limits h spell the
     let frame = spell bytes (contains_at sent index bytes found) in
     let once : checked old.config bytes ≡ Ok (frame_kind frame.0.body) = ap (λ k. checked k bytes) config ∙ (spelled_once c frame.0 bytes limits frame.1).0 in
     let want : IsWant fault = subst (λ r. MatchResult r (λ (k : FrameKind). IsWant fault) Is) once refused in
-    rw is (⊎_elim (λ m. rw m tt) (λ s. rw s (delivery_is c sites sent index i old bytes there found ∙ ap (worlds.goes_on (world_of sites sent) i) (subst (λ k. delivered (host_rules fixed_ops) k old.node bytes ≡ None) config (spent s)))) want)
+    rw is (⊎_elim (λ m. rw m tt) (λ s. rw s (delivery_is c sites sent index i old bytes there found ∙ ap (worlds.goes_on (world_of sites sent) i) (subst (λ k. delivered (host_rules managed_ops) k old.node bytes ≡ None) config (spent s)))) want)

@@ -6,36 +6,36 @@ use Rattle.ivy_model.specs.declared.Reply.{Reply}
 use Rattle.ivy_wire.specs.Data.{Parcel}
 use Rattle.ivy_wire.specs.Spelling.{spelling}
 use Rattle.ivy_link.specs.Linked.{sends, has_numbers}
-use Rattle.ivy_fixed.specs.Fixed.{Owners, fixed_ops}
+use Rattle.ivy_host.specs.Managers.{Managed, managed_ops}
 use Rattle.ivy_program.specs.Steps.{Step, Asks, step_of}
 use Rattle.ivy_ether.specs.Marks.{Mark, Turn}
 use Rattle.ivy_ether.specs.Cores.{Outcome}
 use Rattle.ivy_ether.specs.Nodes.{Node, Effect, posting, turned, turned_to}
-use Rattle.ivy_node.specs.Memories.{reply_there, taken_out}
-use Rattle.ivy_node.specs.Hosts.{Host, host_rules, turn_of, turned_at, replied, steps, quietly, recorded}
+use Rattle.ivy_memory.specs.Memories.{reply_there, taken_out}
+use Rattle.ivy_host.specs.Hosts.{Host, host_rules, turn_of, turned_at, replied, steps, quietly, recorded}
 use Rattle.ivy_node.specs.Outboxes.{Outbox}
 use Rattle.ivy_node.specs.Shown.{Shown}
 use Rattle.ivy_node.specs.Sites.{Turns, Begins, CannotBegin, IsSpentTurn}
 
 abbrev H : Type 0
-H = Host Owners
+H = Host Managed
 
 abbrev turn : H → Option (Outcome H)
-turn = turn_of fixed_ops
+turn = turn_of managed_ops
 
 -- a call waits
 pub turn_waits : (h : H) (c : Call) → h.memory.asked ≡ Some c → reply_there h.memory.coherence.done ≡ None → turn h ≡ None
 unfolding turn_of
-turn_waits h c asked none = ap (turned_at fixed_ops h) asked ∙ ap (replied h c) none
+turn_waits h c asked none = ap (turned_at managed_ops h) asked ∙ ap (replied h c) none
 
 -- the reply of the call in progress is there
 pub turn_replies : (h : H) (c : Call) (r : Reply) → h.memory.asked ≡ Some c → reply_there h.memory.coherence.done ≡ Some r → turn h ≡ Some (quietly (recorded h (taken_out h.memory) c r))
 unfolding turn_of
-turn_replies h c r asked there = ap (turned_at fixed_ops h) asked ∙ ap (replied h c) there
+turn_replies h c r asked there = ap (turned_at managed_ops h) asked ∙ ap (replied h c) there
 
-pub turn_steps : (h : H) (t : Step) → h.memory.asked ≡ None → step_of h.process ≡ t → turn h ≡ steps fixed_ops h t
+pub turn_steps : (h : H) (t : Step) → h.memory.asked ≡ None → step_of h.process ≡ t → turn h ≡ steps managed_ops h t
 unfolding turn_of
-turn_steps h t idle is = ap (turned_at fixed_ops h) idle ∙ ap (steps fixed_ops h) is
+turn_steps h t idle is = ap (turned_at managed_ops h) idle ∙ ap (steps managed_ops h) is
 
 -- a turn that posts nothing
 pub moved_quietly : (n v : Shown) → v ≡ n → (h : H) (events : List Mark) → turn v.node.core ≡ Some (quietly h) → events ≡ v.events ++ Turn ∷ []
@@ -82,5 +82,5 @@ pub spent_call : (n v : Shown) → v ≡ n → (c : Call) (fault : Fault) → v.
 unfolding turned
 spent_call n v same c fault idle asks cannot is =
     let x = cannot is in
-    subst (λ (y : Shown). turned_to (host_rules fixed_ops) y.node (turn y.node.core) ≡ None) same
-    (ap (turned_to (host_rules fixed_ops) v.node) (turn_steps v.node.core (Asks c) idle asks ∙ x.1) ∙ not_sent v.node x.0.after x.0.posted x.2)
+    subst (λ (y : Shown). turned_to (host_rules managed_ops) y.node (turn y.node.core) ≡ None) same
+    (ap (turned_to (host_rules managed_ops) v.node) (turn_steps v.node.core (Asks c) idle asks ∙ x.1) ∙ not_sent v.node x.0.after x.0.posted x.2)

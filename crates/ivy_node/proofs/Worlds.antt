@@ -7,14 +7,14 @@ use Rattle.ivy_model.specs.declared.Config.{Config}
 use Rattle.ivy_model.specs.Config.{IsConfig}
 use Rattle.ivy_model.specs.declared.Fault.{Fault}
 use Rattle.ivy_model.specs.declared.Fault.TheVariants.{NoSuchFrame}
-use Rattle.ivy_fixed.specs.Fixed.{Owners, fixed_ops}
+use Rattle.ivy_host.specs.Managers.{Managed, managed_ops}
 use Rattle.ivy_program.specs.declared.Instruction.{Instruction}
 use Rattle.ivy_ether.specs.declared.Move.{Move}
 use Rattle.ivy_ether.specs.Worlds as worlds
-use Rattle.ivy_node.specs.Hosts.{Host, host_rules}
-use Rattle.ivy_node.specs.Openings.{first_nodes, opening}
+use Rattle.ivy_host.specs.Hosts.{Host, host_rules}
+use Rattle.ivy_host.specs.Openings.{first_nodes, opening}
 use Rattle.ivy_node.specs.Runs.{IsLedTo, IsRefusedBy, CannotBeNamed, IsNamedUnless}
-use Rattle.ivy_node.specs.Holding.{AllSpell}
+use Rattle.ivy_host.specs.Holding.{AllSpell}
 use Rattle.ivy_node.specs.Shown.{Shown}
 use Rattle.ivy_node.proofs.Headline.{spelled-led}
 use Rattle.ivy_node.proofs.Leading.{leads_one}
@@ -40,7 +40,7 @@ module _ (c : Config) where
   first_programs me [] = refl
   first_programs me (p ∷ ps) = ap (λ l. p ∷ l) (first_programs (me + 1) ps)
 
-  first_nodes_are : (me : ℕ) (ps : List (List Instruction)) → map (λ (s : Shown). s.node) (first_sites_from c me ps) ≡ first_nodes fixed_ops c me ps
+  first_nodes_are : (me : ℕ) (ps : List (List Instruction)) → map (λ (s : Shown). s.node) (first_sites_from c me ps) ≡ first_nodes managed_ops c me ps
   first_nodes_are me [] = refl
   first_nodes_are me (p ∷ ps) = ap (λ l. (first_shown c me p).node ∷ l) (first_nodes_are (me + 1) ps)
 
@@ -62,11 +62,11 @@ module _ (c : Config) where
     none_waits = λ i s e. (first_at 0 ps i s e).2;
   }
 
-  first_run : (ps : List (List Instruction)) → run_of c (first_sites_from c 0 ps) [] ≡ record { config = c; programs = ps; world = opening fixed_ops c ps }
+  first_run : (ps : List (List Instruction)) → run_of c (first_sites_from c 0 ps) [] ≡ record { config = c; programs = ps; world = opening managed_ops c ps }
   first_run ps = λ k. record { config = c; programs = first_programs 0 ps k; world = record { nodes = first_nodes_are 0 ps k; sent = [] } }
 
-  first_leads : (ps : List (List Instruction)) → IsLedTo c (opening fixed_ops c (programs_of (first_sites_from c 0 ps))) [] (world_of (first_sites_from c 0 ps) [])
-  first_leads ps = λ k. record { nodes = (first_nodes_are 0 ps ∙ ap (first_nodes fixed_ops c 0) (sym (first_programs 0 ps))) k; sent = [] }
+  first_leads : (ps : List (List Instruction)) → IsLedTo c (opening managed_ops c (programs_of (first_sites_from c 0 ps))) [] (world_of (first_sites_from c 0 ps) [])
+  first_leads ps = λ k. record { nodes = (first_nodes_are 0 ps ∙ ap (first_nodes managed_ops c 0) (sym (first_programs 0 ps))) k; sent = [] }
 
   first_running : IsConfig c → (ps : List (List Instruction)) → length ps ≡ c.nodes → IsRunning c (first_sites_from c 0 ps) []
   first_running config ps each = record {
@@ -81,7 +81,7 @@ pub first_running-of : (c : Config) (ps : List (List Instruction)) (sites : List
 first_running-of c ps sites sent config each is none = rw is (rw none (first_running c config ps each))
 
 pub first_run-of : (c : Config) (ps : List (List Instruction)) (sites : List Shown) (sent : List (List ℕ)) → sites ≡ first_sites_from c 0 ps → sent ≡ []
-    → run_of c sites sent ≡ record { config = c; programs = ps; world = opening fixed_ops c ps }
+    → run_of c sites sent ≡ record { config = c; programs = ps; world = opening managed_ops c ps }
 first_run-of c ps sites sent is none = ap (λ l. run_of c l sent) is ∙ ap (run_of c (first_sites_from c 0 ps)) none ∙ first_run c ps
 
 -- a running world has programs for its nodes, and its strings spell frames
@@ -94,20 +94,20 @@ running_spelled c sites sent h =
 
 -- a world that made one more move runs on
 pub runs_on : (c : Config) (sites sites' : List Shown) (sent sent' : List (List ℕ)) (step : Move) → IsRunning c sites sent → AreSites c sites' → length sites' ≡ c.nodes → programs_of sites' ≡ programs_of sites
-    → worlds.moved (host_rules fixed_ops) c (world_of sites sent) step ≡ Some (world_of sites' sent') → IsRunning c sites' sent'
+    → worlds.moved (host_rules managed_ops) c (world_of sites sent) step ≡ Some (world_of sites' sent') → IsRunning c sites' sent'
 runs_on c sites sites' sent sent' step h are count programs made = record {
   limits = h.limits;
   count = count;
   nodes = are;
   reached = (
     h.reached.0 ++ step ∷ [],
-    subst (λ ps. IsLedTo c (opening fixed_ops c ps) (h.reached.0 ++ step ∷ []) (world_of sites' sent')) (sym programs)
-        (leads_one (host_rules fixed_ops) c (opening fixed_ops c (programs_of sites)) (world_of sites sent) (world_of sites' sent') h.reached.0 step h.reached.1 made),
+    subst (λ ps. IsLedTo c (opening managed_ops c ps) (h.reached.0 ++ step ∷ []) (world_of sites' sent')) (sym programs)
+        (leads_one (host_rules managed_ops) c (opening managed_ops c (programs_of sites)) (world_of sites sent) (world_of sites' sent') h.reached.0 step h.reached.1 made),
   );
 }
 
 -- refused by that number exactly where it can't be named
-pub named_exactly : (c : Config) (w : worlds.World (Host Owners)) (e : Fault) (o : Option Move) (m : Move) → o ≡ Some m → IsRefusedBy c w e (Some m) → IsNamedUnless w (Err e) m
+pub named_exactly : (c : Config) (w : worlds.World (Host Managed)) (e : Fault) (o : Option Move) (m : Move) → o ≡ Some m → IsRefusedBy c w e (Some m) → IsNamedUnless w (Err e) m
     → (e ≡ NoSuchFrame) ↔ CannotBeNamed w o
 named_exactly c w e o m is refused named = (
   λ spent. rw is (subst (λ f. IsRefusedBy c w f (Some m)) spent refused),

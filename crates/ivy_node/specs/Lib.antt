@@ -1,13 +1,7 @@
-pub mod Memories
-pub mod Hosts
-pub mod Sound
-pub mod Openings
-pub mod Holding
 pub mod Outboxes
 pub mod Shown
 pub mod Sites
 pub mod RunState
 pub mod Runs
+pub mod Keeping
 pub mod WorldSites
-pub mod Ordering
-pub mod Routing

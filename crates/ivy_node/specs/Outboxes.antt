@@ -1,5 +1,5 @@
 -- A node's link, with the strings that wait to be put on the wire.
-use Rattle.std.specs.Prelude.{◌≡◌, ℕ, true, false, List, [], ◌∷◌, ◌++◌, map, Option, Some, None, refl}
+use Rattle.std.specs.Prelude.{◌≡◌, ◌≢◌, ℕ, true, false, List, [], ◌∷◌, ◌++◌, map, Option, Some, None, refl}
 use Rattle.std.proofs.Common.{ap, append-nil}
 use Rattle.ivy_model.specs.declared.Config.{Config}
 use Rattle.ivy_model.specs.Config.{IsConfig}
@@ -9,6 +9,10 @@ use Rattle.ivy_wire.specs.Data.{Parcel}
 use Rattle.ivy_wire.specs.Spelling.{spelling}
 use Rattle.ivy_link.specs.Linked.{Linked, Sending, sends, has_numbers}
 use Rattle.ivy_link.specs.Fitting.{FitsLink}
+
+-- how many strings one event sends at most: the frames of a pulse, or what is posted
+abbrev pub most_sent : ℕ
+most_sent = 32
 
 pub record Outbox : Type 0 where
   pub config : Config
@@ -35,9 +39,10 @@ HasNumbers o parcels = has_numbers o.link parcels ≡ true
 abbrev pub posted_by : Outbox → List Parcel → Outbox
 posted_by o parcels = with_sending o (sends o.link parcels)
 
--- why parcels were refused: memory, or one of them would need a number above the greatest one
+-- why parcels were refused, of which there is one at least: memory, or one of them would need a number above the
+-- greatest one
 abbrev pub IsRefused : Fault → Outbox → List Parcel → Type 0
-IsRefused Memory o parcels = Unit {0}
+IsRefused Memory o parcels = parcels ≢ []
 IsRefused NumbersSpent o parcels = has_numbers o.link parcels ≡ false
 IsRefused f o parcels = ⊥
 
@@ -55,3 +60,8 @@ takes_none o = refl
 
 pub after_none : (o : Outbox) → posted_by o [] ≡ o
 after_none o = ap (λ w. record { config = o.config; me = o.me; link = o.link; waiting = w }) (append-nil o.waiting)
+
+pub refuses_none : (o : Outbox) (f : Fault) → Refuses o [] f → ⊥
+refuses_none o Memory why = why refl
+refuses_none o NumbersSpent why = absurd cc
+refuses_none o f why = why

@@ -1,12 +1,12 @@
 -- What contracts see of a world that runs.
 use Rattle.std.specs.Prelude.{List}
 use Rattle.ivy_model.specs.declared.Config.{Config}
-use Rattle.ivy_fixed.specs.Fixed.{Owners}
+use Rattle.ivy_host.specs.Managers.{Managed}
 use Rattle.ivy_program.specs.declared.Instruction.{Instruction}
 use Rattle.ivy_ether.specs.Worlds as worlds
-use Rattle.ivy_node.specs.Hosts.{Host}
+use Rattle.ivy_host.specs.Hosts.{Host}
 
 pub record Run : Type 0 where
   pub config : Config
   pub programs : List (List Instruction)
-  pub world : worlds.World (Host Owners)
+  pub world : worlds.World (Host Managed)

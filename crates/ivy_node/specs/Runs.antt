@@ -3,12 +3,12 @@ use Rattle.std.specs.Prelude.{◌≡◌, ℕ, false, List, [], take, Option, Som
 use Rattle.ivy_model.specs.declared.Config.{Config}
 use Rattle.ivy_model.specs.declared.Fault.{Fault}
 use Rattle.ivy_model.specs.declared.Fault.TheVariants.{Memory, NumbersSpent, NoSuchFrame}
-use Rattle.ivy_fixed.specs.Fixed.{Owners, fixed_ops}
+use Rattle.ivy_host.specs.Managers.{Managed, managed_ops}
 use Rattle.ivy_ether.specs.declared.Move.{Move}
 use Rattle.ivy_ether.specs.Worlds.{World, is_named, moved, Leads}
 use Rattle.ivy_ether.specs.Explained.{GoesOn}
-use Rattle.ivy_node.specs.Hosts.{Host, host_rules, answered_by}
-use Rattle.ivy_node.specs.Openings.{opening}
+use Rattle.ivy_host.specs.Hosts.{Host, host_rules, answered_by}
+use Rattle.ivy_host.specs.Openings.{opening}
 use Rattle.ivy_node.specs.RunState.{Run}
 
 -- the moves that were made: all, or those before the refused one
@@ -17,27 +17,27 @@ made_of (Ok done) moves = moves
 made_of (Err e) moves = take e.0 moves
 
 -- why a move was refused: what it names is not there, or it would need a number above the greatest one, or memory
-abbrev pub IsRefusedBy : Config → World (Host Owners) → Fault → Option Move → Type 0
+abbrev pub IsRefusedBy : Config → World (Host Managed) → Fault → Option Move → Type 0
 IsRefusedBy c w NoSuchFrame (Some m) = is_named w m ≡ false
-IsRefusedBy c w NumbersSpent (Some m) = moved (host_rules fixed_ops) c w m ≡ None
+IsRefusedBy c w NumbersSpent (Some m) = moved (host_rules managed_ops) c w m ≡ None
 IsRefusedBy c w Memory (Some m) = Unit {0}
 IsRefusedBy c w f o = ⊥
 
 -- the node or string that the move names is not there, or it is a pulse to its own node
-abbrev pub CannotBeNamed : World (Host Owners) → Option Move → Type 0
+abbrev pub CannotBeNamed : World (Host Managed) → Option Move → Type 0
 CannotBeNamed w (Some m) = is_named w m ≡ false
 CannotBeNamed w None = ⊥
 
 -- a move that can't be named is refused by that, whatever else
-abbrev pub IsNamedUnless : World (Host Owners) → Result (Unit {0}) Fault → Move → Type 0
+abbrev pub IsNamedUnless : World (Host Managed) → Result (Unit {0}) Fault → Move → Type 0
 IsNamedUnless w result m = CannotBeNamed w (Some m) → result ≡ Err NoSuchFrame
 
-abbrev pub opening_of : Run → World (Host Owners)
-opening_of r = opening fixed_ops r.config r.programs
+abbrev pub opening_of : Run → World (Host Managed)
+opening_of r = opening managed_ops r.config r.programs
 
 -- the moves lead from the one world to the other
-abbrev pub IsLedTo : Config → World (Host Owners) → List Move → World (Host Owners) → Type 0
-IsLedTo c = Leads (host_rules fixed_ops) c
+abbrev pub IsLedTo : Config → World (Host Managed) → List Move → World (Host Managed) → Type 0
+IsLedTo c = Leads (host_rules managed_ops) c
 
 -- some list of moves leads to this world from the opening of its programs
 abbrev pub IsReached : Run → Type 0
@@ -46,4 +46,4 @@ IsReached r = (before : List Move) × IsLedTo r.config (opening_of r) before r.w
 -- at the opening no record explains what the nodes were answered, and after each of the moves an order that goes on
 -- from the one before does
 abbrev pub IsExplainedAlong : Run → List Move → Type 0
-IsExplainedAlong r moves = GoesOn (host_rules fixed_ops) r.config answered_by (opening_of r) [] moves
+IsExplainedAlong r moves = GoesOn (host_rules managed_ops) r.config answered_by (opening_of r) [] moves

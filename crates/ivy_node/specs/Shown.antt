@@ -3,24 +3,24 @@ use Rattle.std.specs.Prelude.{ℕ, List, [], ◌∷◌, ◌++◌}
 use Rattle.ivy_model.specs.declared.Config.{Config}
 use Rattle.ivy_link.specs.declared.Verdict.{Verdict}
 use Rattle.ivy_link.specs.declared.Verdict.TheVariants as verdict
-use Rattle.ivy_fixed.specs.Fixed.{Owners}
+use Rattle.ivy_host.specs.Managers.{Managed}
 use Rattle.ivy_ether.specs.Marks.{Mark, Delivery, Pulse}
 use Rattle.ivy_ether.specs.Nodes.{Node, Effect}
-use Rattle.ivy_node.specs.Hosts.{Host}
+use Rattle.ivy_host.specs.Hosts.{Host}
 
 pub record Shown : Type 0 where
   pub config : Config
   pub me : ℕ
-  pub node : Node (Host Owners)
+  pub node : Node (Host Managed)
   pub events : List Mark
   pub waiting : List (List ℕ)
 
 -- the site after an event that it lists
-abbrev pub after_event : Shown → Mark → Effect (Host Owners) → Shown
+abbrev pub after_event : Shown → Mark → Effect (Host Managed) → Shown
 after_event s mark e = record { config = s.config; me = s.me; node = e.after; events = s.events ++ mark ∷ []; waiting = s.waiting ++ e.sent }
 
 -- a frame that is not for this node is no event
-abbrev pub after_delivery : Shown → List ℕ → Verdict → Effect (Host Owners) → Shown
+abbrev pub after_delivery : Shown → List ℕ → Verdict → Effect (Host Managed) → Shown
 after_delivery s bytes verdict.NotMine e = s
 after_delivery s bytes verdict.Next e = after_event s (Delivery bytes) e
 after_delivery s bytes verdict.Repeat e = after_event s (Delivery bytes) e
@@ -31,5 +31,5 @@ abbrev pub pulse_marks : ℕ → List (List ℕ) → List Mark
 pulse_marks to [] = []
 pulse_marks to (s ∷ ss) = Pulse to ∷ []
 
-abbrev pub after_pulse_to : Shown → ℕ → Effect (Host Owners) → Shown
+abbrev pub after_pulse_to : Shown → ℕ → Effect (Host Managed) → Shown
 after_pulse_to s to e = record { config = s.config; me = s.me; node = e.after; events = s.events ++ pulse_marks to e.sent; waiting = s.waiting ++ e.sent }

@@ -1,5 +1,5 @@
 -- What the calls of a site do.
-use Rattle.std.specs.Prelude.{◌≡◌, ℕ, List, [], ◌∷◌, false, Option, Some, None}
+use Rattle.std.specs.Prelude.{◌≡◌, ℕ, List, [], ◌∷◌, Bool, true, false, Option, Some, None}
 use Rattle.ivy_model.specs.declared.Config.{Config}
 use Rattle.ivy_model.specs.declared.Call.{Call}
 use Rattle.ivy_model.specs.declared.Fault.{Fault}
@@ -10,7 +10,7 @@ use Rattle.ivy_link.specs.Accepted.{offered}
 use Rattle.ivy_link.specs.declared.Verdict.{Verdict}
 use Rattle.ivy_program.specs.declared.Instruction.{Instruction}
 use Rattle.ivy_program.specs.Steps.{HasEnded, Asks, step_of}
-use Rattle.ivy_fixed.specs.Fixed.{Owners, fixed_ops}
+use Rattle.ivy_host.specs.Managers.{Managed, managed_ops}
 use Rattle.ivy_ether.specs.Marks.{Turn}
 use Rattle.ivy_ether.specs.Cores.{Outcome}
 use Rattle.ivy_ether.specs.Nodes.{Effect, posting, turned, delivered}
@@ -19,14 +19,14 @@ use Rattle.ivy_node.specs.declared.turn.Turn.TheVariants.{Idle, Moved, Ended}
 use Rattle.ivy_model.specs.declared.Record.{Record}
 use Rattle.ivy_link.specs.Linked.{has_numbers}
 use Rattle.ivy_program.specs.Steps.{Process}
-use Rattle.ivy_node.specs.Memories as memories
+use Rattle.ivy_memory.specs.Memories as memories
 use Rattle.ivy_node.specs.Outboxes.{Outbox, HasNumbers, posted_by}
-use Rattle.ivy_node.specs.Hosts.{Host, host_rules, turn_of, begins}
-use Rattle.ivy_node.specs.Openings.{first_node}
+use Rattle.ivy_host.specs.Hosts.{Host, host_rules, turn_of, begins}
+use Rattle.ivy_host.specs.Openings.{first_node}
 use Rattle.ivy_node.specs.Shown.{Shown, after_event, after_delivery}
 
 abbrev pub first_shown : Config → ℕ → List Instruction → Shown
-first_shown c me program = record { config = c; me = me; node = first_node fixed_ops c me program; events = []; waiting = [] }
+first_shown c me program = record { config = c; me = me; node = first_node managed_ops c me program; events = []; waiting = [] }
 
 -- it is the same node, under the same configuration
 abbrev pub IsSameNode : Shown → Shown → Type 0
@@ -34,32 +34,32 @@ IsSameNode old new = (new.config ≡ old.config) × (new.me ≡ old.me)
 
 -- the turn changed something: it is the turn of the definitions
 pub record Turns (old new : Shown) : Type 0 where
-  pub outcome : Outcome (Host Owners)
-  pub turn : turn_of fixed_ops old.node.core ≡ Some outcome
-  pub effect : Effect (Host Owners)
+  pub outcome : Outcome (Host Managed)
+  pub turn : turn_of managed_ops old.node.core ≡ Some outcome
+  pub effect : Effect (Host Managed)
   pub sent : posting old.node outcome.after outcome.posted ≡ Some effect
   pub after : new ≡ after_event old Turn effect
 
 abbrev pub AfterTurn : turn.Turn → Shown → Shown → Type 0
-AfterTurn Idle old new = (turn_of fixed_ops old.node.core ≡ None) × (new ≡ old)
+AfterTurn Idle old new = (turn_of managed_ops old.node.core ≡ None) × (new ≡ old)
 AfterTurn Moved old new = Turns old new
-AfterTurn Ended old new = HasEnded old.node.core.process × (turn_of fixed_ops old.node.core ≡ None) × (new ≡ old)
+AfterTurn Ended old new = HasEnded old.node.core.process × (turn_of managed_ops old.node.core ≡ None) × (new ≡ old)
 
 -- the string spells a frame, which is what the verdict says, and the delivery is that of the definitions
 pub record Delivers (bytes : List ℕ) (verdict : Verdict) (old new : Shown) : Type 0 where
   pub frame : Frame
   pub spelled : Spells old.config frame bytes
   pub is : verdict ≡ offered old.node.link frame
-  pub effect : Effect (Host Owners)
-  pub delivered : delivered (host_rules fixed_ops) old.config old.node bytes ≡ Some effect
+  pub effect : Effect (Host Managed)
+  pub delivered : delivered (host_rules managed_ops) old.config old.node bytes ≡ Some effect
   pub after : new ≡ after_delivery old bytes verdict effect
 
 -- message numbers are at an end: the turn, or the delivery, is no event
 abbrev pub IsSpentTurn : Shown → Fault → Type 0
-IsSpentTurn old fault = fault ≡ NumbersSpent → turned (host_rules fixed_ops) old.node ≡ None
+IsSpentTurn old fault = fault ≡ NumbersSpent → turned (host_rules managed_ops) old.node ≡ None
 
 abbrev pub IsSpentDelivery : Shown → List ℕ → Fault → Type 0
-IsSpentDelivery old bytes fault = fault ≡ NumbersSpent → delivered (host_rules fixed_ops) old.config old.node bytes ≡ None
+IsSpentDelivery old bytes fault = fault ≡ NumbersSpent → delivered (host_rules managed_ops) old.config old.node bytes ≡ None
 
 -- what holds of a site, beside what its parts keep
 pub record IsSite (s : Shown) : Type 0 where
@@ -67,20 +67,25 @@ pub record IsSite (s : Shown) : Type 0 where
   pub me : s.node.core.memory.coherence.me ≡ s.me
   pub asking : (call : Call) → s.node.core.memory.asked ≡ Some call → step_of s.node.core.process ≡ Asks call
 
-abbrev pub host_of : memories.Memory Owners → Process → List Record → Host Owners
+abbrev pub host_of : memories.Memory Managed → Process → List Record → Host Managed
 host_of memory process history = record { memory = memory; process = process; history = history }
 
 -- a call that the program makes begins, by the rules of the definitions, and what is posted is sent
-pub record Begins (call : Call) (old : Host Owners) (box : Outbox) (new : Host Owners) (after : Outbox) : Type 0 where
-  pub outcome : Outcome (Host Owners)
-  pub begun : begins fixed_ops old call ≡ Some outcome
+pub record Begins (call : Call) (old : Host Managed) (box : Outbox) (new : Host Managed) (after : Outbox) : Type 0 where
+  pub outcome : Outcome (Host Managed)
+  pub begun : begins managed_ops old call ≡ Some outcome
   pub host : new ≡ outcome.after
   pub numbers : HasNumbers box outcome.posted
   pub sent : after ≡ posted_by box outcome.posted
 
+-- or it does not begin, and nothing changes
+abbrev pub AfterBegin : Bool → Call → Host Managed → Outbox → Host Managed → Outbox → Type 0
+AfterBegin true call old box new after = Begins call old box new after
+AfterBegin false call old box new after = (begins managed_ops old call ≡ None) × (new ≡ old) × (after ≡ box)
+
 -- numbers are at an end for what it would post
-abbrev pub CannotBegin : Call → Host Owners → Outbox → Fault → Type 0
-CannotBegin call old box fault = fault ≡ NumbersSpent → (outcome : Outcome (Host Owners)) × (begins fixed_ops old call ≡ Some outcome) × (has_numbers box.link outcome.posted ≡ false)
+abbrev pub CannotBegin : Call → Host Managed → Outbox → Fault → Type 0
+CannotBegin call old box fault = fault ≡ NumbersSpent → (outcome : Outcome (Host Managed)) × (begins managed_ops old call ≡ Some outcome) × (has_numbers box.link outcome.posted ≡ false)
 
 -- the first string that waits is taken, if there is one, and nothing else changes
 abbrev pub TakesFrame : Option (List ℕ) → Shown → Shown → Type 0

@@ -1,15 +1,14 @@
 -- What holds of the sites of a world.
 use Rattle.std.specs.Prelude.{◌≡◌, ◌⊎◌, ℕ, ◌+◌, List, [], ◌∷◌, length, map, slice_get, Some}
-use Rattle.ivy_model.specs.declared.Kind.TheVariants.{Fixed}
 use Rattle.ivy_model.specs.declared.Fault.{Fault}
 use Rattle.ivy_model.specs.declared.Fault.TheVariants.{Memory, BadConfig}
 use Rattle.ivy_node.specs.Sites.{first_shown}
 use Rattle.ivy_model.specs.declared.Config.{Config}
 use Rattle.ivy_model.specs.Config.{IsConfig}
-use Rattle.ivy_fixed.specs.Fixed.{Owners}
+use Rattle.ivy_host.specs.Managers.{Managed}
 use Rattle.ivy_program.specs.declared.Instruction.{Instruction}
 use Rattle.ivy_ether.specs.Worlds as worlds
-use Rattle.ivy_node.specs.Hosts.{Host}
+use Rattle.ivy_host.specs.Hosts.{Host}
 use Rattle.ivy_node.specs.Shown.{Shown}
 use Rattle.ivy_node.specs.RunState.{Run}
 use Rattle.ivy_node.specs.Runs.{IsReached}
@@ -17,7 +16,7 @@ use Rattle.ivy_node.specs.Runs.{IsReached}
 abbrev pub programs_of : List Shown → List (List Instruction)
 programs_of sites = map (λ (s : Shown). s.node.core.process.program) sites
 
-abbrev pub world_of : List Shown → List (List ℕ) → worlds.World (Host Owners)
+abbrev pub world_of : List Shown → List (List ℕ) → worlds.World (Host Managed)
 world_of sites sent = record { nodes = map (λ (s : Shown). s.node) sites; sent = sent }
 
 -- each site is the node of its place, under this configuration, and no string waits at it
@@ -43,10 +42,6 @@ pub record IsRunning (c : Config) (sites : List Shown) (sent : List (List ℕ)) 
 -- the sites of the programs as they begin, and no string waits
 abbrev pub AreFirst : Config → List (List Instruction) → List Shown → Type 0
 AreFirst c programs sites = sites ≡ first_sites_from c 0 programs
-
--- what is built so far: managing nodes, which two nodes under the other manager do not differ from
-abbrev pub IsBuilt : Config → Type 0
-IsBuilt c = (c.manager ≡ Fixed) ⊎ (c.nodes ≡ 2)
 
 abbrev pub IsMemory : Fault → Type 0
 IsMemory fault = fault ≡ Memory

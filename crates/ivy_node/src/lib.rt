@@ -1,13 +1,15 @@
 //! Nodes that run programs over one shared memory, and worlds of them.
+//!
+//! In a comment, numbers in brackets as [1, 17] are the fault numbers that a call may answer.
 #![tactic(auto)]
 
-mod memory;
 mod outbox;
 mod site;
 mod turn;
 mod world;
 
 pub use ivy_ether::Move;
+pub use ivy_host::is_built;
 pub use ivy_link::Verdict;
 pub use ivy_program::{Program, parse};
 pub use site::Site;

@@ -6,7 +6,7 @@ ghost use Rattle.ivy_wire.specs.Spelling.{spelling, Fits};
 ghost use Rattle.ivy_link.specs.Linked.{first_link};
 ghost use Rattle.ivy_link.specs.Accepted.{offered, accepted};
 ghost use Rattle.ivy_link.specs.Pulsed.{frames_again, pulsed};
-ghost use Rattle.ivy_node.specs.Outboxes.{with_link, with_sending, Takes};
+ghost use Rattle.ivy_node.specs.Outboxes.{with_link, with_sending, Takes, most_sent};
 
 use ivy_link::{Link, Verdict};
 use ivy_model::{Config, Fault};
@@ -118,7 +118,7 @@ impl<A: Allocator + Copy> Outbox<A> {
         requires other { to ≢ self.old.me }
         ensures ok { OnOk result (self.new ≡ with_sending self.old (pulsed self.old.link to)) }
         ensures err { OnErr result (self.new ≡ self.old) }
-        ensures few { OnOk result (length self.new.waiting ≤ length self.old.waiting + 32) }
+        ensures few { OnOk result (length self.new.waiting ≤ length self.old.waiting + most_sent) }
         ensures made { IfOk result (λ made. IsTrue made ↔ (frames_again self.old.link to ≢ [])) }
         ensures memory { IsOkUnless result Fault.Memory }
     {
@@ -134,7 +134,7 @@ impl<A: Allocator + Copy> Outbox<A> {
 }
 
 impl<A: Allocator + Copy> Post for Outbox<A> {
-    ghost use Rattle.ivy_node.specs.Outboxes.{HasNumbers, posted_by, Refuses, takes_none, after_none};
+    ghost use Rattle.ivy_node.specs.Outboxes.{HasNumbers, posted_by, Refuses, takes_none, after_none, refuses_none};
 
     ghost config = { λ o. o.config };
 
@@ -147,10 +147,13 @@ impl<A: Allocator + Copy> Post for Outbox<A> {
     ghost refuses = { Refuses };
 
     fn post(&mut self, parcels: &[Parcel<&[u8]>]) -> Result<(), Fault> {
+        if parcels.is_empty() {
+            return Ok(());
+        }
         let frames = self.link.frames(parcels)?;
         let mut strings = spelled(self.alloc, &self.config, &frames)?;
         self.waiting.reserve(strings.len())?;
-        let _ = self.link.send(parcels)?;
+        self.link.keep(parcels)?;
         let _ = self.waiting.append(&mut strings);
         Ok(())
     }
@@ -158,4 +161,6 @@ impl<A: Allocator + Copy> Post for Outbox<A> {
     ghost takes_none = { takes_none };
 
     ghost after_none = { after_none };
+
+    ghost refuses_none = { refuses_none };
 }

@@ -4,20 +4,20 @@ ghost use Rattle.ivy_model.specs.Config.{IsConfig};
 ghost use Rattle.ivy_model.specs.Wants.{IsWant};
 ghost use Rattle.ivy_wire.specs.Faults.{checked};
 ghost use Rattle.ivy_program.specs.Steps.{IsAsking, HasEnded, Asks, step_of, answered_with};
-ghost use Rattle.ivy_fixed.specs.Fixed.{fixed_ops};
+ghost use Rattle.ivy_host.specs.Managers.{managed_ops, IsBuilt};
 ghost use Rattle.ivy_ether.specs.Nodes.{pulsing};
+ghost use Rattle.ivy_node.specs.Outboxes.{most_sent};
 ghost use Rattle.ivy_node.specs.Shown.{after_pulse_to};
-ghost use Rattle.ivy_node.specs.Sites.{first_shown, host_of, Begins, CannotBegin, AfterTurn, Delivers, IsSpentTurn, IsSpentDelivery, TakesFrame, IsSameNode};
+ghost use Rattle.ivy_node.specs.Sites.{first_shown, host_of, AfterBegin, CannotBegin, AfterTurn, Delivers, IsSpentTurn, IsSpentDelivery, TakesFrame, IsSameNode};
 ghost use Rattle.ivy_ether.specs.Marks.{marks};
 ghost use Rattle.ivy_model.specs.Legal.{HasWidth};
-ghost use Rattle.ivy_program.specs.Calls.{IsLoad};
 
-use crate::memory::Memory;
 use crate::outbox::Outbox;
 use crate::turn::Turn;
 use ivy_ether::{Event, Events};
-use ivy_fixed::FixedManager;
+use ivy_host::{NodeManager, first_manager};
 use ivy_link::Verdict;
+use ivy_memory::{Answer, Memory};
 use ivy_model::{Call, Config, Fault, Record, Reply};
 use ivy_program::{Machine, Next, Program};
 use ivy_wire::{Bytes, decode};
@@ -28,7 +28,7 @@ use std::marker::Model;
 #[derive(Drop)]
 pub struct Site<A: Allocator> {
     alloc: A,
-    memory: Memory<FixedManager<A>, A>,
+    memory: Memory<NodeManager<A>, A>,
     machine: Machine<A>,
     history: Vec<Record, A>,
     outbox: Outbox<A>,
@@ -62,47 +62,51 @@ fn keep<A: Allocator + Copy>(history: &mut Vec<Record, A>, machine: &mut Machine
     machine.answer(entry.reply);
 }
 
-/// A call that the program makes begins: it is answered at once, or in progress from now on [1, 17].
+/// A call that the program makes begins: it is answered at once, or in progress from now on [1, 17]. It says
+/// whether it began; where it did not, nothing changed.
 fn begin<A: Allocator + Copy>(
-    memory: &mut Memory<FixedManager<A>, A>,
+    memory: &mut Memory<NodeManager<A>, A>,
     outbox: &mut Outbox<A>,
     machine: &mut Machine<A>,
     history: &mut Vec<Record, A>,
     call: Call,
-) -> Result<(), Fault>
+) -> Result<bool, Fault>
     requires room { vec_len history.old < vec_capacity history.old }
     requires idle { memory.old.asked ≡ None }
     requires asks { step_of machine.old ≡ Asks call }
-    requires load { IsLoad call × HasWidth call }
+    requires width { HasWidth call }
     requires config { outbox.old.config ≡ memory.old.coherence.config }
     requires me { outbox.old.me ≡ memory.old.coherence.me }
-    ensures ok { OnOk result (Begins call (host_of memory.old machine.old history.old.items) outbox.old (host_of memory.new machine.new history.new.items) outbox.new) }
+    ensures ok { IfOk result (λ began. AfterBegin began call (host_of memory.old machine.old history.old.items) outbox.old (host_of memory.new machine.new history.new.items) outbox.new) }
     ensures err { OnErr result ((memory.new ≡ memory.old) × (outbox.new ≡ outbox.old) × (machine.new ≡ machine.old) × (history.new.items ≡ history.old.items)) }
+    ensures few { OnOk result (length outbox.new.waiting ≤ length outbox.old.waiting + 8) }
     ensures spent { IfErr result (CannotBegin call (host_of memory.old machine.old history.old.items) outbox.old) }
     ensures want { IfErr result IsWant }
 {
-    let Call::Load { width, addr } = call else {
-        unreachable!()
-    };
     let number = history.len() as u64 + 1;
-    if let Some(reply) = memory.load(width, addr, number, outbox)? {
-        let node = outbox.me();
-        keep(history, machine, Record { node, call, reply });
+    match memory.begin(call, number, outbox)? {
+        Answer::Given(reply) => {
+            let node = outbox.me();
+            keep(history, machine, Record { node, call, reply });
+            Ok(true)
+        }
+        Answer::Awaited => Ok(true),
+        Answer::Unserved => Ok(false),
     }
-    Ok(())
 }
 
 impl<A: Allocator + Copy> Site<A> {
     /// Node `me` at the beginning of its program [1].
     ///
-    /// The configuration is within its limits, and `me` is one of its nodes.
+    /// The configuration is within its limits, its manager is built, and `me` is one of its nodes.
     pub fn new(alloc: A, config: &Config, me: u8, program: Program<A>) -> Result<Site<A>, Fault>
         requires limits { IsConfig config.now }
         requires here { me < config.now.nodes }
+        requires built { IsBuilt config.now }
         ensures first { IfOk result (λ site. site ≡ first_shown config.now me program) }
         ensures memory { IsOkUnless result Fault.Memory }
     {
-        let manager = FixedManager::new(alloc, config, me)?;
+        let manager = first_manager(alloc, config, me)?;
         Ok(Site {
             alloc,
             memory: Memory::new(alloc, config, me, manager)?,
@@ -147,7 +151,8 @@ impl<A: Allocator + Copy> Site<A> {
     pub fn program_turn(&mut self) -> Result<Turn, Fault>
         ensures same { IsSameNode self.old self.new }
         ensures done { MatchResult result (λ turn. AfterTurn turn self.old self.new) (λ _. self.new ≡ self.old) }
-        ensures few { length self.new.waiting ≤ length self.old.waiting + 32 }
+        ensures ended { IfOk result (λ turn. (turn ≡ Turn.Ended) ↔ HasEnded self.old.node.core.process) }
+        ensures few { length self.new.waiting ≤ length self.old.waiting + most_sent }
         ensures spent { IfErr result (IsSpentTurn self.old) }
         ensures want { IfErr result IsWant }
     {
@@ -173,13 +178,16 @@ impl<A: Allocator + Copy> Site<A> {
                 Ok(Turn::Moved)
             }
             Next::Call(call) => {
-                begin(
+                let began = begin(
                     &mut self.memory,
                     &mut self.outbox,
                     &mut self.machine,
                     &mut self.history,
                     call,
                 )?;
+                if !began {
+                    return Ok(Turn::Idle);
+                }
                 self.events.push_turn();
                 Ok(Turn::Moved)
             }
@@ -193,7 +201,7 @@ impl<A: Allocator + Copy> Site<A> {
         ensures same { IsSameNode self.old self.new }
         ensures done { MatchResult result (λ verdict. Delivers bytes.now verdict self.old self.new) (λ _. self.new ≡ self.old) }
         ensures refused { MatchResult (checked self.old.config bytes.now) (λ _. IfErr result IsWant) (λ fault. result ≡ Err fault) }
-        ensures few { length self.new.waiting ≤ length self.old.waiting + 32 }
+        ensures few { length self.new.waiting ≤ length self.old.waiting + most_sent }
         ensures spent { IfErr result (IsSpentDelivery self.old bytes.now) }
     {
         let config = self.outbox.config();
@@ -221,7 +229,7 @@ impl<A: Allocator + Copy> Site<A> {
         requires other { to ≢ self.old.me }
         ensures same { IsSameNode self.old self.new }
         ensures done { MatchResult result (λ _. self.new ≡ after_pulse_to self.old to (pulsing self.old.node to)) (λ _. self.new ≡ self.old) }
-        ensures few { length self.new.waiting ≤ length self.old.waiting + 32 }
+        ensures few { length self.new.waiting ≤ length self.old.waiting + most_sent }
         ensures memory { IsOkUnless result Fault.Memory }
     {
         self.events.reserve()?;

@@ -2,18 +2,20 @@
 ghost use Rattle.std.specs.Prelude.{◌≡◌, ◌+◌, ◌<◌, ◌≤◌, ◌↔◌, ◌++◌, ◌∷◌, [], List, Some, Err, length, map, take, slice_get, vec_len, vec_capacity, IsTrue, IfOk, IfErr, IfSome, OnOk, OnErr, IsErrOf};
 ghost use Rattle.ivy_model.specs.Config.{IsConfig};
 ghost use Rattle.ivy_program.specs.Steps.{HasEnded};
-ghost use Rattle.ivy_fixed.specs.Fixed.{fixed_ops};
+ghost use Rattle.ivy_host.specs.Managers.{managed_ops, IsBuilt};
 ghost use Rattle.ivy_ether.specs.declared.Move.{Move};
 ghost use Rattle.ivy_ether.specs.Worlds.{moved};
-ghost use Rattle.ivy_node.specs.Hosts.{host_rules};
-ghost use Rattle.ivy_node.specs.Holding.{IsExclusive, AreRuns, HasNoBreach, AllSpell};
-ghost use Rattle.ivy_node.specs.Openings.{opening};
+ghost use Rattle.ivy_host.specs.Hosts.{host_rules};
+ghost use Rattle.ivy_host.specs.Holding.{AllSpell};
+ghost use Rattle.ivy_node.specs.Keeping.{Keeps};
+ghost use Rattle.ivy_host.specs.Openings.{opening};
 ghost use Rattle.ivy_node.specs.Runs.{made_of, IsRefusedBy, CannotBeNamed, IsNamedUnless, IsLedTo, IsReached, IsExplainedAlong, opening_of};
-ghost use Rattle.ivy_node.specs.WorldSites.{programs_of, world_of, AreSites, IsBuilt, IsMemory, IsWorldWant, AreFirst};
+ghost use Rattle.ivy_node.specs.WorldSites.{programs_of, world_of, AreSites, IsMemory, IsWorldWant, AreFirst};
 
 use crate::site::Site;
 use ivy_ether::Move;
-use ivy_model::{Config, Fault, Kind, Record};
+use ivy_host::is_built;
+use ivy_model::{Config, Fault, Record};
 use ivy_program::Program;
 use ivy_wire::Bytes;
 use std::alloc::Allocator;
@@ -50,12 +52,6 @@ impl<A: Allocator> Model for World<A> {
     ghost invariant = { λ w. IsRunning w.config w.sites.items w.sent.items };
 }
 
-fn is_built(config: &Config) -> bool
-    ensures { IsTrue result ↔ IsBuilt config.now }
-{
-    config.manager == Kind::Fixed || config.nodes == 2
-}
-
 /// Moves the strings that wait at a site behind all that were sent.
 fn collect<A: Allocator + Copy>(site: &mut Site<A>, sent: &mut Vec<Bytes<A>, A>)
     requires room { vec_len sent.old + length site.old.waiting ≤ vec_capacity sent.old }
@@ -78,7 +74,7 @@ fn make<A: Allocator + Copy>(
     requires each { length sites.old.items ≡ config.now.nodes }
     requires limits { IsConfig config.now }
     requires spelled { AllSpell config.now (world_of sites.old.items sent.old.items) }
-    ensures ok { OnOk result (moved (host_rules fixed_ops) config.now (world_of sites.old.items sent.old.items) step ≡ Some (world_of sites.new.items sent.new.items)) }
+    ensures ok { OnOk result (moved (host_rules managed_ops) config.now (world_of sites.old.items sent.old.items) step ≡ Some (world_of sites.new.items sent.new.items)) }
     ensures sites { AreSites config.now sites.new.items }
     ensures each { length sites.new.items ≡ config.now.nodes }
     ensures programs { programs_of sites.new.items ≡ programs_of sites.old.items }
@@ -127,6 +123,7 @@ fn first_sites<A: Allocator + Copy>(
 ) -> Result<Vec<Site<A>, A>, Fault>
     requires limits { IsConfig config.now }
     requires each { length programs.items ≡ config.now.nodes }
+    requires built { IsBuilt config.now }
     ensures first { IfOk result (λ sites. AreFirst config.now programs.items sites.items) }
     ensures memory { IfErr result IsMemory }
 {
@@ -146,7 +143,7 @@ impl<A: Allocator + Copy> World<A> {
     /// and, for now, where there are more than two nodes under the dynamic manager. Two nodes send every
     /// request to each other under either manager, so they run as under the fixed one.
     pub fn new(alloc: A, config: Config, programs: Vec<Program<A>, A>) -> Result<World<A>, Fault>
-        ensures opens { IfOk result (λ world. world ≡ record { config = config; programs = programs.items; world = opening fixed_ops config programs.items }) }
+        ensures opens { IfOk result (λ world. world ≡ record { config = config; programs = programs.items; world = opening managed_ops config programs.items }) }
         ensures bad { IsErrOf result Fault.BadConfig ↔ ¬ (IsConfig config × (length programs.items ≡ config.nodes) × IsBuilt config) }
         ensures want { IfErr result IsWorldWant }
     {
@@ -203,7 +200,7 @@ impl<A: Allocator + Copy> World<A> {
     /// Makes one move, or changes nothing.
     fn make(&mut self, step: Move) -> Result<(), Fault>
         ensures stays { (self.new.config ≡ self.old.config) × (self.new.programs ≡ self.old.programs) }
-        ensures ok { OnOk result (moved (host_rules fixed_ops) self.old.config self.old.world step ≡ Some self.new.world) }
+        ensures ok { OnOk result (moved (host_rules managed_ops) self.old.config self.old.world step ≡ Some self.new.world) }
         ensures err { OnErr result (self.new ≡ self.old) }
         ensures cause { IfErr result (λ fault. IsRefusedBy self.old.config self.old.world fault (Some step)) }
         ensures named { IsNamedUnless self.old.world result step }
@@ -221,6 +218,34 @@ impl<A: Allocator + Copy> World<A> {
         let _ = &self.config;
     }
 
+    /// Makes the moves in order, up to the first that is refused, whose place is given with its fault. The moves
+    /// before it were made, and it changed nothing.
+    fn make_each(&mut self, moves: &[Move]) -> Result<(), (usize, Fault)>
+        ensures stays { (self.new.config ≡ self.old.config) × (self.new.programs ≡ self.old.programs) }
+        ensures made { IsLedTo self.old.config self.old.world (made_of result moves.now) self.new.world }
+        ensures refused { IfErr result (λ e. (e.0 < length moves.now) × IsRefusedBy self.new.config self.new.world e.1 (slice_get moves.now e.0)) }
+        ensures named { IfErr result (λ e. (e.1 ≡ Fault.NoSuchFrame) ↔ CannotBeNamed self.new.world (slice_get moves.now e.0)) }
+    {
+        for (place, step) in moves.iter().enumerate() {
+            if let Err(fault) = self.make(*step) {
+                return Err((place, fault));
+            }
+        }
+        Ok(())
+    }
+
+    /// What holds of a world at every moment. It takes no memory.
+    ///
+    /// No page is writable at one node and readable at another; each history is a run of its program, and each
+    /// output what that run printed; no node has met a message that fits no rule; each string sent spells a
+    /// frame; and whatever moves led here from the opening, at each of them one order of records explains what
+    /// the nodes were answered, growing from move to move.
+    pub fn keeps(&self)
+        ensures { Keeps self.now }
+    {
+        self.reached();
+    }
+
     /// Makes the moves in order, up to the first that is refused, whose place is given with its fault
     /// [1, 17, 19]. The moves before it were made, and it changed nothing. It is 19 exactly where the move names
     /// a node or a string that is not there, or a pulse to its own node.
@@ -231,26 +256,18 @@ impl<A: Allocator + Copy> World<A> {
         ensures refused { IfErr result (λ e. (e.0 < length moves.now) × IsRefusedBy self.new.config self.new.world e.1 (slice_get moves.now e.0)) }
         ensures named { IfErr result (λ e. (e.1 ≡ Fault.NoSuchFrame) ↔ CannotBeNamed self.new.world (slice_get moves.now e.0)) }
 
-        // Some moves led from the opening to the world before the call, those made lead on, and at each moment
-        // one order of records explains what the nodes were answered, growing from move to move.
-        ensures explained { (before : List Move) × IsLedTo self.old.config (opening_of self.old) before self.old.world × IsLedTo self.old.config (opening_of self.old) (before ++ made_of result moves.now) self.new.world × IsExplainedAlong self.old (before ++ made_of result moves.now) }
+        // Whatever moves led from the opening to the world before the call, those made lead on, and at each
+        // moment of all of them one order of records explains what the nodes were answered, growing from move to
+        // move.
+        ensures explained { (before : List Move) → IsLedTo self.old.config (opening_of self.old) before self.old.world → IsLedTo self.old.config (opening_of self.old) (before ++ made_of result moves.now) self.new.world × IsExplainedAlong self.old (before ++ made_of result moves.now) }
 
-        // No page is writable at one node and readable at another.
-        ensures exclusive { IsExclusive self.new.world }
-
-        // Each history is a run of its program, and each output what that run printed.
-        ensures runs { AreRuns self.new.programs self.new.world }
-
-        // No node has met a message that fits no rule, and each string sent spells a frame.
-        ensures no_breach { HasNoBreach self.new.world }
-        ensures spelled { AllSpell self.new.config self.new.world }
+        // And what is promised at every moment holds: `reached`, `exclusive`, `runs`, `no_breach`, `spelled` and
+        // `explained`.
+        ensures keeps { Keeps self.new }
     {
         self.reached();
-        for (place, step) in moves.iter().enumerate() {
-            if let Err(fault) = self.make(*step) {
-                return Err((place, fault));
-            }
-        }
-        Ok(())
+        let result = self.make_each(moves);
+        self.keeps();
+        result
     }
 }

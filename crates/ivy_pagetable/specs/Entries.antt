@@ -6,6 +6,7 @@ use Rattle.ivy_pagetable.specs.declared.entry.Entry.TheVariants as entry
 use Rattle.ivy_pagetable.specs.declared.access.Access.TheVariants.{Nil, Read, Write}
 use Rattle.ivy_pagetable.specs.declared.put_off.PutOff.{PutOff}
 use Rattle.ivy_pagetable.specs.declared.word.Word.{Word}
+use Rattle.ivy_pagetable.specs.Limits.{most_put_off}
 use Rattle.ivy_pagetable.specs.Accesses.{reads, writes}
 use Rattle.ivy_pagetable.specs.NodeSets.{Nodes}
 use Rattle.ivy_pagetable.specs.States.{IdleState, WaitingState}
@@ -95,7 +96,7 @@ put_offs (entry.AwaitAcks s) = s.waiting.put_off
 
 -- whether one more message can be put off
 abbrev pub can_put_off : Entry → Bool
-can_put_off e = is_locked e && nat_lt (length (put_offs e)) 8
+can_put_off e = is_locked e && nat_lt (length (put_offs e)) most_put_off
 
 abbrev pub one_more : WaitingState → PutOff → WaitingState
 one_more s message = record { word = s.word; call = s.call; put_off = s.put_off ++ message ∷ [] }

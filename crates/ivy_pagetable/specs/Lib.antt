@@ -1,3 +1,4 @@
+pub mod Limits
 pub mod Accesses
 pub mod NodeSets
 pub mod States

@@ -1,13 +1,14 @@
 -- The calls of a manager over what contracts see of it, and the laws that the protocol rests on.
-use Rattle.std.specs.Prelude.{◌≡◌, ◌≢◌, ◌⊎◌, ◌<◌, ℕ, Bool, true, false, List, [], ◌∷◌, if◌then◌else◌, ◌==◌}
+use Rattle.std.specs.Prelude.{◌≡◌, ◌≢◌, ◌<◌, ℕ, Bool, true, false, List, [], ◌∷◌, if◌then◌else◌, ◌==◌}
 use Rattle.ivy_model.specs.declared.Config.{Config}
 use Rattle.ivy_model.specs.Config.{IsConfig}
 
--- `first c i` is a new manager's state at node i, and `size` the number of its pages. A Bool says
--- whether the request was one to write.
+-- `first c i` is a new manager's state at node i, `size` the number of its pages, and `nodes` that
+-- of the nodes that there are. A Bool says whether the request was one to write.
 pub record Ops (S : Type 0) : Type 0 where
   pub me : S → ℕ
   pub size : S → ℕ
+  pub nodes : S → ℕ
   pub first : Config → ℕ → S
   pub next_hop : S → ℕ → ℕ
   pub on_forward : S → ℕ → Bool → ℕ → S
@@ -37,36 +38,58 @@ abbrev pub brought_back : {S : Type 0} → Ops S → ℕ → ℕ → ℕ → S �
 brought_back ops page hop from s =
     if hop == ops.me s then ops.on_replied s page true from else ops.on_given s page hop
 
--- Of a change at page p: who the manager's node is and how many pages it has stay, and so does the
--- next hop of each other page.
+-- Of a change at page p: who the manager's node is, how many pages it has and how many nodes there
+-- are stay, and so does the next hop of each other page.
 pub record Keeps {S : Type 0} (ops : Ops S) (s : S) (p : ℕ) (new : S) : Type 0 where
   pub me : ops.me new ≡ ops.me s
   pub size : ops.size new ≡ ops.size s
+  pub nodes : ops.nodes new ≡ ops.nodes s
   pub others : (q : ℕ) → q ≢ p → ops.next_hop new q ≡ ops.next_hop s q
+
+-- page p is one of the manager's, and this node and the next hop of the page are nodes
+pub record IsRouted {S : Type 0} (ops : Ops S) (s : S) (p : ℕ) : Type 0 where
+  pub page : p < ops.size s
+  pub me : ops.me s < ops.nodes s
+  pub hop : ops.next_hop s p < ops.nodes s
 
 pub record Laws {S : Type 0} (ops : Ops S) : Type 0 where
   -- at first, the next hop is a node, and this node at node 0 alone
   pub first_me : (c : Config) (i : ℕ) → IsConfig c → i < c.nodes → ops.me (ops.first c i) ≡ i
-  pub first_size : (c : Config) (i : ℕ) → IsConfig c → i < c.nodes → ops.size (ops.first c i) ≡ c.pages
-  pub first_hop : (c : Config) (i p : ℕ) → IsConfig c → i < c.nodes → p < c.pages → ops.next_hop (ops.first c i) p < c.nodes
-  pub first_own : (c : Config) (i p : ℕ) → IsConfig c → i < c.nodes → p < c.pages → ops.next_hop (ops.first c i) p ≡ i → i ≡ 0
-  -- each call
-  pub keeps_forward : (s : S) (p : ℕ) (write : Bool) (origin : ℕ) → Keeps ops s p (ops.on_forward s p write origin)
+  pub first_size : (c : Config) (i : ℕ) → IsConfig c → i < c.nodes
+      → ops.size (ops.first c i) ≡ c.pages
+  pub first_nodes : (c : Config) (i : ℕ) → IsConfig c → i < c.nodes
+      → ops.nodes (ops.first c i) ≡ c.nodes
+  pub first_hop : (c : Config) (i p : ℕ) → IsConfig c → i < c.nodes → p < c.pages
+      → ops.next_hop (ops.first c i) p < c.nodes
+  pub first_own : (c : Config) (i p : ℕ) → IsConfig c → i < c.nodes → p < c.pages
+      → ops.next_hop (ops.first c i) p ≡ i → i ≡ 0
+  -- each call changes one page
+  pub keeps_forward : (s : S) (p : ℕ) (write : Bool) (origin : ℕ)
+      → Keeps ops s p (ops.on_forward s p write origin)
   pub keeps_given : (s : S) (p to : ℕ) → Keeps ops s p (ops.on_given s p to)
-  pub keeps_replied : (s : S) (p : ℕ) (write : Bool) (from : ℕ) → Keeps ops s p (ops.on_replied s p write from)
+  pub keeps_replied : (s : S) (p : ℕ) (write : Bool) (from : ℕ)
+      → Keeps ops s p (ops.on_replied s p write from)
   pub keeps_invalidated : (s : S) (p by : ℕ) → Keeps ops s p (ops.on_invalidated s p by)
-  -- what the next hop can be then
-  pub hop_forward : (s : S) (p : ℕ) (write : Bool) (origin : ℕ) → p < ops.size s
-      → (ops.next_hop (ops.on_forward s p write origin) p ≡ ops.next_hop s p) ⊎ (ops.next_hop (ops.on_forward s p write origin) p ≡ origin)
-  pub hop_given : (s : S) (p to : ℕ) → p < ops.size s
-      → (ops.next_hop (ops.on_given s p to) p ≡ ops.next_hop s p) ⊎ (ops.next_hop (ops.on_given s p to) p ≡ to)
-  pub gone_given : (s : S) (p to : ℕ) → p < ops.size s → to ≢ ops.me s → ops.next_hop (ops.on_given s p to) p ≢ ops.me s
-  pub hop_read : (s : S) (p from : ℕ) → p < ops.size s
-      → (ops.next_hop (ops.on_replied s p false from) p ≡ ops.next_hop s p) ⊎ (ops.next_hop (ops.on_replied s p false from) p ≡ from)
-  pub hop_written : (s : S) (p from : ℕ) → p < ops.size s
-      → (ops.next_hop (ops.on_replied s p true from) p ≡ ops.next_hop s p) ⊎ (ops.next_hop (ops.on_replied s p true from) p ≡ ops.me s)
-      ⊎ (ops.next_hop (ops.on_replied s p true from) p ≡ from)
-  pub hop_invalidated : (s : S) (p by : ℕ) → p < ops.size s
-      → (ops.next_hop (ops.on_invalidated s p by) p ≡ ops.next_hop s p) ⊎ (ops.next_hop (ops.on_invalidated s p by) p ≡ by)
+  -- the next hop stays a node, where the call names one
+  pub hop_forward : (s : S) (p : ℕ) (write : Bool) (origin : ℕ) → IsRouted ops s p
+      → origin < ops.nodes s → ops.next_hop (ops.on_forward s p write origin) p < ops.nodes s
+  pub hop_given : (s : S) (p to : ℕ) → IsRouted ops s p
+      → to < ops.nodes s → ops.next_hop (ops.on_given s p to) p < ops.nodes s
+  pub hop_replied : (s : S) (p : ℕ) (write : Bool) (from : ℕ) → IsRouted ops s p
+      → from < ops.nodes s → ops.next_hop (ops.on_replied s p write from) p < ops.nodes s
+  pub hop_invalidated : (s : S) (p by : ℕ) → IsRouted ops s p
+      → by < ops.nodes s → ops.next_hop (ops.on_invalidated s p by) p < ops.nodes s
+  -- only an answered request to write makes it this node
+  pub away_forward : (s : S) (p : ℕ) (write : Bool) (origin : ℕ) → p < ops.size s
+      → origin ≢ ops.me s → ops.next_hop s p ≢ ops.me s
+      → ops.next_hop (ops.on_forward s p write origin) p ≢ ops.me s
+  pub away_read : (s : S) (p from : ℕ) → p < ops.size s → from ≢ ops.me s
+      → ops.next_hop s p ≢ ops.me s → ops.next_hop (ops.on_replied s p false from) p ≢ ops.me s
+  pub away_invalidated : (s : S) (p by : ℕ) → p < ops.size s → by ≢ ops.me s
+      → ops.next_hop s p ≢ ops.me s → ops.next_hop (ops.on_invalidated s p by) p ≢ ops.me s
+  -- and a page that is given to another node is asked for elsewhere
+  pub gone_given : (s : S) (p to : ℕ) → p < ops.size s → to ≢ ops.me s
+      → ops.next_hop (ops.on_given s p to) p ≢ ops.me s
   -- one call takes back all changes at a page since its next hop was this one
-  pub undo : (s : S) (p from : ℕ) (cs : List Change) → brought_back ops p (ops.next_hop s p) from (all_changed ops p s cs) ≡ s
+  pub undo : (s : S) (p from : ℕ) (cs : List Change)
+      → brought_back ops p (ops.next_hop s p) from (all_changed ops p s cs) ≡ s

@@ -6,6 +6,7 @@ use Rattle.ivy_pagetable.specs.declared.access.Access.{Access}
 use Rattle.ivy_pagetable.specs.declared.access.Access.TheVariants.{Nil, Read, Write}
 use Rattle.ivy_pagetable.specs.declared.word.Word.{Word}
 use Rattle.ivy_pagetable.specs.declared.put_off.PutOff.{PutOff}
+use Rattle.ivy_pagetable.specs.Limits.{most_put_off}
 use Rattle.ivy_pagetable.specs.NodeSets.{Nodes}
 
 -- No word waits. `copies` are the nodes that have a copy, kept at the owner.
@@ -31,7 +32,7 @@ pub record WaitingState : Type 0 where
   pub put_off : List PutOff
 
 abbrev pub FitsPutOff : WaitingState → Type 0
-FitsPutOff s = length s.put_off ≤ 8
+FitsPutOff s = length s.put_off ≤ most_put_off
 
 pub record AwaitWriteState : Type 0 where
   pub had_copy : Bool

@@ -1,7 +1,8 @@
 ghost use Rattle.std.specs.Prelude.{◌≡◌};
 ghost use Rattle.ivy_pagetable.specs.Accesses.{reads, writes};
 
-/// What this node's programs may do with a page without asking another node.
+/// What this node's program may do with a page without asking another node: the page's protection,
+/// after Li and Hudak (1989).
 #[derive(Clone, Copy, Debug, PartialEq, Eq)]
 pub enum Access {
     /// Nothing.

@@ -1,5 +1,6 @@
 ghost use Rattle.std.specs.Prelude.{◌≡◌, length, nat_lt, if◌then◌else◌};
 ghost use Rattle.ivy_pagetable.specs.Entries.{one_more};
+ghost use Rattle.ivy_pagetable.specs.Limits.{most_put_off};
 
 use crate::put_off::PutOff;
 use crate::waiting::Waiting;
@@ -43,8 +44,8 @@ impl AwaitWrite {
     }
 
     pub(crate) fn try_put_off(&mut self, message: PutOff) -> bool
-        ensures done { result ≡ nat_lt (length self.old.waiting.put_off) 8 }
-        ensures kept { self.new ≡ record { had_copy = self.old.had_copy; waiting = if nat_lt (length self.old.waiting.put_off) 8 then one_more self.old.waiting message else self.old.waiting } }
+        ensures done { result ≡ nat_lt (length self.old.waiting.put_off) most_put_off }
+        ensures kept { self.new ≡ record { had_copy = self.old.had_copy; waiting = if nat_lt (length self.old.waiting.put_off) most_put_off then one_more self.old.waiting message else self.old.waiting } }
     {
         self.waiting.try_put_off(message)
     }

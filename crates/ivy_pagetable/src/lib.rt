@@ -1,4 +1,7 @@
 //! The pages of a node: the state of each one's entry, its bytes, and who is asked for it.
+//!
+//! Numbers in brackets, as [1], at the end of what a call does are those of the faults that the
+//! call may answer (`ivy_model`'s `Fault`). A call without brackets answers none.
 #![tactic(auto)]
 
 mod access;
@@ -21,6 +24,7 @@ pub use entry::Entry;
 pub use idle::Idle;
 pub use manager::Manager;
 pub use node_set::NodeSet;
+pub use page::Page;
 pub use put_off::{PutOff, Request};
 pub use table::PageTable;
 pub use waiting::Waiting;

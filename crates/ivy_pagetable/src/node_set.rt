@@ -1,5 +1,6 @@
 ghost use Rattle.std.specs.Prelude.{◌≡◌, ◌<◌, ◌↔◌, IsTrue};
 ghost use Rattle.std.specs.FinSet as set;
+ghost use Rattle.ivy_pagetable.specs.Limits.{most_nodes_in_a_set, most_nodes_in_a_byte};
 ghost use Rattle.ivy_pagetable.specs.NodeSets.{nodes_of, IsBelow, bits_of, nodes_with};
 
 use arrayvec::ArrayVec;
@@ -46,7 +47,7 @@ impl NodeSet {
 
     /// Whether the node is one of them.
     pub fn contains(&self, node: u8) -> bool
-        requires { node < 32 }
+        requires { node < most_nodes_in_a_set }
         ensures { result ≡ set.contains self.now node }
     {
         self.nodes.contains(&node)
@@ -54,7 +55,7 @@ impl NodeSet {
 
     /// The same with this node.
     pub fn insert(&mut self, node: u8)
-        requires { node < 32 }
+        requires { node < most_nodes_in_a_set }
         ensures { self.new ≡ set.insert self.old node }
     {
         if let Err(place) = self.nodes.binary_search(&node) {
@@ -64,7 +65,7 @@ impl NodeSet {
 
     /// The same without this node.
     pub fn remove(&mut self, node: u8)
-        requires { node < 32 }
+        requires { node < most_nodes_in_a_set }
         ensures { self.new ≡ set.remove self.old node }
     {
         if let Ok(place) = self.nodes.binary_search(&node) {
@@ -98,7 +99,7 @@ impl NodeSet {
     /// The nodes as the bits of a number, bit 0 the least: a frame carries a copy set so. Each node
     /// lies below 8.
     pub fn bits(&self) -> u8
-        requires { IsBelow 8 self.now }
+        requires { IsBelow most_nodes_in_a_byte self.now }
         ensures { result ≡ bits_of self.now }
     {
         let mut bits = 0;

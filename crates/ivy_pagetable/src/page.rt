@@ -5,9 +5,9 @@ use crate::word::{Out, Word};
 use std::alloc::{AllocError, Allocator};
 use std::marker::Model;
 
-/// The bytes of a page.
+/// The bytes of a page, those of a table or spare ones.
 #[derive(Drop)]
-pub(crate) struct Page<A: Allocator> {
+pub struct Page<A: Allocator> {
     bytes: Vec<u8, A>,
 }
 
@@ -21,8 +21,8 @@ impl<A: Allocator> Page<A> {
     ghost use Rattle.std.specs.Borrow.{sem};
     ghost use Rattle.ivy_pagetable.specs.Lending.{LendsBytes};
 
-    /// A page of this many zeros.
-    pub(crate) fn zeros(alloc: A, len: usize) -> Result<Self, AllocError>
+    /// A page of this many zeros. Err only where the allocator has no memory.
+    pub fn zeros(alloc: A, len: usize) -> Result<Self, AllocError>
         ensures { IfOk result (λ page. page ≡ replicate len 0) }
     {
         Ok(Page {
@@ -30,7 +30,8 @@ impl<A: Allocator> Page<A> {
         })
     }
 
-    pub(crate) fn bytes(&self) -> &[u8]
+    /// The bytes, lent.
+    pub fn bytes(&self) -> &[u8]
         ensures { result.now ≡ self.now }
     {
         &self.bytes
@@ -43,7 +44,8 @@ impl<A: Allocator> Page<A> {
         &mut self.bytes
     }
 
-    pub(crate) fn copy_from(&mut self, bytes: &[u8])
+    /// Copies these bytes to the page, as many as it has.
+    pub fn copy_from(&mut self, bytes: &[u8])
         requires { length bytes.now ≡ length self.old }
         ensures { self.new ≡ bytes.now }
     {
@@ -58,7 +60,8 @@ impl<A: Allocator> Page<A> {
         word.number(&self.bytes)
     }
 
-    pub(crate) fn carry_out(&mut self, word: Word) -> Out
+    /// Carries a word out on the page.
+    pub fn carry_out(&mut self, word: Word) -> Out
         requires { IsWord (length self.old) word }
         ensures out { result ≡ (carried_out word self.old).out }
         ensures bytes { self.new ≡ (carried_out word self.old).bytes }

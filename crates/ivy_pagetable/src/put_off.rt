@@ -9,12 +9,14 @@ pub enum Request {
     Invalidate,
 }
 
-/// A message that waits until the entry of its page is no longer locked: what it asks, the node
-/// whose call it is, and the number of that call.
+/// A message that waits until the entry of its page is no longer locked.
 #[derive(Clone, Copy, Debug, PartialEq, Eq)]
 pub struct PutOff {
+    /// What it asks.
     pub kind: Request,
+    /// The node whose call it is.
     pub origin: u8,
+    /// The number of that call at its node, from 1.
     pub call: u64,
 }
 

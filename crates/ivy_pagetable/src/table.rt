@@ -13,8 +13,10 @@ use crate::word::{Out, Word};
 use ivy_model::{Config, Fault};
 use std::alloc::{AllocError, Allocator};
 use std::marker::Model;
+use std::mem;
 
-/// The entry and the bytes of each page.
+/// The page table of a node: the entry and the bytes of each page, which its number names. There
+/// are as many as the configuration has, all of its one size.
 #[derive(Drop)]
 pub struct PageTable<A: Allocator> {
     page_size: u32,
@@ -72,7 +74,7 @@ fn first_pages<A: Allocator + Copy>(
 
 impl<A: Allocator + Copy> PageTable<A> {
     /// The table of a node at first: node 0 owns each page, to write, and the others have nothing;
-    /// each byte is 0. Refused with 1.
+    /// each byte is 0 [1].
     pub fn new(alloc: A, config: &Config, me: u8) -> Result<Self, Fault>
         requires { IsConfig config.now }
         ensures first { IfOk result (λ t. t ≡ first_table config.now me) }
@@ -128,7 +130,7 @@ impl<A: Allocator> PageTable<A> {
     }
 
     /// Puts a message off where a word waits for the page and fewer than eight are put off, and
-    /// says whether it did.
+    /// says whether it did. If not, nothing changes.
     pub fn put_off(&mut self, page: u32, message: PutOff) -> bool
         requires { page < length self.old.entries }
         ensures done { result ≡ can_put_off (entry_at self.old page) }
@@ -146,7 +148,19 @@ impl<A: Allocator> PageTable<A> {
         self.pages[page as usize].copy_from(bytes);
     }
 
-    /// The number that stands where the word lies in the page.
+    /// Exchanges the page's bytes with those of a spare page of the same length, and copies none.
+    pub fn swap_page(&mut self, page: u32, spare: &mut Page<A>)
+        requires page { page < length self.old.entries }
+        requires sized { length spare.old ≡ self.old.page_size }
+        ensures table { self.new ≡ with_page self.old page spare.old }
+        ensures spare { spare.new ≡ page_at self.old page }
+        ensures size { length spare.new ≡ self.old.page_size }
+    {
+        mem::swap(&mut self.pages[page as usize], spare);
+    }
+
+    /// The number that stands where the word lies in the page, highest byte first: stored again, it
+    /// takes the word back.
     pub fn number(&self, page: u32, word: Word) -> u64
         requires page { page < length self.now.entries }
         requires word { IsWord self.now.page_size word }

@@ -111,6 +111,27 @@ fn page_of_a_table(rt: HostRuntime) -> Result<(), Fail> {
     Ok(())
 }
 
+/// A page comes with a word carried out on it already; the bytes that were there before stay whole
+/// in the spare page.
+#[test]
+fn page_exchanged_with_a_spare_one(rt: HostRuntime) -> Result<(), Fail> {
+    let mut table = PageTable::new(rt.alloc(), &CONFIG, 0)?;
+    table.install(1, [7u8; 128].as_slice());
+    let mut spare = Page::zeros(rt.alloc(), 128)?;
+    spare.copy_from([1u8; 128].as_slice());
+    let store = Word::Store {
+        width: 1,
+        offset: 64,
+        value: 9,
+    };
+    assert_eq!(rt; spare.carry_out(store), Out::Done);
+    table.swap_page(1, &mut spare);
+    assert_eq!(rt; (table.page(1)[63], table.page(1)[64]), (1, 9));
+    assert_eq!(rt; table.page(0), [0u8; 128].as_slice());
+    assert_eq!(rt; spare.bytes(), [7u8; 128].as_slice());
+    Ok(())
+}
+
 #[test]
 fn byte_of_a_page_written(rt: HostRuntime) -> Result<(), Fail> {
     let mut table = PageTable::new(rt.alloc(), &CONFIG, 0)?;

@@ -1,5 +1,6 @@
 ghost use Rattle.std.specs.Prelude.{◌≡◌, ◌<◌, ◌≤◌, [], ◌∷◌, ◌++◌, length, nat_le, nat_lt, if◌then◌else◌};
 ghost use Rattle.ivy_pagetable.specs.Entries.{one_more};
+ghost use Rattle.ivy_pagetable.specs.Limits.{most_put_off};
 
 use crate::put_off::PutOff;
 use crate::word::Word;
@@ -39,14 +40,14 @@ impl Waiting {
 
     /// Whether no message more can be put off.
     pub fn is_full(&self) -> bool
-        ensures { result ≡ nat_le 8 (length self.now.put_off) }
+        ensures { result ≡ nat_le most_put_off (length self.now.put_off) }
     {
         self.put_off.is_full()
     }
 
     /// Puts one message more off.
     pub fn put_off(&mut self, message: PutOff)
-        requires { length self.old.put_off < 8 }
+        requires { length self.old.put_off < most_put_off }
         ensures { self.new ≡ one_more self.old message }
     {
         self.put_off.push(message);
@@ -54,8 +55,8 @@ impl Waiting {
 
     /// Puts one message more off where there is room, and says whether it did.
     pub(crate) fn try_put_off(&mut self, message: PutOff) -> bool
-        ensures done { result ≡ nat_lt (length self.old.put_off) 8 }
-        ensures kept { self.new ≡ if nat_lt (length self.old.put_off) 8 then one_more self.old message else self.old }
+        ensures done { result ≡ nat_lt (length self.old.put_off) most_put_off }
+        ensures kept { self.new ≡ if nat_lt (length self.old.put_off) most_put_off then one_more self.old message else self.old }
     {
         if self.is_full() {
             return false;
@@ -67,7 +68,7 @@ impl Waiting {
     /// What was put off, in order of arrival.
     pub fn put_offs(&self) -> &[PutOff]
         ensures list { result.now ≡ self.now.put_off }
-        ensures fits { length self.now.put_off ≤ 8 }
+        ensures fits { length self.now.put_off ≤ most_put_off }
     {
         self.put_off.as_slice()
     }

@@ -1,17 +1,17 @@
 -- Runs that grow at their end, and the calls that programs make.
-use Rattle.std.proofs.Common.{◌≡◌, ℕ, suc, zero, List, [], ◌∷◌, ◌++◌, Option, Some, None, refl, ap, subst, slice_get, lit<}
+use Rattle.std.proofs.Common.{◌≡◌, ℕ, suc, zero, List, [], ◌∷◌, ◌++◌, Option, Some, None, refl, ap, subst, slice_get, length, lit<}
 use Rattle.ivy_model.specs.declared.Call.{Call}
 use Rattle.ivy_model.specs.declared.Record.{Record}
 use Rattle.ivy_model.specs.Legal.{HasWidth, IsWidth}
 use Rattle.ivy_program.specs.declared.instruction.Width.{Width}
 use Rattle.ivy_program.specs.declared.instruction.Width.TheVariants.{One, Two, Four, Eight}
 use Rattle.ivy_program.specs.declared.instruction.Instruction.{Instruction}
-use Rattle.ivy_program.specs.declared.instruction.Instruction.TheVariants.{Set, Load, Print}
+use Rattle.ivy_program.specs.declared.instruction.Instruction.TheVariants.{Set, Move, Compute, Load, Store, Status, Print, Jump, JumpIfZero, Stop}
 use Rattle.ivy_program.specs.Instructions.{bytes_in}
 use Rattle.ivy_program.specs.States.{State}
 use Rattle.ivy_program.specs.Steps.{Step, Local, Asks, Ends, step, step_at, answered}
 use Rattle.ivy_program.specs.Runs.{Leads, Runs}
-use Rattle.ivy_program.specs.Calls.{IsLoad, OnlyLoads}
+use Rattle.ivy_program.specs.Calls.{IsAccess, OnlyAccesses}
 
 leads_on : (p : List Instruction) (n : ℕ) (old mid new : State) → Leads p n old mid → step p mid ≡ Local new → Leads p (suc n) old new
 leads_on p zero old mid new e h = (new, subst (λ s. step p s ≡ Local new) e h, refl)
@@ -38,13 +38,15 @@ asked c (Local s) = c
 asked c (Asks d) = d
 asked c Ends = c
 
-loads_at : (s : State) (i : Option Instruction) (c : Call) → step_at s i ≡ Asks c → IsLoad c × HasWidth c
-loads_at s None c h = cc
-loads_at s (Some (Set to value)) c h = cc
-loads_at s (Some (Print from)) c h = cc
-loads_at s (Some (Load width to addr)) c h =
-    subst (λ d. IsLoad d × HasWidth d) (ap (asked c) h) (tt, is_width width)
+accesses_at : (n : ℕ) (s : State) (i : Option Instruction) (c : Call)
+    → step_at n s i ≡ Asks c → IsAccess c × HasWidth c
+accesses_at n s None c h = cc
+accesses_at n s (Some (Load width to addr)) c h =
+    subst (λ d. IsAccess d × HasWidth d) (ap (asked c) h) (tt, is_width width)
+accesses_at n s (Some (Store width addr from)) c h =
+    subst (λ d. IsAccess d × HasWidth d) (ap (asked c) h) (tt, is_width width)
+accesses_at n s (Some _) c h = cc
 
--- each program makes no call but loads, of 1, 2, 4 or 8 bytes
-pub only_loads : (p : List Instruction) → OnlyLoads p
-only_loads p s c h = loads_at s (slice_get p s.place) c h
+-- each program makes no call but loads and stores, of 1, 2, 4 or 8 bytes
+pub only_accesses : (p : List Instruction) → OnlyAccesses p
+only_accesses p s c h = accesses_at (length p) s (slice_get p s.place) c h

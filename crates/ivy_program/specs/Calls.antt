@@ -9,21 +9,23 @@ use Rattle.ivy_program.specs.declared.machine.Next.TheVariants as next
 use Rattle.ivy_program.specs.States.{State}
 use Rattle.ivy_program.specs.Steps.{Asks, step}
 
-abbrev pub IsLoad : Call → Type 0
-IsLoad (Load width addr) = Unit {0}
-IsLoad (Store width addr value) = ⊥
-IsLoad (Count k) = ⊥
-IsLoad (Advance k) = ⊥
-IsLoad (Await k least) = ⊥
-IsLoad (Alloc size) = ⊥
-IsLoad (Free addr) = ⊥
+-- the call that is named, if one is, has a width that the memory knows
+abbrev pub NamesWidth : Next → Type 0
+NamesWidth (next.Call call) = HasWidth call
+NamesWidth next.Local = Unit {0}
+NamesWidth next.Ended = Unit {0}
 
--- whatever its state, the program makes no call but loads of 1, 2, 4 or 8 bytes
-abbrev pub OnlyLoads : List Instruction → Type 0
-OnlyLoads program = (s : State) (call : Call) → step program s ≡ Asks call → IsLoad call × HasWidth call
+-- a load or a store
+abbrev pub IsAccess : Call → Type 0
+IsAccess (Load width addr) = Unit {0}
+IsAccess (Store width addr value) = Unit {0}
+IsAccess (Count k) = ⊥
+IsAccess (Advance k) = ⊥
+IsAccess (Await k least) = ⊥
+IsAccess (Alloc size) = ⊥
+IsAccess (Free addr) = ⊥
 
--- the call that is named, if one is, is such a load
-abbrev pub NamesLoad : Next → Type 0
-NamesLoad (next.Call call) = IsLoad call × HasWidth call
-NamesLoad next.Local = Unit {0}
-NamesLoad next.Ended = Unit {0}
+-- whatever its state, the program makes no call but loads and stores of 1, 2, 4 or 8 bytes
+abbrev pub OnlyAccesses : List Instruction → Type 0
+OnlyAccesses program =
+    (s : State) (call : Call) → step program s ≡ Asks call → IsAccess call × HasWidth call

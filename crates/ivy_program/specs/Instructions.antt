@@ -1,9 +1,11 @@
 -- What a program is made of, and its limits.
-use Rattle.std.specs.Prelude.{ℕ, ◌<◌, ◌≤◌, List, length, All}
+use Rattle.std.specs.Prelude.{ℕ, ◌+◌, ◌-◌, ◌*◌, ◌%◌, ◌^◌, ◌<◌, ◌≤◌, List, length, All, Option, Some, None}
 use Rattle.ivy_program.specs.declared.instruction.Width.{Width}
 use Rattle.ivy_program.specs.declared.instruction.Width.TheVariants.{One, Two, Four, Eight}
+use Rattle.ivy_program.specs.declared.instruction.Operation.{Operation}
+use Rattle.ivy_program.specs.declared.instruction.Operation.TheVariants.{Add, Sub, Mul}
 use Rattle.ivy_program.specs.declared.instruction.Instruction.{Instruction}
-use Rattle.ivy_program.specs.declared.instruction.Instruction.TheVariants.{Set, Load, Print}
+use Rattle.ivy_program.specs.declared.instruction.Instruction.TheVariants.{Set, Move, Compute, Load, Store, Status, Print, Jump, JumpIfZero, Stop}
 
 abbrev pub bytes_in : Width → ℕ
 bytes_in One = 1
@@ -11,13 +13,38 @@ bytes_in Two = 2
 bytes_in Four = 4
 bytes_in Eight = 8
 
+-- of numbers below 2^64, modulo 2^64
+abbrev pub result_of : Operation → ℕ → ℕ → ℕ
+result_of Add left right = (left + right) % 2 ^ 64
+result_of Sub left right = (left + (2 ^ 64 - right)) % 2 ^ 64
+result_of Mul left right = (left * right) % 2 ^ 64
+
+-- the register that takes the value of the reply to the call of this instruction
+abbrev pub receiver_of : Instruction → Option ℕ
+receiver_of (Load width to addr) = Some to
+receiver_of _ = None
+
 -- each register that it names is there
 abbrev pub NamesRegisters : Instruction → Type 0
 NamesRegisters (Set to value) = to < 16
+NamesRegisters (Move to from) = (to < 16) × (from < 16)
+NamesRegisters (Compute operation to left right) = (to < 16) × (left < 16) × (right < 16)
 NamesRegisters (Load width to addr) = (to < 16) × (addr < 16)
+NamesRegisters (Store width addr from) = (addr < 16) × (from < 16)
+NamesRegisters (Status to) = to < 16
 NamesRegisters (Print from) = from < 16
+NamesRegisters (Jump place) = Unit {0}
+NamesRegisters (JumpIfZero from place) = from < 16
+NamesRegisters Stop = Unit {0}
 
--- a program is at most 4,096 instructions that name registers
+-- where it jumps, if it does, is one of so many instructions or the end behind them
+abbrev pub JumpsWithin : ℕ → Instruction → Type 0
+JumpsWithin count (Jump place) = place ≤ count
+JumpsWithin count (JumpIfZero from place) = place ≤ count
+JumpsWithin count _ = Unit {0}
+
+-- a program is at most 4,096 instructions that name registers and jump inside it
 pub record IsProgram (program : List Instruction) : Type 0 where
   pub short : length program ≤ 4096
   pub named : All NamesRegisters program
+  pub inside : All (JumpsWithin (length program)) program

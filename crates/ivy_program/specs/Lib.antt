@@ -5,3 +5,4 @@ pub mod Calls
 pub mod Runs
 pub mod Numbers
 pub mod Texts
+pub mod Drafts

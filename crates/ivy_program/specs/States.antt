@@ -15,9 +15,13 @@ first_state = record { place = 0; registers = replicate 16 0; status = 0; output
 abbrev pub held : State → ℕ → ℕ
 held s r = slice_index_or s.registers r 0
 
+-- the state at another place
+abbrev pub gone_to : State → ℕ → State
+gone_to s place = record { place = place; registers = s.registers; status = s.status; output = s.output }
+
 -- the state at the next instruction
 abbrev pub moved_on : State → State
-moved_on s = record { place = s.place + 1; registers = s.registers; status = s.status; output = s.output }
+moved_on s = gone_to s (s.place + 1)
 
 -- the register takes a value
 abbrev pub put : State → ℕ → ℕ → State

@@ -1,15 +1,15 @@
 -- One instruction of a program, and what its reply changes.
-use Rattle.std.specs.Prelude.{◌≡◌, ℕ, List, Option, Some, None, slice_get}
+use Rattle.std.specs.Prelude.{◌≡◌, ◌==◌, ◌+◌, ℕ, List, Option, Some, None, slice_get, length, if◌then◌else◌}
 use Rattle.ivy_model.specs.declared.Call.{Call}
 use Rattle.ivy_model.specs.declared.Call.TheVariants as call
 use Rattle.ivy_model.specs.declared.Reply.{Reply}
 use Rattle.ivy_model.specs.declared.Reply.TheVariants.{Value, Done, Refused}
 use Rattle.ivy_program.specs.declared.instruction.Instruction.{Instruction}
-use Rattle.ivy_program.specs.declared.instruction.Instruction.TheVariants.{Set, Load, Print}
+use Rattle.ivy_program.specs.declared.instruction.Instruction.TheVariants.{Set, Move, Compute, Load, Store, Status, Print, Jump, JumpIfZero, Stop}
 use Rattle.ivy_program.specs.declared.machine.Next.{Next}
 use Rattle.ivy_program.specs.declared.machine.Next.TheVariants as next
-use Rattle.ivy_program.specs.Instructions.{bytes_in}
-use Rattle.ivy_program.specs.States.{State, held, moved_on, put, printed, with_status}
+use Rattle.ivy_program.specs.Instructions.{bytes_in, result_of, receiver_of}
+use Rattle.ivy_program.specs.States.{State, held, gone_to, moved_on, put, printed, with_status}
 
 -- what comes next: an instruction of its own and the state after it, a call of the memory, or the end
 pub data Step : Type 0 where
@@ -17,29 +17,57 @@ pub data Step : Type 0 where
   Asks : Call → Step
   Ends : Step
 
-abbrev pub carried_out : State → Instruction → Step
-carried_out s (Set to value) = Local (moved_on (put s to value))
-carried_out s (Load width to addr) = Asks (call.Load (bytes_in width) (held s addr))
-carried_out s (Print from) = Local (moved_on (printed s (held s from)))
+-- the call that an instruction makes, if it makes one
+abbrev pub call_of : State → Instruction → Option Call
+call_of s (Load width to addr) = Some (call.Load (bytes_in width) (held s addr))
+call_of s (Store width addr from) = Some (call.Store (bytes_in width) (held s addr) (held s from))
+call_of s _ = None
 
-abbrev pub step_at : State → Option Instruction → Step
-step_at s None = Ends
-step_at s (Some i) = carried_out s i
+-- what an instruction without a call writes: a register, or the output
+abbrev pub changed : State → Instruction → State
+changed s (Set to value) = put s to value
+changed s (Move to from) = put s to (held s from)
+changed s (Compute operation to left right) = put s to (result_of operation (held s left) (held s right))
+changed s (Status to) = put s to s.status
+changed s (Print from) = printed s (held s from)
+changed s _ = s
+
+-- where a program of so many instructions goes on after one; `stop` goes past the last
+abbrev pub place_after : ℕ → State → Instruction → ℕ
+place_after count s (Jump place) = place
+place_after count s (JumpIfZero from place) = if held s from == 0 then place else s.place + 1
+place_after count s Stop = count
+place_after count s _ = s.place + 1
+
+abbrev pub told : Option Call → State → Step
+told (Some call) s = Asks call
+told None s = Local s
+
+-- what an instruction of a program of so many does
+abbrev pub carried_out : ℕ → State → Instruction → Step
+carried_out count s i = told (call_of s i) (gone_to (changed s i) (place_after count s i))
+
+abbrev pub step_at : ℕ → State → Option Instruction → Step
+step_at count s None = Ends
+step_at count s (Some i) = carried_out count s i
 
 -- the step of the program in this state: it ends past its last instruction
 abbrev pub step : List Instruction → State → Step
-step program s = step_at s (slice_get program s.place)
+step program s = step_at (length program) s (slice_get program s.place)
 
--- the value of a reply goes to the register that the call's instruction names for it, if it names one
-abbrev pub received : State → Option Instruction → ℕ → State
-received s (Some (Load width to addr)) value = put s to value
-received s (Some (Set to number)) value = s
-received s (Some (Print from)) value = s
+-- the value goes to the register, if there is one for it
+abbrev pub received : State → Option ℕ → ℕ → State
+received s (Some to) value = put s to value
 received s None value = s
+
+-- the register for the value of the reply to the call of this instruction
+abbrev pub receiver : Option Instruction → Option ℕ
+receiver (Some i) = receiver_of i
+receiver None = None
 
 -- the state after the reply to the call of this instruction: a refusal keeps the register
 abbrev pub replied : State → Option Instruction → Reply → State
-replied s i (Value value) = moved_on (with_status (received s i value) 0)
+replied s i (Value value) = moved_on (with_status (received s (receiver i) value) 0)
 replied s i Done = moved_on (with_status s 0)
 replied s i (Refused code) = moved_on (with_status s code)
 

@@ -69,6 +69,29 @@ impl Width {
     }
 }
 
+/// What is computed of two numbers, modulo 2^64.
+#[derive(Clone, Copy, Debug, PartialEq, Eq)]
+pub enum Operation {
+    Add,
+    Sub,
+    Mul,
+}
+
+impl Operation {
+    ghost use Rattle.ivy_program.specs.Instructions.{result_of};
+
+    /// The result of the operation on these numbers.
+    pub fn apply(self, left: u64, right: u64) -> u64
+        ensures { result ≡ result_of self left right }
+    {
+        match self {
+            Operation::Add => left.wrapping_add(right),
+            Operation::Sub => left.wrapping_sub(right),
+            Operation::Mul => left.wrapping_mul(right),
+        }
+    }
+}
+
 /// One line of a program that does something.
 #[derive(Clone, Copy, Debug, PartialEq, Eq)]
 pub enum Instruction {
@@ -77,14 +100,61 @@ pub enum Instruction {
         to: Register,
         value: u64,
     },
+    /// `mov rD rA`: the register takes the other's number.
+    Move {
+        to: Register,
+        from: Register,
+    },
+    /// `add rD rA rB`, `sub rD rA rB`, `mul rD rA rB`: the register takes the result.
+    Compute {
+        operation: Operation,
+        to: Register,
+        left: Register,
+        right: Register,
+    },
     /// `load W rD rA`: a load at the address in one register, its value to another.
     Load {
         width: Width,
         to: Register,
         addr: Register,
     },
+    /// `store W rA rB`: a store at the address in one register, of the other's number.
+    Store {
+        width: Width,
+        addr: Register,
+        from: Register,
+    },
+    /// `status rD`: the register takes the number of the last call's refusal, or 0.
+    Status {
+        to: Register,
+    },
     /// `print rA`: the register's number is added to the output.
     Print {
         from: Register,
     },
+    /// `jump NAME`: the program goes on at this place.
+    Jump {
+        place: usize,
+    },
+    /// `jumpz rA NAME`: the program goes on at this place where the register holds 0.
+    JumpIfZero {
+        from: Register,
+        place: usize,
+    },
+    /// `stop`: the program ends.
+    Stop,
+}
+
+impl Instruction {
+    ghost use Rattle.ivy_program.specs.Instructions.{receiver_of};
+
+    /// The register that takes the value of the reply, if the instruction names one for it.
+    pub(crate) fn receiver(self) -> Option<Register>
+        ensures { result ≡ receiver_of self }
+    {
+        match self {
+            Instruction::Load { to, .. } => Some(to),
+            _ => None,
+        }
+    }
 }

@@ -1,4 +1,6 @@
 //! The programs of the nodes: their text, their instructions, and a machine that carries them out one at a time.
+//!
+//! Numbers in brackets, as `[1, 20]`, are those of the faults that a call may answer.
 #![tactic(auto)]
 
 mod instruction;
@@ -7,7 +9,7 @@ mod parser;
 mod program;
 mod words;
 
-pub use instruction::{Instruction, Register, Width};
+pub use instruction::{Instruction, Operation, Register, Width};
 pub use machine::{Machine, Next};
 pub use parser::parse;
 pub use program::Program;

@@ -1,8 +1,6 @@
-ghost use Rattle.std.specs.Prelude.{◌≡◌, ◌≤◌, ◌<◌, ◌++◌, [], ◌∷◌, length, All, IfOk, OnOk, OnErr, IsOkUnless, MatchResult};
-ghost use Rattle.ivy_model.specs.declared.Fault.TheVariants.{Memory};
+ghost use Rattle.std.specs.Prelude.{◌≡◌};
 
 use crate::instruction::Instruction;
-use ivy_model::Fault;
 use std::alloc::Allocator;
 use std::marker::Model;
 
@@ -33,13 +31,14 @@ impl<A: Allocator> Model for Program<A> {
 impl<A: Allocator + Copy> Program<A> {
     ghost use Rattle.ivy_program.specs.Instructions.{IsProgram};
 
-    /// The program without an instruction.
-    pub fn new(alloc: A) -> Program<A>
-        ensures { result ≡ [] }
+    /// The program of these instructions, which are within the limits of one.
+    pub fn new(alloc: A, instructions: Vec<Instruction, A>) -> Program<A>
+        requires { IsProgram instructions.items }
+        ensures { result ≡ instructions.items }
     {
         Program {
             alloc,
-            instructions: Vec::new(alloc),
+            instructions,
         }
     }
 
@@ -54,17 +53,5 @@ impl<A: Allocator + Copy> Program<A> {
     /// The allocator that the program was made with.
     pub(crate) fn allocator(&self) -> A {
         self.alloc
-    }
-
-    /// Adds an instruction at the end. 1 where a growth was refused; the program is then as it was.
-    pub fn push(&mut self, instruction: Instruction) -> Result<(), Fault>
-        requires { length self.old < 4096 }
-        ensures ok { OnOk result (self.new ≡ self.old ++ instruction ∷ []) }
-        ensures sound { IsProgram self.new }
-        ensures err { OnErr result (self.new ≡ self.old) }
-        ensures want { IsOkUnless result Memory }
-    {
-        self.instructions.push(instruction)?;
-        Ok(())
     }
 }

@@ -1,5 +1,6 @@
 use super::*;
 use ivy_model::{Call, Fault, Reply};
+use std::alloc::Allocator;
 use std::test::Fail;
 
 /// The line at fault, or 0 where the text is in order.
@@ -27,11 +28,49 @@ fn bad_program_text(rt: HostRuntime) -> Result<(), Fail> {
         ("node 0\nprint r1\r", 2),
         ("node 0\nprint r1\r\r\n", 2),
         ("node 0\nprint\u{b}r1", 2),
-        ("node 0\nstop", 2),
+        ("node 0\nstore 3 r1 r2", 2),
+        ("node 0\ncount r1 r2", 2),
+        ("node 0\nadvance r1", 2),
+        ("node 0\nawait r1 r2 r3", 2),
+        ("node 0\nalloc r1 r2", 2),
+        ("node 0\nfree r1", 2),
+        ("node 0\nstop r1", 2),
+        ("node 0\nmov r1", 2),
+        ("node 0\nadd r1 r2 16", 2),
+        ("node 0\nprint r01", 2),
+        ("node 0\nstatus 1", 2),
     ] {
         assert_eq!(rt; line_at_fault(rt, text), line, "{text}");
     }
     Ok(())
+}
+
+/// A label has one place in its own program, and each jump goes to one.
+#[test]
+fn labels_at_fault(rt: HostRuntime) {
+    for (text, line) in [
+        ("node 0\nlabel a\njump b\n", 3),
+        ("node 0\njump b\nbogus\n", 2),
+        ("node 0\njump b\nbogus\nlabel b\n", 3),
+        ("node 0\nbogus\njump b\n", 2),
+        ("node 0\njumpz r1 b\njump c\nlabel c\n", 2),
+        ("node 0\njumpz r16 b\nlabel b\n", 2),
+        ("node 0\nlabel a\nlabel b\nlabel a\n", 4),
+        ("node 0\nlabel a\nnode 1\njump a\n", 4),
+        ("node 0\njump a\nnode 1\nlabel a\n", 2),
+        ("label a\nnode 0\n", 1),
+        ("node 0\nlabel 1a\n", 2),
+        ("node 0\nlabel A\n", 2),
+        ("node 0\nlabel a_b\n", 2),
+        ("node 0\nlabel abcdefghij1234567\n", 2),
+        ("node 0\nlabel\n", 2),
+        ("node 0\nlabel a b\n", 2),
+        ("node 0\njump\n", 2),
+        ("node 0\nlabel a\nnode 1\nlabel a\njump a\n", 0),
+        ("node 0\njump abcdefghij123456\nlabel abcdefghij123456\n", 0),
+    ] {
+        assert_eq!(rt; line_at_fault(rt, text), line, "{text}");
+    }
 }
 
 #[test]
@@ -65,8 +104,10 @@ fn limits_of_a_text(rt: HostRuntime) -> Result<(), Fail> {
         text.push_str("print r1\n")?;
     }
     assert_eq!(rt; parse(rt.alloc(), text.as_str())?.len(), 1);
+    text.push_str("label end\n")?;
+    assert_eq!(rt; parse(rt.alloc(), text.as_str())?.len(), 1);
     text.push_str("print r1\n")?;
-    assert_eq!(rt; line_at_fault(rt, text.as_str()), 4098);
+    assert_eq!(rt; line_at_fault(rt, text.as_str()), 4099);
     Ok(())
 }
 
@@ -94,41 +135,128 @@ fn first_load(rt: HostRuntime) -> Result<(), Fail> {
     Ok(())
 }
 
-/// A refused call keeps its register.
+/// A refused call keeps its register, and its number is the status until the next call.
 #[test]
 fn refused_load(rt: HostRuntime) -> Result<(), Fail> {
-    let mut programs = parse(rt.alloc(), "node 0\nset r2 5\nload 1 r2 r1\nprint r2")?;
+    let text = "node 0\nstatus r3\nprint r3\nset r2 5\nload 1 r2 r1\nprint r2\nstatus r3\n\
+                print r3\nload 1 r2 r1\nstatus r3\nprint r3\nprint r2";
+    let mut programs = parse(rt.alloc(), text)?;
     let mut machine = Machine::new(programs.pop().ok_or("no program")?);
-    machine.next()?;
-    if let Next::Call(_) = machine.next()? {
-        machine.answer(Reply::Refused(5));
+    let mut replies = [Reply::Value(9), Reply::Refused(5)].to_vec(rt.alloc())?;
+    for _ in 0..16 {
+        if let Next::Call(_) = machine.next()? {
+            machine.answer(replies.pop().ok_or("no reply")?);
+        }
     }
-    machine.next()?;
-    assert_eq!(rt; machine.output(), [5].as_slice());
+    assert!(rt; machine.ended());
+    assert_eq!(rt; machine.output(), [0, 5, 5, 0, 9].as_slice());
     Ok(())
 }
 
-/// A program can be put together without a text.
+/// A store names the address and the number of its two registers, and keeps every register. Its
+/// status is 0 where it was carried out, else the number of its refusal.
 #[test]
-fn program_by_hand(rt: HostRuntime) -> Result<(), Fail> {
-    let to = Register::new(15).ok_or("no register")?;
-    assert_eq!(rt; to.number(), 15);
-    assert_eq!(rt; Register::new(16), None);
-    let mut program = Program::new(rt.alloc());
-    program.push(Instruction::Set { to, value: 66 })?;
-    let width = Width::Two;
-    program.push(Instruction::Load {
+fn stores(rt: HostRuntime) -> Result<(), Fail> {
+    let text = "node 0\nset r1 64\nset r2 258\nstore 2 r1 r2\nstatus r3\nprint r3\n\
+                store 8 r2 r1\nstatus r3\nprint r3\nprint r1\nprint r2\n\
+                store 1 r1 r1\nstatus r3\nprint r3";
+    let mut programs = parse(rt.alloc(), text)?;
+    let mut machine = Machine::new(programs.pop().ok_or("no program")?);
+    let mut calls = Vec::new(rt.alloc());
+    let mut replies = [Reply::Done, Reply::Refused(3), Reply::Done].to_vec(rt.alloc())?;
+    for _ in 0..16 {
+        if let Next::Call(call) = machine.next()? {
+            calls.push(call)?;
+            machine.answer(replies.pop().ok_or("no reply")?);
+        }
+    }
+    assert!(rt; machine.ended());
+    assert_eq!(rt; machine.output(), [0, 3, 64, 258, 0].as_slice());
+    let named = [(2, 64, 258), (8, 258, 64), (1, 64, 64)].map(|(width, addr, value)| Call::Store {
         width,
-        to,
-        addr: to,
-    })?;
-    assert_eq!(rt; program.instructions().len(), 2);
-    let mut machine = Machine::new(program);
-    assert_eq!(rt; machine.next(), Ok(Next::Local));
-    let call = Call::Load { width: 2, addr: 66 };
-    assert_eq!(rt; machine.next(), Ok(Next::Call(call)));
-    assert_eq!(rt; machine.output().len(), 0);
+        addr,
+        value,
+    });
+    assert_eq!(rt; calls.as_slice(), named.as_slice());
     Ok(())
+}
+
+/// What a program that makes no call prints within so many turns, and whether it has ended then.
+fn played<A: Allocator + Copy>(
+    alloc: A,
+    text: &str,
+    turns: u64,
+) -> Result<(Vec<u64, A>, bool), Fail> {
+    let mut programs = parse(alloc, text)?;
+    let mut machine = Machine::new(programs.pop().ok_or("no program")?);
+    for _ in 0..turns {
+        machine.next()?;
+    }
+    Ok((machine.output().to_vec(alloc)?, machine.ended()))
+}
+
+#[test]
+fn arithmetic(rt: HostRuntime) -> Result<(), Fail> {
+    let text = "node 0\nset r1 18446744073709551615\nset r2 3\nadd r3 r1 r2\nprint r3\n\
+                sub r3 r2 r1\nprint r3\nsub r3 r1 r2\nprint r3\nmul r3 r1 r2\nprint r3\n\
+                mul r3 r2 r2\nprint r3\nmov r4 r3\nadd r4 r4 r4\nprint r4";
+    let (output, ended) = played(rt.alloc(), text, 15)?;
+    assert!(rt; ended);
+    let wanted = [2, 4, 18446744073709551612, 18446744073709551613, 9, 18];
+    assert_eq!(rt; output.as_slice(), wanted.as_slice());
+    Ok(())
+}
+
+/// From 3 down to 1: back where the number is not 0, on where it is.
+#[test]
+fn counts_down(rt: HostRuntime) -> Result<(), Fail> {
+    let text = "node 0\nset r1 3\nset r2 1\nlabel again\njumpz r1 end\nprint r1\n\
+                sub r1 r1 r2\njump again\nlabel end";
+    let (output, ended) = played(rt.alloc(), text, 15)?;
+    assert_eq!(rt; output.as_slice(), [3, 2, 1].as_slice());
+    assert!(rt; ended);
+    let (_, ended) = played(rt.alloc(), text, 14)?;
+    assert!(rt; !ended);
+    Ok(())
+}
+
+#[test]
+fn never_ends(rt: HostRuntime) -> Result<(), Fail> {
+    let (output, ended) = played(rt.alloc(), "node 0\nlabel a\njump a\n", 10000)?;
+    assert!(rt; !ended);
+    assert_eq!(rt; output.len(), 0);
+    Ok(())
+}
+
+/// `stop` ends the program in the turn that carries it out, and so does a jump to the end.
+#[test]
+fn stops(rt: HostRuntime) -> Result<(), Fail> {
+    for text in [
+        "node 0\nprint r0\nstop\nprint r0",
+        "node 0\nprint r0\njump end\nprint r0\nlabel end",
+        "node 0\nprint r0\njumpz r0 end\nprint r0\nlabel end",
+    ] {
+        let (_, ended) = played(rt.alloc(), text, 1)?;
+        assert!(rt; !ended);
+        let (output, ended) = played(rt.alloc(), text, 2)?;
+        assert!(rt; ended);
+        assert_eq!(rt; output.as_slice(), [0].as_slice());
+    }
+    Ok(())
+}
+
+#[test]
+fn registers(rt: HostRuntime) -> Result<(), Fail> {
+    assert_eq!(rt; Register::new(15).ok_or("no register")?.number(), 15);
+    assert_eq!(rt; Register::new(16), None);
+    Ok(())
+}
+
+#[test]
+fn operations(rt: HostRuntime) {
+    assert_eq!(rt; Operation::Add.apply(2, 3), 5);
+    assert_eq!(rt; Operation::Sub.apply(2, 3), u64::MAX);
+    assert_eq!(rt; Operation::Mul.apply(2, 3), 6);
 }
 
 #[test]

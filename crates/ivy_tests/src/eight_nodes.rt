@@ -1,8 +1,8 @@
-//! Eight nodes that all load the same word, under several schedules.
+//! Eight nodes that all load the same word, under several schedules, and that all store to one page.
 ghost use Rattle.std.specs.Prelude.{◌≡◌, IfOk};
 
-use crate::common::{deliver, has_loaded_zero, play, world};
-use ivy_model::{Config, Fault, Kind};
+use crate::common::{deliver, has_loaded_zero, is_sent, play, world};
+use ivy_model::{Config, Fault, Kind, Reply};
 use ivy_node::{Move, World};
 use std::alloc::{Allocator, Global};
 use std::test::Fail;
@@ -165,5 +165,63 @@ fn one_node_after_another(rt: HostRuntime) -> Result<(), Fail> {
     let mut world = eight(rt.alloc())?;
     turn_one_by_one(&mut world)?;
     assert!(rt; all_have_loaded_zero(&world));
+    Ok(())
+}
+
+/// Each node stores its own number, counted from 1, to a word of its own, all in one page. Node 7 loads its
+/// word before.
+const ALL_STORE: &str = "node 0\nset r1 64\nset r2 1\nstore 8 r1 r2
+node 1\nset r1 72\nset r2 2\nstore 8 r1 r2
+node 2\nset r1 80\nset r2 3\nstore 8 r1 r2
+node 3\nset r1 88\nset r2 4\nstore 8 r1 r2
+node 4\nset r1 96\nset r2 5\nstore 8 r1 r2
+node 5\nset r1 104\nset r2 6\nstore 8 r1 r2
+node 6\nset r1 112\nset r2 7\nstore 8 r1 r2
+node 7\nset r1 120\nload 8 r2 r1\nset r2 8\nstore 8 r1 r2\n";
+
+/// The page as it comes to the node that stores last.
+const SEVEN_STORED: &str = "0000000000000001 0000000000000002 0000000000000003 0000000000000004 \
+                            0000000000000005 0000000000000006 0000000000000000 0000000000000008";
+
+/// Whether the last answer to every node is that its store is done, and it has ended.
+fn all_have_stored<A: Allocator + Copy>(world: &World<A>) -> bool
+    requires { world.now.config ≡ EIGHT }
+{
+    for node in 0..8 {
+        let Some(last) = world.history(node).last() else {
+            return false;
+        };
+        if last.reply != Reply::Done || !world.ended(node) {
+            return false;
+        }
+    }
+    true
+}
+
+/// Node 1, which manages the page, gets it from node 0 and waits for node 7 to end its copy. Meanwhile all
+/// others ask node 1 for the page, so it puts off seven requests. Then it hands the page to the first of them,
+/// and sends each further request on to the node that asked before.
+#[test]
+fn seven_requests_put_off(rt: HostRuntime) -> Result<(), Fail> {
+    let alloc = rt.alloc();
+    let mut world = world(alloc, EIGHT, ALL_STORE)?;
+    play(&mut world, &[Move::Turn(7); 2])?;
+    play(
+        &mut world,
+        &[deliver(0, 1), deliver(1, 0), deliver(2, 7), Move::Turn(7)],
+    )?;
+    play(&mut world, &[Move::Turn(1); 3])?;
+    play(&mut world, &[deliver(3, 0), deliver(4, 1)])?;
+    all_turn(&mut world)?;
+    all_turn(&mut world)?;
+    assert_eq!(rt; deliver_from(&mut world, 6)?, 13);
+    play(&mut world, &[deliver(5, 7), deliver(13, 1)])?;
+    assert_eq!(rt; world.sent().len(), 21);
+    assert_eq!(rt; deliver_from(&mut world, 14)?, 27);
+    all_turn(&mut world)?;
+    assert!(rt; all_have_stored(&world));
+    let last = "495601040506004e 0000000000000001 0000000000000000 06 0000000000000001 00000001 00";
+    let last = format!(in alloc; "{last} {SEVEN_STORED}")?;
+    assert!(rt; is_sent(alloc, &world, 26, last.as_str(), &[])?);
     Ok(())
 }

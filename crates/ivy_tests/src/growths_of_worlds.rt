@@ -1,14 +1,22 @@
 //! Each growth refused in turn in a world that runs. The place of the refused move is answered, the moves
-//! before it were made, and the run goes on from there to the same end.
+//! before it were made, and the run goes on from there to the same end. The runs have all that a store can
+//! lead to: turns in which it faults, page requests at the owner and put off, pages with and without copies,
+//! copies that are ended, and acknowledgements, the last of them and others.
 ghost use Rattle.std.specs.Prelude.{◌≡◌, ◌<◌};
 
-use crate::common::{LOADS, MANY, PAIR, deliver, has_loaded_zero, play, pulse, world};
+use crate::common::{LOADS, MANY, PAIR, TRIO, deliver, has_loaded_zero, play, pulse, world};
+use crate::stores::{
+    UPGRADE_OF_THREE, UPGRADE_OF_THREE_MOVES, UPGRADE_OF_TWO, UPGRADE_OF_TWO_MOVES,
+};
 use growths::Refusing;
-use ivy_model::Fault;
+use ivy_model::{Config, Fault};
 use ivy_node::{Move, World};
 use std::alloc::{Allocator, Global};
 use std::process::Abort;
 use std::test::Fail;
+
+/// More growths than any run here asks for.
+const MANY_IN_A_RUN: u64 = 1000;
 
 /// The moves of the first load, and then what each node sends again.
 const MOVES: [Move; 10] = [
@@ -44,44 +52,80 @@ fn same_node<A: Allocator + Copy>(one: &World<A>, other: &World<A>, node: u64) -
         && one.ended(node) == other.ended(node)
 }
 
-/// Whether two worlds of two nodes show the same.
+/// Whether two worlds of the same configuration show the same.
 fn same_worlds<A: Allocator + Copy>(one: &World<A>, other: &World<A>) -> bool
-    requires one { one.now.config ≡ PAIR }
-    requires other { other.now.config ≡ PAIR }
+    requires { one.now.config ≡ other.now.config }
 {
-    same_sent(one, other) && same_node(one, other, 0) && same_node(one, other, 1)
+    for node in 0..one.nodes() {
+        if !same_node(one, other, node) {
+            return false;
+        }
+    }
+    same_sent(one, other)
 }
 
-fn run_at(rt: &impl Abort, memory: &Refusing<Global>, n: u64) -> Result<bool, Fail> {
-    let mut refused = world(memory, PAIR, LOADS)?;
-    let mut twin = world(memory, PAIR, LOADS)?;
+/// Programs, and moves that lead them to their end.
+#[derive(Clone, Copy)]
+struct Run<'a> {
+    config: Config,
+    text: &'a str,
+    moves: &'a [Move],
+}
+
+/// Plays the moves in two worlds, in one of them with the n-th growth refused. Whether that growth was asked
+/// for.
+fn run_at(rt: &impl Abort, memory: &Refusing<Global>, n: u64, run: &Run) -> Result<bool, Fail> {
+    let mut refused = world(memory, run.config, run.text)?;
+    let mut twin = world(memory, run.config, run.text)?;
     memory.refuse(n);
-    let answer = play(&mut refused, &MOVES);
+    let answer = play(&mut refused, run.moves);
     let met = memory.asked(n) >= n;
     memory.refuse(0);
     let Err((place, fault)) = answer else {
         return Ok(met);
     };
     assert!(rt; met && fault == Fault::Memory, "growth {n}");
-    assert!(rt; play(&mut twin, &MOVES[..place]).is_ok());
+    assert!(rt; play(&mut twin, &run.moves[..place]).is_ok());
     assert!(rt; same_worlds(&refused, &twin), "growth {n}");
-    assert!(rt; play(&mut refused, &MOVES[place..]).is_ok());
-    assert!(rt; play(&mut twin, &MOVES[place..]).is_ok());
+    assert!(rt; play(&mut refused, &run.moves[place..]).is_ok());
+    assert!(rt; play(&mut twin, &run.moves[place..]).is_ok());
     assert!(rt; same_worlds(&refused, &twin), "growth {n}");
-    assert!(rt; has_loaded_zero(&refused, 1));
     Ok(true)
 }
 
-#[test]
-fn growths_of_a_run(rt: HostRuntime) -> Result<(), Fail> {
-    let memory = Refusing::new(rt.alloc());
-    for n in 1..MANY {
-        if !run_at(&rt, &memory, n)? {
-            assert!(rt; n > 1);
-            return Ok(());
+/// Refuses each growth of a run in turn, until one is not asked for. How many were asked for.
+fn growths_of(rt: &impl Abort, memory: &Refusing<Global>, run: &Run) -> Result<u64, Fail> {
+    for n in 1..MANY_IN_A_RUN {
+        if !run_at(rt, memory, n, run)? {
+            return Ok(n - 1);
         }
     }
     Err("no end of growths".into())
+}
+
+#[test]
+fn growths_of_runs(rt: HostRuntime) -> Result<(), Fail> {
+    let memory = Refusing::new(rt.alloc());
+    for run in [
+        Run {
+            config: PAIR,
+            text: LOADS,
+            moves: &MOVES,
+        },
+        Run {
+            config: PAIR,
+            text: UPGRADE_OF_TWO,
+            moves: &UPGRADE_OF_TWO_MOVES,
+        },
+        Run {
+            config: TRIO,
+            text: UPGRADE_OF_THREE,
+            moves: &UPGRADE_OF_THREE_MOVES,
+        },
+    ] {
+        assert!(rt; growths_of(&rt, &memory, &run)? > 0);
+    }
+    Ok(())
 }
 
 /// A pulse and the delivery of what it sends replace the delivery that was refused.

@@ -21,3 +21,5 @@ mod growths_of_worlds;
 mod schedules;
 #[cfg(test)]
 mod site_alone;
+#[cfg(test)]
+mod stores;

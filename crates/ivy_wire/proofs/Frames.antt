@@ -16,7 +16,7 @@ use Rattle.ivy_wire.specs.declared.frame.Content.TheVariants as contents
 use Rattle.ivy_wire.specs.Data.{Message}
 use Rattle.ivy_wire.specs.Data.{Frame}
 use Rattle.ivy_wire.specs.Spelling.{code_of, kind_of, frame_kind, content_text, message_text, spelling, text_len, FitsMessage, Fits, Spells}
-use Rattle.ivy_wire.specs.Faults.{kind_byte, source_at, dest_at, len_at, number_at, ack_at, text_at, kind_at, is_sound_content, is_sound_text, checked_in, checked_kind, checked}
+use Rattle.ivy_wire.specs.Faults.{kind_byte, source_at, dest_at, len_at, frame_number_at, ack_at, text_at, kind_at, is_sound_content, is_sound_text, checked_in, checked_kind, checked}
 use Rattle.ivy_wire.specs.Reading.{content_at, message_at, frame_at}
 use Rattle.ivy_model.proofs.Limits.{page_has_words}
 use Rattle.ivy_wire.proofs.Fields.{IsBytes, IsBytes-drop, field_1, field_2, field_8}
@@ -33,7 +33,7 @@ pub record IsSound (c : Config) (kind : FrameKind) (bytes : List ℕ) : Type 0 w
   pub apart : source_at bytes ≢ dest_at bytes
   pub len : length bytes ≡ 24 + len_at bytes
   pub text_len : len_at bytes ≡ text_len c kind
-  pub text : is_sound_text c kind (number_at bytes) (text_at bytes) ≡ true
+  pub text : is_sound_text c kind (frame_number_at bytes) (text_at bytes) ≡ true
 
 guard : {A : Type 0} (b : Bool) (d : Fault) (r : Result A Fault) (y : A) → cond b (Err d) r ≡ Ok y → (b ≡ false) × (r ≡ Ok y)
 guard true d r y e = absurd cc
@@ -61,7 +61,7 @@ record IsSoundIn (c : Config) (kind : FrameKind) (bytes : List ℕ) : Type 0 whe
   apart : source_at bytes ≢ dest_at bytes
   len : length bytes ≡ 24 + len_at bytes
   text_len : len_at bytes ≡ text_len c kind
-  text : is_sound_text c kind (number_at bytes) (text_at bytes) ≡ true
+  text : is_sound_text c kind (frame_number_at bytes) (text_at bytes) ≡ true
 
 sound_in : (c : Config) (kind k : FrameKind) (bytes : List ℕ) → checked_in c kind bytes ≡ Ok k → (kind ≡ k) × IsSoundIn c kind bytes
 unfolding checked_in
@@ -69,7 +69,7 @@ sound_in c kind k bytes e =
     let g1 = guard (leb c.nodes (source_at bytes) || (leb c.nodes (dest_at bytes) || eqb (source_at bytes) (dest_at bytes))) BadNode _ k e in
     let g2 = guard (not (eqb (length bytes) (24 + len_at bytes))) BadBody _ k g1.1 in
     let g3 = guard (not (eqb (len_at bytes) (text_len c kind))) BadBody _ k g2.1 in
-    let g4 = last_guard (is_sound_text c kind (number_at bytes) (text_at bytes)) BadBody kind k g3.1 in
+    let g4 = last_guard (is_sound_text c kind (frame_number_at bytes) (text_at bytes)) BadBody kind k g3.1 in
     let n1 = neither (leb c.nodes (source_at bytes)) (leb c.nodes (dest_at bytes) || eqb (source_at bytes) (dest_at bytes)) g1.0 in
     let n2 = neither (leb c.nodes (dest_at bytes)) (eqb (source_at bytes) (dest_at bytes)) n1.1 in (
       g4.1,
@@ -127,7 +127,7 @@ in_never_memory c kind bytes e =
     let p1 = pass (leb c.nodes (source_at bytes) || (leb c.nodes (dest_at bytes) || eqb (source_at bytes) (dest_at bytes))) BadNode _ (λ n. cc) e in
     let p2 = pass (not (eqb (length bytes) (24 + len_at bytes))) BadBody _ (λ n. cc) p1 in
     let p3 = pass (not (eqb (len_at bytes) (text_len c kind))) BadBody _ (λ n. cc) p2 in
-    last_pass (is_sound_text c kind (number_at bytes) (text_at bytes)) BadBody kind (λ n. cc) p3
+    last_pass (is_sound_text c kind (frame_number_at bytes) (text_at bytes)) BadBody kind (λ n. cc) p3
 
 kind_never_memory : (c : Config) (o : Option FrameKind) (bytes : List ℕ) → checked_kind c o bytes ≡ Err Memory → ⊥
 unfolding checked_kind
@@ -247,8 +247,8 @@ not_ack (contents.FreeRep code) = refl
 -- the fields of the header, and the text
 header : (bs : List ℕ) → IsBytes bs → 24 ≤ length bs
     → bs ≡ get_or bs 0 0 ∷ get_or bs 1 0 ∷ get_or bs 2 0 ∷ get_or bs 3 0 ∷ get_or bs 4 0 ∷ get_or bs 5 0
-    ∷ (big_bytes 2 (len_at bs) ++ (big_bytes 8 (number_at bs) ++ (big_bytes 8 (ack_at bs) ++ text_at bs)))
-unfolding len_at number_at ack_at text_at
+    ∷ (big_bytes 2 (len_at bs) ++ (big_bytes 8 (frame_number_at bs) ++ (big_bytes 8 (ack_at bs) ++ text_at bs)))
+unfolding len_at frame_number_at ack_at text_at
 header [] h long = absurd (omega arith)
 header (a ∷ []) h long = absurd (omega arith)
 header (a ∷ b ∷ []) h long = absurd (omega arith)
@@ -280,8 +280,8 @@ text_bytes : (bytes : List ℕ) → IsBytes bytes → IsBytes (text_at bytes)
 unfolding text_at
 text_bytes bytes h = IsBytes-drop 24 bytes h
 
-number_small : (bytes : List ℕ) → IsBytes bytes → number_at bytes < 2 ^ 64
-unfolding number_at
+number_small : (bytes : List ℕ) → IsBytes bytes → frame_number_at bytes < 2 ^ 64
+unfolding frame_number_at
 number_small bytes h = big_from-lt 0 8 (drop 8 bytes) (IsBytes-drop 8 bytes h)
 
 ack_small : (bytes : List ℕ) → IsBytes bytes → ack_at bytes < 2 ^ 64
@@ -290,9 +290,9 @@ ack_small bytes h = big_from-lt 0 8 (drop 16 bytes) (IsBytes-drop 16 bytes h)
 
 -- the spelling of the fields that stand in a string
 abbrev respelled : List ℕ → ℕ → ℕ → ℕ → ℕ → ℕ → List ℕ → List ℕ
-respelled bytes a b v k len text = a ∷ b ∷ v ∷ k ∷ source_at bytes ∷ dest_at bytes ∷ (big_bytes 2 len ++ (big_bytes 8 (number_at bytes) ++ (big_bytes 8 (ack_at bytes) ++ text)))
+respelled bytes a b v k len text = a ∷ b ∷ v ∷ k ∷ source_at bytes ∷ dest_at bytes ∷ (big_bytes 2 len ++ (big_bytes 8 (frame_number_at bytes) ++ (big_bytes 8 (ack_at bytes) ++ text)))
 
-spelled_so : (c : Config) (kind : FrameKind) (bytes : List ℕ) (m : Option Message) → IsBytes bytes → IsSound c kind bytes → HasMessage c kind (number_at bytes) (text_at bytes) m → length (text_at bytes) ≡ len_at bytes
+spelled_so : (c : Config) (kind : FrameKind) (bytes : List ℕ) (m : Option Message) → IsBytes bytes → IsSound c kind bytes → HasMessage c kind (frame_number_at bytes) (text_at bytes) m → length (text_at bytes) ≡ len_at bytes
     → bytes ≡ respelled bytes 73 86 1 (code_of (frame_kind m)) (length (message_text m)) (message_text m)
 spelled_so c kind bytes m h s has len =
     let e1 : get_or bytes 3 0 ≡ code_of (frame_kind m) = kind_code (get_or bytes 3 0) kind s.known ∙ ap code_of (sym has.kind) in
@@ -310,9 +310,9 @@ pub frame_spelled : (c : Config) (kind : FrameKind) (bytes : List ℕ) → IsByt
 unfolding frame_at
 frame_spelled c kind bytes h s =
     let text_len_is : length (text_at bytes) ≡ len_at bytes = text_rest bytes s.len in
-    let m = message_spelled c kind (number_at bytes) (text_at bytes) (text_bytes bytes h) (text_len_is ∙ s.text_len) s.text in
+    let m = message_spelled c kind (frame_number_at bytes) (text_at bytes) (text_bytes bytes h) (text_len_is ∙ s.text_len) s.text in
     let whole = spelled_so c kind bytes m.0 h s m.1 text_len_is in
-    subst (λ x. Spells c (record { source = source_at bytes; dest = dest_at bytes; number = number_at bytes; ack = ack_at bytes; body = x }) bytes) (sym m.1.read) (record {
+    subst (λ x. Spells c (record { source = source_at bytes; dest = dest_at bytes; number = frame_number_at bytes; ack = ack_at bytes; body = x }) bytes) (sym m.1.read) (record {
       fits = record {
         source = s.source;
         dest = s.dest;
@@ -346,7 +346,7 @@ message_again c number (Some m) limits fits =
     }
 
 pub sound_spelling : (c : Config) (f : Frame) → IsConfig c → Fits c f → IsSound c (frame_kind f.body) (spelling f) × (frame_at (frame_kind f.body) (spelling f) ≡ f)
-unfolding len_at number_at ack_at text_at frame_at
+unfolding len_at frame_number_at ack_at text_at frame_at
 sound_spelling c f limits fits =
     let m = message_again c f.number f.body limits fits.body in
     let text = message_text f.body in

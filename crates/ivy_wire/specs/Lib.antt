@@ -1,4 +1,5 @@
 pub mod Data
+pub mod Lengths
 pub mod Spelling
 pub mod Faults
 pub mod Reading

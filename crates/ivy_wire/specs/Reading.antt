@@ -7,7 +7,8 @@ use Rattle.ivy_wire.specs.Data.{Content}
 use Rattle.ivy_wire.specs.declared.frame.Content.TheVariants as contents
 use Rattle.ivy_wire.specs.Data.{Message}
 use Rattle.ivy_wire.specs.Data.{Frame}
-use Rattle.ivy_wire.specs.Faults.{source_at, dest_at, number_at, ack_at, text_at}
+use Rattle.ivy_wire.specs.Lengths.{call_len}
+use Rattle.ivy_wire.specs.Faults.{source_at, dest_at, frame_number_at, ack_at, text_at}
 
 -- what follows origin and call in a body of this kind
 unfoldable pub content_at : FrameKind → List ℕ → Option Content
@@ -28,7 +29,7 @@ abbrev pub message_with : List ℕ → Content → Message
 message_with text content = record { origin = slice_index text 0; call = big_number 8 (drop 1 text); content = content }
 
 unfoldable pub message_at : FrameKind → List ℕ → Option Message
-message_at kind text = option_map (message_with text) (content_at kind (drop 9 text))
+message_at kind text = option_map (message_with text) (content_at kind (drop call_len text))
 
 unfoldable pub frame_at : FrameKind → List ℕ → Frame
-frame_at kind bytes = record { source = source_at bytes; dest = dest_at bytes; number = number_at bytes; ack = ack_at bytes; body = message_at kind (text_at bytes) }
+frame_at kind bytes = record { source = source_at bytes; dest = dest_at bytes; number = frame_number_at bytes; ack = ack_at bytes; body = message_at kind (text_at bytes) }

@@ -2,6 +2,8 @@
 use Rattle.std.specs.Prelude.{◌≡◌, ◌≢◌, ℕ, ◌+◌, ◌^◌, ◌<◌, ◌≤◌, ◌⊎◌, List, [], ◌∷◌, ◌++◌, length, Option, Some, None, MatchOption}
 use Rattle.byteorder.specs.Endian.{big_bytes}
 use Rattle.ivy_model.specs.declared.Config.{Config}
+use Rattle.ivy_model.specs.declared.Fault.TheVariants.{ZeroSize, NoRoom, NotABlock}
+use Rattle.ivy_model.specs.Numbers.{fault_number}
 use Rattle.ivy_wire.specs.declared.frame.FrameKind.{FrameKind}
 use Rattle.ivy_wire.specs.declared.frame.FrameKind.TheVariants as kinds
 use Rattle.ivy_wire.specs.Data.{Content}
@@ -62,7 +64,7 @@ abbrev pub message_text : Option Message → List ℕ
 message_text None = []
 message_text (Some m) = m.origin ∷ (big_bytes 8 m.call ++ content_text m.content)
 
--- The header of 24 bytes, and the body: the letters I and V, version 1, kind, source, destination,
+-- The header, and the body: the letters I and V, version 1, kind, source, destination,
 -- the length of the body, number and acknowledgement.
 abbrev pub spelling : Frame → List ℕ
 spelling f =
@@ -93,9 +95,9 @@ FitsContent c (contents.WriteRep page copies bytes) = (page < c.pages) × (copie
 FitsContent c (contents.Inval page) = page < c.pages
 FitsContent c (contents.InvalAck page) = page < c.pages
 FitsContent c (contents.AllocReq size) = size < 2 ^ 64
-FitsContent c (contents.AllocRep code addr) = ((code ≡ 0) × (addr < 2 ^ 64)) ⊎ (((code ≡ 8) ⊎ (code ≡ 9)) × (addr ≡ 0))
+FitsContent c (contents.AllocRep code addr) = ((code ≡ 0) × (addr < 2 ^ 64)) ⊎ (((code ≡ fault_number ZeroSize) ⊎ (code ≡ fault_number NoRoom)) × (addr ≡ 0))
 FitsContent c (contents.FreeReq addr) = addr < 2 ^ 64
-FitsContent c (contents.FreeRep code) = (code ≡ 0) ⊎ (code ≡ 10)
+FitsContent c (contents.FreeRep code) = (code ≡ 0) ⊎ (code ≡ fault_number NotABlock)
 
 -- a message of a node's call, which are numbered from 1
 pub record FitsMessage (c : Config) (m : Message) : Type 0 where

@@ -1,10 +1,10 @@
 //! What nodes say to one another.
 ghost use Rattle.std.specs.Prelude.{◌≡◌, ◌↔◌, IsTrue, IfOk};
 ghost use Rattle.ivy_model.specs.Config.{IsConfig};
-ghost use Rattle.ivy_wire.specs.Lent.{owned_content, owned_message, owned_frame};
+ghost use Rattle.ivy_wire.specs.Lent.{owned_content, owned_message, owned_body, owned_frame};
 
 use crate::page::Page;
-use ivy_model::Config;
+use ivy_model::{Config, Fault};
 use std::alloc::{AllocError, Allocator};
 
 /// What a frame is about. The number of each kind in a frame is its place here, from 0.
@@ -51,6 +51,12 @@ pub(crate) const KINDS: [FrameKind; 11] = [
 
 /// The one version of frames that there is.
 pub(crate) const VERSION: u8 = 1;
+
+/// Bytes of a header.
+pub(crate) const HEADER_LEN: usize = 24;
+
+/// Bytes of the origin and the call, with which the body of a message begins.
+pub(crate) const CALL_LEN: usize = 9;
 
 /// What a message says, beside whose call it is. `B` is what holds the bytes of a page: a
 /// [`Page`] that owns them, or a slice that is lent.
@@ -180,9 +186,11 @@ impl Content<&[u8]> {
             }
             Content::AllocRep { code, addr } => {
                 let addr = *addr;
-                *code == 0 || ((*code == 8 || *code == 9) && addr == 0)
+                *code == 0
+                    || ((*code == Fault::ZeroSize.number() || *code == Fault::NoRoom.number())
+                        && addr == 0)
             }
-            Content::FreeRep { code } => *code == 0 || *code == 10,
+            Content::FreeRep { code } => *code == 0 || *code == Fault::NotABlock.number(),
         }
     }
 
@@ -240,8 +248,33 @@ impl Message<&[u8]> {
     }
 }
 
+fn owned_body<A: Allocator>(
+    alloc: A,
+    body: &Option<Message<&[u8]>>,
+) -> Result<Option<Message<Page<A>>>, AllocError>
+    ensures { IfOk result (λ copy. copy ≡ owned_body body.now) }
+{
+    match body {
+        None => Ok(None),
+        Some(message) => Ok(Some(message.owned(alloc)?)),
+    }
+}
+
 impl Frame<&[u8]> {
     ghost use Rattle.ivy_wire.specs.Spelling.{Fits, frame_kind};
+
+    /// The frame with a copy of its page. Err only where the allocator has no memory.
+    pub fn owned<A: Allocator>(&self, alloc: A) -> Result<Frame<Page<A>>, AllocError>
+        ensures { IfOk result (λ frame. frame ≡ owned_frame self.now) }
+    {
+        Ok(Frame {
+            source: self.source,
+            dest: self.dest,
+            number: self.number,
+            ack: self.ack,
+            body: owned_body(alloc, &self.body)?,
+        })
+    }
 
     /// What the frame is about.
     pub fn kind(&self) -> FrameKind

@@ -1,7 +1,11 @@
 //! The frames that nodes send one another, as bytes.
 //!
 //! A [`Frame`] carries at most one [`Message`]. [`encode`] writes it as a string of bytes, the one
-//! that spells it, and [`decode`] reads exactly these strings.
+//! that spells it. [`read`] and [`decode`] read exactly these strings: the page of what [`read`]
+//! gives is lent from the string, and [`decode`] copies it.
+//!
+//! Numbers in brackets at the end of a sentence, as in `[1, 11 to 16]`, are those of the faults that a
+//! call may answer ([`ivy_model::Fault::number`]).
 #![tactic(auto)]
 
 mod bytes;
@@ -17,7 +21,7 @@ pub use frame::{Content, Frame, FrameKind, Message};
 pub use grammar::grammar_is_prefix_free;
 pub use page::Page;
 pub use parcel::{Parcel, Post};
-pub use reading::decode;
+pub use reading::{decode, read};
 pub use writing::encode;
 
 #[cfg(test)]

@@ -19,6 +19,9 @@ pub struct Parcel<B> {
 }
 
 /// What takes messages: a whole list or none of it.
+///
+/// That is all that the trait alone promises. It keeps no list of what was ever taken, since a link forgets
+/// a message once it was acknowledged: what `after` keeps of a list, each post says for itself.
 pub trait Post {
     ghost use Rattle.ivy_model.specs.declared.Config.{Config};
     ghost use Rattle.ivy_model.specs.declared.Fault.{Fault};
@@ -51,10 +54,12 @@ pub trait Post {
         ensures fault { IfErr result (refuses self.old (map owned_parcel parcels.now)) }
         ensures want { IfErr result IsWant };
 
-    /// There is always a place for a list of none, which changes nothing.
+    /// There is always a place for a list of none, which changes nothing and is never refused.
     ghost takes_none: { (s : Self) → takes s [] };
 
     ghost after_none: { (s : Self) → after s [] ≡ s };
+
+    ghost refuses_none: { (s : Self) → (f : Fault) → refuses s [] f → ⊥ };
 }
 
 impl<'a> Default for Parcel<&'a [u8]> {

@@ -1,16 +1,18 @@
 //! From bytes to a frame.
-ghost use Rattle.std.specs.Prelude.{◌≡◌, ℕ, ◌+◌, ◌<◌, ◌≤◌, ◌↔◌, List, length, drop, Some, None, IsTrue, IfNone, IfOk, MatchResult, MatchOption, IsOkUnless};
+ghost use Rattle.std.specs.Prelude.{◌≡◌, ℕ, ◌+◌, ◌<◌, ◌≤◌, ◌↔◌, List, length, drop, Some, None, option_map, IsTrue, IfNone, IfOk, IsOk, IsOkAnd, MatchResult, MatchOption, IsOkUnless};
 ghost use Rattle.ivy_model.specs.Config.{IsConfig};
+ghost use Rattle.ivy_wire.specs.Lengths.{header_len, call_len};
 ghost use Rattle.ivy_wire.specs.Spelling.{text_len, Spells};
 ghost use Rattle.ivy_wire.specs.Data.{Frame as SeenFrame};
 ghost use Rattle.ivy_wire.specs.Reading.{content_at, message_at, frame_at};
-ghost use Rattle.ivy_wire.specs.Faults.{kind_at, is_sound_content, is_sound_text, checked_in, checked, len_at, number_at, ack_at, text_at};
+ghost use Rattle.ivy_wire.specs.Lent.{owned_content, owned_body, owned_frame};
+ghost use Rattle.ivy_wire.specs.Faults.{kind_at, is_sound_content, is_sound_text, checked_in, checked, len_at, frame_number_at, ack_at, text_at};
 
-use crate::frame::{Content, Frame, FrameKind, KINDS, Message, VERSION};
+use crate::frame::{CALL_LEN, Content, Frame, FrameKind, HEADER_LEN, KINDS, Message, VERSION};
 use crate::page::Page;
 use byteorder::{BigEndian, ByteOrder};
 use ivy_model::{Config, Fault};
-use std::alloc::{AllocError, Allocator};
+use std::alloc::Allocator;
 
 #[tactic(auto, unfolding(crate::specs::Faults::kind_at))]
 fn kind_at(code: u8) -> Option<FrameKind>
@@ -22,7 +24,7 @@ fn kind_at(code: u8) -> Option<FrameKind>
 #[tactic(auto, unfolding(crate::specs::Faults::is_sound_content))]
 fn is_sound_content(config: &Config, kind: FrameKind, rest: &[u8]) -> bool
     requires limits { IsConfig config.now }
-    requires len { 9 + length rest.now ≡ text_len config.now kind }
+    requires len { call_len + length rest.now ≡ text_len config.now kind }
     ensures { result ≡ is_sound_content config.now kind rest.now }
 {
     match kind {
@@ -36,9 +38,11 @@ fn is_sound_content(config: &Config, kind: FrameKind, rest: &[u8]) -> bool
             BigEndian::read_u32(rest) < config.pages && u16::from(rest[4]) < 1 << config.nodes
         }
         FrameKind::AllocRep => {
-            rest[0] == 0 || ((rest[0] == 8 || rest[0] == 9) && BigEndian::read_u64(&rest[1..]) == 0)
+            rest[0] == 0
+                || ((rest[0] == Fault::ZeroSize.number() || rest[0] == Fault::NoRoom.number())
+                    && BigEndian::read_u64(&rest[1..]) == 0)
         }
-        FrameKind::FreeRep => rest[0] == 0 || rest[0] == 10,
+        FrameKind::FreeRep => rest[0] == 0 || rest[0] == Fault::NotABlock.number(),
     }
 }
 
@@ -54,28 +58,28 @@ fn is_sound_text(config: &Config, kind: FrameKind, number: u64, text: &[u8]) -> 
     number != 0
         && text[0] < config.nodes
         && BigEndian::read_u64(&text[1..]) != 0
-        && is_sound_content(config, kind, &text[9..])
+        && is_sound_content(config, kind, &text[CALL_LEN..])
 }
 
 #[tactic(auto, unfolding(crate::specs::Faults::len_at))]
 fn len_at(bytes: &[u8]) -> u16
-    requires { 24 ≤ length bytes.now }
+    requires { header_len ≤ length bytes.now }
     ensures { result ≡ len_at bytes.now }
 {
     BigEndian::read_u16(&bytes[6..])
 }
 
-#[tactic(auto, unfolding(crate::specs::Faults::number_at))]
-fn number_at(bytes: &[u8]) -> u64
-    requires { 24 ≤ length bytes.now }
-    ensures { result ≡ number_at bytes.now }
+#[tactic(auto, unfolding(crate::specs::Faults::frame_number_at))]
+fn frame_number_at(bytes: &[u8]) -> u64
+    requires { header_len ≤ length bytes.now }
+    ensures { result ≡ frame_number_at bytes.now }
 {
     BigEndian::read_u64(&bytes[8..])
 }
 
 #[tactic(auto, unfolding(crate::specs::Faults::ack_at))]
 fn ack_at(bytes: &[u8]) -> u64
-    requires { 24 ≤ length bytes.now }
+    requires { header_len ≤ length bytes.now }
     ensures { result ≡ ack_at bytes.now }
 {
     BigEndian::read_u64(&bytes[16..])
@@ -83,18 +87,18 @@ fn ack_at(bytes: &[u8]) -> u64
 
 #[tactic(auto, unfolding(crate::specs::Faults::text_at))]
 fn text_at(bytes: &[u8]) -> &[u8]
-    requires { 24 ≤ length bytes.now }
+    requires { header_len ≤ length bytes.now }
     ensures text { result.now ≡ text_at bytes.now }
-    ensures len { 24 + length result.now ≡ length bytes.now }
+    ensures len { header_len + length result.now ≡ length bytes.now }
 {
-    &bytes[24..]
+    &bytes[HEADER_LEN..]
 }
 
 /// The tests of nodes, length and body, for a string of this kind that is long enough.
 #[tactic(auto, unfolding(crate::specs::Faults::checked_in))]
 fn checked_in(config: &Config, kind: FrameKind, bytes: &[u8]) -> Result<FrameKind, Fault>
     requires limits { IsConfig config.now }
-    requires len { 24 + len_at bytes.now ≤ length bytes.now }
+    requires len { header_len + len_at bytes.now ≤ length bytes.now }
     ensures { result ≡ checked_in config.now kind bytes.now }
 {
     let source = bytes[4];
@@ -103,13 +107,13 @@ fn checked_in(config: &Config, kind: FrameKind, bytes: &[u8]) -> Result<FrameKin
         return Err(Fault::BadNode);
     }
     let len = len_at(bytes);
-    if bytes.len() != 24 + usize::from(len) {
+    if bytes.len() != HEADER_LEN + usize::from(len) {
         return Err(Fault::BadBody);
     }
     if len != kind.text_len(config) {
         return Err(Fault::BadBody);
     }
-    if is_sound_text(config, kind, number_at(bytes), text_at(bytes)) {
+    if is_sound_text(config, kind, frame_number_at(bytes), text_at(bytes)) {
         Ok(kind)
     } else {
         Err(Fault::BadBody)
@@ -122,10 +126,10 @@ fn checked(config: &Config, bytes: &[u8]) -> Result<FrameKind, Fault>
     requires { IsConfig config.now }
     ensures { result ≡ checked config.now bytes.now }
 {
-    if bytes.len() < 24 {
+    if bytes.len() < HEADER_LEN {
         return Err(Fault::ShortFrame);
     }
-    if bytes.len() < 24 + usize::from(len_at(bytes)) {
+    if bytes.len() < HEADER_LEN + usize::from(len_at(bytes)) {
         return Err(Fault::ShortFrame);
     }
     if bytes[0] != b'I' || bytes[1] != b'V' {
@@ -141,17 +145,12 @@ fn checked(config: &Config, bytes: &[u8]) -> Result<FrameKind, Fault>
 }
 
 #[tactic(auto, unfolding(crate::specs::Reading::content_at))]
-fn content_at<A: Allocator>(
-    alloc: A,
-    config: &Config,
-    kind: FrameKind,
-    rest: &[u8],
-) -> Result<Option<Content<Page<A>>>, AllocError>
+fn content_at<'a>(config: &Config, kind: FrameKind, rest: &'a [u8]) -> Option<Content<&'a [u8]>>
     requires limits { IsConfig config.now }
-    requires len { text_len config.now kind ≤ 9 + length rest.now }
-    ensures { IfOk result (λ content. content ≡ content_at kind rest.now) }
+    requires len { text_len config.now kind ≤ call_len + length rest.now }
+    ensures { option_map owned_content result ≡ content_at kind rest.now }
 {
-    Ok(match kind {
+    match kind {
         FrameKind::Ack => None,
         FrameKind::ReadReq => Some(Content::ReadReq {
             page: BigEndian::read_u32(rest),
@@ -161,12 +160,12 @@ fn content_at<A: Allocator>(
         }),
         FrameKind::ReadRep => Some(Content::ReadRep {
             page: BigEndian::read_u32(rest),
-            bytes: Page::new(alloc, &rest[4..])?,
+            bytes: &rest[4..],
         }),
         FrameKind::WriteRep => Some(Content::WriteRep {
             page: BigEndian::read_u32(rest),
             copies: rest[4],
-            bytes: Page::new(alloc, &rest[5..])?,
+            bytes: &rest[5..],
         }),
         FrameKind::Inval => Some(Content::Inval {
             page: BigEndian::read_u32(rest),
@@ -185,60 +184,65 @@ fn content_at<A: Allocator>(
             addr: BigEndian::read_u64(rest),
         }),
         FrameKind::FreeRep => Some(Content::FreeRep { code: rest[0] }),
-    })
+    }
 }
 
 #[tactic(auto, unfolding(crate::specs::Reading::message_at, crate::specs::Reading::content_at))]
-fn message_at<A: Allocator>(
-    alloc: A,
-    config: &Config,
-    kind: FrameKind,
-    text: &[u8],
-) -> Result<Option<Message<Page<A>>>, AllocError>
+fn message_at<'a>(config: &Config, kind: FrameKind, text: &'a [u8]) -> Option<Message<&'a [u8]>>
     requires limits { IsConfig config.now }
     requires len { length text.now ≡ text_len config.now kind }
-    ensures { IfOk result (λ message. message ≡ message_at kind text.now) }
+    ensures { owned_body result ≡ message_at kind text.now }
 {
     if kind == FrameKind::Ack {
-        return Ok(None);
+        return None;
     }
     let origin = text[0];
     let call = BigEndian::read_u64(&text[1..]);
-    match content_at(alloc, config, kind, &text[9..])? {
-        None => Ok(None),
-        Some(content) => Ok(Some(Message {
-            origin,
-            call,
-            content,
-        })),
-    }
-}
-
-#[tactic(auto, unfolding(crate::specs::Reading::frame_at))]
-fn frame_at<A: Allocator>(
-    alloc: A,
-    config: &Config,
-    kind: FrameKind,
-    bytes: &[u8],
-) -> Result<Frame<Page<A>>, AllocError>
-    requires limits { IsConfig config.now }
-    requires len { length bytes.now ≡ 24 + text_len config.now kind }
-    ensures { IfOk result (λ frame. frame ≡ frame_at kind bytes.now) }
-{
-    let body = message_at(alloc, config, kind, text_at(bytes))?;
-    Ok(Frame {
-        source: bytes[4],
-        dest: bytes[5],
-        number: number_at(bytes),
-        ack: ack_at(bytes),
-        body,
+    let content = content_at(config, kind, &text[CALL_LEN..])?;
+    Some(Message {
+        origin,
+        call,
+        content,
     })
 }
 
-/// The frame that the whole string spells [1, 11 to 16].
+#[tactic(auto, unfolding(crate::specs::Reading::frame_at))]
+fn frame_at<'a>(config: &Config, kind: FrameKind, bytes: &'a [u8]) -> Frame<&'a [u8]>
+    requires limits { IsConfig config.now }
+    requires len { length bytes.now ≡ header_len + text_len config.now kind }
+    ensures { owned_frame result ≡ frame_at kind bytes.now }
+{
+    let body = message_at(config, kind, text_at(bytes));
+    Frame {
+        source: bytes[4],
+        dest: bytes[5],
+        number: frame_number_at(bytes),
+        ack: ack_at(bytes),
+        body,
+    }
+}
+
+/// The frame that the whole string spells, with its page lent from the string [11 to 16]. It takes no
+/// memory.
 ///
-/// A string that spells none is refused with the first of 11 to 16 whose test it fails. The tests
-/// take no memory, so 1 is answered only for a string that spells a frame.
+/// A string that spells none is refused with the first of 11 to 16 whose test it fails.
+pub fn read<'a>(config: &Config, bytes: &'a [u8]) -> Result<Frame<&'a [u8]>, Fault>
+    requires limits { IsConfig config.now }
+    // A frame is given only if the whole string spells it.
+    ensures found { IfOk result (λ frame. Spells config.now (owned_frame frame) bytes.now) }
+    // Where the string spells a frame, that one is given.
+    ensures only { (frame : SeenFrame) → Spells config.now frame bytes.now → IsOkAnd result (λ f. owned_frame f ≡ frame) }
+    // A string that spells none is refused with the first test that it fails.
+    ensures fault { MatchResult (checked config.now bytes.now) (λ _. IsOk result) (λ e. result ≡ Err e) }
+{
+    let kind = checked(config, bytes)?;
+    Ok(frame_at(config, kind, bytes))
+}
+
+/// The frame that the whole string spells, with a copy of its page [1, 11 to 16].
+///
+/// A string that spells none is refused as [`read`] refuses it. Its tests take no memory, so 1 is
+/// answered only for a string that spells a frame.
 pub fn decode<A: Allocator>(
     alloc: A,
     config: &Config,
@@ -254,6 +258,6 @@ pub fn decode<A: Allocator>(
     // A string that spells none is refused with the first test that it fails.
     ensures fault { MatchResult (checked config.now bytes.now) (λ _. IsOkUnless result Fault.Memory) (λ e. result ≡ Err e) }
 {
-    let kind = checked(config, bytes)?;
-    Ok(frame_at(alloc, config, kind, bytes)?)
+    let frame = read(config, bytes)?;
+    Ok(frame.owned(alloc)?)
 }

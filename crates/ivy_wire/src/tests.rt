@@ -42,6 +42,7 @@ fn spells<A: Allocator + Copy>(
     let string = string(alloc, words, page)?;
     config.check()?;
     assert!(rt; frame.fits(config));
+    assert!(rt; read(config, &string)? == frame);
     assert!(rt; decode(alloc, config, &string)?.lent() == frame);
     assert!(rt; encode(alloc, config, &frame)?.as_slice() == string.as_slice());
     Ok(())

@@ -5,7 +5,7 @@ ghost use Rattle.ivy_model.specs.Config.{IsConfig};
 ghost use Rattle.ivy_wire.specs.Spelling.{Fits, Spells, content_text, message_text};
 ghost use Rattle.ivy_wire.specs.Lent.{owned_content, owned_body, owned_frame};
 
-use crate::frame::{Content, Frame, Message, VERSION};
+use crate::frame::{Content, Frame, HEADER_LEN, Message, VERSION};
 use byteorder::{BigEndian, ByteOrder};
 use ivy_model::{Config, Fault};
 use std::alloc::{AllocError, Allocator};
@@ -101,7 +101,7 @@ pub fn encode<A: Allocator>(
 {
     let kind = frame.kind();
     let len = kind.text_len(config);
-    let mut out = Vec::with_capacity(alloc, 24 + usize::from(len))?;
+    let mut out = Vec::with_capacity(alloc, HEADER_LEN + usize::from(len))?;
     out.extend_from_slice(&[b'I', b'V', VERSION, kind.code(), frame.source, frame.dest])?;
     push_u16(&mut out, len)?;
     push_u64(&mut out, frame.number)?;

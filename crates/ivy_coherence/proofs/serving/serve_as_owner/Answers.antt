@@ -9,4 +9,4 @@ pub returns-in-Read-clause-below : goal.returns-in-Read-clause-below
 returns-in-Read-clause-below g c = rw c.with_reader.ensures (insert_below _ _ _ c.requires.below c.requires.origin)
 
 pub returns-in-Write-clause-below : goal.returns-in-Write-clause-below
-returns-in-Write-clause-below g c = rw c.plain.ensures (empty_below 8)
+returns-in-Write-clause-below g c = rw c.plain.ensures (empty_below _)

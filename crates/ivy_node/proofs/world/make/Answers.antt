@@ -1,7 +1,7 @@
 use Rattle.std.proofs.Common.{rules, refl, ◌≡◌, slice_get, Some, sym, ◌<◌, ◌≢◌, ◌++◌, length, ap, ◌∙◌, arith}
 use Rattle.std.proofs.lemmas.Option.{slice_get_read}
 use Rattle.ivy_model.specs.declared.Config.{Config}
-use Rattle.ivy_node.proofs.Tame.{err_there}
+use Rattle.ivy_memory.proofs.Beginning.{err_there}
 use Rattle.ivy_node.proofs.Making.{turn_went, turn_refused, pulse_went, delivery_went, delivery_refused}
 use Rattle.ivy_node.proofs.world.make.Goals as goal
 

@@ -1,48 +1,17 @@
-use Rattle.std.proofs.Common.{◌≡◌, ℕ, List, ap, sym, ◌∙◌, arith, Result, Ok, Err}
-use Rattle.ivy_model.specs.declared.Config.{Config}
+use Rattle.std.proofs.Common.{◌≡◌, sym, ap, ◌∙◌, IsOk, MatchResult, Result, Ok, Err}
 use Rattle.ivy_model.specs.declared.Fault.{Fault}
-use Rattle.ivy_model.specs.declared.Fault.TheVariants.{Memory}
 use Rattle.ivy_wire.specs.declared.frame.FrameKind.{FrameKind}
-use Rattle.ivy_wire.specs.Spelling.{frame_kind}
 use Rattle.ivy_wire.specs.Faults.{checked}
-use Rattle.ivy_wire.specs.Reading.{frame_at}
-use Rattle.ivy_wire.proofs.Frames.{sound_checked, frame_spelled, spelled_once, never_memory}
+use Rattle.ivy_wire.proofs.Frames.{never_memory}
 use Rattle.ivy_wire.proofs.reading.decode.Goals as goal
 
-ok_is : (x y : FrameKind) → (let r : Result FrameKind Fault = Ok x in r) ≡ Ok y → x ≡ y
-ok_is x y e = cc
+-- what refuses the string is the test that it fails
+refused_with : (T : Type 0) (d : Fault) (tested : Result FrameKind Fault)
+    → MatchResult tested (λ _. IsOk (let r : Result T Fault = Err d in r)) (λ e. (let r : Result T Fault = Err d in r) ≡ Err e) → tested ≡ Err d
+refused_with T d (Ok kind) h = absurd cc
+refused_with T d (Err e) h = cc
 
-err_is_not_ok : (d : Fault) (y : FrameKind) → (let r : Result FrameKind Fault = Err d in r) ≡ Ok y → ⊥
-err_is_not_ok d y e = cc
-
-not_memory : (c : Config) (bytes : List ℕ) (d : Fault) → (let r : Result FrameKind Fault = Err d in r) ≡ checked c bytes → Memory ≡ d → ⊥
-not_memory c bytes d e m = never_memory c bytes (sym e ∙ ap Err (sym m))
-
-pub frame_at-requires-clause-len : goal.frame_at-requires-clause-len
-frame_at-requires-clause-len g c =
-    let s = sound_checked c.args.config.now c.in_ok-kind.kind c.args.bytes.now (sym c.in_ok-kind.ensures) in
-    omega (arith, s.len, s.text_len)
-
-pub returns-clause-found : goal.returns-clause-found
-returns-clause-found g c =
-    let s = sound_checked c.args.config.now c.in_ok-kind.kind c.args.bytes.now (sym c.in_ok-kind.ensures) in
-    rw c.in_ok-frame_at.ensures (frame_spelled c.args.config.now c.in_ok-kind.kind c.args.bytes.now (λ i. omega (arith, c.type_inv.bytes i)) s)
-
-pub returns-clause-only : goal.returns-clause-only
-returns-clause-only g c = λ frame spells.
-    let once = spelled_once c.args.config.now frame c.args.bytes.now c.requires.limits spells in
-    let same : c.in_ok-kind.kind ≡ frame_kind frame.body = ok_is c.in_ok-kind.kind (frame_kind frame.body) (c.in_ok-kind.ensures ∙ once.0) in
-    c.in_ok-frame_at.ensures ∙ ap (λ k. frame_at k c.args.bytes.now) same ∙ once.1
-
-pub returns-in_err-kind-clause-only : goal.returns-in_err-kind-clause-only
-returns-in_err-kind-clause-only g c = λ frame spells.
-    let once = spelled_once c.args.config.now frame c.args.bytes.now c.requires.limits spells in
-    absurd (err_is_not_ok c.in_err-kind.field-0.0 (frame_kind frame.body) (c.in_err-kind.ensures ∙ once.0))
-
-pub returns-in_err-kind-clause-memory : goal.returns-in_err-kind-clause-memory
-returns-in_err-kind-clause-memory g c = λ e. absurd (not_memory c.args.config.now c.args.bytes.now c.in_err-kind.field-0.0 c.in_err-kind.ensures (rw e at c.from_residual.ensures.1))
-
-pub returns-in_err-frame_at-clause-memory : goal.returns-in_err-frame_at-clause-memory
-returns-in_err-frame_at-clause-memory g c = λ e.
-    let s = sound_checked c.args.config.now c.in_ok-kind.kind c.args.bytes.now (sym c.in_ok-kind.ensures) in
-    (frame_at c.in_ok-kind.kind c.args.bytes.now, frame_spelled c.args.config.now c.in_ok-kind.kind c.args.bytes.now (λ i. omega (arith, c.type_inv.bytes i)) s)
+pub returns-in_err-frame-clause-memory : goal.returns-in_err-frame-clause-memory
+returns-in_err-frame-clause-memory g c = λ e.
+    absurd (never_memory c.args.config.now c.args.bytes.now
+    (refused_with _ c.in_err-frame.field-0.0 (checked c.args.config.now c.args.bytes.now) c.in_err-frame.ensures.fault ∙ ap Err (sym (rw e at c.from_residual.ensures.1))))

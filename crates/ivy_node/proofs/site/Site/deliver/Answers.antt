@@ -5,7 +5,7 @@ use Rattle.ivy_link.specs.Accepted.{accepted}
 use Rattle.ivy_ether.specs.Marks.{Mark, Delivery}
 use Rattle.ivy_node.specs.Outboxes.{Outbox, with_link}
 use Rattle.ivy_node.specs.Sites.{IsSpentDelivery, host_of}
-use Rattle.ivy_node.proofs.Tame.{err_there}
+use Rattle.ivy_memory.proofs.Beginning.{err_there}
 use Rattle.ivy_node.proofs.Delivering.{IsHeard, spent_reading, not_mine, spent_message, heard_quietly, heard_message, heard_delivers, heard_site, heard_few}
 use Rattle.ivy_node.proofs.site.Site.deliver.Given.{Over}
 use Rattle.ivy_node.proofs.site.Site.deliver.Goals as goal

@@ -1,5 +1,5 @@
 use Rattle.std.proofs.Common.{◌≡◌, Result, Ok, Err, IsErrAnd, ap, ◌∙◌}
-use Rattle.ivy_node.proofs.Tame.{err_there}
+use Rattle.ivy_memory.proofs.Beginning.{err_there}
 use Rattle.ivy_node.proofs.Worlds.{running_spelled, runs_on}
 use Rattle.ivy_node.proofs.world.World.make.Goals as goal
 

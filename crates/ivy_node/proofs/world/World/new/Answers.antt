@@ -1,6 +1,6 @@
 use Rattle.std.proofs.Common.{rules}
 use Rattle.ivy_model.specs.Config.{IsConfig}
-use Rattle.ivy_node.specs.WorldSites.{IsBuilt}
+use Rattle.ivy_host.specs.Managers.{IsBuilt}
 use Rattle.ivy_node.proofs.Worlds.{first_running-of, first_run-of}
 use Rattle.ivy_node.proofs.world.World.new.Goals as goal
 

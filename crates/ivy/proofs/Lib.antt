@@ -1,0 +1,3 @@
+pub mod Printing
+pub mod Drawing
+pub mod Moving

@@ -1,0 +1,21 @@
+//! One move of a world that a command runs.
+ghost use Rattle.std.specs.Prelude.{◌≡◌, OnOk};
+ghost use Rattle.ivy.specs.UnderWay.{IsUnderWay};
+ghost use Rattle.ivy_host.specs.Holding.{AllSpell};
+
+use ivy_model::Fault;
+use ivy_node::{Move, World};
+use std::alloc::Allocator;
+
+/// Makes a move, or changes nothing [1, 17, 19].
+pub fn make<A: Allocator + Copy>(world: &mut World<A>, step: Move) -> Result<(), Fault>
+    requires under_way { IsUnderWay world.old }
+    ensures under_way { OnOk result (IsUnderWay world.new) }
+    ensures config { world.new.config ≡ world.old.config }
+    ensures spelled { AllSpell world.new.config world.new.world }
+{
+    match world.run(&[step]) {
+        Ok(()) => Ok(()),
+        Err((_place, fault)) => Err(fault),
+    }
+}

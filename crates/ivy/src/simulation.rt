@@ -1,0 +1,34 @@
+//! Worlds that run by drawn moves.
+ghost use Rattle.std.specs.Prelude.{◌≡◌, OnOk};
+ghost use Rattle.ivy_model.specs.Config.{IsConfig};
+ghost use Rattle.ivy_host.specs.Holding.{AllSpell};
+ghost use Rattle.ivy.specs.UnderWay.{IsUnderWay};
+
+use crate::draw::draw;
+use crate::moves::make;
+use ivy_model::{Config, Fault};
+use ivy_node::World;
+use rand_core::SeedableRng;
+use rand_pcg::Lcg64Xsh32;
+use std::alloc::Allocator;
+
+/// Makes so many moves, which the generator of a seed draws, up to the first that is refused [1, 17, 19].
+pub fn run_drawn<A: Allocator + Copy>(
+    config: &Config,
+    world: &mut World<A>,
+    seed: u64,
+    moves: u64,
+) -> Result<(), Fault>
+    requires limits { IsConfig config.now }
+    requires config { world.old.config ≡ config.now }
+    requires spelled { AllSpell world.old.config world.old.world }
+    requires under_way { IsUnderWay world.old }
+    ensures under_way { OnOk result (IsUnderWay world.new) }
+{
+    let mut generator = Lcg64Xsh32::seed_from_u64(seed);
+    for _ in 0..moves {
+        let step = draw(&mut generator, config.nodes, world.sent());
+        make(world, step)?;
+    }
+    Ok(())
+}

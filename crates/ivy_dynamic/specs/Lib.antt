@@ -1,0 +1,2 @@
+pub mod Dynamic
+pub mod DynamicLaws

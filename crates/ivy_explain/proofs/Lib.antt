@@ -1,0 +1,10 @@
+pub mod CopiedSteps
+pub mod CopiedWords
+pub mod CopiedRows
+pub mod WordsServed
+pub mod Owing
+pub mod CallsServed
+pub mod OwingEvents
+pub mod Faithful
+pub mod FaithfulOpening
+pub mod FaithfulWorlds

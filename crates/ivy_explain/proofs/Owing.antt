@@ -1,0 +1,96 @@
+-- The record that stands in the order of all records before its node has it, and what an event of a node adds to the
+-- order.
+use Rattle.std.proofs.Common.{◌≡◌, ◌≢◌, ◌<◌, ℕ, List, [], ◌∷◌, ◌++◌, Option, Some, None, refl, ap, sym, ◌∙◌}
+use Rattle.std.proofs.lemmas.List.{append-nil}
+use Rattle.std.proofs.lemmas.Option.{none-some}
+use Rattle.ivy_model.specs.declared.Config.{Config}
+use Rattle.ivy_model.specs.declared.Call.{Call}
+use Rattle.ivy_model.specs.declared.Record.{Record}
+use Rattle.ivy_model.specs.declared.Reply.{Reply}
+use Rattle.ivy_model.specs.Memory.{page_at}
+use Rattle.ivy_model.specs.Memory as model
+use Rattle.ivy_model.specs.Legal.{HasWidth, Leads}
+use Rattle.ivy_model.specs.Explains.{part, IsOwed}
+use Rattle.ivy_model.proofs.Parts.{part-own, part-other}
+use Rattle.ivy_pagetable.specs.declared.Word.{Word}
+use Rattle.ivy_pagetable.specs.Tables.{entry_at}
+use Rattle.ivy_program.specs.Steps.{Asks, step_of}
+use Rattle.ivy_program.specs.Runs.{IsRunTo}
+use Rattle.ivy_memory.specs.declared.Asked.TheVariants as asked
+use Rattle.ivy_memory.specs.Asking.{asked_of}
+use Rattle.ivy_memory.specs.Memories.{reply_there}
+use Rattle.ivy_host.specs.Hosts.{Host, number_of}
+use Rattle.ivy_order.proofs.LiftedEvents.{WaitsAt}
+use Rattle.ivy_explain.proofs.WordsServed.{Answers}
+
+-- of the call in progress, once its reply is there
+abbrev pub owed : ℕ → Option Call → Option Reply → List Record
+owed me None r = []
+owed me (Some c) None = []
+owed me (Some c) (Some r) = record { node = me; call = c; reply = r } ∷ []
+
+abbrev pub pending : {S : Type 0} → Host S → List Record
+pending n = owed (number_of n) n.memory.asked (reply_there n.memory.coherence.done)
+
+pub owed-unasked : (me : ℕ) (o : Option Call) (r : Option Reply) → o ≡ None → owed me o r ≡ []
+owed-unasked me None r e = refl
+owed-unasked me (Some c) r e = absurd (none-some c (sym e))
+
+pub owed-untold : (me : ℕ) (o : Option Call) (r : Option Reply) → r ≡ None → owed me o r ≡ []
+owed-untold me None r e = refl
+owed-untold me (Some c) None e = refl
+owed-untold me (Some c) (Some x) e = absurd (none-some x (sym e))
+
+-- it is nothing, or one record of the call in progress
+pub owed-owed : (me : ℕ) (o : Option Call) (r : Option Reply) → IsOwed o (owed me o r)
+owed-owed me None r = tt
+owed-owed me (Some call) None = tt
+owed-owed me (Some call) (Some r) = refl
+
+-- the flat memory makes it, and it is the node's
+pub owed-leads : (c : Config) (old new : model.Memory) (me : ℕ) (called : Call) (o : Option Reply) → me < c.nodes → HasWidth called → Answers c old called o new → Leads c old (owed me (Some called) o) new
+owed-leads c old new me called None here width answers = answers
+owed-leads c old new me called (Some r) here width answers = (new, record { node = here; width = width; served = answers }, refl)
+
+pub owed-own : (me i : ℕ) (called : Call) (o : Option Reply) → me ≡ i → part i (owed me (Some called) o) ≡ owed me (Some called) o
+owed-own me i called None same = refl
+owed-own me i called (Some r) same = part-own i (record { node = me; call = called; reply = r }) same
+
+pub owed-other : (me i j : ℕ) (called : Call) (o : Option Reply) → me ≡ i → j ≢ i → part j (owed me (Some called) o) ≡ []
+owed-other me i j called None same ne = refl
+owed-other me i j called (Some r) same ne = part-other j (record { node = me; call = called; reply = r }) (λ e. ne (sym e ∙ same))
+
+-- a record goes from what is owed, or from the call, to the history
+pub told_history : (history owes : List Record) (r : Record) → owes ≡ r ∷ [] → (history ++ r ∷ []) ++ [] ≡ history ++ owes
+told_history history owes r e = append-nil (history ++ r ∷ []) ∙ ap (λ xs. history ++ xs) (sym e)
+
+pub served_history : (history owes now : List Record) (r : Record) → owes ≡ [] → now ≡ [] → (history ++ r ∷ []) ++ now ≡ (history ++ owes) ++ r ∷ []
+served_history history owes now r e d =
+    ap (λ xs. (history ++ r ∷ []) ++ xs) d ∙ append-nil (history ++ r ∷ []) ∙ ap (λ xs. xs ++ r ∷ []) (sym (append-nil history) ∙ ap (λ xs. history ++ xs) (sym e))
+
+pub owing_history : (history owes now : List Record) → owes ≡ [] → history ++ now ≡ (history ++ owes) ++ now
+owing_history history owes now e = ap (λ xs. xs ++ now) (sym (append-nil history) ∙ ap (λ xs. history ++ xs) (sym e))
+
+-- the call asks for this word of a page
+abbrev pub IsWordOf : Config → Call → ℕ → Word → Type 0
+IsWordOf c called page word = asked_of c called ≡ asked.Word page word
+
+-- What holds of a node beside its copies: its history is a run of its program, which makes the call in progress, and the
+-- word that waits is that call's.
+pub record IsRunning {S : Type 0} (c : Config) (n : Host S) : Type 0 where
+  pub run : IsRunTo n.process.program n.history n.process.state
+  pub makes : (called : Call) → n.memory.asked ≡ Some called → step_of n.process ≡ Asks called
+  pub waits : (called : Call) (page : ℕ) (word : Word) (number : ℕ) → n.memory.asked ≡ Some called → n.memory.coherence.locked ≡ Some page
+      → WaitsAt (entry_at n.memory.coherence.table page) word number → IsWordOf c called page word
+
+-- What an event of node i comes to: the flat memory makes these records, all the node's own, and has these pages then.
+pub record Adds {S : Type 0} (c : Config) (old : model.Memory) (i : ℕ) (n n' : Host S) (pages : ℕ → List ℕ) : Type 0 where
+  pub more : List Record
+  pub new : model.Memory
+  pub legal : Leads c old more new
+  pub shows : (p : ℕ) → p < c.pages → pages p ≡ page_at c new p
+  pub own : part i more ≡ more
+  pub other : (j : ℕ) → j ≢ i → part j more ≡ []
+  pub history : n'.history ++ pending n' ≡ (n.history ++ pending n) ++ more
+  pub running : IsRunning c n'
+  pub program : n'.process.program ≡ n.process.program

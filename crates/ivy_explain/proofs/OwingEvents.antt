@@ -1,0 +1,268 @@
+-- What each event of a node adds to the order of all records. For every manager.
+use Rattle.std.proofs.Common.{◌≡◌, ◌<◌, ℕ, ◌+◌, List, [], ◌++◌, length, Option, Some, None, refl, ap, sym, ◌∙◌, subst, if◌then◌else◌, ◌==◌}
+use Rattle.std.proofs.lemmas.List.{append-nil}
+use Rattle.std.proofs.lemmas.Option.{same_Some, none-some}
+use Rattle.ivy_model.specs.declared.Config.{Config}
+use Rattle.ivy_model.specs.declared.Call.{Call}
+use Rattle.ivy_model.specs.declared.Record.{Record}
+use Rattle.ivy_model.specs.declared.Reply.{Reply}
+use Rattle.ivy_model.specs.declared.Reply.TheVariants as reply
+use Rattle.ivy_model.specs.Config.{IsConfig}
+use Rattle.ivy_model.specs.Memory.{IsSized, page_at}
+use Rattle.ivy_model.specs.Memory as model
+use Rattle.ivy_model.specs.Serves.{Serves}
+use Rattle.ivy_model.specs.Legal.{HasWidth}
+use Rattle.ivy_wire.specs.Data.{Message}
+use Rattle.ivy_pagetable.specs.declared.Entry.{Entry}
+use Rattle.ivy_pagetable.specs.declared.Entry.TheVariants as entry
+use Rattle.ivy_pagetable.specs.declared.Out.{Out}
+use Rattle.ivy_pagetable.specs.declared.Word.{Word}
+use Rattle.ivy_pagetable.specs.Tables.{entry_at}
+use Rattle.ivy_pagetable.specs.Words.{carried_out}
+use Rattle.ivy_pagetable.specs.Manager.{Ops}
+use Rattle.ivy_coherence.specs.Coherent.{Coherent}
+use Rattle.ivy_coherence.specs.Steps.{handled}
+use Rattle.ivy_coherence.specs.Faults.{Begun}
+use Rattle.ivy_coherence.proofs.Same.{handled-same}
+use Rattle.ivy_program.specs.States.{State, first_state}
+use Rattle.ivy_program.specs.Steps.{Local, Asks, step_of, at_state}
+use Rattle.ivy_program.proofs.Running.{runs_on, runs_answered, only_accesses}
+use Rattle.ivy_ether.specs.Cores.{Outcome}
+use Rattle.ivy_memory.specs.declared.Asked.TheVariants as asked
+use Rattle.ivy_memory.specs.Asking.{asked_of}
+use Rattle.ivy_memory.specs.Memories.{Memory, reply_of, reply_there, taken_out, answered, needed}
+use Rattle.ivy_host.specs.Hosts.{Host, number_of, recorded, begins_as, serving}
+use Rattle.ivy_host.specs.Sound.{IsSoundHost}
+use Rattle.ivy_order.specs.Letters.{Net}
+use Rattle.ivy_order.specs.Orderly.{IsOrderly}
+use Rattle.ivy_order.specs.Rows.{with_page}
+use Rattle.ivy_order.proofs.LiftedEvents.{WaitsAt, Carries, Tells, quiet, answers as is_answered, Starts, busy, hits, waits}
+use Rattle.ivy_order.proofs.LiftedHosts.{asks as access, HostTurn, answers, goes_on, refuses, asks_for, TurnTells}
+use Rattle.ivy_explain.specs.Copied.{IsCopied}
+use Rattle.ivy_explain.proofs.CopiedWords.{bytes_there}
+use Rattle.ivy_explain.proofs.WordsServed.{Answers, IsServed}
+use Rattle.ivy_explain.proofs.CallsServed.{word_served, refusal_served}
+use Rattle.ivy_explain.proofs.Owing.{owed, pending, owed-unasked, owed-untold, owed-leads, owed-own, owed-other, told_history, served_history, owing_history, IsWordOf, IsRunning, Adds}
+
+-- an orderly net whose copies are those of the flat memory
+abbrev pub Copies : {S : Type 0} → Config → (ℕ → S) → Net → (ℕ → List ℕ) → Type 0
+Copies c m n f = IsOrderly c n × IsCopied c n f
+
+-- a program's calls are legal
+asked_width : {S : Type 0} (n : Host S) (called : Call) → step_of n.process ≡ Asks called → HasWidth called
+asked_width n called step = (only_accesses n.process.program n.process.state called step).1
+
+-- one word waits at an entry
+one_word : (e : Entry) (w v : Word) (j k : ℕ) → WaitsAt e w j → WaitsAt e v k → w ≡ v
+one_word (entry.Idle s) w v j k a b = absurd a
+one_word (entry.AwaitRead s) w v j k a b = sym a.0 ∙ b.0
+one_word (entry.AwaitWrite s) w v j k a b = sym a.0 ∙ b.0
+one_word (entry.AwaitAcks s) w v j k a b = sym a.0 ∙ b.0
+
+with_page-same : (f g : ℕ → List ℕ) (p q : ℕ) (b d : List ℕ) → b ≡ d → f q ≡ g q → with_page f p b q ≡ with_page g p d q
+with_page-same f g p q b d e h = ap (λ z. if q == p then z else f q) e ∙ ap (λ z. if q == p then d else z) h
+
+-- what a word that was carried out came to
+record Came (c : Config) (mem : model.Memory) (called : Call) (out : Out) (pages : ℕ → List ℕ) : Type 0 where
+  new : model.Memory
+  gives : Answers c mem called (reply_of out) new
+  shows : (p : ℕ) → p < c.pages → pages p ≡ page_at c new p
+
+module _ {S : Type 0} (ops : Ops S) (c : Config) (config : IsConfig c) (x : ℕ) (mem : model.Memory) (sized : IsSized c mem) (f : ℕ → List ℕ) (shows : (p : ℕ) → p < c.pages → f p ≡ page_at c mem p)
+    (n : Host S) (good : IsSoundHost ops c x n) (running : IsRunning c n) where
+  here : number_of n < c.nodes
+  here = subst (λ k. number_of n < k.nodes) good.config good.memory.coherent.here
+
+  same_pages : (flat : ℕ → List ℕ) → flat ≡ f → (p : ℕ) → p < c.pages → flat p ≡ page_at c mem p
+  same_pages flat same p inside = ap (λ g. g p) same ∙ shows p inside
+
+  -- nothing is added
+  silent : (n' : Host S) (flat : ℕ → List ℕ) → flat ≡ f → n'.history ++ pending n' ≡ n.history ++ pending n → IsRunning c n' → n'.process.program ≡ n.process.program → Adds c mem x n n' flat
+  silent n' flat same history now program = record {
+    more = [];
+    new = mem;
+    legal = refl;
+    shows = same_pages flat same;
+    own = refl;
+    other = λ j ne. refl;
+    history = history ∙ sym (append-nil (n.history ++ pending n));
+    running = now;
+    program = program;
+  }
+
+  -- a call is answered, or waits on
+  owing : (n' : Host S) (flat : ℕ → List ℕ) (called : Call) (o : Option Reply) (new : model.Memory) → HasWidth called → Answers c mem called o new → ((p : ℕ) → p < c.pages → flat p ≡ page_at c new p)
+      → n'.history ++ pending n' ≡ (n.history ++ pending n) ++ owed (number_of n) (Some called) o → IsRunning c n' → n'.process.program ≡ n.process.program → Adds c mem x n n' flat
+  owing n' flat called o new legal given pages history now program = record {
+    more = owed (number_of n) (Some called) o;
+    new = new;
+    legal = owed-leads c mem new (number_of n) called o here legal given;
+    shows = pages;
+    own = owed-own (number_of n) x called o good.me;
+    other = λ j ne. owed-other (number_of n) x j called o good.me ne;
+    history = history;
+    running = now;
+    program = program;
+  }
+
+  -- a word is carried out on the flat memory's page
+  came : (page : ℕ) (word : Word) (out : Out) (flat : ℕ → List ℕ) (called : Call) → HasWidth called → IsWordOf c called page word → Carries (Copies {S = S} c) c x f page word out flat → Came c mem called out flat
+  came page word out flat called legal of k =
+      let same : k.net.page x page ≡ page_at c mem page = bytes_there c k.net f x page k.state word k.idle k.enough k.holds.1 ∙ shows page k.inside in
+      let served : IsServed c mem called page (carried_out word (page_at c mem page)) = word_served c mem sized config called page word legal of in
+      record {
+        new = served.new;
+        gives = subst (λ o. Answers c mem called (reply_of o) served.new) (sym (k.gives ∙ ap (λ b. (carried_out word b).out) same)) served.answers;
+        shows = λ p inside.
+            ap (λ g. g p) k.after
+            ∙ with_page-same f (page_at c mem) page p (carried_out word (f page)).bytes (carried_out word (page_at c mem page)).bytes (ap (λ b. (carried_out word b).bytes) (shows page k.inside)) (shows p inside)
+            ∙ sym (served.pages p inside);
+      }
+
+  -- the reply of the call in progress is recorded
+  records_reply : (called : Call) (r : Reply) → n.memory.asked ≡ Some called → reply_there n.memory.coherence.done ≡ Some r → (flat : ℕ → List ℕ) → flat ≡ f → Adds c mem x n (recorded n (taken_out n.memory) called r) flat
+  records_reply called r asked there flat same =
+      let given : Record = record { node = number_of n; call = called; reply = r } in
+      silent (recorded n (taken_out n.memory) called r) flat same
+      (told_history n.history (pending n) given (ap (λ a. owed (number_of n) a (reply_there n.memory.coherence.done)) asked ∙ ap (owed (number_of n) (Some called)) there))
+      (record {
+        run = runs_answered n.process.program n.history first_state n.process.state given running.run (running.makes called asked);
+        makes = λ other is. absurd (none-some other is);
+        waits = λ other page word number is. absurd (none-some other is);
+      })
+      refl
+
+  -- the program goes on by itself
+  goes_alone : (s : State) → n.memory.asked ≡ None → step_of n.process ≡ Local s → (flat : ℕ → List ℕ) → flat ≡ f → Adds c mem x n (record n { process = at_state n.process s }) flat
+  goes_alone s idle step flat same = silent (record n { process = at_state n.process s }) flat same refl
+      (record {
+        run = runs_on n.process.program n.history first_state n.process.state s running.run step;
+        makes = λ other is. absurd (none-some other (sym idle ∙ is));
+        waits = λ other page word number is. absurd (none-some other (sym idle ∙ is));
+      })
+      refl
+
+  -- a call is answered at once: its record is the node's, and stands in the order
+  records_call : (m : Memory S) (called : Call) (r : Reply) (new : model.Memory) → n.memory.asked ≡ None → step_of n.process ≡ Asks called → m.asked ≡ None → Serves c mem called r new → (flat : ℕ → List ℕ)
+      → ((p : ℕ) → p < c.pages → flat p ≡ page_at c new p) → Adds c mem x n (recorded n m called r) flat
+  records_call m called r new idle step free serves flat pages =
+      let given : Record = record { node = number_of n; call = called; reply = r } in
+      owing (recorded n m called r) flat called (Some r) new (asked_width n called step) serves pages
+      (served_history n.history (pending n) (pending (recorded n m called r)) given (owed-unasked (number_of n) n.memory.asked (reply_there n.memory.coherence.done) idle)
+      (owed-unasked m.coherence.me m.asked (reply_there m.coherence.done) free))
+      (record {
+        run = runs_answered n.process.program n.history first_state n.process.state given running.run step;
+        makes = λ other is. absurd (none-some other (sym free ∙ is));
+        waits = λ other page word number is. absurd (none-some other (sym free ∙ is));
+      })
+      refl
+
+  -- a call is in progress from now on, and has no reply yet
+  call_waits : (k : Coherent S) (called : Call) (flat : ℕ → List ℕ) → n.memory.asked ≡ None → step_of n.process ≡ Asks called → k.done ≡ n.memory.coherence.done
+      → ((p : ℕ) → p < c.pages → flat p ≡ page_at c mem p)
+      → ((page : ℕ) (word : Word) (number : ℕ) → k.locked ≡ Some page → WaitsAt (entry_at k.table page) word number → IsWordOf c called page word)
+      → Adds c mem x n (record n { memory = record { coherence = k; asked = Some called } }) flat
+  call_waits k called flat idle step done pages waiting =
+      let untold : reply_there k.done ≡ None = ap reply_there (done ∙ good.memory.done idle) in
+      owing (record n { memory = record { coherence = k; asked = Some called } }) flat called None mem (asked_width n called step) refl pages
+      (ap (λ xs. n.history ++ xs) (owed-untold k.me (Some called) (reply_there k.done) untold)
+      ∙ owing_history n.history (pending n) [] (owed-unasked (number_of n) n.memory.asked (reply_there n.memory.coherence.done) idle))
+      (record {
+        run = running.run;
+        makes = λ other is. step ∙ ap Asks (same_Some called other is);
+        waits = λ other page word number is lock there. subst (λ d. IsWordOf c d page word) (same_Some called other is) (waiting page word number lock there);
+      })
+      refl
+
+  module _ (called : Call) (page : ℕ) (word : Word) (idle : n.memory.asked ≡ None) (step : step_of n.process ≡ Asks called) (of : IsWordOf c called page word) where
+    abbrev begun_now : Begun S
+    begun_now = access ops n page word
+
+    -- a word that is carried out at once gives the call's reply, or none yet
+    hit_adds : (e : Outcome (Host S)) (flat : ℕ → List ℕ) (o : Option Reply) (new : model.Memory) → begun_now.after.done ≡ n.memory.coherence.done → begun_now.after.locked ≡ n.memory.coherence.locked
+        → Answers c mem called o new → ((p : ℕ) → p < c.pages → flat p ≡ page_at c new p) → begins_as n called (answered called begun_now o) ≡ Some e → Adds c mem x n e.after flat
+    hit_adds e flat None new done locked given pages is =
+        subst (λ (z : Outcome (Host S)). Adds c mem x n z.after flat)
+        (same_Some (record { after = record n { memory = record { coherence = begun_now.after; asked = Some called } }; posted = begun_now.posted }) e is)
+        (call_waits begun_now.after called flat idle step done (λ p inside. pages p inside ∙ ap (λ m. page_at c m p) given)
+        (λ q w number lock there. absurd (none-some q (sym (good.memory.locked idle) ∙ sym locked ∙ lock))))
+    hit_adds e flat (Some r) new done locked given pages is =
+        subst (λ (z : Outcome (Host S)). Adds c mem x n z.after flat)
+        (same_Some (record { after = recorded n (record { coherence = begun_now.after; asked = None }) called r; posted = begun_now.posted }) e is)
+        (records_call (record { coherence = begun_now.after; asked = None }) called r new idle step refl given flat pages)
+
+    starts_adds : (e : Outcome (Host S)) (flat : ℕ → List ℕ) (number : ℕ) → begins_as n called (needed n.memory called begun_now begun_now.need) ≡ Some e
+        → Starts (Copies {S = S} c) c x f page word number n.memory.coherence begun_now.need begun_now.after flat → Adds c mem x n e.after flat
+    starts_adds e flat number is (busy q lock needs after same) = absurd (none-some q (sym (good.memory.locked idle) ∙ lock))
+    starts_adds e flat number is (hits out needs done locked carries) =
+        let k : Came c mem called out flat = came page word out flat called (asked_width n called step) of carries in
+        hit_adds e flat (reply_of out) k.new done locked k.gives k.shows (sym (ap (λ d. begins_as n called (needed n.memory called begun_now d)) needs) ∙ is)
+    starts_adds e flat number is (waits needs same done locked there) =
+        subst (λ (z : Outcome (Host S)). Adds c mem x n z.after flat)
+        (same_Some (record { after = record n { memory = record { coherence = begun_now.after; asked = Some called } }; posted = begun_now.posted }) e
+        (sym (ap (λ d. begins_as n called (needed n.memory called begun_now d)) needs) ∙ is))
+        (call_waits begun_now.after called flat idle step done (same_pages flat same)
+        (λ q w j lock waiting. (
+        let at : page ≡ q = same_Some page q (sym locked ∙ lock) in
+        let one : word ≡ w = one_word (entry_at begun_now.after.table page) word w number j there (subst (λ r. WaitsAt (entry_at begun_now.after.table r) w j) (sym at) waiting) in
+        subst (λ r. IsWordOf c called r w) at (subst (IsWordOf c called page) one of)
+        )))
+
+  -- a turn
+  pub turn_adds : (e : Outcome (Host S)) (turn : HostTurn ops c n e) (flat : ℕ → List ℕ) → TurnTells (Copies {S = S} c) c x f n e turn flat → Adds c mem x n e.after flat
+  turn_adds e (answers called r asked there is) flat tells = subst (λ (z : Outcome (Host S)). Adds c mem x n z.after flat) (sym is) (records_reply called r asked there flat tells)
+  turn_adds e (goes_on s idle step is) flat tells = subst (λ (z : Outcome (Host S)). Adds c mem x n z.after flat) (sym is) (goes_alone s idle step flat tells)
+  turn_adds e (refuses called code idle step refusal is) flat tells =
+      subst (λ (z : Outcome (Host S)). Adds c mem x n z.after flat) (sym is)
+      (records_call n.memory called (reply.Refused code) mem idle step idle (refusal_served c mem sized called code (subst (λ k. asked_of k called ≡ asked.Refused code) good.config refusal)) flat (same_pages flat tells))
+  turn_adds e (asks_for called page word idle step of inside lies few is) flat tells =
+      starts_adds called page word idle step (subst (λ k. IsWordOf k called page word) good.config of) e flat (length n.history + 1) is tells
+
+  -- a message
+  module _ (source : ℕ) (m : Message) where
+    abbrev told : Coherent S
+    told = (handled ops n.memory.coherence source m).after
+
+    abbrev told_host : Host S
+    told_host = record n { memory = record n.memory { coherence = told } }
+
+    same_me : told.me ≡ number_of n
+    same_me = (handled-same ops n.memory.coherence source m).me
+
+    quiet_adds : (flat : ℕ → List ℕ) → flat ≡ f → told.done ≡ n.memory.coherence.done → told.locked ≡ n.memory.coherence.locked
+        → ((q : ℕ) (word : Word) (number : ℕ) → WaitsAt (entry_at told.table q) word number → WaitsAt (entry_at n.memory.coherence.table q) word number) → Adds c mem x n told_host flat
+    quiet_adds flat same done locked waiting = silent told_host flat same
+        (ap (λ me. n.history ++ owed me n.memory.asked (reply_there told.done)) same_me ∙ ap (λ d. n.history ++ owed (number_of n) n.memory.asked (reply_there d)) done)
+        (record {
+          run = running.run;
+          makes = running.makes;
+          waits = λ called page word number asked lock there. running.waits called page word number asked (sym locked ∙ lock) (waiting page word number there);
+        })
+        refl
+
+    -- the word that waited is carried out
+    answer_adds : (flat : ℕ → List ℕ) (page : ℕ) (word : Word) (number : ℕ) (out : Out) (a : Option Call) → n.memory.asked ≡ a → n.memory.coherence.locked ≡ Some page
+        → WaitsAt (entry_at n.memory.coherence.table page) word number → told.locked ≡ None → told.done ≡ Some out → Carries (Copies {S = S} c) c x f page word out flat → Adds c mem x n told_host flat
+    answer_adds flat page word number out None idle lock there free done carries = absurd (none-some page (sym (good.memory.locked idle) ∙ lock))
+    answer_adds flat page word number out (Some called) asked lock there free done carries =
+        let k : Came c mem called out flat = came page word out flat called (asked_width n called (running.makes called asked)) (running.waits called page word number asked lock there) carries in
+        let before : pending n ≡ [] = owed-untold (number_of n) n.memory.asked (reply_there n.memory.coherence.done) (ap reply_there (untold n.memory.coherence.done refl)) in
+        let now : pending told_host ≡ owed (number_of n) (Some called) (reply_of out)
+        = ap (λ me. owed me n.memory.asked (reply_there told.done)) same_me ∙ ap (λ b. owed (number_of n) b (reply_there told.done)) asked ∙ ap (λ d. owed (number_of n) (Some called) (reply_there d)) done in
+        owing told_host flat called (reply_of out) k.new (asked_width n called (running.makes called asked)) k.gives k.shows
+        (ap (λ xs. n.history ++ xs) now ∙ owing_history n.history (pending n) (owed (number_of n) (Some called) (reply_of out)) before)
+        (record {
+          run = running.run;
+          makes = running.makes;
+          waits = λ other q w j is locked. absurd (none-some q (sym free ∙ locked));
+        })
+        refl
+      where
+        untold : (d : Option Out) → n.memory.coherence.done ≡ d → n.memory.coherence.done ≡ None
+        untold None is = is
+        untold (Some o) is = absurd (none-some page (sym (good.memory.answered o is) ∙ lock))
+
+    pub message_adds : (flat : ℕ → List ℕ) → Tells (Copies {S = S} c) c x f n.memory.coherence told flat → Adds c mem x n (serving ops n source m).after flat
+    unfolding serving
+    message_adds flat (quiet same done locked waiting) = quiet_adds flat same done locked waiting
+    message_adds flat (is_answered page word number out lock there free done carries) = answer_adds flat page word number out n.memory.asked refl lock there free done carries

@@ -1,0 +1,29 @@
+-- A call that begins leaves a node who it is.
+use Rattle.std.proofs.Common.{◌≡◌, ◌+◌, ◌^◌, Bool, true, false, length, Option, Some, None, nat_lt, subst, if◌then◌else◌}
+use Rattle.std.proofs.lemmas.Option.{same_Some, none-some}
+use Rattle.ivy_model.specs.declared.Call.{Call}
+use Rattle.ivy_pagetable.specs.Manager.{Ops}
+use Rattle.ivy_ether.specs.Cores.{Outcome}
+use Rattle.ivy_memory.specs.declared.Answer.{Answer}
+use Rattle.ivy_memory.specs.declared.Answer.TheVariants.{Given, Awaited, Unserved}
+use Rattle.ivy_memory.specs.Memories.{CallBegun, call_begun}
+use Rattle.ivy_host.specs.Hosts.{Host, recorded, begins, begins_as, begins_with}
+use Rattle.ivy_memory.proofs.Tame.{SameNode, call-same}
+
+module _ {S : Type 0} (ops : Ops S) where
+  abbrev IsSame : Host S → Outcome (Host S) → Type 0
+  IsSame n o = SameNode n.memory.coherence o.after.memory.coherence
+
+  with-same : (n : Host S) (c : Call) (a : CallBegun S) (r : Answer) (o : Outcome (Host S)) → SameNode n.memory.coherence a.after.coherence → begins_with n c a r ≡ Some o → IsSame n o
+  with-same n c a (Given r) o same is = subst (IsSame n) (same_Some (record { after = recorded n a.after c r; posted = a.posted }) o is) same
+  with-same n c a Awaited o same is = subst (IsSame n) (same_Some (record { after = record n { memory = a.after }; posted = a.posted }) o is) same
+  with-same n c a Unserved o same is = absurd (none-some o is)
+
+  if-same : (n : Host S) (c : Call) (b : Bool) (o : Outcome (Host S)) → (if b then begins_as n c (call_begun ops n.memory c (length n.history + 1)) else None) ≡ Some o → IsSame n o
+  if-same n c false o is = absurd (none-some o is)
+  if-same n c true o is =
+      let a : CallBegun S = call_begun ops n.memory c (length n.history + 1) in
+      with-same n c a a.answer o (call-same ops n.memory c (length n.history + 1)) is
+
+  pub begins-same : (n : Host S) (c : Call) (o : Outcome (Host S)) → begins ops n c ≡ Some o → SameNode n.memory.coherence o.after.memory.coherence
+  begins-same n c o is = if-same n c (nat_lt (length n.history + 1) (2 ^ 64)) o is

@@ -1,0 +1,93 @@
+-- What a node is but for its link: its memory, its program and the history of its calls; and what a turn and a
+-- message do to it.
+use Rattle.std.specs.Prelude.{ℕ, ◌+◌, ◌^◌, List, [], ◌∷◌, ◌++◌, length, nat_lt, Option, Some, None, if◌then◌else◌}
+use Rattle.ivy_model.specs.declared.Config.{Config}
+use Rattle.ivy_model.specs.declared.Call.{Call}
+use Rattle.ivy_model.specs.declared.Record.{Record}
+use Rattle.ivy_model.specs.declared.Reply.{Reply}
+use Rattle.ivy_model.specs.Explains.{Answered}
+use Rattle.ivy_wire.specs.Data.{Message}
+use Rattle.ivy_pagetable.specs.Manager.{Ops}
+use Rattle.ivy_coherence.specs.Steps.{handled}
+use Rattle.ivy_coherence.specs.Sound.{first_coherent}
+use Rattle.ivy_program.specs.declared.Instruction.{Instruction}
+use Rattle.ivy_program.specs.States.{first_state}
+use Rattle.ivy_program.specs.Steps.{Process, Step, Local, Asks, Ends, step_of, at_state, answered_with}
+use Rattle.ivy_ether.specs.Cores.{Core, Outcome}
+use Rattle.ivy_memory.specs.declared.Answer.{Answer}
+use Rattle.ivy_memory.specs.declared.Answer.TheVariants.{Given, Awaited, Unserved}
+use Rattle.ivy_memory.specs.Memories.{Memory, CallBegun, call_begun, reply_there, taken_out, memory_told}
+
+pub record Host (S : Type 0) : Type 0 where
+  pub memory : Memory S
+  pub process : Process
+  pub history : List Record
+
+module _ {S : Type 0} where
+  abbrev pub number_of : Host S → ℕ
+  number_of n = n.memory.coherence.me
+
+  -- what the node was answered, and the call that it has in progress
+  abbrev pub answered_by : Host S → Answered
+  answered_by n = record { history = n.history; asked = n.memory.asked }
+
+  -- a reply is recorded, and the program goes on with it
+  abbrev pub recorded : Host S → Memory S → Call → Reply → Host S
+  recorded n m c r = record {
+    memory = m;
+    process = answered_with n.process r;
+    history = n.history ++ record { node = number_of n; call = c; reply = r } ∷ [];
+  }
+
+  abbrev pub quietly : Host S → Outcome (Host S)
+  quietly n = record { after = n; posted = [] }
+
+  -- the call in progress: it waits, or its reply is there
+  abbrev pub replied : Host S → Call → Option Reply → Option (Outcome (Host S))
+  replied n c None = None
+  replied n c (Some r) = Some (quietly (recorded n (taken_out n.memory) c r))
+
+  -- a call begins: it is answered at once, or it is in progress from now on; none where it does not begin
+  abbrev pub begins_with : Host S → Call → CallBegun S → Answer → Option (Outcome (Host S))
+  begins_with n c a (Given r) = Some (record { after = recorded n a.after c r; posted = a.posted })
+  begins_with n c a Awaited = Some (record { after = record n { memory = a.after }; posted = a.posted })
+  begins_with n c a Unserved = None
+
+  abbrev pub begins_as : Host S → Call → CallBegun S → Option (Outcome (Host S))
+  begins_as n c a = begins_with n c a a.answer
+
+module _ {S : Type 0} (ops : Ops S) where
+  -- the number of a call is one more than the records before it, as long as there are numbers
+  abbrev pub begins : Host S → Call → Option (Outcome (Host S))
+  begins n c =
+      if nat_lt (length n.history + 1) (2 ^ 64) then begins_as n c (call_begun ops n.memory c (length n.history + 1)) else None
+
+  abbrev pub steps : Host S → Step → Option (Outcome (Host S))
+  steps n (Local s) = Some (quietly (record n { process = at_state n.process s }))
+  steps n (Asks c) = begins n c
+  steps n Ends = None
+
+  abbrev pub turned_at : Host S → Option Call → Option (Outcome (Host S))
+  turned_at n (Some c) = replied n c (reply_there n.memory.coherence.done)
+  turned_at n None = steps n (step_of n.process)
+
+  -- one turn of the program; none where it changes nothing
+  unfoldable pub turn_of : Host S → Option (Outcome (Host S))
+  turn_of n = turned_at n n.memory.asked
+
+  -- a message that comes from another node
+  unfoldable pub serving : Host S → ℕ → Message → Outcome (Host S)
+  serving n from m = record {
+    after = record n { memory = memory_told ops n.memory from m };
+    posted = (handled ops n.memory.coherence from m).posted;
+  }
+
+  abbrev pub host_rules : Core (Host S)
+  host_rules = record { turn = turn_of; serve = serving }
+
+  abbrev pub first_host : Config → ℕ → List Instruction → Host S
+  first_host c me program = record {
+    memory = record { coherence = first_coherent ops c me; asked = None };
+    process = record { program = program; state = first_state };
+    history = [];
+  }

@@ -1,0 +1,5 @@
+pub mod Managers
+pub mod Hosts
+pub mod Sound
+pub mod Openings
+pub mod Holding

@@ -1,0 +1,12 @@
+-- What holds of a node but for its link, whatever comes to it.
+use Rattle.std.specs.Prelude.{◌≡◌, ℕ}
+use Rattle.ivy_model.specs.declared.Config.{Config}
+use Rattle.ivy_pagetable.specs.Manager.{Ops}
+use Rattle.ivy_host.specs.Hosts.{Host}
+use Rattle.ivy_memory.specs.Sound.{IsSoundMemory}
+
+-- node i of this configuration
+pub record IsSoundHost {S : Type 0} (ops : Ops S) (c : Config) (i : ℕ) (n : Host S) : Type 0 where
+  pub memory : IsSoundMemory ops n.memory
+  pub config : n.memory.coherence.config ≡ c
+  pub me : n.memory.coherence.me ≡ i

@@ -1,0 +1,4 @@
+pub mod Asking
+pub mod Tame
+pub mod Beginning
+pub mod Same

@@ -1,0 +1,353 @@
+-- Accesses and messages keep what holds of a memory, and post only what can be sent. For every manager that keeps the laws.
+use Rattle.std.proofs.Common.{◌≡◌, ◌≢◌, ℕ, ◌+◌, ◌*◌, ◌/◌, ◌%◌, ◌^◌, ◌<◌, ◌≤◌, ◌⊎◌, inl, inr, Bool, true, false, List, [], ◌∷◌, length, Option, Some, None, refl, sym, ap, ◌∙◌, arith, if◌then◌else◌, ◌==◌}
+use Rattle.std.specs.Prelude.{All}
+use Rattle.std.specs.FinSet as set
+use Rattle.std.proofs.lemmas.Bool.{eqb-true}
+use Rattle.std.proofs.lemmas.List.Elements.{All-contains, All-from_recursion}
+use Rattle.std.proofs.lemmas.Option.{same_Some, none-some}
+use Rattle.ivy_model.specs.declared.Config.{Config}
+use Rattle.ivy_model.specs.declared.Call.{Call}
+use Rattle.ivy_model.specs.declared.Call.TheVariants as call
+use Rattle.ivy_model.specs.declared.Reply.{Reply}
+use Rattle.ivy_model.specs.Config.{IsConfig}
+use Rattle.ivy_model.specs.Legal.{HasWidth}
+use Rattle.ivy_model.specs.Serves.{access_refusal}
+use Rattle.ivy_model.proofs.Limits.{page_has_words}
+use Rattle.ivy_model.proofs.Sizes.{access_placed}
+use Rattle.ivy_model.proofs.Words.{IsPlaced}
+use Rattle.ivy_wire.specs.declared.Content.TheVariants as content
+use Rattle.ivy_wire.specs.Data.{Content, Message}
+use Rattle.ivy_wire.specs.Spelling.{FitsMessage, FitsParcel}
+use Rattle.ivy_pagetable.specs.declared.Entry.{Entry}
+use Rattle.ivy_pagetable.specs.declared.Entry.TheVariants as entry
+use Rattle.ivy_pagetable.specs.declared.Out.{Out}
+use Rattle.ivy_pagetable.specs.declared.PutOff.{PutOff}
+use Rattle.ivy_pagetable.specs.declared.Request.TheVariants as request
+use Rattle.ivy_pagetable.specs.declared.Word.{Word}
+use Rattle.ivy_pagetable.specs.NodeSets.{Nodes, nodes_with}
+use Rattle.ivy_pagetable.specs.States.{IdleState, WaitingState}
+use Rattle.ivy_pagetable.specs.Entries.{is_locked, can_put_off, copying, owning}
+use Rattle.ivy_pagetable.specs.Tables.{entry_at, page_at}
+use Rattle.ivy_pagetable.specs.Words.{IsWord}
+use Rattle.ivy_pagetable.specs.Manager.{Ops, Laws}
+use Rattle.ivy_coherence.specs.declared.Need.{Need}
+use Rattle.ivy_coherence.specs.declared.Need.TheVariants as need
+use Rattle.ivy_coherence.specs.Coherent.{Coherent}
+use Rattle.ivy_coherence.specs.Steps.{Effect, is_none, is_order, breach, unlocked, put_aside, given_up, asked, copy_came, owned_with, page_came, left_with, acknowledged, handled, handled_as}
+use Rattle.ivy_coherence.specs.Faults.{Begun, hit, faulted, accessed, begun, begun_at, busy, suffices}
+use Rattle.ivy_coherence.specs.Sound.{IsSound, first_coherent}
+use Rattle.ivy_coherence.proofs.Keeping.{handled-keeps, begun-keeps, first-sound}
+use Rattle.ivy_coherence.proofs.IdleServing.{all_none}
+use Rattle.ivy_coherence.proofs.Few.{begun-few}
+use Rattle.ivy_memory.specs.declared.answer.Answer.TheVariants.{Awaited}
+use Rattle.ivy_memory.specs.declared.asked.Asked.{Asked}
+use Rattle.ivy_memory.specs.declared.asked.Asked.TheVariants as asked
+use Rattle.ivy_memory.specs.Asking.{CanAsk, asked_of}
+use Rattle.ivy_memory.specs.Memories.{Memory, CallBegun, reply_of, reply_there, taken_out, answered, needed, begun_as, call_begun, memory_told}
+use Rattle.ivy_memory.proofs.Asking.{can_ask}
+use Rattle.ivy_memory.specs.Sound.{IsSoundMemory}
+
+-- the node stays who it is
+pub record SameNode {S : Type 0} (old new : Coherent S) : Type 0 where
+  pub config : new.config ≡ old.config
+  pub me : new.me ≡ old.me
+
+-- a message leaves the word that waits as it is, or that word was carried out
+abbrev pub Told : {S : Type 0} → Coherent S → Coherent S → Type 0
+Told old new = SameNode old new × (((new.locked ≡ old.locked) × (new.done ≡ old.done)) ⊎ ((p : ℕ) × (old.locked ≡ Some p) × (new.locked ≡ None)))
+
+-- an access carries out no word that waited, and one waits from now on only where the access is told so
+pub record Begins {S : Type 0} (c : Coherent S) (b : Begun S) : Type 0 where
+  pub same : SameNode c b.after
+  pub done : b.after.done ≡ c.done
+  pub lock : (o : Out) → b.need ≡ need.Have o → b.after.locked ≡ c.locked
+  pub busy : b.need ≡ need.Busy → b.after ≡ c
+  pub none : b.need ≡ need.Busy → b.posted ≡ []
+
+reply_done : (d : Option Out) (r : Reply) → reply_there d ≡ Some r → (o : Out) × (d ≡ Some o)
+reply_done None r h = absurd (none-some r h)
+reply_done (Some o) r h = (o, refl)
+
+module _ {S : Type 0} where
+  either-told : (c : Coherent S) (b : Bool) (x y : Effect S) → Told c x.after → Told c y.after → Told c (if b then x else y).after
+  either-told c true x y h k = h
+  either-told c false x y h k = k
+
+  stays : {c : Coherent S} {new : Coherent S} → new.config ≡ c.config → new.me ≡ c.me → new.locked ≡ c.locked → new.done ≡ c.done → Told c new
+  stays config me locked done = (record { config = config; me = me }, inl (locked, done))
+
+  either-begins : (c : Coherent S) (b : Bool) (x y : Begun S) → Begins c x → Begins c y → Begins c (if b then x else y)
+  either-begins c true x y h k = h
+  either-begins c false x y h k = k
+
+  answered-fits : (k : Config) (me : ℕ) (c : Call) (b : Begun S) (r : Option Reply) → All (FitsParcel k me) b.posted → All (FitsParcel k me) (answered c b r).posted
+  answered-fits k me c b None fits = fits
+  answered-fits k me c b (Some r) fits = fits
+
+  needed-fits : (k : Config) (me : ℕ) (m : Memory S) (c : Call) (b : Begun S) (n : Need) → All (FitsParcel k me) b.posted → All (FitsParcel k me) (needed m c b n).posted
+  needed-fits k me m c b (need.Have o) fits = answered-fits k me c b (reply_of o) fits
+  needed-fits k me m c b need.Started fits = fits
+  needed-fits k me m c b need.Busy fits = all_none (FitsParcel k me)
+
+  answered-same : (m : Memory S) (c : Call) (b : Begun S) (r : Option Reply) → SameNode m.coherence b.after → SameNode m.coherence (answered c b r).after.coherence
+  answered-same m c b None same = same
+  answered-same m c b (Some r) same = same
+
+  needed-same : (m : Memory S) (c : Call) (b : Begun S) (n : Need) → SameNode m.coherence b.after → SameNode m.coherence (needed m c b n).after.coherence
+  needed-same m c b (need.Have o) same = answered-same m c b (reply_of o) same
+  needed-same m c b need.Started same = same
+  needed-same m c b need.Busy same = record { config = refl; me = refl }
+
+  answered-posted : (c : Call) (b : Begun S) (r : Option Reply) → (answered c b r).posted ≡ b.posted
+  answered-posted c b None = refl
+  answered-posted c b (Some r) = refl
+
+  -- what is posted is what the access posts
+  pub needed-posted : (m : Memory S) (c : Call) (b : Begun S) (n : Need) → Begins m.coherence b → b.need ≡ n → (needed m c b n).posted ≡ b.posted
+  needed-posted m c b (need.Have o) bs is = answered-posted c b (reply_of o)
+  needed-posted m c b need.Started bs is = refl
+  needed-posted m c b need.Busy bs is = sym (bs.none is)
+
+module _ {S : Type 0} (ops : Ops S) where
+  put_aside-told : (c : Coherent S) (page : ℕ) (e : Entry) (q : PutOff) → Told c (put_aside ops c page e q).after
+  put_aside-told c page e q = either-told c (can_put_off e) _ _ (stays refl refl refl refl) (stays refl refl refl refl)
+
+  asked-told : (c : Coherent S) (page : ℕ) (q : PutOff) (e : Entry) → Told c (asked ops c page q e).after
+  asked-told c page q (entry.Idle s) = stays refl refl refl refl
+  asked-told c page q (entry.AwaitRead s) = put_aside-told c page (entry.AwaitRead s) q
+  asked-told c page q (entry.AwaitWrite s) = either-told c (is_order q.kind) (given_up ops c page s.waiting q) (put_aside ops c page (entry.AwaitWrite s) q) (stays refl refl refl refl) (put_aside-told c page (entry.AwaitWrite s) q)
+  asked-told c page q (entry.AwaitAcks s) = either-told c (is_order q.kind) (breach ops c) (put_aside ops c page (entry.AwaitAcks s) q) (stays refl refl refl refl) (put_aside-told c page (entry.AwaitAcks s) q)
+
+  -- the word that waited was carried out
+  unlocked-told : (c : Coherent S) (from page : ℕ) (idle : IdleState) (reply : Option Bool) (bytes : List ℕ) (s : WaitingState) → c.locked ≡ Some page → Told c (unlocked ops c from page idle reply bytes s).after
+  unlocked-told c from page idle reply bytes s locked = (record { config = refl; me = refl }, inr (page, locked, refl))
+
+  copy_came-told : (c : Coherent S) (from call page : ℕ) (bytes : List ℕ) (e : Entry) → IsSound ops c → entry_at c.table page ≡ e → Told c (copy_came ops c from call page bytes e).after
+  copy_came-told c from call page bytes (entry.Idle s) sound is = stays refl refl refl refl
+  copy_came-told c from call page bytes (entry.AwaitRead s) sound is =
+      either-told c (s.call == call) _ _ (unlocked-told c from page copying (Some false) bytes s (sound.others page (ap is_locked is))) (stays refl refl refl refl)
+  copy_came-told c from call page bytes (entry.AwaitWrite s) sound is = stays refl refl refl refl
+  copy_came-told c from call page bytes (entry.AwaitAcks s) sound is = stays refl refl refl refl
+
+  page_came-told : (c : Coherent S) (from call page : ℕ) (copies : Nodes) (bytes : List ℕ) (e : Entry) → IsSound ops c → entry_at c.table page ≡ e → Told c (page_came ops c from call page copies bytes e).after
+  page_came-told c from call page copies bytes (entry.Idle s) sound is = stays refl refl refl refl
+  page_came-told c from call page copies bytes (entry.AwaitRead s) sound is = stays refl refl refl refl
+  page_came-told c from call page copies bytes (entry.AwaitWrite s) sound is =
+      either-told c _ (owned_with ops c from call page copies bytes s.waiting) (breach ops c)
+      (either-told c (is_none copies) _ _ (unlocked-told c from page owning (Some true) bytes s.waiting (sound.others page (ap is_locked is))) (stays refl refl refl refl))
+      (stays refl refl refl refl)
+  page_came-told c from call page copies bytes (entry.AwaitAcks s) sound is = stays refl refl refl refl
+
+  acknowledged-told : (c : Coherent S) (from call page : ℕ) (e : Entry) → IsSound ops c → entry_at c.table page ≡ e → Told c (acknowledged ops c from call page e).after
+  acknowledged-told c from call page (entry.Idle s) sound is = stays refl refl refl refl
+  acknowledged-told c from call page (entry.AwaitRead s) sound is = stays refl refl refl refl
+  acknowledged-told c from call page (entry.AwaitWrite s) sound is = stays refl refl refl refl
+  acknowledged-told c from call page (entry.AwaitAcks s) sound is =
+      either-told c _ (left_with ops c from page (set.remove s.left from) s.waiting) (breach ops c)
+      (either-told c (is_none (set.remove s.left from)) _ _ (unlocked-told c from page owning None (page_at c.table page) s.waiting (sound.others page (ap is_locked is))) (stays refl refl refl refl))
+      (stays refl refl refl refl)
+
+  -- this node's own request comes to none
+  foreign-told : (c : Coherent S) (origin page : ℕ) (q : PutOff) → Told c (if origin == c.me then breach ops c else asked ops c page q (entry_at c.table page)).after
+  foreign-told c origin page q = either-told c (origin == c.me) (breach ops c) (asked ops c page q (entry_at c.table page)) (stays refl refl refl refl) (asked-told c page q (entry_at c.table page))
+
+  -- the order of the node that is to write
+  order-told : (c : Coherent S) (from origin page : ℕ) (q : PutOff) → Told c (if origin == from then asked ops c page q (entry_at c.table page) else breach ops c).after
+  order-told c from origin page q = either-told c (origin == from) (asked ops c page q (entry_at c.table page)) (breach ops c) (asked-told c page q (entry_at c.table page)) (stays refl refl refl refl)
+
+  -- a reply comes to this node
+  reply-told : (c : Coherent S) (origin : ℕ) (x : Effect S) → Told c x.after → Told c (if origin == c.me then x else breach ops c).after
+  reply-told c origin x h = either-told c (origin == c.me) x (breach ops c) h (stays refl refl refl refl)
+
+  as-told : (c : Coherent S) (from origin call : ℕ) (m : Content) → IsSound ops c → Told c (handled_as ops c from origin call m).after
+  as-told c from origin call (content.ReadReq page) s = foreign-told c origin page (record { kind = request.Read; origin = origin; call = call })
+  as-told c from origin call (content.ReadRep page bytes) s = reply-told c origin (copy_came ops c from call page bytes (entry_at c.table page)) (copy_came-told c from call page bytes (entry_at c.table page) s refl)
+  as-told c from origin call (content.WriteReq page) s = foreign-told c origin page (record { kind = request.Write; origin = origin; call = call })
+  as-told c from origin call (content.WriteRep page copies bytes) s = reply-told c origin (page_came ops c from call page (nodes_with copies) bytes (entry_at c.table page)) (page_came-told c from call page (nodes_with copies) bytes (entry_at c.table page) s refl)
+  as-told c from origin call (content.Inval page) s = order-told c from origin page (record { kind = request.Invalidate; origin = origin; call = call })
+  as-told c from origin call (content.InvalAck page) s = reply-told c origin (acknowledged ops c from call page (entry_at c.table page)) (acknowledged-told c from call page (entry_at c.table page) s refl)
+  as-told c from origin call (content.AllocReq size) s = stays refl refl refl refl
+  as-told c from origin call (content.AllocRep code addr) s = stays refl refl refl refl
+  as-told c from origin call (content.FreeReq addr) s = stays refl refl refl refl
+  as-told c from origin call (content.FreeRep code) s = stays refl refl refl refl
+
+  pub handled-told : (c : Coherent S) (from : ℕ) (m : Message) → IsSound ops c → Told c (handled ops c from m).after
+  unfolding handled
+  handled-told c from m s = as-told c from m.origin m.call m.content s
+
+  hit-begins : (c : Coherent S) (page : ℕ) (w : Word) → Begins c (hit ops c page w)
+  hit-begins c page w = record { same = record { config = refl; me = refl }; done = refl; lock = λ o h. refl; busy = λ h. absurd cc; none = λ h. absurd cc }
+
+  fault-begins : (c : Coherent S) (page : ℕ) (w : Word) (number : ℕ) (s : IdleState) → Begins c (faulted ops c page w number s)
+  fault-begins c page w number s = record { same = record { config = refl; me = refl }; done = refl; lock = λ o h. absurd cc; busy = λ h. absurd cc; none = λ h. absurd cc }
+
+  busy-begins : (c : Coherent S) → Begins c (busy ops c)
+  busy-begins c = record { same = record { config = refl; me = refl }; done = refl; lock = λ o h. refl; busy = λ h. refl; none = λ h. refl }
+
+  accessed-begins : (c : Coherent S) (page : ℕ) (w : Word) (number : ℕ) (e : Entry) → Begins c (accessed ops c page w number e)
+  accessed-begins c page w number (entry.Idle s) = either-begins c (suffices s.access w) _ _ (hit-begins c page w) (fault-begins c page w number s)
+  accessed-begins c page w number (entry.AwaitRead s) = busy-begins c
+  accessed-begins c page w number (entry.AwaitWrite s) = busy-begins c
+  accessed-begins c page w number (entry.AwaitAcks s) = busy-begins c
+
+  at-begins : (c : Coherent S) (page : ℕ) (w : Word) (number : ℕ) (o : Option ℕ) → Begins c (begun_at ops c page w number o)
+  at-begins c page w number None = accessed-begins c page w number _
+  at-begins c page w number (Some p) = busy-begins c
+
+  pub begun-begins : (c : Coherent S) (page : ℕ) (w : Word) (number : ℕ) → Begins c (begun ops c page w number)
+  unfolding begun
+  begun-begins c page w number = at-begins c page w number c.locked
+
+module _ {S : Type 0} {ops : Ops S} where
+  -- the memory after an access, by what it was told
+  pub had-sound : (m : Memory S) (b : Begun S) (o : Out) (a : Option Call) → IsSoundMemory ops m → m.asked ≡ None → Begins m.coherence b → IsSound ops b.after → b.need ≡ need.Have o
+      → IsSoundMemory ops (record { coherence = b.after; asked = a })
+  had-sound m b o a s idle bs good is = record {
+    coherent = good;
+    done = λ h. bs.done ∙ s.done idle;
+    locked = λ h. bs.lock o is ∙ s.locked idle;
+    answered = λ p h. bs.lock o is ∙ s.locked idle;
+  }
+
+  pub started-sound : (m : Memory S) (b : Begun S) (c : Call) → IsSoundMemory ops m → m.asked ≡ None → Begins m.coherence b → IsSound ops b.after
+      → IsSoundMemory ops (record { coherence = b.after; asked = Some c })
+  started-sound m b c s idle bs good = record {
+    coherent = good;
+    done = λ h. absurd (none-some c (sym h));
+    locked = λ h. absurd (none-some c (sym h));
+    answered = λ o h. absurd (none-some o (sym (bs.done ∙ s.done idle) ∙ h));
+  }
+
+  answered-sound : (m : Memory S) (c : Call) (b : Begun S) (o : Out) (r : Option Reply) → IsSoundMemory ops m → m.asked ≡ None → Begins m.coherence b → IsSound ops b.after → b.need ≡ need.Have o
+      → IsSoundMemory ops (answered c b r).after
+  answered-sound m c b o None s idle bs good is = had-sound m b o (Some c) s idle bs good is
+  answered-sound m c b o (Some r) s idle bs good is = had-sound m b o None s idle bs good is
+
+  needed-sound : (m : Memory S) (c : Call) (b : Begun S) (n : Need) → IsSoundMemory ops m → m.asked ≡ None → Begins m.coherence b → IsSound ops b.after → b.need ≡ n
+      → IsSoundMemory ops (needed m c b n).after
+  needed-sound m c b (need.Have o) s idle bs good is = answered-sound m c b o (reply_of o) s idle bs good is
+  needed-sound m c b need.Started s idle bs good is = started-sound m b c s idle bs good
+  needed-sound m c b need.Busy s idle bs good is = s
+
+  pub told-memory : (m : Memory S) (new : Coherent S) → IsSoundMemory ops m → Told m.coherence new → IsSound ops new → IsSoundMemory ops (record { coherence = new; asked = m.asked })
+  told-memory m new s told good =
+      elim told.1 [
+        | inl x ↦ record {
+          coherent = good;
+          done = λ h. x.1 ∙ s.done h;
+          locked = λ h. x.0 ∙ s.locked h;
+          answered = λ o h. x.0 ∙ s.answered o (sym x.1 ∙ h);
+        }
+        | inr x ↦ record {
+          coherent = good;
+          done = λ h. absurd (none-some x.0 (sym (s.locked h) ∙ x.1));
+          locked = λ h. x.2;
+          answered = λ o h. x.2;
+        }
+      ]
+
+  pub taken-sound : (m : Memory S) (r : Reply) → IsSoundMemory ops m → reply_there m.coherence.done ≡ Some r → IsSoundMemory ops (taken_out m)
+  taken-sound m r s there =
+      let d = reply_done m.coherence.done r there in
+      record {
+        coherent = record {
+          limits = s.coherent.limits;
+          here = s.coherent.here;
+          mine = s.coherent.mine;
+          managed = s.coherent.managed;
+          nodes = s.coherent.nodes;
+          size = s.coherent.size;
+          entries = s.coherent.entries;
+          pages = s.coherent.pages;
+          sized = s.coherent.sized;
+          each = s.coherent.each;
+          hop = s.coherent.hop;
+          away = s.coherent.away;
+          locked = s.coherent.locked;
+          others = s.coherent.others;
+        };
+        done = λ h. refl;
+        locked = λ h. s.answered d.0 d.1;
+        answered = λ o h. absurd (none-some o h);
+      }
+
+-- what a call that begins keeps
+abbrev pub KeepsMemory : {S : Type 0} → Ops S → Memory S → CallBegun S → Type 0
+KeepsMemory ops m a = IsSoundMemory ops a.after × All (FitsParcel m.coherence.config m.coherence.me) a.posted × SameNode m.coherence a.after.coherence
+
+module _ {S : Type 0} {ops : Ops S} (laws : Laws ops) where
+  pub first_sound-memory : (c : Config) (me : ℕ) → IsConfig c → me < c.nodes → IsSoundMemory ops (record { coherence = first_coherent ops c me; asked = None })
+  first_sound-memory c me limits here = record {
+    coherent = first-sound laws c me limits here;
+    done = λ h. refl;
+    locked = λ h. refl;
+    answered = λ o h. refl;
+  }
+
+  pub told-sound : (m : Memory S) (from : ℕ) (message : Message) → IsSoundMemory ops m → from < m.coherence.config.nodes → from ≢ m.coherence.me → FitsMessage m.coherence.config message
+      → IsSoundMemory ops (memory_told ops m from message) × All (FitsParcel m.coherence.config m.coherence.me) (handled ops m.coherence from message).posted
+  told-sound m from message s below foreign fits =
+      let kept = handled-keeps laws m.coherence from message s.coherent below foreign fits in
+      (told-memory m _ s (handled-told ops m.coherence from message s.coherent) kept.0, kept.1)
+
+  as-sound : (m : Memory S) (k : Call) (number : ℕ) (x : Asked) → IsSoundMemory ops m → m.asked ≡ None → CanAsk m.coherence.config x → 1 ≤ number → number < 2 ^ 64
+      → KeepsMemory ops m (begun_as ops m k number x)
+  as-sound m k number (asked.Refused code) s idle can least most = (s, all_none (FitsParcel m.coherence.config m.coherence.me), record { config = refl; me = refl })
+  as-sound m k number asked.Heap s idle can least most = (s, all_none (FitsParcel m.coherence.config m.coherence.me), record { config = refl; me = refl })
+  as-sound m k number (asked.Word page w) s idle can least most =
+      let b : Begun S = begun ops m.coherence page w number in
+      let kept = begun-keeps laws m.coherence page w number s.coherent can.0 can.1 least most in
+      let marks : Begins m.coherence b = begun-begins ops m.coherence page w number in
+      (needed-sound m k b b.need s idle marks kept.0 refl, needed-fits m.coherence.config m.coherence.me m k b b.need kept.1, needed-same m k b b.need marks.same)
+
+  -- a call that begins
+  pub call-sound : (m : Memory S) (k : Call) (number : ℕ) → IsSoundMemory ops m → m.asked ≡ None → HasWidth k → 1 ≤ number → number < 2 ^ 64 → KeepsMemory ops m (call_begun ops m k number)
+  unfolding call_begun
+  call-sound m k number s idle w least most = as-sound m k number (asked_of m.coherence.config k) s idle (can_ask m.coherence.config k s.coherent.limits w) least most
+
+module _ {S : Type 0} where
+  -- a call that begins is in progress where it waits for its reply, and only there
+  abbrev pub IsBegun : Call → CallBegun S → Type 0
+  IsBegun k a = (j : Call) → a.after.asked ≡ Some j → (a.answer ≡ Awaited) × (k ≡ j)
+
+  answered-begun : (k : Call) (b : Begun S) (r : Option Reply) → IsBegun k (answered k b r)
+  answered-begun k b None j h = (refl, same_Some k j h)
+  answered-begun k b (Some r) j h = absurd (none-some j h)
+
+  needed-begun : (m : Memory S) (k : Call) (b : Begun S) (n : Need) → m.asked ≡ None → IsBegun k (needed m k b n)
+  needed-begun m k b (need.Have o) idle j h = answered-begun k b (reply_of o) j h
+  needed-begun m k b need.Started idle j h = (refl, same_Some k j h)
+  needed-begun m k b need.Busy idle j h = absurd (none-some j (sym idle ∙ h))
+
+module _ {S : Type 0} (ops : Ops S) where
+  as-begun : (m : Memory S) (k : Call) (number : ℕ) (x : Asked) → m.asked ≡ None → IsBegun k (begun_as ops m k number x)
+  as-begun m k number (asked.Refused code) idle j h = absurd (none-some j (sym idle ∙ h))
+  as-begun m k number (asked.Word page w) idle j h = let b : Begun S = begun ops m.coherence page w number in needed-begun m k b b.need idle j h
+  as-begun m k number asked.Heap idle j h = absurd (none-some j (sym idle ∙ h))
+
+  pub call-begun : (m : Memory S) (k : Call) (number : ℕ) → m.asked ≡ None → IsBegun k (call_begun ops m k number)
+  unfolding call_begun
+  call-begun m k number idle j h = as-begun m k number (asked_of m.coherence.config k) idle j h
+
+  as-same : (m : Memory S) (k : Call) (number : ℕ) (x : Asked) → SameNode m.coherence (begun_as ops m k number x).after.coherence
+  as-same m k number (asked.Refused code) = record { config = refl; me = refl }
+  as-same m k number (asked.Word page w) = let b : Begun S = begun ops m.coherence page w number in needed-same m k b b.need (begun-begins ops m.coherence page w number).same
+  as-same m k number asked.Heap = record { config = refl; me = refl }
+
+  -- the node stays who it is
+  pub call-same : (m : Memory S) (k : Call) (number : ℕ) → SameNode m.coherence (call_begun ops m k number).after.coherence
+  unfolding call_begun
+  call-same m k number = as-same m k number (asked_of m.coherence.config k)
+
+  as-few : (m : Memory S) (k : Call) (number : ℕ) (x : Asked) → IsSound ops m.coherence → length (begun_as ops m k number x).posted ≤ 8
+  as-few m k number (asked.Refused code) s = omega arith
+  as-few m k number (asked.Word page w) s =
+      let b : Begun S = begun ops m.coherence page w number in
+      let few = begun-few ops m.coherence page w number s in
+      let is : length (needed m k b b.need).posted ≡ length b.posted = ap length (needed-posted m k b b.need (begun-begins ops m.coherence page w number) refl) in
+      omega (arith, few, is)
+  as-few m k number asked.Heap s = omega arith
+
+  pub call-few : (m : Memory S) (k : Call) (number : ℕ) → IsSound ops m.coherence → length (call_begun ops m k number).posted ≤ 8
+  unfolding call_begun
+  call-few m k number s = as-few m k number (asked_of m.coherence.config k) s

@@ -1,0 +1,79 @@
+-- A node's memory: its coherence, and the call that it has in progress.
+use Rattle.std.specs.Prelude.{ℕ, Option, Some, None, List, []}
+use Rattle.ivy_model.specs.declared.Call.{Call}
+use Rattle.ivy_model.specs.declared.Reply.{Reply}
+use Rattle.ivy_model.specs.declared.Reply.TheVariants as reply
+use Rattle.ivy_wire.specs.Data.{Message, Parcel}
+use Rattle.ivy_pagetable.specs.declared.Out.{Out}
+use Rattle.ivy_pagetable.specs.declared.Out.TheVariants as out
+use Rattle.ivy_pagetable.specs.Manager.{Ops}
+use Rattle.ivy_coherence.specs.declared.Need.{Need}
+use Rattle.ivy_coherence.specs.declared.Need.TheVariants as need
+use Rattle.ivy_coherence.specs.Coherent.{Coherent}
+use Rattle.ivy_coherence.specs.Steps.{handled}
+use Rattle.ivy_coherence.specs.Faults.{Begun, begun}
+use Rattle.ivy_memory.specs.declared.answer.Answer.{Answer}
+use Rattle.ivy_memory.specs.declared.answer.Answer.TheVariants.{Given, Awaited, Unserved}
+use Rattle.ivy_memory.specs.declared.asked.Asked.{Asked}
+use Rattle.ivy_memory.specs.declared.asked.Asked.TheVariants as asked
+use Rattle.ivy_memory.specs.Asking.{asked_of}
+
+pub record Memory (S : Type 0) : Type 0 where
+  pub coherence : Coherent S
+  pub asked : Option Call
+
+-- the reply that a word carried out gives: none where an awaited count is too low yet
+abbrev pub reply_of : Out → Option Reply
+reply_of (out.Value value) = Some (reply.Value value)
+reply_of out.Done = Some reply.Done
+reply_of out.Full = Some (reply.Refused 7)
+reply_of out.NotYet = None
+
+-- what a call comes to when it begins: what it is answered, the memory after, and what is posted
+pub record CallBegun (S : Type 0) : Type 0 where
+  pub answer : Answer
+  pub after : Memory S
+  pub posted : List Parcel
+
+module _ {S : Type 0} where
+  -- it is answered, or it is in progress where it has no reply
+  abbrev pub answered : Call → Begun S → Option Reply → CallBegun S
+  answered call b None = record { answer = Awaited; after = record { coherence = b.after; asked = Some call }; posted = b.posted }
+  answered call b (Some r) = record { answer = Given r; after = record { coherence = b.after; asked = None }; posted = b.posted }
+
+  abbrev pub refused : Memory S → ℕ → CallBegun S
+  refused m code = record { answer = Given (reply.Refused code); after = m; posted = [] }
+
+  abbrev pub unserved : Memory S → CallBegun S
+  unserved m = record { answer = Unserved; after = m; posted = [] }
+
+  abbrev pub needed : Memory S → Call → Begun S → Need → CallBegun S
+  needed m call b (need.Have o) = answered call b (reply_of o)
+  needed m call b need.Started = answered call b None
+  needed m call b need.Busy = unserved m
+
+module _ {S : Type 0} (ops : Ops S) where
+  -- a call of the heap is not served yet
+  abbrev pub begun_as : Memory S → Call → ℕ → Asked → CallBegun S
+  begun_as m call number (asked.Refused code) = refused m code
+  begun_as m call number (asked.Word page word) =
+      let b = begun ops m.coherence page word number in
+      needed m call b b.need
+  begun_as m call number asked.Heap = unserved m
+
+  -- a call begins, as the one of this number
+  unfoldable pub call_begun : Memory S → Call → ℕ → CallBegun S
+  call_begun m call number = begun_as m call number (asked_of m.coherence.config call)
+
+  -- a message comes
+  abbrev pub memory_told : Memory S → ℕ → Message → Memory S
+  memory_told m from message = record m { coherence = (handled ops m.coherence from message).after }
+
+-- the reply of the call in progress, once the word that waited was carried out
+abbrev pub reply_there : Option Out → Option Reply
+reply_there None = None
+reply_there (Some o) = reply_of o
+
+-- the memory once that reply was taken out
+abbrev pub taken_out : {S : Type 0} → Memory S → Memory S
+taken_out m = record { coherence = record m.coherence { done = None }; asked = None }

@@ -1,0 +1,12 @@
+//! The memory of one node, as its program sees it: one call at a time, over the node's coherence.
+//!
+//! In a comment, numbers in brackets as [1, 17] are the fault numbers that a call may answer.
+#![tactic(auto)]
+
+mod answer;
+mod asked;
+mod memory;
+
+pub use answer::Answer;
+pub use asked::{Asked, asked_of};
+pub use memory::Memory;

@@ -1,0 +1,159 @@
+//! The memory of one node, as its program sees it: one call in progress, over the node's coherence.
+ghost use Rattle.std.specs.Prelude.{◌≡◌, ◌≢◌, ◌<◌, ◌≤◌, None, IfOk, IfErr, OnOk, OnErr, IsOkUnless, MatchOption, length};
+ghost use Rattle.ivy_model.specs.Config.{IsConfig};
+ghost use Rattle.ivy_model.specs.Legal.{HasWidth};
+ghost use Rattle.ivy_model.specs.Wants.{IsWant};
+ghost use Rattle.ivy_wire.specs.Spelling.{FitsMessage};
+ghost use Rattle.ivy_coherence.specs.Sound.{first_coherent};
+ghost use Rattle.ivy_coherence.specs.Steps.{handled};
+ghost use Rattle.ivy_memory.specs.Asking.{asked_of, IsWordOfPage};
+ghost use Rattle.ivy_memory.specs.Memories.{reply_of, call_begun, memory_told, reply_there, taken_out};
+
+use crate::answer::Answer;
+use crate::asked::{Asked, asked_of};
+use ivy_coherence::{Coherence, Need};
+use ivy_model::{Call, Config, Fault, Reply};
+use ivy_pagetable::{Manager, Out};
+use ivy_wire::{Message, Page, Post};
+use std::alloc::Allocator;
+use std::marker::Model;
+
+/// The refusal of a count at its greatest value.
+const COUNT_FULL: u8 = 7;
+
+/// The reply that a word carried out gives, if it gives one.
+fn reply_of(out: Out) -> Option<Reply>
+    ensures { result ≡ reply_of out }
+{
+    match out {
+        Out::Value(value) => Some(Reply::Value(value)),
+        Out::Done => Some(Reply::Done),
+        Out::Full => Some(Reply::Refused(COUNT_FULL)),
+        Out::NotYet => None,
+    }
+}
+
+/// A node's coherence, and the call that its program has in progress.
+#[derive(Drop)]
+pub struct Memory<M: Manager, A: Allocator> {
+    coherence: Coherence<M, A>,
+    asked: Option<Call>,
+}
+
+impl<M: Manager, A: Allocator> Model for Memory<M, A> {
+    ghost use Rattle.ivy_memory.specs.Memories as memories;
+    ghost use Rattle.ivy_memory.specs.Sound.{IsSoundMemory};
+
+    ghost Value = { memories.Memory M };
+
+    ghost use Rattle.std.specs.Coded.{codes};
+    ghost use Rattle.ivy_pagetable.specs.NodeSets.{nodes_code};
+
+    ghost coded = { Prim.hlevel (codes, nodes_code) };
+
+    ghost view = { λ m. record { coherence = m.coherence; asked = m.asked } };
+
+    ghost invariant = { λ m. IsSoundMemory M.ops (record { coherence = m.coherence; asked = m.asked }) };
+}
+
+impl<M: Manager, A: Allocator + Copy> Memory<M, A> {
+    /// The memory of node `me` at the beginning [1].
+    pub fn new(alloc: A, config: &Config, me: u8, manager: M) -> Result<Self, Fault>
+    where
+        M: Drop,
+        requires limits { IsConfig config.now }
+        requires here { me < config.now.nodes }
+        requires fresh { manager ≡ M.ops.first config.now me }
+        ensures first { IfOk result (λ m. m ≡ record { coherence = first_coherent M.ops config.now me; asked = None }) }
+        ensures memory { IsOkUnless result Fault.Memory }
+    {
+        Ok(Memory {
+            coherence: Coherence::new(alloc, config, me, manager)?,
+            asked: None,
+        })
+    }
+}
+
+impl<M: Manager, A: Allocator> Memory<M, A> {
+    /// The call in progress.
+    pub fn asked(&self) -> Option<Call>
+        ensures { result ≡ self.now.asked }
+    {
+        self.asked
+    }
+
+    #[tactic(auto, unfolding(crate::specs::Memories::call_begun))]
+    /// A call begins, as the one of this number [1, 17]: it is answered at once, or it is in progress from now on.
+    ///
+    /// No call is in progress. A call of the heap is not served yet. A refused call takes no memory, and asks the
+    /// post nothing.
+    pub fn begin<P: Post>(&mut self, call: Call, number: u64, post: &mut P) -> Result<Answer, Fault>
+        requires idle { self.old.asked ≡ None }
+        requires width { HasWidth call }
+        requires number { 1 ≤ number }
+        requires config { P.config post.old ≡ self.old.coherence.config }
+        requires node { P.node post.old ≡ self.old.coherence.me }
+        ensures few { length (call_begun M.ops self.old call number).posted ≤ 8 }
+        ensures reply { IfOk result (λ answer. answer ≡ (call_begun M.ops self.old call number).answer) }
+        ensures ok { OnOk result (self.new ≡ (call_begun M.ops self.old call number).after) }
+        ensures posted { OnOk result (post.new ≡ P.after post.old (call_begun M.ops self.old call number).posted) }
+        ensures took { OnOk result (P.takes post.old (call_begun M.ops self.old call number).posted) }
+        ensures err { OnErr result ((self.new ≡ self.old) × (post.new ≡ post.old)) }
+        ensures fault { IfErr result (P.refuses post.old (call_begun M.ops self.old call number).posted) }
+        ensures sure { OnErr result (IsWordOfPage (asked_of self.old.coherence.config call)) }
+        ensures want { IfErr result IsWant }
+    {
+        match asked_of(&self.coherence.config(), call) {
+            Asked::Refused(code) => Ok(Answer::Given(Reply::Refused(code))),
+            Asked::Word { page, word } => match self.coherence.need(page, word, number, post)? {
+                Need::Have(out) => match reply_of(out) {
+                    Some(reply) => Ok(Answer::Given(reply)),
+                    None => {
+                        self.asked = Some(call);
+                        Ok(Answer::Awaited)
+                    }
+                },
+                Need::Started => {
+                    self.asked = Some(call);
+                    Ok(Answer::Awaited)
+                }
+                Need::Busy => Ok(Answer::Unserved),
+            },
+            Asked::Heap => Ok(Answer::Unserved),
+        }
+    }
+
+    /// Takes out the reply of the call in progress, if it is there; the call is over then.
+    pub fn take_reply(&mut self) -> Option<Reply>
+        ensures reply { result ≡ reply_there self.old.coherence.done }
+        ensures over { MatchOption result (self.new ≡ self.old) (λ _. self.new ≡ taken_out self.old) }
+    {
+        let reply = reply_of(self.coherence.answer()?)?;
+        let _ = self.coherence.returned();
+        self.asked = None;
+        Some(reply)
+    }
+
+    /// A message of another node [1, 17].
+    pub fn handle<P: Post>(
+        &mut self,
+        from: u8,
+        message: Message<Page<A>>,
+        post: &mut P,
+    ) -> Result<(), Fault>
+        requires from { from < self.old.coherence.config.nodes }
+        requires foreign { from ≢ self.old.coherence.me }
+        requires fits { FitsMessage self.old.coherence.config message }
+        requires config { P.config post.old ≡ self.old.coherence.config }
+        requires node { P.node post.old ≡ self.old.coherence.me }
+        ensures few { length (handled M.ops self.old.coherence from message).posted ≤ 8 }
+        ensures ok { OnOk result (self.new ≡ memory_told M.ops self.old from message) }
+        ensures posted { OnOk result (post.new ≡ P.after post.old (handled M.ops self.old.coherence from message).posted) }
+        ensures took { OnOk result (P.takes post.old (handled M.ops self.old.coherence from message).posted) }
+        ensures err { OnErr result ((self.new ≡ self.old) × (post.new ≡ post.old)) }
+        ensures fault { IfErr result (P.refuses post.old (handled M.ops self.old.coherence from message).posted) }
+        ensures want { IfErr result IsWant }
+    {
+        self.coherence.handle(from, message, post)
+    }
+}

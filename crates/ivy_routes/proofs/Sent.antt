@@ -1,0 +1,271 @@
+-- A node serves a request or begins to wait: how the requests about the page move then.
+use Rattle.std.proofs.Common.{◌≡◌, ◌≢◌, ◌⊎◌, ◌<◌, ◌%◌, ℕ, true, false, List, [], ◌∷◌, length, slice_get, refl, sym, ap, ◌∙◌, subst, inl, inr}
+use Rattle.std.proofs.lemmas.Bool.{cases_eq}
+use Rattle.std.proofs.lemmas.Option.{none-some}
+use Rattle.ivy_model.specs.declared.Config.{Config}
+use Rattle.ivy_wire.specs.declared.Content.TheVariants as content
+use Rattle.ivy_pagetable.specs.declared.Entry.{Entry}
+use Rattle.ivy_pagetable.specs.declared.Entry.TheVariants as entry
+use Rattle.ivy_pagetable.specs.declared.Word.{Word}
+use Rattle.ivy_pagetable.specs.States.{IdleState}
+use Rattle.ivy_pagetable.specs.Entries.{without}
+use Rattle.ivy_pagetable.specs.Accesses.{reads}
+use Rattle.ivy_coherence.specs.Serving.{parcel_to}
+use Rattle.ivy_coherence.specs.Faults.{waiting_from}
+use Rattle.ivy_fixed.specs.Fixed.{Owners, owner_kept, hop_of, fixed_ops}
+use Rattle.ivy_fixed.specs.FixedLaws.{fixed_laws}
+use Rattle.ivy_order.specs.Letters.{Letter, Net, Place, Underway, Loose, goes_on}
+use Rattle.ivy_order.specs.Orderly.{IsOrderly}
+use Rattle.ivy_order.specs.Rows.{letter, told}
+use Rattle.ivy_order.proofs.Places.{served}
+use Rattle.ivy_order.proofs.Steps.{IsStep}
+use Rattle.ivy_order.proofs.Parcels.{IsThe, answer_step, ask_step}
+use Rattle.ivy_routes.specs.Descending.{IsAsked}
+use Rattle.ivy_routes.specs.Managing.{claims, IsRouted, IsManaged}
+use Rattle.ivy_routes.proofs.Moves.{ReadSent, WriteSent, GivenHere, GivenElsewhere, AskedHere, AskedElsewhere, both}
+use Rattle.ivy_routes.proofs.Managers.{IsTold, none_told, one_told, told_here, told_else, told_itself, hop_elsewhere, hop_kept}
+use Rattle.ivy_routes.proofs.Asked.{IsOther, idle_unread, other_asker, asked_or_new, asked_others, asked_elsewhere}
+use Rattle.ivy_routes.proofs.Claims.{reader_unclaimed, writer_claims, claims_else, claims_same}
+use Rattle.ivy_routes.proofs.Managed.{MoveAt, page_managed}
+
+-- at an idle entry of another node than the owner
+module _ (c : Config) (m : ℕ → Owners) (n : Net) (order : IsOrderly c n) (managed : IsManaged c m n) (x p : ℕ) (here : x < c.nodes) (page : p < c.pages)
+    (s : IdleState) (is : n.entry x p ≡ entry.Idle s) where
+  abbrev manager : ℕ
+  manager = p % c.nodes
+
+  abbrev kept_owner : ℕ
+  kept_owner = hop_of (m manager) p
+
+  abbrev Routed : Type 0
+  Routed = IsRouted (λ y. claims (n.entry y p)) (IsAsked n (content.WriteReq p)) (IsAsked n (content.ReadReq p)) manager kept_owner
+
+  routed : Routed
+  routed = managed.routed p page
+
+  claims_owner : claims (n.entry x p) ≡ s.owner
+  claims_owner = ap claims is
+
+  -- the managing node asks the kept owner, and the others the managing node
+  hop_here : x ≡ manager → hop_of (m x) p ≡ kept_owner
+  hop_here same = ap (λ i. hop_of (m i) p) same
+
+  hop_there : x ≢ manager → hop_of (m x) p ≡ manager
+  hop_there ne = hop_elsewhere (m x) x c.nodes p (managed.me x here) (managed.nodes x here) ne
+
+  -- once the managing node is told of an owner, it keeps that one
+  kept_told : (o : ℕ) → x ≡ manager → hop_of (told m x (owner_kept (m x) p o) manager) p ≡ o
+  kept_told o same = ap (λ v. hop_of v p) (told_here m x (owner_kept (m x) p o) manager (sym same))
+      ∙ hop_kept (m x) p o (ap (λ k. p % k) (managed.nodes x here) ∙ sym same ∙ sym (managed.me x here)) (subst (λ k. p < k) (sym (managed.size x here)) page)
+
+  module _ (plain : s.owner ≡ false) where
+    abbrev unclaimed : claims (n.entry x p) ≡ false
+    unclaimed = claims_owner ∙ plain
+
+    -- where a request to read goes on
+    read_route : (o : ℕ) → IsAsked n (content.ReadReq p) o x → ((hop_of (m x) p ≡ manager) × (o ≢ manager)) ⊎ ((hop_of (m x) p ≡ kept_owner) × (claims (n.entry manager p) ≡ false) × (o ≢ kept_owner))
+    read_route o asked = elim (cases_eq x manager) [
+      | inl same ↦ (
+          let plain_manager : claims (n.entry manager p) ≡ false = subst (λ i. claims (n.entry i p) ≡ false) same unclaimed in
+          inr (hop_here same, plain_manager, λ h. both (claims (n.entry o p)) (ap (λ i. claims (n.entry i p)) h ∙ routed.kept_claims plain_manager) (reader_unclaimed c n order p o x asked))
+          )
+      | inr ne ↦ inl (
+        hop_there ne,
+        λ h. both (claims (n.entry x p)) (
+            ap (λ i. claims (n.entry i p)) (routed.manager_reads x (subst (λ i. IsAsked n (content.ReadReq p) i x) h asked))
+            ∙ routed.kept_claims (subst (λ i. claims (n.entry i p) ≡ false) h (reader_unclaimed c n order p o x asked))
+            ) unclaimed,
+      )
+    ]
+
+    begun_route : ((hop_of (m x) p ≡ manager) × (x ≢ manager)) ⊎ ((hop_of (m x) p ≡ kept_owner) × (claims (n.entry manager p) ≡ false) × (x ≢ kept_owner))
+    begun_route = elim (cases_eq x manager) [
+      | inl same ↦ (
+          let plain_manager : claims (n.entry manager p) ≡ false = subst (λ i. claims (n.entry i p) ≡ false) same unclaimed in
+          inr (hop_here same, plain_manager, λ h. routed.kept_away plain_manager (sym h ∙ same))
+          )
+      | inr ne ↦ inl (hop_there ne, ne)
+    ]
+
+    -- one letter is new, a request of o to read
+    read_moved : (m' : ℕ → Owners) (n' : Net) (z : Entry) (at : Place) (source o call : ℕ) → IsTold fixed_ops m m' x p → hop_of (m' manager) p ≡ kept_owner
+        → IsStep n n' x p (entry.Idle s) z served (IsThe at (letter source (hop_of (m x) p) o call (content.ReadReq p))) → claims z ≡ s.owner
+        → ((hop_of (m x) p ≡ manager) × (o ≢ manager)) ⊎ ((hop_of (m x) p ≡ kept_owner) × (claims (n.entry manager p) ≡ false) × (o ≢ kept_owner))
+        → IsManaged c m' n'
+    read_moved m' n' z at source o call t kept step still route = page_managed c m m' n n' x p t order
+        (λ y q ne. claims_same n n' x p (entry.Idle s) z served (IsThe at new) step still y q)
+        (λ q ne. asked_elsewhere n n' x p (entry.Idle s) z served at new step q refl ne)
+        (ReadSent o (hop_of (m x) p) (record {
+          claims = λ y. claims_same n n' x p (entry.Idle s) z served (IsThe at new) step still y p;
+          writes = λ i y v. (asked_others n n' x p (entry.Idle s) z served at new step (content.WriteReq p) (λ h. cc) i y v).was;
+          reads = λ i y v. elim (asked_or_new n n' x p (entry.Idle s) z served at new step (content.ReadReq p) i y v) [
+            | inl h ↦ inl h.was
+            | inr h ↦ inr (sym h.1, sym h.0)
+          ];
+          kept = kept;
+          route = route;
+        })) managed
+      where
+        new : Letter
+        new = letter source (hop_of (m x) p) o call (content.ReadReq p)
+
+    -- one letter is new, a request of x to write, and x waits for the page
+    write_moved : (m' : ℕ → Owners) (n' : Net) (z : Entry) (at : Place) (call : ℕ) → IsTold fixed_ops m m' x p → hop_of (m' manager) p ≡ kept_owner
+        → IsStep n n' x p (entry.Idle s) z served (IsThe at (letter x (hop_of (m x) p) x call (content.WriteReq p))) → claims z ≡ true → IsManaged c m' n'
+    write_moved m' n' z at call t kept step waits = page_managed c m m' n n' x p t order
+        (λ y q ne. claims_else n n' x p (entry.Idle s) z served (IsThe at new) step y q (inr ne))
+        (λ q ne. asked_elsewhere n n' x p (entry.Idle s) z served at new step q refl ne)
+        move managed
+      where
+        new : Letter
+        new = letter x (hop_of (m x) p) x call (content.WriteReq p)
+
+        other_claims : (y : ℕ) → y ≢ x → claims (n'.entry y p) ≡ claims (n.entry y p)
+        other_claims y ne = claims_else n n' x p (entry.Idle s) z served (IsThe at new) step y p (inl ne)
+
+        other_reads : (i y : ℕ) → IsAsked n' (content.ReadReq p) i y → IsAsked n (content.ReadReq p) i y
+        other_reads i y v = (asked_others n n' x p (entry.Idle s) z served at new step (content.ReadReq p) (λ h. cc) i y v).was
+
+        move : MoveAt c m m' n n' p
+        move = elim (cases_eq x manager) [
+          | inl same ↦ AskedHere (record {
+            claims = λ y ne. other_claims y (λ h. ne (h ∙ same));
+            writes = λ i y v. elim (asked_or_new n n' x p (entry.Idle s) z served at new step (content.WriteReq p) i y v) [
+              | inl h ↦ inl h.was
+              | inr h ↦ inr (sym h.1 ∙ same, sym h.0 ∙ hop_here same)
+            ];
+            reads = other_reads;
+            kept = kept;
+            plain = subst (λ i. claims (n.entry i p) ≡ false) same unclaimed;
+            waits = subst (λ i. claims (n'.entry i p) ≡ true) same (ap claims step.after ∙ waits);
+          })
+          | inr ne ↦ AskedElsewhere x (record {
+            claims = other_claims;
+            writes = λ i y v. elim (asked_or_new n n' x p (entry.Idle s) z served at new step (content.WriteReq p) i y v) [
+              | inl h ↦ inl h.was
+              | inr h ↦ inr (sym h.1, sym h.0 ∙ hop_there ne)
+            ];
+            reads = other_reads;
+            kept = kept;
+            away = ne;
+            plain = unclaimed;
+            waits = ap claims step.after ∙ waits;
+          })
+        ]
+
+    -- the rows: a request to read is sent on; a word begins to wait for a copy; for the page
+    pub sent_on_read : (from o call : ℕ) (rest : List Letter) → n.loose ≡ letter from x o call (content.ReadReq p) ∷ rest
+        → IsManaged c (told m x (m x)) (goes_on n x p (entry.Idle s) rest (parcel_to x (hop_of (m x) p) o call (content.ReadReq p) ∷ []))
+    sent_on_read from o call rest loose = read_moved (told m x (m x)) _ (entry.Idle s) _ x o call (none_told fixed_ops m _ x p (told_itself m x)) (ap (λ v. hop_of v p) (told_itself m x manager))
+        (answer_step n x p (entry.Idle s) (entry.Idle s) _ rest (hop_of (m x) p) o call (content.ReadReq p) is loose (λ k q h. h)) refl
+        (read_route o (record { at = Loose 0; letter = letter from x o call (content.ReadReq p); there = ap (λ v. slice_get v 0) loose; dest = refl; asker = refl; asks = refl }))
+
+    pub began_to_read : (call : ℕ) (w : Word) → n.loose ≡ []
+        → IsManaged c m (goes_on n x p (entry.AwaitRead (waiting_from w call)) [] (parcel_to x (hop_of (m x) p) x call (content.ReadReq p) ∷ []))
+    began_to_read call w loose = read_moved m _ (entry.AwaitRead (waiting_from w call)) _ x x call (none_told fixed_ops m m x p (λ i. refl)) refl
+        (ask_step n x p (entry.Idle s) (entry.AwaitRead (waiting_from w call)) (hop_of (m x) p) x call (content.ReadReq p) is loose (λ k q h. absurd (none-some q h))) (sym plain)
+        begun_route
+
+    pub began_to_write : (call : ℕ) (w : Word) → n.loose ≡ []
+        → IsManaged c m (goes_on n x p (entry.AwaitWrite (record { had_copy = reads s.access; waiting = waiting_from w call })) [] (parcel_to x (hop_of (m x) p) x call (content.WriteReq p) ∷ []))
+    began_to_write call w loose = write_moved m _ (entry.AwaitWrite (record { had_copy = reads s.access; waiting = waiting_from w call })) _ call (none_told fixed_ops m m x p (λ i. refl)) refl
+        (ask_step n x p (entry.Idle s) (entry.AwaitWrite (record { had_copy = reads s.access; waiting = waiting_from w call })) (hop_of (m x) p) x call (content.WriteReq p) is loose (λ k q h. absurd (none-some q h))) refl
+
+  -- a request of o to write is served
+  module _ (from o call : ℕ) (rest : List Letter) (loose : n.loose ≡ letter from x o call (content.WriteReq p) ∷ rest) where
+    asked : IsAsked n (content.WriteReq p) o x
+    asked = record { at = Loose 0; letter = letter from x o call (content.WriteReq p); there = ap (λ v. slice_get v 0) loose; dest = refl; asker = refl; asks = refl }
+
+    not_o : (i y : ℕ) → IsOther n (content.WriteReq p) i y → i ≢ o
+    not_o i y other = other_asker c n order (letter from x o call (content.WriteReq p)) rest p i y (content.WriteReq p) loose refl (λ l. refl) other
+
+    t : IsTold fixed_ops m (told m x (owner_kept (m x) p o)) x p
+    t = one_told m x fixed_ops (owner_kept (m x) p o) p (fixed_laws.keeps_given (m x) p o)
+
+    -- by another node than the owner: it is the managing one
+    pub sent_on_write : s.owner ≡ false
+        → IsManaged c (told m x (owner_kept (m x) p o)) (goes_on n x p (entry.Idle s) rest (parcel_to x (hop_of (m x) p) o call (content.WriteReq p) ∷ []))
+    sent_on_write plain = page_managed c m (told m x (owner_kept (m x) p o)) n n' x p t order
+        (λ y q ne. claims_same n n' x p (entry.Idle s) (entry.Idle s) served (IsThe at new) step refl y q)
+        (λ q ne. asked_elsewhere n n' x p (entry.Idle s) (entry.Idle s) served at new step q refl ne)
+        (WriteSent o (record {
+          claims = λ y. claims_same n n' x p (entry.Idle s) (entry.Idle s) served (IsThe at new) step refl y p;
+          writes = λ i y v. elim (asked_or_new n n' x p (entry.Idle s) (entry.Idle s) served at new step (content.WriteReq p) i y v) [
+            | inl h ↦ inl (h.was, not_o i y h)
+            | inr h ↦ inr (sym h.1, sym h.0 ∙ hop_here same)
+          ];
+          reads = λ i y v. (asked_others n n' x p (entry.Idle s) (entry.Idle s) served at new step (content.ReadReq p) (λ h. cc) i y v).was;
+          kept = kept_told o same;
+          plain = subst (λ i. claims (n.entry i p) ≡ false) same (claims_owner ∙ plain);
+          unread = λ y k. idle_unread c n order p manager y s (subst (λ i. n.entry i p ≡ entry.Idle s) same is) k;
+          asked = subst (IsAsked n (content.WriteReq p) o) same asked;
+          waits = writer_claims c n order p o x asked;
+        })) managed
+      where
+        n' : Net
+        n' = goes_on n x p (entry.Idle s) rest (parcel_to x (hop_of (m x) p) o call (content.WriteReq p) ∷ [])
+
+        at : Place
+        at = Underway x (hop_of (m x) p) (length (n.posted x (hop_of (m x) p)))
+
+        new : Letter
+        new = letter x (hop_of (m x) p) o call (content.WriteReq p)
+
+        step : IsStep n n' x p (entry.Idle s) (entry.Idle s) served (IsThe at new)
+        step = answer_step n x p (entry.Idle s) (entry.Idle s) _ rest (hop_of (m x) p) o call (content.WriteReq p) is loose (λ k q h. h)
+
+        same : x ≡ manager
+        same = elim (cases_eq x manager) [
+          | inl h ↦ h
+          | inr ne ↦ absurd (both (claims (n.entry x p)) (routed.claimed o x ne asked) (claims_owner ∙ plain))
+        ]
+
+    -- by the owner, which gives the page
+    pub given : (bits : ℕ) (bytes : List ℕ)
+        → IsManaged c (told m x (owner_kept (m x) p o)) (goes_on n x p (entry.Idle without) rest (parcel_to x o o call (content.WriteRep p bits bytes) ∷ []))
+    given bits bytes = page_managed c m (told m x (owner_kept (m x) p o)) n n' x p t order
+        (λ y q ne. claims_else n n' x p (entry.Idle s) (entry.Idle without) served (IsThe at new) step y q (inr ne))
+        (λ q ne. asked_elsewhere n n' x p (entry.Idle s) (entry.Idle without) served at new step q refl ne)
+        move managed
+      where
+        n' : Net
+        n' = goes_on n x p (entry.Idle without) rest (parcel_to x o o call (content.WriteRep p bits bytes) ∷ [])
+
+        at : Place
+        at = Underway x o (length (n.posted x o))
+
+        new : Letter
+        new = letter x o o call (content.WriteRep p bits bytes)
+
+        step : IsStep n n' x p (entry.Idle s) (entry.Idle without) served (IsThe at new)
+        step = answer_step n x p (entry.Idle s) (entry.Idle without) _ rest o o call (content.WriteRep p bits bytes) is loose (λ k q h. h)
+
+        other_claims : (y : ℕ) → y ≢ x → claims (n'.entry y p) ≡ claims (n.entry y p)
+        other_claims y ne = claims_else n n' x p (entry.Idle s) (entry.Idle without) served (IsThe at new) step y p (inl ne)
+
+        other_writes : (i y : ℕ) → IsAsked n' (content.WriteReq p) i y → IsAsked n (content.WriteReq p) i y × (i ≢ o)
+        other_writes i y v = (let h = asked_others n n' x p (entry.Idle s) (entry.Idle without) served at new step (content.WriteReq p) (λ h. cc) i y v in (h.was, not_o i y h))
+
+        other_reads : (i y : ℕ) → IsAsked n' (content.ReadReq p) i y → IsAsked n (content.ReadReq p) i y
+        other_reads i y v = (asked_others n n' x p (entry.Idle s) (entry.Idle without) served at new step (content.ReadReq p) (λ h. cc) i y v).was
+
+        move : MoveAt c m (told m x (owner_kept (m x) p o)) n n' p
+        move = elim (cases_eq x manager) [
+          | inl same ↦ GivenHere o (record {
+            claims = λ y ne. other_claims y (λ h. ne (h ∙ same));
+            writes = other_writes;
+            reads = other_reads;
+            kept = kept_told o same;
+            unread = λ y k. idle_unread c n order p manager y s (subst (λ i. n.entry i p ≡ entry.Idle s) same is) k;
+            asked = subst (IsAsked n (content.WriteReq p) o) same asked;
+            waits = writer_claims c n order p o x asked;
+          })
+          | inr ne ↦ GivenElsewhere x o (record {
+            claims = other_claims;
+            writes = other_writes;
+            reads = other_reads;
+            kept = ap (λ v. hop_of v p) (told_else m x (owner_kept (m x) p o) manager (λ h. ne (sym h)));
+            away = ne;
+            asked = asked;
+          })
+        ]

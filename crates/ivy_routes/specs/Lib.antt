@@ -1,0 +1,3 @@
+pub mod Descending
+pub mod Managing
+pub mod Hinting
