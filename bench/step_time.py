@@ -10,13 +10,12 @@ owes an acknowledgement each time that the next pulse sends. So the schedule has
 repeats and pulses from its first move to its last, and the list of strings grows with it.
 """
 
-import subprocess
 import sys
 import tempfile
-import time
 from pathlib import Path
 
-ROOT = Path(__file__).resolve().parent.parent
+from timing import compare
+
 PAGES = 256
 PAGE_SIZE = 64
 MOST_INSTRUCTIONS = 4096
@@ -66,19 +65,6 @@ def schedule(moves):
     return lines[:moves]
 
 
-def seconds(folder, moves):
-    """How long `ivy step` takes for so many moves, the best of three runs."""
-    (folder / "moves").write_text("\n".join(schedule(moves)) + "\n")
-    words = [ROOT / "ivy", "step", folder / "program", folder / "moves"]
-    words += ["--pages", str(PAGES), "--page-size", str(PAGE_SIZE)]
-    times = []
-    for _ in range(3):
-        start = time.perf_counter()
-        subprocess.run(words, check=True, stdout=subprocess.DEVNULL)
-        times.append(time.perf_counter() - start)
-    return min(times)
-
-
 def main():
     moves = int(sys.argv[1]) if len(sys.argv) > 1 else 200_000
     if moves < 200_000:
@@ -86,13 +72,14 @@ def main():
     with tempfile.TemporaryDirectory() as name:
         folder = Path(name)
         (folder / "program").write_text(program())
-        # The first run may build the program.
-        seconds(folder, PAGES)
-        times = []
         for count in (moves, 2 * moves):
-            times.append(seconds(folder, count))
-            print(f"{count} moves: {times[-1] / count * 1e6:.3f} us a move")
-    print(f"ratio: {times[1] / times[0]:.3f}")
+            (folder / str(count)).write_text("\n".join(schedule(count)) + "\n")
+        options = ["--pages", str(PAGES), "--page-size", str(PAGE_SIZE)]
+
+        def words_of(count):
+            return ["step", folder / "program", folder / str(count), *options]
+
+        compare("reads", words_of, (moves, 2 * moves))
 
 
 main()

@@ -1,5 +1,5 @@
 -- What two or three words of a generator draw, and that strings which spell frames are long enough.
-use Rattle.std.proofs.Common.{◌≡◌, ℕ, ◌%◌, ◌<◌, ◌≤◌, ◌-◌, List, [], ◌∷◌, length, ap, sym, ◌∙◌, refl, arith, nat_lt, if◌then◌else◌, All, Contains}
+use Rattle.std.proofs.Common.{◌≡◌, ℕ, ◌%◌, ◌<◌, ◌≤◌, List, length, ap, sym, ◌∙◌, refl, arith, All, Contains}
 use Rattle.std.proofs.lemmas.Bool.{lt-ltb, le-ltb}
 use Rattle.std.proofs.lemmas.List.Elements.{All-contains_itself, All-weaker}
 use Rattle.rand_pcg.specs.Lcg.{Lcg}
@@ -9,7 +9,6 @@ use Rattle.ivy_model.specs.Config.{IsConfig}
 use Rattle.ivy_wire.specs.Data.{Frame}
 use Rattle.ivy_wire.specs.Spelling.{Spells, frame_kind}
 use Rattle.ivy_wire.proofs.Frames.{spelled_once, sound_checked}
-use Rattle.ivy_node.specs.declared.Move.{Move}
 use Rattle.ivy_node.specs.declared.Move.TheVariants.{Turn}
 use Rattle.ivy.specs.Drawn.{drawn, drawn_by, delivery, pulse}
 

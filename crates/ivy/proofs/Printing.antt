@@ -1,5 +1,5 @@
 -- What is printed one after another.
-use Rattle.std.proofs.Common.{◌≡◌, ℕ, ◌+◌, ◌<◌, ◌≤◌, ◌↔◌, Bool, true, false, IsTrue, IfSome, inl, inr, List, [], ◌∷◌, ◌++◌, length, take, get_or, slice_get, flat_map, Option, Some, None, ap, sym, subst, ◌∙◌, refl, arith, append-nil, add-zero, zero-add, append_assoc}
+use Rattle.std.proofs.Common.{◌≡◌, ℕ, ◌+◌, ◌<◌, ◌≤◌, ◌↔◌, Bool, true, false, IsTrue, IfSome, inl, inr, List, [], ◌∷◌, ◌++◌, length, take, slice_get, flat_map, Option, Some, None, ap, sym, subst, ◌∙◌, refl, arith, append-nil, add-zero, zero-add, append_assoc}
 use Rattle.std.proofs.lemmas.Grind.{flat_map-append}
 use Rattle.std.proofs.lemmas.List.{take_more, length-take-le}
 use Rattle.std.proofs.lemmas.Option.{slice_get_within, get_or_from_slice_get, slice_get_cases}

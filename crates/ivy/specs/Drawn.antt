@@ -49,4 +49,5 @@ drawn_by nodes sent x y g =
 
 -- the move that a generator draws, and the generator after it
 unfoldable pub drawn : ℕ → List (List ℕ) → Lcg → Move × Lcg
-drawn nodes sent g = drawn_by nodes sent (word_of g) (word_of (after_word g)) (after_word (after_word g))
+drawn nodes sent g =
+    drawn_by nodes sent (word_of g) (word_of (after_word g)) (after_word (after_word g))

@@ -1,4 +1,6 @@
 pub mod Printed
 pub mod Nodes
 pub mod Drawn
+pub mod Simulated
 pub mod UnderWay
+pub mod Orders

@@ -31,7 +31,8 @@ has_ended p = is_end (step_of p)
 -- the line that says whether the program of a node has ended
 abbrev pub end_line : ℕ → Bool → List ℕ
 end_line node ended =
-    codes "node" ++ then_number node ++ codes " " ++ (if ended then codes "ended" else codes "open") ++ 10 ∷ []
+    codes "node" ++ then_number node ++ codes " "
+    ++ (if ended then codes "ended" else codes "open") ++ 10 ∷ []
 
 abbrev pub end_text : {S : Type 0} → ℕ → Node (Host S) → List ℕ
 end_text node n = end_line node (has_ended n.core.process)

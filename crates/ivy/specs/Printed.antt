@@ -14,7 +14,8 @@ then_number n = codes " " ++ decimal n
 
 abbrev pub call_text : Call → List ℕ
 call_text (Load width addr) = codes "load" ++ then_number width ++ then_number addr
-call_text (Store width addr value) = codes "store" ++ then_number width ++ then_number addr ++ then_number value
+call_text (Store width addr value) =
+    codes "store" ++ then_number width ++ then_number addr ++ then_number value
 call_text (Count k) = codes "count" ++ then_number k
 call_text (Advance k) = codes "advance" ++ then_number k
 call_text (Await k least) = codes "await" ++ then_number k ++ then_number least

@@ -41,6 +41,10 @@ pub enum Request<'a> {
         moves: u64,
         settings: Settings,
     },
+    /// Says whether the order of a file is legal.
+    Check {
+        order: &'a str,
+    },
 }
 
 /// The options of `run` beside those of every configuration, and the number that stands for a
@@ -69,6 +73,8 @@ const FILE: &str = "file";
 
 const SCHEDULE: &str = "schedule";
 
+const ORDER: &str = "order";
+
 fn file<'a>(alloc: Global, name: &'a str) -> Arg<'a> {
     Arg::new(alloc, name).required(true).action(ArgAction::Set)
 }
@@ -95,11 +101,13 @@ fn command<'a>(alloc: Global) -> Result<Command<'a>, AllocError> {
     let sim = subcommand(alloc, "sim")?
         .arg(option(alloc, SEED.0))?
         .arg(option(alloc, MOVES.0))?;
+    let check = Command::new(alloc, "check").arg(file(alloc, ORDER))?;
     Command::new(alloc, "ivy")
         .subcommand_required(true)
         .subcommand(run)?
         .subcommand(step)?
-        .subcommand(sim)
+        .subcommand(sim)?
+        .subcommand(check)
 }
 
 /// The word that a required argument was given.
@@ -166,6 +174,12 @@ fn sim_of<'a>(matches: &ArgMatches<'a>) -> Result<Request<'a>, Failure<'a>> {
     })
 }
 
+fn check_of<'a>(matches: &ArgMatches<'a>) -> Result<Request<'a>, Failure<'a>> {
+    Ok(Request::Check {
+        order: word_of(matches, ORDER)?,
+    })
+}
+
 impl<'a> Request<'a> {
     /// What the words ask for. The first is the program's name.
     ///
@@ -176,6 +190,7 @@ impl<'a> Request<'a> {
             Some(("run", matches)) => run_of(matches),
             Some(("step", matches)) => step_of(matches),
             Some(("sim", matches)) => sim_of(matches),
+            Some(("check", matches)) => check_of(matches),
             _ => Err(Failure::BadCommandLine),
         }
     }

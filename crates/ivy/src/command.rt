@@ -1,17 +1,26 @@
 //! Whole commands.
-ghost use Rattle.std.specs.Prelude.{◌≤◌};
+ghost use Rattle.std.specs.Prelude.{◌≤◌, ◌↔◌, IsTrue, IfOk, MatchResult};
+ghost use Rattle.std.specs.Io.KnownBytes.{Appends};
+ghost use Rattle.ivy_model.specs.Config.{IsConfig};
+ghost use Rattle.ivy_model.specs.Legal.{Legal};
+ghost use Rattle.ivy.specs.Orders.{verdict_line};
 
 use crate::arguments::{Request, Settings};
 use crate::failure::Failure;
-use crate::print::{print_ends, print_outputs};
+use crate::order::parse_order;
+use crate::print::{print_ends, print_outputs, print_verdict};
 use crate::rounds::run_in_rounds;
 use crate::schedule::parse_schedule;
 use crate::simulation::run_drawn;
 use crate::texts::Texts;
 use crate::trace::trace_moves;
+use ivy_model::{Config, Kind, Record, check_order};
 use ivy_node::{World, parse};
 use std::alloc::Global;
 use std::io::Write;
+
+/// The exit status of an order that is not legal.
+const NOT_LEGAL: u8 = 3;
 
 fn text_of<'a, T: Texts>(files: &T, name: &'a str) -> Result<String, Failure<'a>> {
     files.text(name)?.ok_or(Failure::CannotRead(name))
@@ -65,36 +74,78 @@ fn sim<'a, T: Texts, W: Write>(
     Ok(())
 }
 
-/// Carries out what the words ask for.
+/// Prints whether one flat memory answers so, and says it.
+fn judge<W: Write>(
+    alloc: Global,
+    config: &Config,
+    records: &[Record],
+    out: &mut W,
+) -> Result<bool, Failure<'static>>
+    requires { IsConfig config.now }
+    ensures legal { IfOk result (λ yes. IsTrue yes ↔ Legal config.now records.now) }
+    ensures printed { MatchResult result (λ yes. Appends (W.contents out.old) (W.contents out.new) (verdict_line yes)) (λ _. Unit {0}) }
+{
+    let is_legal = check_order(alloc, config, records)?;
+    print_verdict(is_legal, out)?;
+    Ok(is_legal)
+}
+
+/// Prints whether the order of a file is legal, and says it.
+fn check<'a, T: Texts, W: Write>(
+    alloc: Global,
+    order: &'a str,
+    files: &T,
+    out: &mut W,
+) -> Result<bool, Failure<'a>> {
+    let order = parse_order(alloc, text_of(files, order)?.as_str())?;
+    // Legality does not depend on how owners are found.
+    let settings = Settings {
+        pages: order.sizes.pages,
+        page_size: order.sizes.page_size,
+        manager: Kind::Fixed,
+    };
+    let config = settings.config(order.sizes.nodes as usize)?;
+    Ok(judge(alloc, &config, &order.records, out)?)
+}
+
+/// Carries out what the words ask for, and gives the exit status.
 fn carry_out<'a, T: Texts, W: Write>(
     alloc: Global,
     words: &'a [String],
     files: &T,
     out: &mut W,
-) -> Result<(), Failure<'a>> {
+) -> Result<u8, Failure<'a>>
+    ensures { IfOk result (λ status. status ≤ 3) }
+{
     match Request::read(alloc, words)? {
         Request::Run {
             file,
             turns,
             settings,
-        } => run(alloc, (file, turns, settings), files, out),
+        } => run(alloc, (file, turns, settings), files, out)?,
         Request::Step {
             file,
             schedule,
             settings,
-        } => step(alloc, (file, schedule, settings), files, out),
+        } => step(alloc, (file, schedule, settings), files, out)?,
         Request::Sim {
             file,
             seed,
             moves,
             settings,
-        } => sim(alloc, (file, seed, moves, settings), files, out),
+        } => sim(alloc, (file, seed, moves, settings), files, out)?,
+        Request::Check { order } => {
+            if !check(alloc, order, files, out)? {
+                return Ok(NOT_LEGAL);
+            }
+        }
     }
+    Ok(0)
 }
 
 /// Carries out a command and gives its exit status: 0 where it was done, 1 where the run was refused
-/// or standard output took no more, and 2 where the command line, a file or the configuration is at
-/// fault.
+/// or standard output took no more, 2 where the command line, a file or the configuration is at
+/// fault, and 3 where an order is not legal.
 ///
 /// The first word is the program's name. What is at fault is printed on standard error.
 pub fn perform<T: Texts, O: Write, E: Write>(
@@ -104,11 +155,11 @@ pub fn perform<T: Texts, O: Write, E: Write>(
     out: &mut O,
     err: &mut E,
 ) -> u8
-    ensures { result ≤ 2 }
+    ensures { result ≤ 3 }
 {
     let done = carry_out(alloc, words, files, out);
     let failure = match (out.flush(), done) {
-        (Ok(()), Ok(())) => return 0,
+        (Ok(()), Ok(status)) => return status,
         (Ok(()), Err(failure)) => failure,
         (Err(_), _) => Failure::Unwritten,
     };

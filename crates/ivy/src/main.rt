@@ -1,7 +1,8 @@
 //! The program `ivy`: runs the programs of a shared virtual memory's nodes.
 //!
 //! `ivy run FILE` runs them in rounds and prints what they print. `ivy step FILE SCHEDULE` runs them
-//! by a schedule and prints a trace of its moves.
+//! by a schedule and prints a trace of its moves. `ivy sim FILE` makes moves that are drawn. `ivy check
+//! ORDER` says whether one flat memory answers so.
 #![tactic(auto)]
 
 mod arguments;
@@ -13,6 +14,9 @@ mod draws;
 mod examples;
 mod failure;
 mod moves;
+mod order;
+#[cfg(test)]
+mod orders;
 mod print;
 mod rounds;
 mod schedule;

@@ -2,6 +2,7 @@
 ghost use Rattle.std.specs.Prelude.{◌≡◌, Some, OnOk, decimal, flat_map, length};
 ghost use Rattle.std.specs.Io.KnownBytes.{Appends};
 ghost use Rattle.ivy.specs.Nodes.{value_line, end_line, outputs_text, ends_text};
+ghost use Rattle.ivy.specs.Orders.{verdict_line};
 ghost use Rattle.ivy.specs.Printed.{call_text, reply_text, record_text, move_text};
 
 use itoa::Buffer;
@@ -155,4 +156,15 @@ pub fn print_ends<A: Allocator + Copy, W: Write>(world: &World<A>, out: &mut W) 
         print_end(node, world.ended(node), out)?;
     }
     Ok(())
+}
+
+/// Prints whether an order is legal.
+pub fn print_verdict<W: Write>(is_legal: bool, out: &mut W) -> io::Result<()>
+    ensures { OnOk result (Appends (W.contents out.old) (W.contents out.new) (verdict_line is_legal)) }
+{
+    if is_legal {
+        writeln!(out, "legal")
+    } else {
+        writeln!(out, "not legal")
+    }
 }

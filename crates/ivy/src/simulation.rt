@@ -2,6 +2,7 @@
 ghost use Rattle.std.specs.Prelude.{◌≡◌, OnOk};
 ghost use Rattle.ivy_model.specs.Config.{IsConfig};
 ghost use Rattle.ivy_host.specs.Holding.{AllSpell};
+ghost use Rattle.ivy.specs.Simulated.{DrawnTo, seeded};
 ghost use Rattle.ivy.specs.UnderWay.{IsUnderWay};
 
 use crate::draw::draw;
@@ -23,10 +24,11 @@ pub fn run_drawn<A: Allocator + Copy>(
     requires config { world.old.config ≡ config.now }
     requires spelled { AllSpell world.old.config world.old.world }
     requires under_way { IsUnderWay world.old }
+    ensures drawn { OnOk result (DrawnTo config.now (seeded seed) moves world.old.world world.new.world) }
     ensures under_way { OnOk result (IsUnderWay world.new) }
 {
     let mut generator = Lcg64Xsh32::seed_from_u64(seed);
-    for _ in 0..moves {
+    for _made in 0..moves {
         let step = draw(&mut generator, config.nodes, world.sent());
         make(world, step)?;
     }

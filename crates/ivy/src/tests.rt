@@ -63,8 +63,26 @@ node 0 ended
 node 1 ended
 ";
 
+/// Each node stores to its own word and then prints the other's.
+const BUFFERING: &str = "\
+node 0
+set r1 64
+set r2 128
+set r3 1
+store 8 r1 r3
+load 8 r4 r2
+print r4
+node 1
+set r1 64
+set r2 128
+set r3 1
+store 8 r2 r3
+load 8 r4 r1
+print r4
+";
+
 /// The files of every test.
-const FILES: [(&str, &str); 10] = [
+const FILES: [(&str, &str); 12] = [
     ("empty", EMPTY),
     ("load", FIRST_LOAD),
     ("faulty", "node 0\nset r16 1\n"),
@@ -74,6 +92,8 @@ const FILES: [(&str, &str); 10] = [
         "node 0\nnode 1\nnode 2\nnode 3\nnode 4\nnode 5\nnode 6\nnode 7\nnode 8\n",
     ),
     ("none", ""),
+    ("endless", "node 0\nlabel again\njump again\nnode 1\n"),
+    ("buffering", BUFFERING),
     ("moves", FIRST_MOVES),
     ("unsent", "turn 1\nturn 1\ndeliver 1 1\n"),
     (
@@ -166,6 +186,7 @@ fn refused(rt: HostRuntime) -> Result<(), Fail> {
             "",
             "ivy: 21 TurnLimit\n",
         ),
+        ("run endless --turns 1000", 1, "", "ivy: 21 TurnLimit\n"),
         ("run missing", 2, "", "ivy: cannot read missing\n"),
         (
             "step faulty missing",
@@ -263,6 +284,33 @@ fn drawn_again(rt: HostRuntime) -> Result<(), Fail> {
         let first = printed_by(&rt, line)?;
         let again = printed_by(&rt, line)?;
         assert!(rt; first == again);
+    }
+    Ok(())
+}
+
+/// Under moves that are drawn, too, the nodes do not both load 0. A script tries more seeds.
+#[test]
+fn stores_and_loads_drawn(rt: HostRuntime) -> Result<(), Fail> {
+    let ends = "node 0 ended\nnode 1 ended\n";
+    for manager in ["fixed", "dynamic"] {
+        for seed in 1..9 {
+            let line = format!(in rt.alloc();
+                "sim buffering --pages 3 --page-size 64 --manager {manager} --seed {seed}"
+            )?;
+            let printed = String::from_utf8(printed_by(&rt, line.as_str())?)?;
+            let loaded = printed.as_str().strip_suffix(ends);
+            assert!(rt;
+                matches!(
+                    loaded,
+                    Some(
+                        "node 0: 0\nnode 1: 1\n"
+                            | "node 0: 1\nnode 1: 0\n"
+                            | "node 0: 1\nnode 1: 1\n"
+                    )
+                ),
+                "{line}"
+            );
+        }
     }
     Ok(())
 }

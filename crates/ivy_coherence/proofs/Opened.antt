@@ -1,5 +1,5 @@
 -- The same for a value whose fields the code works on: `v` is what the fields are seen as, `n` the value.
-use Rattle.std.proofs.Common.{◌≡◌, ◌≢◌, ℕ, ◌<◌, ◌≤◌, ◌^◌, Bool, true, false, List, [], ◌∷◌, length, Option, Some, None, is_some, refl, sym, ap, ◌∙◌, subst, arith, set-set, eq-eqb, inl, inr}
+use Rattle.std.proofs.Common.{◌≡◌, ◌≢◌, ℕ, ◌<◌, ◌≤◌, ◌^◌, Bool, true, false, List, [], ◌∷◌, length, Option, Some, None, is_some, Result, Ok, Err, OnErr, refl, sym, ap, ◌∙◌, subst, arith, set-set, eq-eqb, inl, inr}
 use Rattle.std.specs.Prelude.{All, if◌then◌else◌, IsTrue}
 use Rattle.std.specs.FinSet as set
 use Rattle.std.specs.Ordering.{nat_cmp}
@@ -27,7 +27,7 @@ use Rattle.ivy_coherence.specs.Coherent.{Coherent}
 use Rattle.ivy_coherence.specs.Limits.{most_posted}
 use Rattle.ivy_coherence.specs.Serving.{settled}
 use Rattle.ivy_coherence.specs.Steps.{IsWaiting, IsCollecting, is_none, unlocked_as, invalidations, owned_with}
-use Rattle.ivy_coherence.specs.Faults.{IsIdleAt, suffices, fault_entry}
+use Rattle.ivy_coherence.specs.Faults.{IsIdleAt, HasToAsk, suffices, fault_entry}
 use Rattle.ivy_coherence.specs.Sound.{CanBeServed, AreOthers, IsSoundIdle, IsSound}
 use Rattle.ivy_pagetable.specs.Entries.{can_put_off, with_put_off, owning}
 use Rattle.ivy_coherence.proofs.IdleServing.{fewer_others}
@@ -82,6 +82,18 @@ restored t0 t1 t2 page number w word all inside is one two =
     ∙ taken_back w old word all in
     two ∙ ap (λ b. with_page t1 page b) bytes ∙ ap (λ t. with_page t page old) one
     ∙ ap (λ ps. record { page_size = t0.page_size; entries = t0.entries; pages = ps }) (set-set t0.pages page now old ∙ set-get_or t0.pages page [])
+
+-- a word that is refused had to be asked for
+pub asks : {S : Type 0} {A E : Type 0} (n v : Coherent S) → v ≡ n → (page : ℕ) (w : Word) (i : IdleState) (r : Result A E)
+    → v.locked ≡ None → IsIdleAt v.table page i → suffices i.access w ≡ false → OnErr r (HasToAsk n page w)
+asks n v same page w i (Ok a) free is short = tt
+asks n v same page w i (Err e) free is short =
+    subst (λ (x : Coherent _). HasToAsk x page w) same (record { free = free; idle = i; is = is; short = short })
+
+-- bytes of a page fit the spare one
+pub fits_spare : {S : Type 0} (n v : Coherent S) → v ≡ n → (bytes spare : List ℕ) → length bytes ≡ n.config.page_size
+    → length spare ≡ v.config.page_size → length bytes ≡ length spare
+fits_spare n v same bytes spare sized spare_sized = sized ∙ sym (spare_sized ∙ ap (λ (x : Coherent _). x.config.page_size) same)
 
 -- what is asked of bytes that come
 pub record Comes {S : Type 0} (n : Coherent S) (source page : ℕ) (bytes : List ℕ) : Type 0 where

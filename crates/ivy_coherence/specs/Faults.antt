@@ -1,6 +1,6 @@
 -- What an access of this node's program comes to (Li and Hudak 1989): what the program is told, the state after, and
 -- what is posted, in order.
-use Rattle.std.specs.Prelude.{◌≡◌, ◌≢◌, ◌⊎◌, ℕ, Bool, true, false, List, [], ◌∷◌, Option, Some, None, if◌then◌else◌}
+use Rattle.std.specs.Prelude.{◌≡◌, ℕ, Bool, true, false, List, [], ◌∷◌, Option, Some, None, if◌then◌else◌}
 use Rattle.ivy_wire.specs.declared.Content.TheVariants as content
 use Rattle.ivy_wire.specs.Data.{Parcel}
 use Rattle.ivy_pagetable.specs.declared.Access.{Access}
@@ -31,10 +31,12 @@ suffices access word = if needs_write word then writes access else reads access
 abbrev pub IsIdleAt : Table → ℕ → IdleState → Type 0
 IsIdleAt t page s = entry_at t page ≡ entry.Idle s
 
--- nothing has to be asked for: an entry is locked already, or access suffices
-abbrev pub IsAtHand : {S : Type 0} → Coherent S → ℕ → Word → Type 0
-IsAtHand c page word =
-    (c.locked ≢ None) ⊎ ((s : IdleState) × (IsIdleAt c.table page s × (suffices s.access word ≡ true)))
+-- the word has to be asked for: no word waits at this node, and the access to the page does not suffice
+pub record HasToAsk {S : Type 0} (c : Coherent S) (page : ℕ) (word : Word) : Type 0 where
+  pub free : c.locked ≡ None
+  pub idle : IdleState
+  pub is : IsIdleAt c.table page idle
+  pub short : suffices idle.access word ≡ false
 
 -- the word of this call, and nothing put off yet
 abbrev pub waiting_from : Word → ℕ → WaitingState
@@ -44,7 +46,9 @@ waiting_from word call = record { word = word; call = call; put_off = [] }
 abbrev pub fault_entry : Word → ℕ → IdleState → Entry
 fault_entry word call s =
     if needs_write word
-    then (if s.owner then entry.AwaitAcks (record { left = s.copies; waiting = waiting_from word call }) else entry.AwaitWrite (record { had_copy = reads s.access; waiting = waiting_from word call }))
+    then (if s.owner
+    then entry.AwaitAcks (record { left = s.copies; waiting = waiting_from word call })
+    else entry.AwaitWrite (record { had_copy = reads s.access; waiting = waiting_from word call }))
     else entry.AwaitRead (waiting_from word call)
 
 module _ {S : Type 0} (ops : Ops S) where
@@ -62,7 +66,8 @@ module _ {S : Type 0} (ops : Ops S) where
   abbrev pub fault_posted : Coherent S → ℕ → Word → ℕ → IdleState → List Parcel
   fault_posted c page word call s =
       if needs_write word
-      then (if s.owner then invalidations c.me page call s.copies else parcel_to c.me (ops.next_hop c.manager page) c.me call (content.WriteReq page) ∷ [])
+      then (if s.owner then invalidations c.me page call s.copies
+      else parcel_to c.me (ops.next_hop c.manager page) c.me call (content.WriteReq page) ∷ [])
       else parcel_to c.me (ops.next_hop c.manager page) c.me call (content.ReadReq page) ∷ []
 
   -- the word waits at this entry then
@@ -74,7 +79,8 @@ module _ {S : Type 0} (ops : Ops S) where
   }
 
   abbrev pub faulted : Coherent S → ℕ → Word → ℕ → IdleState → Begun S
-  faulted c page word call s = started c page (fault_entry word call s) (fault_posted c page word call s)
+  faulted c page word call s =
+      started c page (fault_entry word call s) (fault_posted c page word call s)
 
   abbrev pub accessed : Coherent S → ℕ → Word → ℕ → Entry → Begun S
   accessed c page word call (entry.Idle s) =

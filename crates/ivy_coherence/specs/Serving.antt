@@ -20,14 +20,19 @@ pub record Serving (S : Type 0) : Type 0 where
   pub posted : List Parcel
 
 abbrev pub serving : {S : Type 0} → IdleState → S → ℕ → List Parcel → Serving S
-serving idle manager breaches posted = record { idle = idle; manager = manager; breaches = breaches; posted = posted }
+serving idle manager breaches posted =
+    record { idle = idle; manager = manager; breaches = breaches; posted = posted }
 
 -- a count that stays at its greatest value
 abbrev pub counted : ℕ → ℕ
 counted n = if nat_lt n (2 ^ 64 - 1) then n + 1 else n
 
 abbrev pub parcel_to : ℕ → ℕ → ℕ → ℕ → Content → Parcel
-parcel_to me dest origin call body = record { source = me; dest = dest; message = record { origin = origin; call = call; content = body } }
+parcel_to me dest origin call body = record {
+  source = me;
+  dest = dest;
+  message = record { origin = origin; call = call; content = body };
+}
 
 module _ {S : Type 0} (ops : Ops S) (me page : ℕ) (bytes : List ℕ) where
   -- at the owner: a copy is given, and both read from now on; the page itself is given, with the set of those that
@@ -43,9 +48,16 @@ module _ {S : Type 0} (ops : Ops S) (me page : ℕ) (bytes : List ℕ) where
     idle = without;
     manager = ops.on_given v.manager page origin;
     breaches = v.breaches;
-    posted = v.posted ++ parcel_to me origin origin call (content.WriteRep page (bits_of (set.remove v.idle.copies origin)) bytes) ∷ [];
+    posted = v.posted
+        ++ parcel_to me origin origin call
+        (content.WriteRep page (bits_of (set.remove v.idle.copies origin)) bytes) ∷ [];
   }
-  served_by_owner v origin call request.Invalidate = record { idle = v.idle; manager = v.manager; breaches = counted v.breaches; posted = v.posted }
+  served_by_owner v origin call request.Invalidate = record {
+    idle = v.idle;
+    manager = v.manager;
+    breaches = counted v.breaches;
+    posted = v.posted;
+  }
 
   -- at another node: a request goes on to where it believes the owner to be; a copy is given up
   abbrev pub served_by_other : Serving S → ℕ → ℕ → Request → Serving S
@@ -53,13 +65,15 @@ module _ {S : Type 0} (ops : Ops S) (me page : ℕ) (bytes : List ℕ) where
     idle = v.idle;
     manager = ops.on_forward v.manager page false origin;
     breaches = v.breaches;
-    posted = v.posted ++ parcel_to me (ops.next_hop v.manager page) origin call (content.ReadReq page) ∷ [];
+    posted = v.posted
+        ++ parcel_to me (ops.next_hop v.manager page) origin call (content.ReadReq page) ∷ [];
   }
   served_by_other v origin call request.Write = record {
     idle = v.idle;
     manager = ops.on_forward v.manager page true origin;
     breaches = v.breaches;
-    posted = v.posted ++ parcel_to me (ops.next_hop v.manager page) origin call (content.WriteReq page) ∷ [];
+    posted = v.posted
+        ++ parcel_to me (ops.next_hop v.manager page) origin call (content.WriteReq page) ∷ [];
   }
   served_by_other v origin call request.Invalidate = record {
     idle = without;
@@ -69,7 +83,8 @@ module _ {S : Type 0} (ops : Ops S) (me page : ℕ) (bytes : List ℕ) where
   }
 
   abbrev pub served : Serving S → PutOff → Serving S
-  served v q = if v.idle.owner then served_by_owner v q.origin q.call q.kind else served_by_other v q.origin q.call q.kind
+  served v q = if v.idle.owner then served_by_owner v q.origin q.call q.kind
+      else served_by_other v q.origin q.call q.kind
 
   abbrev pub all_served : Serving S → List PutOff → Serving S
   all_served v [] = v
@@ -81,5 +96,7 @@ told ops from page manager None = manager
 told ops from page manager (Some write) = ops.on_replied manager page write from
 
 -- what was put off is served at an entry that is idle now, in order of arrival
-abbrev pub settled : {S : Type 0} → Ops S → ℕ → ℕ → ℕ → List ℕ → IdleState → S → ℕ → Option Bool → List PutOff → Serving S
-settled ops me from page bytes idle manager breaches reply qs = all_served ops me page bytes (serving idle (told ops from page manager reply) breaches []) qs
+abbrev pub settled : {S : Type 0} → Ops S → ℕ → ℕ → ℕ → List ℕ → IdleState → S → ℕ
+    → Option Bool → List PutOff → Serving S
+settled ops me from page bytes idle manager breaches reply qs =
+    all_served ops me page bytes (serving idle (told ops from page manager reply) breaches []) qs

@@ -43,7 +43,8 @@ pub record IsSoundEntry (c : Config) (me : ℕ) (e : Entry) : Type 0 where
   pub idle : (s : IdleState) → e ≡ entry.Idle s → IsSoundIdle c me s
   pub reading : (s : WaitingState) → e ≡ entry.AwaitRead s → Waits c false s.word
   pub writing : (s : AwaitWriteState) → e ≡ entry.AwaitWrite s → Waits c true s.waiting.word
-  pub collecting : (s : AwaitAcksState) → e ≡ entry.AwaitAcks s → Waits c true s.waiting.word × AreOthers c me s.left
+  pub collecting : (s : AwaitAcksState) → e ≡ entry.AwaitAcks s
+      → Waits c true s.waiting.word × AreOthers c me s.left
   pub put_off : All (CanBeServed c me) (put_offs e)
   pub few : length (put_offs e) ≤ most_put_off
 
@@ -60,7 +61,8 @@ pub record IsSound {S : Type 0} (ops : Ops S) (c : Coherent S) : Type 0 where
   pub each : (p : ℕ) → IsSoundEntry c.config c.me (entry_at c.table p)
   -- a page that is not owned is asked for at another node
   pub hop : (p : ℕ) → p < c.config.pages → ops.next_hop c.manager p < c.config.nodes
-  pub away : (p : ℕ) → p < c.config.pages → is_owner (entry_at c.table p) ≡ false → ops.next_hop c.manager p ≢ c.me
+  pub away : (p : ℕ) → p < c.config.pages → is_owner (entry_at c.table p) ≡ false
+      → ops.next_hop c.manager p ≢ c.me
   -- the locked entry, if there is one
   pub locked : (p : ℕ) → c.locked ≡ Some p → is_locked (entry_at c.table p) ≡ true
   pub others : (p : ℕ) → is_locked (entry_at c.table p) ≡ true → c.locked ≡ Some p

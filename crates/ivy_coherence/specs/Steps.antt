@@ -47,7 +47,8 @@ is_order kind = false
 
 -- each of these nodes is told to give its copy up
 abbrev pub invalidations : ℕ → ℕ → ℕ → Nodes → List Parcel
-invalidations me page call nodes = map (λ node. parcel_to me node me call (content.Inval page)) (nodes_of nodes)
+invalidations me page call nodes =
+    map (λ node. parcel_to me node me call (content.Inval page)) (nodes_of nodes)
 
 module _ {S : Type 0} (ops : Ops S) where
   -- a message that fits no rule is counted, and changes nothing else
@@ -56,20 +57,30 @@ module _ {S : Type 0} (ops : Ops S) where
 
   abbrev pub after_serving : Coherent S → ℕ → Serving S → Effect S
   after_serving c page v = record {
-    after = record c { table = with_entry c.table page (entry.Idle v.idle); manager = v.manager; breaches = v.breaches };
+    after = record c {
+      table = with_entry c.table page
+          (entry.Idle v.idle);
+      manager = v.manager;
+      breaches = v.breaches;
+    };
     posted = v.posted;
   }
 
   -- the word that waited is carried out on these bytes; then what was put off is served, in order of arrival
-  abbrev pub unlocked : Coherent S → ℕ → ℕ → IdleState → Option Bool → List ℕ → WaitingState → Effect S
+  abbrev pub unlocked : Coherent S → ℕ → ℕ → IdleState → Option Bool → List ℕ → WaitingState
+      → Effect S
   unlocked c from page idle reply bytes s =
       let now = carried_out s.word bytes in
-      after_serving (record c { table = with_page c.table page now.bytes; locked = None; done = Some now.out }) page
+      after_serving
+      (record c { table = with_page c.table page now.bytes; locked = None; done = Some now.out }) page
       (settled ops c.me from page now.bytes idle c.manager c.breaches reply s.put_off)
 
   -- at a locked entry a message waits until it is unlocked
   abbrev pub put_by : Coherent S → ℕ → Entry → PutOff → Effect S
-  put_by c page e q = record { after = record c { table = with_entry c.table page (with_put_off e q) }; posted = [] }
+  put_by c page e q = record {
+    after = record c { table = with_entry c.table page (with_put_off e q) };
+    posted = [];
+  }
 
   abbrev pub put_aside : Coherent S → ℕ → Entry → PutOff → Effect S
   put_aside c page e q = if can_put_off e then put_by c page e q else breach c
@@ -86,9 +97,12 @@ module _ {S : Type 0} (ops : Ops S) where
 
   -- a request for a copy or for the page, or the order to give a copy up
   abbrev pub asked : Coherent S → ℕ → PutOff → Entry → Effect S
-  asked c page q (entry.Idle s) = after_serving c page (settled ops c.me q.origin page (page_at c.table page) s c.manager c.breaches None (q ∷ []))
-  asked c page q (entry.AwaitWrite s) = if is_order q.kind then given_up c page s.waiting q else put_aside c page (entry.AwaitWrite s) q
-  asked c page q (entry.AwaitAcks s) = if is_order q.kind then breach c else put_aside c page (entry.AwaitAcks s) q
+  asked c page q (entry.Idle s) = after_serving c page
+      (settled ops c.me q.origin page (page_at c.table page) s c.manager c.breaches None (q ∷ []))
+  asked c page q (entry.AwaitWrite s) = if is_order q.kind then given_up c page s.waiting q
+      else put_aside c page (entry.AwaitWrite s) q
+  asked c page q (entry.AwaitAcks s) =
+      if is_order q.kind then breach c else put_aside c page (entry.AwaitAcks s) q
   asked c page q e = put_aside c page e q
 
   -- a copy comes for the word that waits to read
@@ -100,7 +114,9 @@ module _ {S : Type 0} (ops : Ops S) where
   -- the page came, and these other nodes have a copy of it: the word waits until they gave it up
   abbrev pub collected : Coherent S → ℕ → ℕ → Nodes → List ℕ → WaitingState → Coherent S
   collected c from page copies bytes s = record c {
-    table = with_page (with_entry c.table page (entry.AwaitAcks (record { left = copies; waiting = s }))) page bytes;
+    table = with_page
+        (with_entry c.table page
+        (entry.AwaitAcks (record { left = copies; waiting = s }))) page bytes;
     manager = ops.on_replied c.manager page true from;
   }
 
@@ -109,16 +125,24 @@ module _ {S : Type 0} (ops : Ops S) where
   owned_with c from call page copies bytes s =
       if is_none copies
       then unlocked c from page owning (Some true) bytes s
-      else record { after = collected c from page copies bytes s; posted = invalidations c.me page call copies }
+      else record {
+        after = collected c from page copies bytes s;
+        posted = invalidations c.me page call copies;
+      }
 
   abbrev pub page_came : Coherent S → ℕ → ℕ → ℕ → Nodes → List ℕ → Entry → Effect S
   page_came c from call page copies bytes (entry.AwaitWrite s) =
-      if s.waiting.call == call && not (set.contains copies c.me) then owned_with c from call page copies bytes s.waiting else breach c
+      if s.waiting.call == call && not (set.contains copies c.me)
+      then owned_with c from call page copies bytes s.waiting else breach c
   page_came c from call page copies bytes e = breach c
 
   -- these nodes have not given their copy up yet
   abbrev pub still_collecting : Coherent S → ℕ → Nodes → WaitingState → Coherent S
-  still_collecting c page left s = record c { table = with_entry c.table page (entry.AwaitAcks (record { left = left; waiting = s })) }
+  still_collecting c page left s =
+      record c {
+        table = with_entry c.table page
+            (entry.AwaitAcks (record { left = left; waiting = s }));
+      }
 
   -- a copy was given up: with the last one the word that waits to write is carried out
   abbrev pub left_with : Coherent S → ℕ → ℕ → Nodes → WaitingState → Effect S
@@ -129,22 +153,31 @@ module _ {S : Type 0} (ops : Ops S) where
 
   abbrev pub acknowledged : Coherent S → ℕ → ℕ → ℕ → Entry → Effect S
   acknowledged c from call page (entry.AwaitAcks s) =
-      if s.waiting.call == call && set.contains s.left from then left_with c from page (set.remove s.left from) s.waiting else breach c
+      if s.waiting.call == call && set.contains s.left from
+      then left_with c from page (set.remove s.left from) s.waiting else breach c
   acknowledged c from call page e = breach c
 
   -- What a message is about. No node asks itself; an order to give a copy up comes from the node that is to write; a
   -- reply comes to the node that asked. The kinds of the allocator fit no rule yet.
   abbrev pub handled_as : Coherent S → ℕ → ℕ → ℕ → Content → Effect S
   handled_as c from origin call (content.ReadReq page) =
-      if origin == c.me then breach c else asked c page (record { kind = request.Read; origin = origin; call = call }) (entry_at c.table page)
+      if origin == c.me then breach c
+      else asked c page (record { kind = request.Read; origin = origin; call = call })
+      (entry_at c.table page)
   handled_as c from origin call (content.WriteReq page) =
-      if origin == c.me then breach c else asked c page (record { kind = request.Write; origin = origin; call = call }) (entry_at c.table page)
+      if origin == c.me then breach c
+      else asked c page (record { kind = request.Write; origin = origin; call = call })
+      (entry_at c.table page)
   handled_as c from origin call (content.Inval page) =
-      if origin == from then asked c page (record { kind = request.Invalidate; origin = origin; call = call }) (entry_at c.table page) else breach c
+      if origin == from
+      then asked c page (record { kind = request.Invalidate; origin = origin; call = call })
+      (entry_at c.table page) else breach c
   handled_as c from origin call (content.ReadRep page bytes) =
       if origin == c.me then copy_came c from call page bytes (entry_at c.table page) else breach c
   handled_as c from origin call (content.WriteRep page copies bytes) =
-      if origin == c.me then page_came c from call page (nodes_with copies) bytes (entry_at c.table page) else breach c
+      if origin == c.me
+      then page_came c from call page (nodes_with copies) bytes (entry_at c.table page)
+      else breach c
   handled_as c from origin call (content.InvalAck page) =
       if origin == c.me then acknowledged c from call page (entry_at c.table page) else breach c
   handled_as c from origin call m = breach c

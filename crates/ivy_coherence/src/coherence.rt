@@ -1,18 +1,18 @@
 //! The entries and pages of one node, and the rules by which they change.
-ghost use Rattle.std.specs.Prelude.{◌≡◌, ◌≢◌, ◌<◌, ◌≤◌, ◌^◌, ℕ, true, false, None, List, IfOk, IfErr, OnOk, OnErr, IsOk, IsOkUnless, length};
+ghost use Rattle.std.specs.Prelude.{◌≡◌, ◌≢◌, ◌<◌, ◌≤◌, ◌^◌, ℕ, true, false, None, List, IfOk, IfErr, OnOk, OnErr, IsOkUnless, length};
 ghost use Rattle.ivy_model.specs.Config.{IsConfig};
 ghost use Rattle.ivy_model.specs.Wants.{IsWant};
 ghost use Rattle.ivy_wire.specs.Spelling.{FitsMessage};
 ghost use Rattle.ivy_pagetable.specs.Tables.{entry_at, page_at};
 ghost use Rattle.ivy_pagetable.specs.Words.{IsWord, needs_write};
-ghost use Rattle.ivy_coherence.specs.Faults.{suffices, IsIdleAt, IsAtHand, fault_entry, fault_posted, begun};
+ghost use Rattle.ivy_coherence.specs.Faults.{suffices, IsIdleAt, HasToAsk, fault_entry, fault_posted, begun};
 ghost use Rattle.ivy_coherence.specs.Sound.{first_coherent, IsSound};
 
 use crate::need::Need;
 use crate::serving::{invalidate, post_one};
 use ivy_model::{Config, Fault};
 use ivy_pagetable::{
-    Access, AwaitAcks, AwaitWrite, Entry, Idle, Manager, Out, PageTable, Waiting, Word,
+    Access, AwaitAcks, AwaitWrite, Entry, Idle, Manager, Out, Page, PageTable, Waiting, Word,
 };
 use ivy_wire::{Content, Post};
 use std::alloc::Allocator;
@@ -28,6 +28,9 @@ pub struct Coherence<M: Manager, A: Allocator> {
     pub(crate) locked: Option<u32>,
     pub(crate) done: Option<Out>,
     pub(crate) breaches: u64,
+    /// The bytes of a page that comes are written here, and exchanged with those of the table once the
+    /// post took all. No value shows them.
+    pub(crate) spare: Page<A>,
 }
 
 impl<M: Manager, A: Allocator> Model for Coherence<M, A> {
@@ -36,6 +39,7 @@ impl<M: Manager, A: Allocator> Model for Coherence<M, A> {
 
     ghost Value = { Coherent M };
 
+    ghost use Rattle.std.specs.Prelude.{◌≡◌, length};
     ghost use Rattle.std.specs.Coded.{codes};
     ghost use Rattle.ivy_pagetable.specs.NodeSets.{nodes_code};
 
@@ -43,7 +47,7 @@ impl<M: Manager, A: Allocator> Model for Coherence<M, A> {
 
     ghost view = { λ c. record { config = c.config; me = c.me; table = c.table; manager = c.manager; locked = c.locked; done = c.done; breaches = c.breaches } };
 
-    ghost invariant = { λ c. IsSound M.ops (record { config = c.config; me = c.me; table = c.table; manager = c.manager; locked = c.locked; done = c.done; breaches = c.breaches }) };
+    ghost invariant = { λ c. IsSound M.ops (record { config = c.config; me = c.me; table = c.table; manager = c.manager; locked = c.locked; done = c.done; breaches = c.breaches }) × (length c.spare ≡ c.config.page_size) };
 }
 
 /// Whether a word can be carried out at once where this is the access.
@@ -71,6 +75,7 @@ impl<M: Manager, A: Allocator + Copy> Coherence<M, A> {
         ensures memory { IsOkUnless result Fault.Memory }
     {
         let table = PageTable::new(alloc, config, me)?;
+        let spare = Page::zeros(alloc, config.page_size as usize)?;
         Ok(Coherence {
             config: *config,
             me,
@@ -79,6 +84,7 @@ impl<M: Manager, A: Allocator + Copy> Coherence<M, A> {
             locked: None,
             done: None,
             breaches: 0,
+            spare,
         })
     }
 }
@@ -183,7 +189,7 @@ impl<M: Manager, A: Allocator> Coherence<M, A> {
         requires config { P.config post.old ≡ self.old.config }
         requires node { P.node post.old ≡ self.old.me }
         requires taken { self.old.done ≡ None }
-        ensures sure { IsAtHand self.old page word → IsOk result }
+        ensures sure { OnErr result (HasToAsk self.old page word) }
         ensures need { IfOk result (λ need. need ≡ (begun M.ops self.old page word call).need) }
         ensures ok { OnOk result (self.new ≡ (begun M.ops self.old page word call).after) }
         ensures posted { OnOk result (post.new ≡ P.after post.old (begun M.ops self.old page word call).posted) }

@@ -2,6 +2,7 @@
 ghost use Rattle.std.specs.FinSet as set;
 ghost use Rattle.std.specs.Prelude.{◌≡◌, ◌≢◌, ◌<◌, ◌≤◌, ◌^◌, ℕ, true, false, Some, None, OnOk, OnErr, IfErr, length};
 ghost use Rattle.ivy_model.specs.Wants.{IsWant};
+ghost use Rattle.ivy_wire.specs.Lent.{owned_message};
 ghost use Rattle.ivy_wire.specs.Spelling.{FitsMessage};
 ghost use Rattle.ivy_pagetable.specs.Entries.{owning};
 ghost use Rattle.ivy_pagetable.specs.Tables.{entry_at, page_at};
@@ -16,7 +17,7 @@ use ivy_model::Fault;
 use ivy_pagetable::{
     Access, AwaitAcks, AwaitWrite, Entry, Idle, Manager, NodeSet, PutOff, Request, Waiting, Word,
 };
-use ivy_wire::{Content, Message, Page, Post};
+use ivy_wire::{Content, Message, Post};
 use std::alloc::Allocator;
 
 /// The entry once the page, or a copy, came.
@@ -139,38 +140,38 @@ impl<M: Manager, A: Allocator> Coherence<M, A> {
         Ok(())
     }
 
-    /// The page's bytes come for the word that waits, to read or to write. The word is carried out on them, and
-    /// what was put off is served.
+    /// The page's bytes come for the word that waits, to read or to write. The word is carried out on a copy of
+    /// them, what was put off is served with that, and it becomes the page.
     fn unlock<P: Post>(
         &mut self,
         from: u8,
         page: u32,
         write: bool,
         waiting: &Waiting,
-        bytes: &mut [u8],
+        bytes: &[u8],
         post: &mut P,
     ) -> Result<(), Fault>
         requires from { from < self.old.config.nodes }
         requires foreign { from ≢ self.old.me }
         requires page { page < self.old.config.pages }
-        requires sized { length bytes.old ≡ self.old.config.page_size }
+        requires sized { length bytes.now ≡ self.old.config.page_size }
         requires waits { IsWaiting (entry_at self.old.table page) write waiting.now }
         requires config { P.config post.old ≡ self.old.config }
         requires node { P.node post.old ≡ self.old.me }
-        ensures ok { OnOk result (self.new ≡ (unlocked M.ops self.old from page (unlocked_as write) (Some write) bytes.old waiting.now).after) }
-        ensures posted { OnOk result (post.new ≡ P.after post.old (unlocked M.ops self.old from page (unlocked_as write) (Some write) bytes.old waiting.now).posted) }
+        ensures ok { OnOk result (self.new ≡ (unlocked M.ops self.old from page (unlocked_as write) (Some write) bytes.now waiting.now).after) }
+        ensures posted { OnOk result (post.new ≡ P.after post.old (unlocked M.ops self.old from page (unlocked_as write) (Some write) bytes.now waiting.now).posted) }
         ensures err { OnErr result ((self.new ≡ self.old) × (post.new ≡ post.old)) }
-        ensures took { OnOk result (P.takes post.old (unlocked M.ops self.old from page (unlocked_as write) (Some write) bytes.old waiting.now).posted) }
-        ensures fault { IfErr result (P.refuses post.old (unlocked M.ops self.old from page (unlocked_as write) (Some write) bytes.old waiting.now).posted) }
+        ensures took { OnOk result (P.takes post.old (unlocked M.ops self.old from page (unlocked_as write) (Some write) bytes.now waiting.now).posted) }
+        ensures fault { IfErr result (P.refuses post.old (unlocked M.ops self.old from page (unlocked_as write) (Some write) bytes.now waiting.now).posted) }
         ensures want { IfErr result IsWant }
     {
-        let me = self.me;
-        let out = waiting.word().carry_out(bytes);
+        self.spare.copy_from(bytes);
+        let out = self.spare.carry_out(waiting.word());
         let at = Place {
-            me,
+            me: self.me,
             from,
             page,
-            bytes,
+            bytes: self.spare.bytes(),
         };
         let idle = unlocked_as(write);
         let breaches = &mut self.breaches;
@@ -178,7 +179,7 @@ impl<M: Manager, A: Allocator> Coherence<M, A> {
         let reply = Some(write);
         let after = settle(at, reply, idle, &mut self.manager, breaches, messages, post)?;
         self.table.set_entry(page, Entry::Idle(after));
-        self.table.install(page, bytes);
+        self.table.swap_page(page, &mut self.spare);
         self.done = Some(out);
         self.locked = None;
         Ok(())
@@ -190,20 +191,20 @@ impl<M: Manager, A: Allocator> Coherence<M, A> {
         from: u8,
         call: u64,
         page: u32,
-        bytes: &mut [u8],
+        bytes: &[u8],
         post: &mut P,
     ) -> Result<(), Fault>
         requires from { from < self.old.config.nodes }
         requires foreign { from ≢ self.old.me }
         requires page { page < self.old.config.pages }
-        requires sized { length bytes.old ≡ self.old.config.page_size }
+        requires sized { length bytes.now ≡ self.old.config.page_size }
         requires config { P.config post.old ≡ self.old.config }
         requires node { P.node post.old ≡ self.old.me }
-        ensures ok { OnOk result (self.new ≡ (copy_came M.ops self.old from call page bytes.old (entry_at self.old.table page)).after) }
-        ensures posted { OnOk result (post.new ≡ P.after post.old (copy_came M.ops self.old from call page bytes.old (entry_at self.old.table page)).posted) }
+        ensures ok { OnOk result (self.new ≡ (copy_came M.ops self.old from call page bytes.now (entry_at self.old.table page)).after) }
+        ensures posted { OnOk result (post.new ≡ P.after post.old (copy_came M.ops self.old from call page bytes.now (entry_at self.old.table page)).posted) }
         ensures err { OnErr result ((self.new ≡ self.old) × (post.new ≡ post.old)) }
-        ensures took { OnOk result (P.takes post.old (copy_came M.ops self.old from call page bytes.old (entry_at self.old.table page)).posted) }
-        ensures fault { IfErr result (P.refuses post.old (copy_came M.ops self.old from call page bytes.old (entry_at self.old.table page)).posted) }
+        ensures took { OnOk result (P.takes post.old (copy_came M.ops self.old from call page bytes.now (entry_at self.old.table page)).posted) }
+        ensures fault { IfErr result (P.refuses post.old (copy_came M.ops self.old from call page bytes.now (entry_at self.old.table page)).posted) }
         ensures want { IfErr result IsWant }
     {
         match self.table.entry(page) {
@@ -223,22 +224,22 @@ impl<M: Manager, A: Allocator> Coherence<M, A> {
         call: u64,
         page: u32,
         copies: NodeSet,
-        bytes: &mut [u8],
+        bytes: &[u8],
         post: &mut P,
     ) -> Result<(), Fault>
         requires from { from < self.old.config.nodes }
         requires foreign { from ≢ self.old.me }
         requires page { page < self.old.config.pages }
-        requires sized { length bytes.old ≡ self.old.config.page_size }
+        requires sized { length bytes.now ≡ self.old.config.page_size }
         requires call { 1 ≤ call }
         requires copies { IsBelow self.old.config.nodes copies }
         requires config { P.config post.old ≡ self.old.config }
         requires node { P.node post.old ≡ self.old.me }
-        ensures ok { OnOk result (self.new ≡ (page_came M.ops self.old from call page copies bytes.old (entry_at self.old.table page)).after) }
-        ensures posted { OnOk result (post.new ≡ P.after post.old (page_came M.ops self.old from call page copies bytes.old (entry_at self.old.table page)).posted) }
+        ensures ok { OnOk result (self.new ≡ (page_came M.ops self.old from call page copies bytes.now (entry_at self.old.table page)).after) }
+        ensures posted { OnOk result (post.new ≡ P.after post.old (page_came M.ops self.old from call page copies bytes.now (entry_at self.old.table page)).posted) }
         ensures err { OnErr result ((self.new ≡ self.old) × (post.new ≡ post.old)) }
-        ensures took { OnOk result (P.takes post.old (page_came M.ops self.old from call page copies bytes.old (entry_at self.old.table page)).posted) }
-        ensures fault { IfErr result (P.refuses post.old (page_came M.ops self.old from call page copies bytes.old (entry_at self.old.table page)).posted) }
+        ensures took { OnOk result (P.takes post.old (page_came M.ops self.old from call page copies bytes.now (entry_at self.old.table page)).posted) }
+        ensures fault { IfErr result (P.refuses post.old (page_came M.ops self.old from call page copies bytes.now (entry_at self.old.table page)).posted) }
         ensures want { IfErr result IsWant }
     {
         match self.table.entry(page) {
@@ -260,24 +261,24 @@ impl<M: Manager, A: Allocator> Coherence<M, A> {
         page: u32,
         copies: NodeSet,
         waiting: Waiting,
-        bytes: &mut [u8],
+        bytes: &[u8],
         post: &mut P,
     ) -> Result<(), Fault>
         requires from { from < self.old.config.nodes }
         requires foreign { from ≢ self.old.me }
         requires page { page < self.old.config.pages }
-        requires sized { length bytes.old ≡ self.old.config.page_size }
+        requires sized { length bytes.now ≡ self.old.config.page_size }
         requires call { 1 ≤ call }
         requires below { IsBelow self.old.config.nodes copies }
         requires apart { set.contains copies self.old.me ≡ false }
         requires waits { IsWaiting (entry_at self.old.table page) true waiting }
         requires config { P.config post.old ≡ self.old.config }
         requires node { P.node post.old ≡ self.old.me }
-        ensures ok { OnOk result (self.new ≡ (owned_with M.ops self.old from call page copies bytes.old waiting).after) }
-        ensures posted { OnOk result (post.new ≡ P.after post.old (owned_with M.ops self.old from call page copies bytes.old waiting).posted) }
+        ensures ok { OnOk result (self.new ≡ (owned_with M.ops self.old from call page copies bytes.now waiting).after) }
+        ensures posted { OnOk result (post.new ≡ P.after post.old (owned_with M.ops self.old from call page copies bytes.now waiting).posted) }
         ensures err { OnErr result ((self.new ≡ self.old) × (post.new ≡ post.old)) }
-        ensures took { OnOk result (P.takes post.old (owned_with M.ops self.old from call page copies bytes.old waiting).posted) }
-        ensures fault { IfErr result (P.refuses post.old (owned_with M.ops self.old from call page copies bytes.old waiting).posted) }
+        ensures took { OnOk result (P.takes post.old (owned_with M.ops self.old from call page copies bytes.now waiting).posted) }
+        ensures fault { IfErr result (P.refuses post.old (owned_with M.ops self.old from call page copies bytes.now waiting).posted) }
         ensures want { IfErr result IsWant }
     {
         if is_none(&copies) {
@@ -418,24 +419,25 @@ impl<M: Manager, A: Allocator> Coherence<M, A> {
     /// A message that comes from another node [1, 17]. One that fits no rule is counted, and changes
     /// nothing else.
     ///
-    /// The message fits the configuration, and `from` is another one of its nodes.
+    /// The message fits the configuration, and `from` is another one of its nodes. The bytes of a page that it
+    /// brings are copied once; that takes no memory.
     pub fn handle<P: Post>(
         &mut self,
         from: u8,
-        message: Message<Page<A>>,
+        message: Message<&[u8]>,
         post: &mut P,
     ) -> Result<(), Fault>
         requires from { from < self.old.config.nodes }
         requires foreign { from ≢ self.old.me }
-        requires fits { FitsMessage self.old.config message }
+        requires fits { FitsMessage self.old.config (owned_message message) }
         requires config { P.config post.old ≡ self.old.config }
         requires node { P.node post.old ≡ self.old.me }
-        ensures ok { OnOk result (self.new ≡ (handled M.ops self.old from message).after) }
-        ensures few { length (handled M.ops self.old from message).posted ≤ most_posted }
-        ensures posted { OnOk result (post.new ≡ P.after post.old (handled M.ops self.old from message).posted) }
+        ensures ok { OnOk result (self.new ≡ (handled M.ops self.old from (owned_message message.entry)).after) }
+        ensures few { length (handled M.ops self.old from (owned_message message.entry)).posted ≤ most_posted }
+        ensures posted { OnOk result (post.new ≡ P.after post.old (handled M.ops self.old from (owned_message message.entry)).posted) }
         ensures err { OnErr result ((self.new ≡ self.old) × (post.new ≡ post.old)) }
-        ensures took { OnOk result (P.takes post.old (handled M.ops self.old from message).posted) }
-        ensures fault { IfErr result (P.refuses post.old (handled M.ops self.old from message).posted) }
+        ensures took { OnOk result (P.takes post.old (handled M.ops self.old from (owned_message message.entry)).posted) }
+        ensures fault { IfErr result (P.refuses post.old (handled M.ops self.old from (owned_message message.entry)).posted) }
         ensures want { IfErr result IsWant }
     {
         self.sound();
@@ -459,7 +461,7 @@ impl<M: Manager, A: Allocator> Coherence<M, A> {
                 self.asked(page, PutOff { kind, origin, call }, post)?;
             }
             Content::ReadRep { page, bytes } if mine => {
-                self.copy_came(from, call, page, &mut bytes.into_bytes(), post)?;
+                self.copy_came(from, call, page, bytes, post)?;
             }
             Content::WriteRep {
                 page,
@@ -467,7 +469,7 @@ impl<M: Manager, A: Allocator> Coherence<M, A> {
                 bytes,
             } if mine => {
                 let copies = NodeSet::from_bits(copies);
-                self.page_came(from, call, page, copies, &mut bytes.into_bytes(), post)?;
+                self.page_came(from, call, page, copies, bytes, post)?;
             }
             Content::InvalAck { page } if mine => {
                 self.acknowledged(from, call, page, post)?;

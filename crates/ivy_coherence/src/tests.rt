@@ -1,4 +1,5 @@
-ghost use Rattle.std.specs.Prelude.{◌≡◌, ◌≢◌, ◌<◌, ◌≤◌, IfOk};
+ghost use Rattle.std.specs.Prelude.{◌≡◌, ◌<◌, ◌≤◌, length};
+ghost use Rattle.ivy_wire.specs.Lent.{owned_message};
 ghost use Rattle.ivy_wire.specs.Spelling.{FitsMessage};
 
 use super::*;
@@ -8,6 +9,7 @@ use ivy_pagetable::{Out, Word};
 use ivy_wire::{Content, Message, Page, Parcel, Post};
 use std::alloc::Global;
 use std::marker::Model;
+use std::process::Abort;
 use std::test::Fail;
 
 /// Three nodes, and two pages of 64 bytes. Node 1 keeps the owner of page 1.
@@ -17,6 +19,11 @@ const TRIO: Config = Config {
     page_size: 64,
     manager: Kind::Fixed,
 };
+
+/// Pages of zeros, and of ones.
+static ZEROS: [u8; 64] = [0; 64];
+
+static ONES: [u8; 64] = [255; 64];
 
 /// Keeps the messages of a node, in order, or refuses them.
 #[derive(Drop)]
@@ -170,9 +177,9 @@ impl Node {
     }
 
     /// A message of another node comes.
-    fn deliver(&mut self, from: u8, message: Message<Page<Global>>) -> Result<(), Fail>
+    fn deliver(&mut self, from: u8, message: Message<&[u8]>) -> Result<(), Fail>
         requires from { from < 3 }
-        requires fits { FitsMessage TRIO message }
+        requires fits { FitsMessage TRIO (owned_message message) }
     {
         if from == self.posted.node() {
             return Err("a message of the node itself".into());
@@ -182,9 +189,9 @@ impl Node {
     }
 
     /// Whether a message of another node is refused.
-    fn refuses(&mut self, from: u8, message: Message<Page<Global>>) -> Result<bool, Fail>
+    fn refuses(&mut self, from: u8, message: Message<&[u8]>) -> Result<bool, Fail>
         requires from { from < 3 }
-        requires fits { FitsMessage TRIO message }
+        requires fits { FitsMessage TRIO (owned_message message) }
     {
         if from == self.posted.node() {
             return Err("a message of the node itself".into());
@@ -195,23 +202,44 @@ impl Node {
         }
     }
 
-    fn has_posted_at(&self, index: usize, wanted: &Parcel<Page<Global>>) -> bool {
+    /// The answer that is there, taken out.
+    fn returned(&mut self) -> Option<Out> {
+        self.coherence.returned()
+    }
+
+    /// From now on messages are refused, or taken.
+    fn refuse_messages(&mut self, is_full: bool) {
+        self.posted.is_full = is_full;
+    }
+
+    /// Whether this is the message that was posted at this place, from 0.
+    fn has_posted_at(&self, index: usize, wanted: &Parcel<&[u8]>) -> bool {
         match self.posted.parcels().get(index) {
-            Some(parcel) => parcel == wanted,
+            Some(parcel) => {
+                parcel.source == wanted.source
+                    && parcel.dest == wanted.dest
+                    && parcel.message.lent() == wanted.message
+            }
             None => false,
         }
     }
 
-    fn has_posted(&self, parcels: &[Parcel<Page<Global>>]) -> bool {
-        self.posted.parcels() == parcels
+    /// Whether these are all messages that were posted, in order.
+    fn has_posted(&self, wanted: &[Parcel<&[u8]>]) -> bool {
+        for (index, parcel) in wanted.iter().enumerate() {
+            if !self.has_posted_at(index, parcel) {
+                return false;
+            }
+        }
+        self.posted.parcels().len() == wanted.len()
     }
 }
 
 /// A request for a copy of page 1.
-fn request(origin: u8, call: u64) -> Message<Page<Global>>
+fn request<'a>(origin: u8, call: u64) -> Message<&'a [u8]>
     requires origin { origin < 3 }
     requires call { 1 ≤ call }
-    ensures { FitsMessage TRIO result }
+    ensures { FitsMessage TRIO (owned_message result) }
 {
     Message {
         origin,
@@ -220,27 +248,25 @@ fn request(origin: u8, call: u64) -> Message<Page<Global>>
     }
 }
 
-/// A copy of page 1, each byte of it the same.
-fn copy(alloc: Global, origin: u8, call: u64, byte: u8) -> Result<Message<Page<Global>>, Fail>
+/// A copy of page 1.
+fn copy<'a>(bytes: &'a [u8], origin: u8, call: u64) -> Message<&'a [u8]>
+    requires sized { length bytes.now ≡ 64 }
     requires origin { origin < 3 }
     requires call { 1 ≤ call }
-    ensures { IfOk result (FitsMessage TRIO) }
+    ensures { FitsMessage TRIO (owned_message result) }
 {
-    Ok(Message {
+    Message {
         origin,
         call,
-        content: Content::ReadRep {
-            page: 1,
-            bytes: Page::new(alloc, &[byte; 64])?,
-        },
-    })
+        content: Content::ReadRep { page: 1, bytes },
+    }
 }
 
 /// A request for page 1 itself.
-fn write_request(origin: u8, call: u64) -> Message<Page<Global>>
+fn write_request<'a>(origin: u8, call: u64) -> Message<&'a [u8]>
     requires origin { origin < 3 }
     requires call { 1 ≤ call }
-    ensures { FitsMessage TRIO result }
+    ensures { FitsMessage TRIO (owned_message result) }
 {
     Message {
         origin,
@@ -249,35 +275,29 @@ fn write_request(origin: u8, call: u64) -> Message<Page<Global>>
     }
 }
 
-/// Page 1 itself, each byte of it the same, and the nodes that have a copy.
-fn whole(
-    alloc: Global,
-    origin: u8,
-    call: u64,
-    copies: u8,
-    byte: u8,
-) -> Result<Message<Page<Global>>, Fail>
+/// Page 1 itself, and the nodes that have a copy.
+fn whole<'a>(copies: u8, origin: u8, call: u64) -> Message<&'a [u8]>
     requires origin { origin < 3 }
     requires call { 1 ≤ call }
     requires copies { copies < 8 }
-    ensures { IfOk result (FitsMessage TRIO) }
+    ensures { FitsMessage TRIO (owned_message result) }
 {
-    Ok(Message {
+    Message {
         origin,
         call,
         content: Content::WriteRep {
             page: 1,
             copies,
-            bytes: Page::new(alloc, &[byte; 64])?,
+            bytes: &ZEROS,
         },
-    })
+    }
 }
 
 /// The order of a node that is to write page 1, and what acknowledges it.
-fn order(origin: u8, call: u64) -> Message<Page<Global>>
+fn order<'a>(origin: u8, call: u64) -> Message<&'a [u8]>
     requires origin { origin < 3 }
     requires call { 1 ≤ call }
-    ensures { FitsMessage TRIO result }
+    ensures { FitsMessage TRIO (owned_message result) }
 {
     Message {
         origin,
@@ -286,10 +306,10 @@ fn order(origin: u8, call: u64) -> Message<Page<Global>>
     }
 }
 
-fn acknowledgement(origin: u8, call: u64) -> Message<Page<Global>>
+fn acknowledgement<'a>(origin: u8, call: u64) -> Message<&'a [u8]>
     requires origin { origin < 3 }
     requires call { 1 ≤ call }
-    ensures { FitsMessage TRIO result }
+    ensures { FitsMessage TRIO (owned_message result) }
 {
     Message {
         origin,
@@ -298,7 +318,7 @@ fn acknowledgement(origin: u8, call: u64) -> Message<Page<Global>>
     }
 }
 
-fn parcel(source: u8, dest: u8, message: Message<Page<Global>>) -> Parcel<Page<Global>> {
+fn parcel(source: u8, dest: u8, message: Message<&[u8]>) -> Parcel<&[u8]> {
     Parcel {
         source,
         dest,
@@ -310,11 +330,16 @@ fn parcel(source: u8, dest: u8, message: Message<Page<Global>>) -> Parcel<Page<G
 #[test]
 fn a_read_fault(rt: HostRuntime) -> Result<(), Fail> {
     let mut node = Node::new(rt.alloc(), 2)?;
+    faults_to_read(&rt, &mut node)?;
+    Ok(())
+}
+
+fn faults_to_read(rt: &impl Abort, node: &mut Node) -> Result<(), Fail> {
     assert_eq!(rt; node.coherence.config(), TRIO);
     assert_eq!(rt; node.load(1, 1)?, Need::Started);
     assert_eq!(rt; node.load(0, 2)?, Need::Busy);
     assert!(rt; node.has_posted(&[parcel(2, 1, request(2, 1))]));
-    assert_eq!(rt; node.coherence.returned(), None);
+    assert_eq!(rt; node.returned(), None);
     Ok(())
 }
 
@@ -322,8 +347,13 @@ fn a_read_fault(rt: HostRuntime) -> Result<(), Fail> {
 #[test]
 fn an_owner_answers(rt: HostRuntime) -> Result<(), Fail> {
     let mut node = Node::new(rt.alloc(), 0)?;
+    answers(&rt, &mut node)?;
+    Ok(())
+}
+
+fn answers(rt: &impl Abort, node: &mut Node) -> Result<(), Fail> {
     node.deliver(1, request(2, 7))?;
-    assert!(rt; node.has_posted(&[parcel(0, 2, copy(rt.alloc(), 2, 7, 0)?)]));
+    assert!(rt; node.has_posted(&[parcel(0, 2, copy(&ZEROS, 2, 7))]));
     assert_eq!(rt; node.load(1, 1)?, Need::Have(Out::Value(0)));
     assert_eq!(rt; node.coherence.breaches(), 0);
     Ok(())
@@ -333,6 +363,11 @@ fn an_owner_answers(rt: HostRuntime) -> Result<(), Fail> {
 #[test]
 fn a_request_goes_on(rt: HostRuntime) -> Result<(), Fail> {
     let mut node = Node::new(rt.alloc(), 1)?;
+    sends_on(&rt, &mut node)?;
+    Ok(())
+}
+
+fn sends_on(rt: &impl Abort, node: &mut Node) -> Result<(), Fail> {
     node.deliver(2, request(2, 7))?;
     assert!(rt; node.has_posted(&[parcel(1, 0, request(2, 7))]));
     Ok(())
@@ -343,21 +378,26 @@ fn a_request_goes_on(rt: HostRuntime) -> Result<(), Fail> {
 #[test]
 fn requests_at_a_locked_entry(rt: HostRuntime) -> Result<(), Fail> {
     let mut node = Node::new(rt.alloc(), 1)?;
+    puts_off(&rt, &mut node)?;
+    Ok(())
+}
+
+fn puts_off(rt: &impl Abort, node: &mut Node) -> Result<(), Fail> {
     assert_eq!(rt; node.load(1, 3)?, Need::Started);
     for call in 1..10u64 {
         node.deliver(2, request(2, call))?;
     }
     assert!(rt; node.has_posted(&[parcel(1, 0, request(1, 3))]));
     assert_eq!(rt; node.coherence.breaches(), 1);
-    node.deliver(0, copy(rt.alloc(), 1, 3, 255)?)?;
+    node.deliver(0, copy(&ONES, 1, 3))?;
     assert_eq!(rt; node.posted.parcels().len(), 9);
     for call in 1..9u64 {
         assert!(rt; node.has_posted_at(call as usize, &parcel(1, 0, request(2, call))));
     }
     let answer = Some(Out::Value(u64::MAX));
     assert_eq!(rt; node.coherence.answer(), answer);
-    assert_eq!(rt; node.coherence.returned(), answer);
-    assert_eq!(rt; node.coherence.returned(), None);
+    assert_eq!(rt; node.returned(), answer);
+    assert_eq!(rt; node.returned(), None);
     assert_eq!(rt; node.load(1, 4)?, Need::Have(Out::Value(u64::MAX)));
     Ok(())
 }
@@ -367,10 +407,15 @@ fn requests_at_a_locked_entry(rt: HostRuntime) -> Result<(), Fail> {
 #[test]
 fn forged_messages(rt: HostRuntime) -> Result<(), Fail> {
     let mut node = Node::new(rt.alloc(), 2)?;
-    node.deliver(0, copy(rt.alloc(), 2, 1, 255)?)?;
+    is_sent_forged(&rt, &mut node)?;
+    Ok(())
+}
+
+fn is_sent_forged(rt: &impl Abort, node: &mut Node) -> Result<(), Fail> {
+    node.deliver(0, copy(&ONES, 2, 1))?;
     assert_eq!(rt; node.coherence.breaches(), 1);
     assert_eq!(rt; node.load(1, 2)?, Need::Started);
-    node.deliver(0, copy(rt.alloc(), 2, 1, 255)?)?;
+    node.deliver(0, copy(&ONES, 2, 1))?;
     assert_eq!(rt; node.coherence.breaches(), 2);
     node.deliver(1, request(2, 2))?;
     assert_eq!(rt; node.coherence.breaches(), 3);
@@ -384,13 +429,18 @@ fn forged_messages(rt: HostRuntime) -> Result<(), Fail> {
 #[test]
 fn a_write_fault(rt: HostRuntime) -> Result<(), Fail> {
     let mut node = Node::new(rt.alloc(), 2)?;
+    faults_to_write(&rt, &mut node)?;
+    Ok(())
+}
+
+fn faults_to_write(rt: &impl Abort, node: &mut Node) -> Result<(), Fail> {
     assert_eq!(rt; node.store(4)?, Need::Started);
-    node.deliver(0, whole(rt.alloc(), 2, 4, 2, 0)?)?;
+    node.deliver(0, whole(2, 2, 4))?;
     assert!(rt; node.has_posted(&[parcel(2, 1, write_request(2, 4)), parcel(2, 1, order(2, 4))]));
     node.deliver(1, request(1, 9))?;
     assert_eq!(rt; node.coherence.answer(), None);
     node.deliver(1, acknowledgement(2, 4))?;
-    assert_eq!(rt; node.coherence.returned(), Some(Out::Done));
+    assert_eq!(rt; node.returned(), Some(Out::Done));
     assert_eq!(rt; node.posted.parcels().len(), 3);
     assert_eq!(rt; node.load(1, 5)?, Need::Have(Out::Value(5)));
     assert_eq!(rt; node.coherence.breaches(), 0);
@@ -401,9 +451,14 @@ fn a_write_fault(rt: HostRuntime) -> Result<(), Fail> {
 #[test]
 fn an_owner_gives_the_page(rt: HostRuntime) -> Result<(), Fail> {
     let mut node = Node::new(rt.alloc(), 0)?;
+    gives_the_page(&rt, &mut node)?;
+    Ok(())
+}
+
+fn gives_the_page(rt: &impl Abort, node: &mut Node) -> Result<(), Fail> {
     node.deliver(1, request(1, 7))?;
     node.deliver(1, write_request(2, 8))?;
-    assert!(rt; node.has_posted_at(1, &parcel(0, 2, whole(rt.alloc(), 2, 8, 2, 0)?)));
+    assert!(rt; node.has_posted_at(1, &parcel(0, 2, whole(2, 2, 8))));
     assert_eq!(rt; node.load(1, 1)?, Need::Started);
     assert!(rt; node.has_posted_at(2, &parcel(0, 1, request(0, 1))));
     Ok(())
@@ -413,6 +468,11 @@ fn an_owner_gives_the_page(rt: HostRuntime) -> Result<(), Fail> {
 #[test]
 fn an_owner_stores(rt: HostRuntime) -> Result<(), Fail> {
     let mut node = Node::new(rt.alloc(), 0)?;
+    stores(&rt, &mut node)?;
+    Ok(())
+}
+
+fn stores(rt: &impl Abort, node: &mut Node) -> Result<(), Fail> {
     node.deliver(1, request(1, 7))?;
     node.deliver(1, request(2, 7))?;
     assert_eq!(rt; node.store(1)?, Need::Started);
@@ -421,7 +481,7 @@ fn an_owner_stores(rt: HostRuntime) -> Result<(), Fail> {
     node.deliver(2, acknowledgement(0, 1))?;
     assert_eq!(rt; node.coherence.answer(), None);
     node.deliver(1, acknowledgement(0, 1))?;
-    assert_eq!(rt; node.coherence.returned(), Some(Out::Done));
+    assert_eq!(rt; node.returned(), Some(Out::Done));
     assert_eq!(rt; node.load(1, 2)?, Need::Have(Out::Value(5)));
     Ok(())
 }
@@ -430,11 +490,16 @@ fn an_owner_stores(rt: HostRuntime) -> Result<(), Fail> {
 #[test]
 fn copies_given_up(rt: HostRuntime) -> Result<(), Fail> {
     let mut node = Node::new(rt.alloc(), 2)?;
+    gives_copies_up(&rt, &mut node)?;
+    Ok(())
+}
+
+fn gives_copies_up(rt: &impl Abort, node: &mut Node) -> Result<(), Fail> {
     assert_eq!(rt; node.load(1, 1)?, Need::Started);
     node.deliver(1, order(1, 6))?;
     assert!(rt; node.has_posted(&[parcel(2, 1, request(2, 1))]));
-    node.deliver(0, copy(rt.alloc(), 2, 1, 255)?)?;
-    assert_eq!(rt; node.coherence.returned(), Some(Out::Value(u64::MAX)));
+    node.deliver(0, copy(&ONES, 2, 1))?;
+    assert_eq!(rt; node.returned(), Some(Out::Value(u64::MAX)));
     assert!(rt; node.has_posted_at(1, &parcel(2, 1, acknowledgement(1, 6))));
     assert_eq!(rt; node.load(1, 2)?, Need::Started);
     Ok(())
@@ -444,15 +509,20 @@ fn copies_given_up(rt: HostRuntime) -> Result<(), Fail> {
 #[test]
 fn a_refused_acknowledgement(rt: HostRuntime) -> Result<(), Fail> {
     let mut node = Node::new(rt.alloc(), 0)?;
+    is_refused(&rt, &mut node)?;
+    Ok(())
+}
+
+fn is_refused(rt: &impl Abort, node: &mut Node) -> Result<(), Fail> {
     node.deliver(1, request(1, 7))?;
     assert_eq!(rt; node.store(1)?, Need::Started);
     node.deliver(2, request(2, 3))?;
-    node.posted.is_full = true;
+    node.refuse_messages(true);
     assert!(rt; node.refuses(1, acknowledgement(0, 1))?);
     assert_eq!(rt; node.coherence.answer(), None);
-    node.posted.is_full = false;
+    node.refuse_messages(false);
     node.deliver(1, acknowledgement(0, 1))?;
-    assert_eq!(rt; node.coherence.returned(), Some(Out::Done));
+    assert_eq!(rt; node.returned(), Some(Out::Done));
     assert_eq!(rt; node.posted.parcels().len(), 3);
     Ok(())
 }

@@ -1,6 +1,6 @@
 -- The hints of a node: for each page, who probably owns it (Li and Hudak 1989, the dynamic
 -- distributed manager).
-use Rattle.std.specs.Prelude.{ℕ, Bool, List, length, replicate, slice_index, slice_set, if◌then◌else◌}
+use Rattle.std.specs.Prelude.{ℕ, List, length, replicate, slice_index, slice_set, if◌then◌else◌}
 use Rattle.ivy_model.specs.declared.Config.{Config}
 use Rattle.ivy_pagetable.specs.Manager.{Ops}
 

@@ -18,4 +18,5 @@ module _ {C : Type 0} (rules : Core C) (c : Config) (answered : C → Answered) 
   GoesOn w order [] = IsExplainedBy w order
   GoesOn w order (move ∷ moves) =
       IsExplainedBy w order
-      × ((mid : World C) → moved rules c w move ≡ Some mid → (more : List Record) × GoesOn mid (order ++ more) moves)
+      × ((mid : World C) → moved rules c w move ≡ Some mid
+      → (more : List Record) × GoesOn mid (order ++ more) moves)

@@ -25,9 +25,12 @@ module _ {C : Type 0} where
 -- What is asked of a core: whatever it is told, it posts messages of its own node to others, which have a
 -- spelling. `Sound i` is what holds of node i's core.
 pub record IsTame {C : Type 0} (rules : Core C) (c : Config) (Sound : ℕ → C → Type 0) : Type 0 where
-  pub turn : (i : ℕ) (core : C) (o : Outcome C) → Sound i core → rules.turn core ≡ Some o → Sound i o.after × All (FitsParcel c i) o.posted
-  pub serve : (i source : ℕ) (core : C) (m : Message) → Sound i core → source < c.nodes → source ≢ i → FitsMessage c m
-      → Sound i (rules.serve core source m).after × All (FitsParcel c i) (rules.serve core source m).posted
+  pub turn : (i : ℕ) (core : C) (o : Outcome C) → Sound i core → rules.turn core ≡ Some o
+      → Sound i o.after × All (FitsParcel c i) o.posted
+  pub serve : (i source : ℕ) (core : C) (m : Message) → Sound i core → source < c.nodes
+      → source ≢ i → FitsMessage c m
+      → Sound i (rules.serve core source m).after
+      × All (FitsParcel c i) (rules.serve core source m).posted
 
 -- the bytes spell a frame that one of the nodes made for another one
 abbrev pub IsString : Config → (ℕ → ℕ → List Message) → List ℕ → Type 0
@@ -52,6 +55,8 @@ module _ {C : Type 0} (c : Config) (Sound : ℕ → C → Type 0) where
     pub sent : w.sent ≡ []
 
 -- the world follows the ordered world from the messages posted so far on, by one move of it or none
-abbrev pub StepsTo : {C : Type 0} (rules : Core C) (c : Config) (Sound : ℕ → C → Type 0) → World C → (ℕ → ℕ → List Message) → World C → Type 0
+abbrev pub StepsTo : {C : Type 0} (rules : Core C) (c : Config) (Sound : ℕ → C → Type 0) → World C
+    → (ℕ → ℕ → List Message) → World C → Type 0
 StepsTo rules c Sound w posted w' =
-    (posted' : ℕ → ℕ → List Message) × Follows c Sound w' posted' × Steps rules (ordered_of w posted) (ordered_of w' posted')
+    (posted' : ℕ → ℕ → List Message) × Follows c Sound w' posted'
+    × Steps rules (ordered_of w posted) (ordered_of w' posted')

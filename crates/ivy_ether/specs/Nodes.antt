@@ -42,7 +42,10 @@ module _ {C : Type 0} where
   abbrev pub accepting : Frame → Option (Effect C) → Option (Effect C)
   accepting f None = None
   accepting f (Some e) =
-      Some (record { after = record { core = e.after.core; link = accepted e.after.link f }; sent = e.sent })
+      Some (record {
+        after = record { core = e.after.core; link = accepted e.after.link f };
+        sent = e.sent;
+      })
 
 module _ {C : Type 0} (rules : Core C) where
   abbrev pub turned_to : Node C → Option (Outcome C) → Option (Effect C)
@@ -56,7 +59,8 @@ module _ {C : Type 0} (rules : Core C) where
   abbrev pub served : Node C → Frame → Option Message → Option (Effect C)
   served n f None = accepting f (Some (stays n))
   served n f (Some m) =
-      accepting f (posting n (rules.serve n.core f.source m).after (rules.serve n.core f.source m).posted)
+      accepting f
+      (posting n (rules.serve n.core f.source m).after (rules.serve n.core f.source m).posted)
 
   abbrev pub received_as : Verdict → Node C → Frame → Option (Effect C)
   received_as verdict.NotMine n f = Some (stays n)

@@ -14,7 +14,8 @@ pub record Ordered (C : Type 0) : Type 0 where
 
 -- one message more was delivered from one node to another
 abbrev pub one_more : (ℕ → ℕ → ℕ) → ℕ → ℕ → ℕ → ℕ → ℕ
-one_more delivered source dest i j = if i == source && j == dest then delivered i j + 1 else delivered i j
+one_more delivered source dest i j =
+    if i == source && j == dest then delivered i j + 1 else delivered i j
 
 module _ {C : Type 0} (rules : Core C) where
   -- a turn of node i that changes something

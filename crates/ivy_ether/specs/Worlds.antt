@@ -26,7 +26,8 @@ module _ {C : Type 0} where
   abbrev pub is_named : World C → Move → Bool
   is_named w (Turn i) = nat_lt i (length w.nodes)
   is_named w (Deliver index to) = nat_lt to (length w.nodes) && nat_lt index (length w.sent)
-  is_named w (Pulse from to) = nat_lt from (length w.nodes) && (nat_lt to (length w.nodes) && not (from == to))
+  is_named w (Pulse from to) =
+      nat_lt from (length w.nodes) && (nat_lt to (length w.nodes) && not (from == to))
 
 module _ {C : Type 0} (rules : Core C) (c : Config) where
   abbrev pub turn_of : World C → ℕ → Option (Node C) → Option (World C)

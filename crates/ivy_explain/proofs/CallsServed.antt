@@ -8,7 +8,7 @@ use Rattle.ivy_model.specs.declared.Call.{Call}
 use Rattle.ivy_model.specs.declared.Call.TheVariants as call
 use Rattle.ivy_model.specs.declared.Reply.TheVariants as reply
 use Rattle.ivy_model.specs.Config.{IsConfig, count_len}
-use Rattle.ivy_model.specs.Memory.{IsSized, page_at}
+use Rattle.ivy_model.specs.Memory.{IsSized, flat_page}
 use Rattle.ivy_model.specs.Memory as model
 use Rattle.ivy_model.specs.Serves.{Serves, access_refusal}
 use Rattle.ivy_model.specs.Legal.{HasWidth}
@@ -57,11 +57,11 @@ module _ (c : Config) (mem : model.Memory) (sized : IsSized c mem) where
       (slice_get_past mem.counts k (let long = sized.counts in omega (arith, past, long)), gone.1)
 
   -- the word is what stands here
-  this_word : (called : Call) (p q : ℕ) (v w : Word) → p ≡ q → v ≡ w → IsServed c mem called p (carried_out v (page_at c mem p)) → IsServed c mem called q (carried_out w (page_at c mem q))
+  this_word : (called : Call) (p q : ℕ) (v w : Word) → p ≡ q → v ≡ w → IsServed c mem called p (carried_out v (flat_page c mem p)) → IsServed c mem called q (carried_out w (flat_page c mem q))
   this_word called p q v w a b served =
-      subst (λ r. IsServed c mem called r (carried_out w (page_at c mem r))) a (subst (λ u. IsServed c mem called p (carried_out u (page_at c mem p))) b served)
+      subst (λ r. IsServed c mem called r (carried_out w (flat_page c mem r))) a (subst (λ u. IsServed c mem called p (carried_out u (flat_page c mem p))) b served)
 
-  pub word_served : IsConfig c → (called : Call) (page : ℕ) (w : Word) → HasWidth called → IsWordOf c called page w → IsServed c mem called page (carried_out w (page_at c mem page))
+  pub word_served : IsConfig c → (called : Call) (page : ℕ) (w : Word) → HasWidth called → IsWordOf c called page w → IsServed c mem called page (carried_out w (flat_page c mem page))
   word_served config (call.Load width addr) page w legal of =
       let is = is_word (access_refusal c width addr) (addr / c.page_size) page (word.Load width (addr % c.page_size)) w of in
       this_word (call.Load width addr) (addr / c.page_size) page (word.Load width (addr % c.page_size)) w is.1 is.2 (load_served c mem config width addr legal is.0)

@@ -19,7 +19,7 @@ use Rattle.ivy_pagetable.specs.Words.{IsWord, needs_write, carried_out}
 use Rattle.ivy_pagetable.proofs.Words.{length-carried_out}
 use Rattle.ivy_coherence.specs.Faults.{suffices}
 use Rattle.ivy_order.specs.Letters.{Letter, Net, Place, Underway, Aside, Loose, IsAt, installs}
-use Rattle.ivy_order.specs.Orderly.{AwaitsCopy, HasCopy, reads, comes, At, FitsAs, IsOrderly}
+use Rattle.ivy_order.specs.Orderly.{AwaitsCopy, HasCopy, reads, comes, At, IsExpectedAs, IsOrderly}
 use Rattle.ivy_order.specs.Rows.{with_page}
 use Rattle.ivy_order.proofs.Places.{written-here, written-other, same_or_other}
 use Rattle.ivy_order.proofs.Sole.{fits_as, no_other_owner, no_page_comes}
@@ -76,7 +76,7 @@ module _ (c : Config) (n : Net) (f : ℕ → List ℕ) (x p : ℕ) (s : IdleStat
     no_copy_comes a l bytes at body = elim (cases_eq l.dest x) [
       | inr ne ↦ no_copy l.dest ne (comes a l bytes at refl body)
       | inl same ↦ (
-          let fit : FitsAs c n l (content.ReadRep p bytes) = fits_as c n o a l (content.ReadRep p bytes) at body in
+          let fit : IsExpectedAs c n l (content.ReadRep p bytes) = fits_as c n o a l (content.ReadRep p bytes) at body in
           subst (λ y. AwaitsCopy y l.message.call) (ap (λ i. n.entry i p) (sym fit.1 ∙ same) ∙ is) fit.2
           )
     ]

@@ -6,9 +6,9 @@ use Rattle.std.proofs.lemmas.Option.{same_Some, none-some}
 use Rattle.ivy_model.specs.declared.Config.{Config}
 use Rattle.ivy_model.specs.declared.Record.{Record}
 use Rattle.ivy_model.specs.Config.{IsConfig}
-use Rattle.ivy_model.specs.Memory.{IsSized, page_at, first}
+use Rattle.ivy_model.specs.Memory.{IsSized, flat_page, first}
 use Rattle.ivy_model.specs.Memory as model
-use Rattle.ivy_model.specs.Legal.{Leads}
+use Rattle.ivy_model.specs.Legal.{ServesAll}
 use Rattle.ivy_model.specs.Explains.{part, Answered, IsOwed, IsExplained}
 use Rattle.ivy_model.proofs.Parts.{part-append, leads-append}
 use Rattle.ivy_model.proofs.Sizes.{first_sized, leads_sized}
@@ -19,8 +19,8 @@ use Rattle.ivy_ether.specs.Ordered.{Ordered, Steps}
 use Rattle.ivy_host.specs.Hosts.{Host, answered_by, host_rules, serving}
 use Rattle.ivy_host.proofs.Tame.{tame}
 use Rattle.ivy_order.specs.Orderly.{IsOrderly}
-use Rattle.ivy_order.proofs.LiftedWorlds.{net_of, IsSoundWorld, steps_sound}
-use Rattle.ivy_order.proofs.LiftedHosts.{WorldTells, rested, turned, delivered, kept-steps}
+use Rattle.ivy_worlds.proofs.LiftedWorlds.{net_of, IsSoundWorld, steps_sound}
+use Rattle.ivy_worlds.proofs.LiftedHosts.{WorldTells, rested, turned, delivered, kept-steps}
 use Rattle.ivy_explain.specs.Copied.{IsCopied}
 use Rattle.ivy_explain.proofs.CopiedRows.{copied-kept}
 use Rattle.ivy_explain.proofs.Owing.{pending, owed-owed, IsRunning, Adds}
@@ -30,9 +30,9 @@ use Rattle.ivy_explain.proofs.OwingEvents.{Copies, turn_adds, message_adds}
 -- the order is its history and what is owed to it.
 pub record IsFaithful {S : Type 0} (ops : Ops S) (c : Config) (o : Ordered (Host S)) (order : List Record) : Type 0 where
   pub memory : model.Memory
-  pub legal : Leads c (first c) order memory
+  pub legal : ServesAll c (first c) order memory
   pub pages : ℕ → List ℕ
-  pub shows : (p : ℕ) → p < c.pages → pages p ≡ page_at c memory p
+  pub shows : (p : ℕ) → p < c.pages → pages p ≡ flat_page c memory p
   pub sound : IsSoundWorld ops c o
   pub orderly : IsOrderly c (net_of o)
   pub copied : IsCopied c (net_of o) pages

@@ -5,7 +5,7 @@ use Rattle.std.proofs.lemmas.List.{length-replicate, get_or-replicate, get_or_pa
 use Rattle.std.proofs.lemmas.Option.{none-some, slice_get_within, slice_get-get_or}
 use Rattle.ivy_model.specs.declared.Config.{Config}
 use Rattle.ivy_model.specs.Config.{IsConfig}
-use Rattle.ivy_model.specs.Memory.{page_at as flat_page, first as first_memory}
+use Rattle.ivy_model.specs.Memory.{flat_page, first as first_memory}
 use Rattle.ivy_model.proofs.Sizes.{zero_page}
 use Rattle.ivy_pagetable.specs.declared.Entry.{Entry}
 use Rattle.ivy_pagetable.specs.declared.PutOff.{PutOff}
@@ -18,11 +18,11 @@ use Rattle.ivy_ether.specs.Following.{ordered_of}
 use Rattle.ivy_host.specs.Hosts.{Host, first_host}
 use Rattle.ivy_host.specs.Openings.{opening}
 use Rattle.ivy_order.specs.Letters.{Letter, Place, Underway, Aside, Loose, IsAt}
-use Rattle.ivy_order.proofs.LiftedWorlds.{entry_of, page_of, net_of, IsSoundWorld}
-use Rattle.ivy_order.proofs.LiftedRuns.{sound_opening}
+use Rattle.ivy_worlds.proofs.LiftedWorlds.{entry_of, page_of, net_of, IsSoundWorld}
+use Rattle.ivy_worlds.proofs.LiftedRuns.{sound_opening}
 use Rattle.ivy_order.proofs.Opening.{IsFirst, orderly_opening}
-use Rattle.ivy_order.proofs.Led.{opening_first}
-use Rattle.ivy_order.proofs.Worlds.{first_net}
+use Rattle.ivy_worlds.proofs.Led.{opening_first}
+use Rattle.ivy_worlds.proofs.Worlds.{first_net}
 use Rattle.ivy_explain.specs.Copied.{HasBytes}
 use Rattle.ivy_explain.proofs.CopiedRows.{no_bytes, opening_copied}
 use Rattle.ivy_explain.proofs.Owing.{pending, IsRunning}

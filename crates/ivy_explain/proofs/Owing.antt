@@ -7,9 +7,9 @@ use Rattle.ivy_model.specs.declared.Config.{Config}
 use Rattle.ivy_model.specs.declared.Call.{Call}
 use Rattle.ivy_model.specs.declared.Record.{Record}
 use Rattle.ivy_model.specs.declared.Reply.{Reply}
-use Rattle.ivy_model.specs.Memory.{page_at}
+use Rattle.ivy_model.specs.Memory.{flat_page}
 use Rattle.ivy_model.specs.Memory as model
-use Rattle.ivy_model.specs.Legal.{HasWidth, Leads}
+use Rattle.ivy_model.specs.Legal.{HasWidth, ServesAll}
 use Rattle.ivy_model.specs.Explains.{part, IsOwed}
 use Rattle.ivy_model.proofs.Parts.{part-own, part-other}
 use Rattle.ivy_pagetable.specs.declared.Word.{Word}
@@ -20,7 +20,7 @@ use Rattle.ivy_memory.specs.declared.Asked.TheVariants as asked
 use Rattle.ivy_memory.specs.Asking.{asked_of}
 use Rattle.ivy_memory.specs.Memories.{reply_there}
 use Rattle.ivy_host.specs.Hosts.{Host, number_of}
-use Rattle.ivy_order.proofs.LiftedEvents.{WaitsAt}
+use Rattle.ivy_worlds.proofs.LiftedEvents.{WaitsAt}
 use Rattle.ivy_explain.proofs.WordsServed.{Answers}
 
 -- of the call in progress, once its reply is there
@@ -48,7 +48,7 @@ owed-owed me (Some call) None = tt
 owed-owed me (Some call) (Some r) = refl
 
 -- the flat memory makes it, and it is the node's
-pub owed-leads : (c : Config) (old new : model.Memory) (me : ℕ) (called : Call) (o : Option Reply) → me < c.nodes → HasWidth called → Answers c old called o new → Leads c old (owed me (Some called) o) new
+pub owed-leads : (c : Config) (old new : model.Memory) (me : ℕ) (called : Call) (o : Option Reply) → me < c.nodes → HasWidth called → Answers c old called o new → ServesAll c old (owed me (Some called) o) new
 owed-leads c old new me called None here width answers = answers
 owed-leads c old new me called (Some r) here width answers = (new, record { node = here; width = width; served = answers }, refl)
 
@@ -87,8 +87,8 @@ pub record IsRunning {S : Type 0} (c : Config) (n : Host S) : Type 0 where
 pub record Adds {S : Type 0} (c : Config) (old : model.Memory) (i : ℕ) (n n' : Host S) (pages : ℕ → List ℕ) : Type 0 where
   pub more : List Record
   pub new : model.Memory
-  pub legal : Leads c old more new
-  pub shows : (p : ℕ) → p < c.pages → pages p ≡ page_at c new p
+  pub legal : ServesAll c old more new
+  pub shows : (p : ℕ) → p < c.pages → pages p ≡ flat_page c new p
   pub own : part i more ≡ more
   pub other : (j : ℕ) → j ≢ i → part j more ≡ []
   pub history : n'.history ++ pending n' ≡ (n.history ++ pending n) ++ more

@@ -8,7 +8,7 @@ use Rattle.ivy_model.specs.declared.Record.{Record}
 use Rattle.ivy_model.specs.declared.Reply.{Reply}
 use Rattle.ivy_model.specs.declared.Reply.TheVariants as reply
 use Rattle.ivy_model.specs.Config.{IsConfig}
-use Rattle.ivy_model.specs.Memory.{IsSized, page_at}
+use Rattle.ivy_model.specs.Memory.{IsSized, flat_page}
 use Rattle.ivy_model.specs.Memory as model
 use Rattle.ivy_model.specs.Serves.{Serves}
 use Rattle.ivy_model.specs.Legal.{HasWidth}
@@ -36,8 +36,8 @@ use Rattle.ivy_host.specs.Sound.{IsSoundHost}
 use Rattle.ivy_order.specs.Letters.{Net}
 use Rattle.ivy_order.specs.Orderly.{IsOrderly}
 use Rattle.ivy_order.specs.Rows.{with_page}
-use Rattle.ivy_order.proofs.LiftedEvents.{WaitsAt, Carries, Tells, quiet, answers as is_answered, Starts, busy, hits, waits}
-use Rattle.ivy_order.proofs.LiftedHosts.{asks as access, HostTurn, answers, goes_on, refuses, asks_for, TurnTells}
+use Rattle.ivy_worlds.proofs.LiftedEvents.{WaitsAt, Carries, Tells, quiet, answers as is_answered, Starts, busy, hits, waits}
+use Rattle.ivy_worlds.proofs.LiftedHosts.{asks as access, HostTurn, answers, goes_on, refuses, asks_for, TurnTells}
 use Rattle.ivy_explain.specs.Copied.{IsCopied}
 use Rattle.ivy_explain.proofs.CopiedWords.{bytes_there}
 use Rattle.ivy_explain.proofs.WordsServed.{Answers, IsServed}
@@ -66,14 +66,14 @@ with_page-same f g p q b d e h = ap (λ z. if q == p then z else f q) e ∙ ap (
 record Came (c : Config) (mem : model.Memory) (called : Call) (out : Out) (pages : ℕ → List ℕ) : Type 0 where
   new : model.Memory
   gives : Answers c mem called (reply_of out) new
-  shows : (p : ℕ) → p < c.pages → pages p ≡ page_at c new p
+  shows : (p : ℕ) → p < c.pages → pages p ≡ flat_page c new p
 
-module _ {S : Type 0} (ops : Ops S) (c : Config) (config : IsConfig c) (x : ℕ) (mem : model.Memory) (sized : IsSized c mem) (f : ℕ → List ℕ) (shows : (p : ℕ) → p < c.pages → f p ≡ page_at c mem p)
+module _ {S : Type 0} (ops : Ops S) (c : Config) (config : IsConfig c) (x : ℕ) (mem : model.Memory) (sized : IsSized c mem) (f : ℕ → List ℕ) (shows : (p : ℕ) → p < c.pages → f p ≡ flat_page c mem p)
     (n : Host S) (good : IsSoundHost ops c x n) (running : IsRunning c n) where
   here : number_of n < c.nodes
   here = subst (λ k. number_of n < k.nodes) good.config good.memory.coherent.here
 
-  same_pages : (flat : ℕ → List ℕ) → flat ≡ f → (p : ℕ) → p < c.pages → flat p ≡ page_at c mem p
+  same_pages : (flat : ℕ → List ℕ) → flat ≡ f → (p : ℕ) → p < c.pages → flat p ≡ flat_page c mem p
   same_pages flat same p inside = ap (λ g. g p) same ∙ shows p inside
 
   -- nothing is added
@@ -91,7 +91,7 @@ module _ {S : Type 0} (ops : Ops S) (c : Config) (config : IsConfig c) (x : ℕ)
   }
 
   -- a call is answered, or waits on
-  owing : (n' : Host S) (flat : ℕ → List ℕ) (called : Call) (o : Option Reply) (new : model.Memory) → HasWidth called → Answers c mem called o new → ((p : ℕ) → p < c.pages → flat p ≡ page_at c new p)
+  owing : (n' : Host S) (flat : ℕ → List ℕ) (called : Call) (o : Option Reply) (new : model.Memory) → HasWidth called → Answers c mem called o new → ((p : ℕ) → p < c.pages → flat p ≡ flat_page c new p)
       → n'.history ++ pending n' ≡ (n.history ++ pending n) ++ owed (number_of n) (Some called) o → IsRunning c n' → n'.process.program ≡ n.process.program → Adds c mem x n n' flat
   owing n' flat called o new legal given pages history now program = record {
     more = owed (number_of n) (Some called) o;
@@ -108,14 +108,14 @@ module _ {S : Type 0} (ops : Ops S) (c : Config) (config : IsConfig c) (x : ℕ)
   -- a word is carried out on the flat memory's page
   came : (page : ℕ) (word : Word) (out : Out) (flat : ℕ → List ℕ) (called : Call) → HasWidth called → IsWordOf c called page word → Carries (Copies {S = S} c) c x f page word out flat → Came c mem called out flat
   came page word out flat called legal of k =
-      let same : k.net.page x page ≡ page_at c mem page = bytes_there c k.net f x page k.state word k.idle k.enough k.holds.1 ∙ shows page k.inside in
-      let served : IsServed c mem called page (carried_out word (page_at c mem page)) = word_served c mem sized config called page word legal of in
+      let same : k.net.page x page ≡ flat_page c mem page = bytes_there c k.net f x page k.state word k.idle k.enough k.holds.1 ∙ shows page k.inside in
+      let served : IsServed c mem called page (carried_out word (flat_page c mem page)) = word_served c mem sized config called page word legal of in
       record {
         new = served.new;
         gives = subst (λ o. Answers c mem called (reply_of o) served.new) (sym (k.gives ∙ ap (λ b. (carried_out word b).out) same)) served.answers;
         shows = λ p inside.
             ap (λ g. g p) k.after
-            ∙ with_page-same f (page_at c mem) page p (carried_out word (f page)).bytes (carried_out word (page_at c mem page)).bytes (ap (λ b. (carried_out word b).bytes) (shows page k.inside)) (shows p inside)
+            ∙ with_page-same f (flat_page c mem) page p (carried_out word (f page)).bytes (carried_out word (flat_page c mem page)).bytes (ap (λ b. (carried_out word b).bytes) (shows page k.inside)) (shows p inside)
             ∙ sym (served.pages p inside);
       }
 
@@ -144,7 +144,7 @@ module _ {S : Type 0} (ops : Ops S) (c : Config) (config : IsConfig c) (x : ℕ)
 
   -- a call is answered at once: its record is the node's, and stands in the order
   records_call : (m : Memory S) (called : Call) (r : Reply) (new : model.Memory) → n.memory.asked ≡ None → step_of n.process ≡ Asks called → m.asked ≡ None → Serves c mem called r new → (flat : ℕ → List ℕ)
-      → ((p : ℕ) → p < c.pages → flat p ≡ page_at c new p) → Adds c mem x n (recorded n m called r) flat
+      → ((p : ℕ) → p < c.pages → flat p ≡ flat_page c new p) → Adds c mem x n (recorded n m called r) flat
   records_call m called r new idle step free serves flat pages =
       let given : Record = record { node = number_of n; call = called; reply = r } in
       owing (recorded n m called r) flat called (Some r) new (asked_width n called step) serves pages
@@ -159,7 +159,7 @@ module _ {S : Type 0} (ops : Ops S) (c : Config) (config : IsConfig c) (x : ℕ)
 
   -- a call is in progress from now on, and has no reply yet
   call_waits : (k : Coherent S) (called : Call) (flat : ℕ → List ℕ) → n.memory.asked ≡ None → step_of n.process ≡ Asks called → k.done ≡ n.memory.coherence.done
-      → ((p : ℕ) → p < c.pages → flat p ≡ page_at c mem p)
+      → ((p : ℕ) → p < c.pages → flat p ≡ flat_page c mem p)
       → ((page : ℕ) (word : Word) (number : ℕ) → k.locked ≡ Some page → WaitsAt (entry_at k.table page) word number → IsWordOf c called page word)
       → Adds c mem x n (record n { memory = record { coherence = k; asked = Some called } }) flat
   call_waits k called flat idle step done pages waiting =
@@ -180,11 +180,11 @@ module _ {S : Type 0} (ops : Ops S) (c : Config) (config : IsConfig c) (x : ℕ)
 
     -- a word that is carried out at once gives the call's reply, or none yet
     hit_adds : (e : Outcome (Host S)) (flat : ℕ → List ℕ) (o : Option Reply) (new : model.Memory) → begun_now.after.done ≡ n.memory.coherence.done → begun_now.after.locked ≡ n.memory.coherence.locked
-        → Answers c mem called o new → ((p : ℕ) → p < c.pages → flat p ≡ page_at c new p) → begins_as n called (answered called begun_now o) ≡ Some e → Adds c mem x n e.after flat
+        → Answers c mem called o new → ((p : ℕ) → p < c.pages → flat p ≡ flat_page c new p) → begins_as n called (answered called begun_now o) ≡ Some e → Adds c mem x n e.after flat
     hit_adds e flat None new done locked given pages is =
         subst (λ (z : Outcome (Host S)). Adds c mem x n z.after flat)
         (same_Some (record { after = record n { memory = record { coherence = begun_now.after; asked = Some called } }; posted = begun_now.posted }) e is)
-        (call_waits begun_now.after called flat idle step done (λ p inside. pages p inside ∙ ap (λ m. page_at c m p) given)
+        (call_waits begun_now.after called flat idle step done (λ p inside. pages p inside ∙ ap (λ m. flat_page c m p) given)
         (λ q w number lock there. absurd (none-some q (sym (good.memory.locked idle) ∙ sym locked ∙ lock))))
     hit_adds e flat (Some r) new done locked given pages is =
         subst (λ (z : Outcome (Host S)). Adds c mem x n z.after flat)

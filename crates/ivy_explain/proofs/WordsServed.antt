@@ -10,7 +10,7 @@ use Rattle.ivy_model.specs.declared.Call.TheVariants as call
 use Rattle.ivy_model.specs.declared.Reply.{Reply}
 use Rattle.ivy_model.specs.declared.Reply.TheVariants as reply
 use Rattle.ivy_model.specs.Config.{IsConfig}
-use Rattle.ivy_model.specs.Memory.{IsSized, page_at}
+use Rattle.ivy_model.specs.Memory.{IsSized, flat_page}
 use Rattle.ivy_model.specs.Memory as model
 use Rattle.ivy_model.specs.Numbers.{fault_number}
 use Rattle.ivy_model.specs.declared.fault.Fault.TheVariants.{NoSuchCount, CountFull}
@@ -36,7 +36,7 @@ Answers c old called (Some r) new = Serves c old called r new
 pub record IsServed (c : Config) (old : model.Memory) (called : Call) (page : ℕ) (came : Carried) : Type 0 where
   pub new : model.Memory
   pub answers : Answers c old called (reply_of came.out) new
-  pub pages : (q : ℕ) → q < c.pages → page_at c new q ≡ with_page (page_at c old) page came.bytes q
+  pub pages : (q : ℕ) → q < c.pages → flat_page c new q ≡ with_page (flat_page c old) page came.bytes q
 
 -- nothing is written
 same_pages : (f : ℕ → List ℕ) (p q : ℕ) → f q ≡ with_page f p (f p) q
@@ -47,35 +47,35 @@ same_pages f p q = elim (cases_eq q p) [
 
 module _ (c : Config) (old : model.Memory) where
   -- what the memory answers and stays as it is
-  unchanged : (called : Call) (page : ℕ) (given : Out) → Answers c old called (reply_of given) old → IsServed c old called page (record { out = given; bytes = page_at c old page })
-  unchanged called page given answers = record { new = old; answers = answers; pages = λ q inside. same_pages (page_at c old) page q }
+  unchanged : (called : Call) (page : ℕ) (given : Out) → Answers c old called (reply_of given) old → IsServed c old called page (record { out = given; bytes = flat_page c old page })
+  unchanged called page given answers = record { new = old; answers = answers; pages = λ q inside. same_pages (flat_page c old) page q }
 
   -- the memory has one page's bytes anew
-  changed_page : (new : model.Memory) (p : ℕ) (bytes : List ℕ) → page_at c new p ≡ bytes → ((q : ℕ) → q < c.pages → q ≢ p → page_at c new q ≡ page_at c old q)
-      → (q : ℕ) → q < c.pages → page_at c new q ≡ with_page (page_at c old) p bytes q
+  changed_page : (new : model.Memory) (p : ℕ) (bytes : List ℕ) → flat_page c new p ≡ bytes → ((q : ℕ) → q < c.pages → q ≢ p → flat_page c new q ≡ flat_page c old q)
+      → (q : ℕ) → q < c.pages → flat_page c new q ≡ with_page (flat_page c old) p bytes q
   changed_page new p bytes here others q inside = elim (cases_eq q p) [
-    | inl same ↦ ap (page_at c new) same ∙ here ∙ sym (with_page-here (page_at c old) p bytes q same)
-    | inr ne ↦ others q inside ne ∙ sym (with_page-other (page_at c old) p bytes q ne)
+    | inl same ↦ ap (flat_page c new) same ∙ here ∙ sym (with_page-here (flat_page c old) p bytes q same)
+    | inr ne ↦ others q inside ne ∙ sym (with_page-other (flat_page c old) p bytes q ne)
   ]
 
   module _ (config : IsConfig c) (width addr : ℕ) (legal : IsWidth width) (permitted : access_refusal c width addr ≡ None) where
     placed : IsPlaced c width addr
     placed = access_placed c width addr config legal permitted
 
-    pub load_served : IsServed c old (call.Load width addr) (addr / c.page_size) (carried_out (word.Load width (addr % c.page_size)) (page_at c old (addr / c.page_size)))
+    pub load_served : IsServed c old (call.Load width addr) (addr / c.page_size) (carried_out (word.Load width (addr % c.page_size)) (flat_page c old (addr / c.page_size)))
     load_served =
-        let value : ℕ = number_at width (addr % c.page_size) (page_at c old (addr / c.page_size)) in
+        let value : ℕ = number_at width (addr % c.page_size) (flat_page c old (addr / c.page_size)) in
         unchanged (call.Load width addr) (addr / c.page_size) (out.Value value)
         (subst (λ o. MatchOption o (Loads c old width addr (reply.Value value) old) (λ code. Refuses old code (reply.Value value) old)) (sym permitted)
         (ap reply.Value (sym (read_by_page c old width addr placed)), refl))
 
-    pub store_served : IsSized c old → (value : ℕ) → IsServed c old (call.Store width addr value) (addr / c.page_size) (carried_out (word.Store width (addr % c.page_size) value) (page_at c old (addr / c.page_size)))
+    pub store_served : IsSized c old → (value : ℕ) → IsServed c old (call.Store width addr value) (addr / c.page_size) (carried_out (word.Store width (addr % c.page_size) value) (flat_page c old (addr / c.page_size)))
     store_served sized value =
         let new : model.Memory = with_word c old width addr value in
         record {
           new = new;
           answers = subst (λ o. MatchOption o (Stores c old width addr value reply.Done new) (λ code. Refuses old code reply.Done new)) (sym permitted) (refl, refl);
-          pages = changed_page new (addr / c.page_size) (overwrite (page_at c old (addr / c.page_size)) (addr % c.page_size) (big_bytes width value))
+          pages = changed_page new (addr / c.page_size) (overwrite (flat_page c old (addr / c.page_size)) (addr % c.page_size) (big_bytes width value))
               (write_by_page c old width addr value sized.bytes placed)
               (λ q inside ne. write_elsewhere c old width addr value q sized.bytes placed inside ne);
         }
@@ -90,7 +90,7 @@ module _ (c : Config) (old : model.Memory) where
   -- a count is a word of page 0
   module _ (sized : IsSized c old) (k n : ℕ) (there : slice_get old.counts k ≡ Some n) where
     abbrev words : List ℕ
-    words = page_at c old 0
+    words = flat_page c old 0
 
     count_read : number_at 8 (8 * k) words ≡ n
     count_read = read_count old.counts k n there (sized.words k n there)
@@ -120,7 +120,7 @@ module _ (c : Config) (old : model.Memory) where
       pages = changed_page counted 0 (overwrite words (8 * k) (big_bytes 8 (n + 1))) (write_count old.counts k (n + 1) (slice_get_within old.counts k n there)) others;
     }
       where
-        others : (q : ℕ) → q < c.pages → q ≢ 0 → page_at c counted q ≡ page_at c old q
+        others : (q : ℕ) → q < c.pages → q ≢ 0 → flat_page c counted q ≡ flat_page c old q
         others q inside ne = rw (ne_eqb q 0 ne) refl
 
     pub advance_served : IsServed c old (call.Advance k) 0 (carried_out (word.Advance (8 * k)) words)

@@ -18,7 +18,12 @@ manages s page = page % s.nodes == s.me
 -- only the managing node keeps an owner
 abbrev pub owner_kept : Owners → ℕ → ℕ → Owners
 owner_kept s page owner =
-    record { me = s.me; nodes = s.nodes; owners = if manages s page then slice_set s.owners page owner else s.owners }
+    record {
+      me = s.me;
+      nodes = s.nodes;
+      owners = if manages s page
+          then slice_set s.owners page owner else s.owners;
+    }
 
 -- the same for a request to write; one to read changes nothing
 abbrev pub kept_if : Bool → Owners → ℕ → ℕ → Owners

@@ -1,5 +1,5 @@
 -- A call that begins leaves a node who it is.
-use Rattle.std.proofs.Common.{◌≡◌, ◌+◌, ◌^◌, Bool, true, false, length, Option, Some, None, nat_lt, subst, if◌then◌else◌}
+use Rattle.std.proofs.Common.{◌≡◌, ◌+◌, ◌^◌, Bool, true, false, length, Some, None, nat_lt, subst, if◌then◌else◌}
 use Rattle.std.proofs.lemmas.Option.{same_Some, none-some}
 use Rattle.ivy_model.specs.declared.Call.{Call}
 use Rattle.ivy_pagetable.specs.Manager.{Ops}

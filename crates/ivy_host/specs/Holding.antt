@@ -14,17 +14,21 @@ use Rattle.ivy_host.specs.Hosts.{Host}
 module _ {S : Type 0} where
   -- no page is writable at one node and readable at another (Li and Hudak 1989)
   abbrev pub IsExclusive : World (Host S) → Type 0
-  IsExclusive w = (p i j : ℕ) (n m : Node (Host S)) → slice_get w.nodes i ≡ Some n → slice_get w.nodes j ≡ Some m
-      → writable (entry_at n.core.memory.coherence.table p) ≡ true → readable (entry_at m.core.memory.coherence.table p) ≡ true → i ≡ j
+  IsExclusive w = (p i j : ℕ) (n m : Node (Host S)) → slice_get w.nodes i ≡ Some n
+      → slice_get w.nodes j ≡ Some m
+      → writable (entry_at n.core.memory.coherence.table p) ≡ true
+      → readable (entry_at m.core.memory.coherence.table p) ≡ true → i ≡ j
 
   -- each history is a run of its program, whose output is what that run printed
   abbrev pub AreRuns : List (List Instruction) → World (Host S) → Type 0
   AreRuns programs w = (i : ℕ) (n : Node (Host S)) → slice_get w.nodes i ≡ Some n
-      → (slice_get programs i ≡ Some n.core.process.program) × IsRunTo n.core.process.program n.core.history n.core.process.state
+      → (slice_get programs i ≡ Some n.core.process.program)
+      × IsRunTo n.core.process.program n.core.history n.core.process.state
 
   -- no node has counted a message that fitted no rule
   abbrev pub HasNoBreach : World (Host S) → Type 0
-  HasNoBreach w = (i : ℕ) (n : Node (Host S)) → slice_get w.nodes i ≡ Some n → n.core.memory.coherence.breaches ≡ 0
+  HasNoBreach w = (i : ℕ) (n : Node (Host S)) → slice_get w.nodes i ≡ Some n
+      → n.core.memory.coherence.breaches ≡ 0
 
   -- each string ever sent spells a frame
   abbrev pub AllSpell : Config → World (Host S) → Type 0

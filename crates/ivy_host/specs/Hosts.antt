@@ -50,7 +50,8 @@ module _ {S : Type 0} where
   -- a call begins: it is answered at once, or it is in progress from now on; none where it does not begin
   abbrev pub begins_with : Host S → Call → CallBegun S → Answer → Option (Outcome (Host S))
   begins_with n c a (Given r) = Some (record { after = recorded n a.after c r; posted = a.posted })
-  begins_with n c a Awaited = Some (record { after = record n { memory = a.after }; posted = a.posted })
+  begins_with n c a Awaited =
+      Some (record { after = record n { memory = a.after }; posted = a.posted })
   begins_with n c a Unserved = None
 
   abbrev pub begins_as : Host S → Call → CallBegun S → Option (Outcome (Host S))
@@ -60,7 +61,8 @@ module _ {S : Type 0} (ops : Ops S) where
   -- the number of a call is one more than the records before it, as long as there are numbers
   abbrev pub begins : Host S → Call → Option (Outcome (Host S))
   begins n c =
-      if nat_lt (length n.history + 1) (2 ^ 64) then begins_as n c (call_begun ops n.memory c (length n.history + 1)) else None
+      if nat_lt (length n.history + 1) (2 ^ 64)
+      then begins_as n c (call_begun ops n.memory c (length n.history + 1)) else None
 
   abbrev pub steps : Host S → Step → Option (Outcome (Host S))
   steps n (Local s) = Some (quietly (record n { process = at_state n.process s }))

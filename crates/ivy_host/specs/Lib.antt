@@ -1,4 +1,6 @@
 pub mod Managers
+pub mod ManagedLaws
+pub mod Either
 pub mod Hosts
 pub mod Sound
 pub mod Openings

@@ -10,7 +10,8 @@ use Rattle.ivy_host.specs.Hosts.{Host, first_host}
 
 module _ {S : Type 0} (ops : Ops S) where
   abbrev pub first_node : Config → ℕ → List Instruction → Node (Host S)
-  first_node c me program = record { core = first_host ops c me program; link = first_link me c.nodes }
+  first_node c me program =
+      record { core = first_host ops c me program; link = first_link me c.nodes }
 
   -- the nodes of the programs, numbered upwards from the first one's number
   abbrev pub first_nodes : Config → ℕ → List (List Instruction) → List (Node (Host S))

@@ -6,4 +6,7 @@
 
 mod manager;
 
-pub use manager::{NodeManager, first_manager, is_built};
+pub use manager::NodeManager;
+
+#[cfg(test)]
+mod tests;

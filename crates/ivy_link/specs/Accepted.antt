@@ -8,14 +8,16 @@ use Rattle.ivy_link.specs.Linked.{Peer, Linked, peer_at, with_peer}
 
 -- a frame of this number from a node of which so many messages were delivered
 abbrev pub verdict_on : ℕ → ℕ → Verdict
-verdict_on delivered number = if number == delivered + 1 then Next else (if nat_le number delivered then Repeat else Ahead)
+verdict_on delivered number =
+    if number == delivered + 1 then Next else (if nat_le number delivered then Repeat else Ahead)
 
 abbrev pub offered : {B : Type 0} → Linked → frame.Frame B → Verdict
 offered l f = if f.dest == l.me then verdict_on (peer_at l f.source).delivered f.number else NotMine
 
 -- what is still kept after an acknowledgement: one above all that was sent says nothing
 abbrev pub still_kept : Peer → ℕ → List Message
-still_kept p ack = if nat_le ack p.sent then drop (ack - (p.sent - length p.kept)) p.kept else p.kept
+still_kept p ack =
+    if nat_le ack p.sent then drop (ack - (p.sent - length p.kept)) p.kept else p.kept
 
 -- how many messages are delivered then: one more for Next alone
 abbrev pub counted : Verdict → ℕ → ℕ
@@ -32,11 +34,17 @@ is_owing Ahead number = false
 is_owing NotMine number = false
 
 abbrev pub heard : Verdict → Peer → ℕ → ℕ → Peer
-heard v p number ack = record { sent = p.sent; kept = still_kept p ack; delivered = counted v p.delivered; owed = p.owed || is_owing v number }
+heard v p number ack = record {
+  sent = p.sent;
+  kept = still_kept p ack;
+  delivered = counted v p.delivered;
+  owed = p.owed || is_owing v number;
+}
 
 -- a frame for another node changes nothing
 abbrev pub accepted : {B : Type 0} → Linked → frame.Frame B → Linked
 accepted l f =
     if f.dest == l.me
-    then with_peer l f.source (heard (verdict_on (peer_at l f.source).delivered f.number) (peer_at l f.source) f.number f.ack)
+    then with_peer l f.source
+    (heard (verdict_on (peer_at l f.source).delivered f.number) (peer_at l f.source) f.number f.ack)
     else l

@@ -23,21 +23,38 @@ pub data Action : Type 0 where
 -- a node sends parcels of its own to others as long as it has numbers, any frame ever made may come to any node, at any
 -- time and any number of times, and a node may send any other one again what it keeps
 abbrev pub MayDo : Net → Action → Type 0
-MayDo n (Send i ps) = (i < length n.links) × All (IsParcelOf (length n.links) i) ps × (has_numbers (link_at n.links i) ps ≡ true)
+MayDo n (Send i ps) = (i < length n.links) × All (IsParcelOf (length n.links) i) ps
+    × (has_numbers (link_at n.links i) ps ≡ true)
 MayDo n (Accept j f) = (j < length n.links) × Contains n.made f
 MayDo n (Pulse i j) = (i < length n.links) × (j < length n.links) × (i ≢ j)
 
 -- the message of a frame that is Next is handed over
 abbrev pub handed : Verdict → (ℕ → ℕ → List Message) → ℕ → Frame → ℕ → ℕ → List Message
-handed Next delivered node f i j = if i == f.source && j == node then delivered i j ++ option_to_list f.body else delivered i j
+handed Next delivered node f i j =
+    if i == f.source && j == node then delivered i j ++ option_to_list f.body else delivered i j
 handed Repeat delivered node f i j = delivered i j
 handed Ahead delivered node f i j = delivered i j
 handed NotMine delivered node f i j = delivered i j
 
 abbrev pub done : Net → Action → Net
-done n (Send i ps) = record { links = slice_set n.links i (after_sends (link_at n.links i) ps); made = n.made ++ frames_of (link_at n.links i) ps; sent = extended n.sent ps; delivered = n.delivered }
-done n (Accept j f) = record { links = slice_set n.links j (accepted (link_at n.links j) f); made = n.made; sent = n.sent; delivered = handed (offered (link_at n.links j) f) n.delivered j f }
-done n (Pulse i j) = record { links = slice_set n.links i (after_pulse (link_at n.links i) j); made = n.made ++ frames_again (link_at n.links i) j; sent = n.sent; delivered = n.delivered }
+done n (Send i ps) = record {
+  links = slice_set n.links i (after_sends (link_at n.links i) ps);
+  made = n.made ++ frames_of (link_at n.links i) ps;
+  sent = extended n.sent ps;
+  delivered = n.delivered;
+}
+done n (Accept j f) = record {
+  links = slice_set n.links j (accepted (link_at n.links j) f);
+  made = n.made;
+  sent = n.sent;
+  delivered = handed (offered (link_at n.links j) f) n.delivered j f;
+}
+done n (Pulse i j) = record {
+  links = slice_set n.links i (after_pulse (link_at n.links i) j);
+  made = n.made ++ frames_again (link_at n.links i) j;
+  sent = n.sent;
+  delivered = n.delivered;
+}
 
 abbrev pub all_done : Net → List Action → Net
 all_done n [] = n
@@ -53,8 +70,12 @@ links_from nodes zero from = []
 links_from nodes (suc more) from = first_link from nodes ∷ links_from nodes more (suc from)
 
 abbrev pub first_net : ℕ → Net
-first_net nodes = record { links = links_from nodes nodes 0; made = []; sent = λ i j. []; delivered = λ i j. [] }
+first_net nodes =
+    record { links = links_from nodes nodes 0; made = []; sent = λ i j. []; delivered = λ i j. [] }
 
 -- whatever is done, what was delivered from a node to another is a beginning of what was sent
 abbrev pub DeliversInOrder : Type 0
-DeliversInOrder = (nodes : ℕ) (actions : List Action) → MayDoAll (first_net nodes) actions → (i j : ℕ) → IsBeginning ((all_done (first_net nodes) actions).delivered i j) ((all_done (first_net nodes) actions).sent i j)
+DeliversInOrder = (nodes : ℕ) (actions : List Action) → MayDoAll (first_net nodes) actions
+    → (i j : ℕ)
+    → IsBeginning ((all_done (first_net nodes) actions).delivered i j)
+    ((all_done (first_net nodes) actions).sent i j)

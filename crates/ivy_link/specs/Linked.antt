@@ -32,13 +32,20 @@ with_peer l j p = record { me = l.me; peers = slice_set l.peers j p }
 
 -- one more message sent: it is kept, and the frame that carries it acknowledges all that was delivered
 abbrev pub with_message : Peer → Message → Peer
-with_message p m = record { sent = p.sent + 1; kept = p.kept ++ m ∷ []; delivered = p.delivered; owed = false }
+with_message p m =
+    record { sent = p.sent + 1; kept = p.kept ++ m ∷ []; delivered = p.delivered; owed = false }
 
 abbrev pub sent_one : Linked → Parcel → Linked
 sent_one l p = with_peer l p.dest (with_message (peer_at l p.dest) p.message)
 
 abbrev pub frame_of : Linked → Parcel → Frame
-frame_of l p = record { source = l.me; dest = p.dest; number = (peer_at l p.dest).sent + 1; ack = (peer_at l p.dest).delivered; body = Some p.message }
+frame_of l p = record {
+  source = l.me;
+  dest = p.dest;
+  number = (peer_at l p.dest).sent + 1;
+  ack = (peer_at l p.dest).delivered;
+  body = Some p.message;
+}
 
 -- the parcels sent, one after the other
 abbrev pub after_sends : Linked → List Parcel → Linked
@@ -52,7 +59,8 @@ frames_of l (p ∷ ps) = frame_of l p ∷ frames_of (sent_one l p) ps
 -- whether each of the parcels has a number left
 abbrev pub has_numbers : Linked → List Parcel → Bool
 has_numbers l [] = true
-has_numbers l (p ∷ ps) = nat_lt (peer_at l p.dest).sent greatest_number && has_numbers (sent_one l p) ps
+has_numbers l (p ∷ ps) =
+    nat_lt (peer_at l p.dest).sent greatest_number && has_numbers (sent_one l p) ps
 
 -- what a link is afterwards, and the frames that it made
 pub record Sending : Type 0 where

@@ -10,7 +10,8 @@ link_at links i = slice_index_or links i (first_link i 0)
 -- the messages among the parcels that go from node i to node j, in order
 abbrev pub posted : ℕ → ℕ → List Parcel → List Message
 posted i j [] = []
-posted i j (p ∷ ps) = if p.source == i && p.dest == j then p.message ∷ posted i j ps else posted i j ps
+posted i j (p ∷ ps) =
+    if p.source == i && p.dest == j then p.message ∷ posted i j ps else posted i j ps
 
 -- what each node has sent each other once the parcels are sent too
 abbrev pub extended : (ℕ → ℕ → List Message) → List Parcel → ℕ → ℕ → List Message
@@ -32,13 +33,17 @@ IsEnd back whole = (front : List Message) × (whole ≡ front ++ back)
 pub record IsPaired (links : List Linked) (sent : ℕ → ℕ → List Message) : Type 0 where
   pub me : (i : ℕ) → i < length links → (link_at links i).me ≡ i
   pub peers : (i : ℕ) → i < length links → length (link_at links i).peers ≡ length links
-  pub counted : (i j : ℕ) → i < length links → j < length links → (peer_at (link_at links i) j).sent ≡ length (sent i j)
-  pub delivered : (i j : ℕ) → i < length links → j < length links → (peer_at (link_at links j) i).delivered ≤ length (sent i j)
-  pub kept : (i j : ℕ) → i < length links → j < length links → IsEnd (peer_at (link_at links i) j).kept (sent i j)
+  pub counted : (i j : ℕ) → i < length links → j < length links
+      → (peer_at (link_at links i) j).sent ≡ length (sent i j)
+  pub delivered : (i j : ℕ) → i < length links → j < length links
+      → (peer_at (link_at links j) i).delivered ≤ length (sent i j)
+  pub kept : (i j : ℕ) → i < length links → j < length links
+      → IsEnd (peer_at (link_at links i) j).kept (sent i j)
 
 -- an acknowledgement alone, or one of the messages sent, with its number
 abbrev pub IsBody : List Message → ℕ → Option Message → Type 0
-IsBody sent number body = MatchOption body (number ≡ 0) (λ m. (1 ≤ number) × (slice_get sent (number - 1) ≡ Some m))
+IsBody sent number body =
+    MatchOption body (number ≡ 0) (λ m. (1 ≤ number) × (slice_get sent (number - 1) ≡ Some m))
 
 -- a frame that one of so many nodes made for another one
 pub record IsMade (nodes : ℕ) (sent : ℕ → ℕ → List Message) (f : Frame) : Type 0 where

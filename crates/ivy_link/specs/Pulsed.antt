@@ -7,7 +7,13 @@ use Rattle.ivy_link.specs.Linked.{Peer, Linked, Sending, peer_at, with_peer}
 -- the messages in frames, numbered upwards from the first one's number
 abbrev pub numbered : ℕ → ℕ → ℕ → ℕ → List Message → List Frame
 numbered me to ack first [] = []
-numbered me to ack first (m ∷ ms) = record { source = me; dest = to; number = first; ack = ack; body = Some m } ∷ numbered me to ack (first + 1) ms
+numbered me to ack first (m ∷ ms) = record {
+  source = me;
+  dest = to;
+  number = first;
+  ack = ack;
+  body = Some m;
+} ∷ numbered me to ack (first + 1) ms
 
 -- an acknowledgement alone
 abbrev pub ack_alone : ℕ → ℕ → ℕ → Frame

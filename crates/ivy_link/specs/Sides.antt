@@ -33,12 +33,15 @@ IsRoomy s count = (count ≤ s.peer.sent + s.room) × (count < 2 ^ 64)
 
 -- no node was sent more than that
 abbrev pub AreReached : List Sided → List ℕ → Type 0
-AreReached sides counts = (j : ℕ) → j < length sides → (side_at sides j).peer.sent ≤ slice_index counts j
+AreReached sides counts =
+    (j : ℕ) → j < length sides → (side_at sides j).peer.sent ≤ slice_index counts j
 
 -- each node has room for what brings its count there
 abbrev pub HaveRoom : List Sided → List ℕ → Type 0
-HaveRoom sides counts = (j : ℕ) → j < length sides → slice_index counts j ≤ (side_at sides j).peer.sent + (side_at sides j).room
+HaveRoom sides counts = (j : ℕ) → j < length sides
+    → slice_index counts j ≤ (side_at sides j).peer.sent + (side_at sides j).room
 
 -- each node has room and numbers for the parcels that go there
 abbrev pub HasRoomFor : List Sided → List Parcel → Type 0
-HasRoomFor sides ps = (j : ℕ) → j < length sides → IsRoomy (side_at sides j) (peer_at (after_sends (linked 0 sides) ps) j).sent
+HasRoomFor sides ps = (j : ℕ) → j < length sides
+    → IsRoomy (side_at sides j) (peer_at (after_sends (linked 0 sides) ps) j).sent

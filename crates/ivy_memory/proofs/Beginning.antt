@@ -1,5 +1,5 @@
 -- A call that begins, and a message that comes, as the code has them.
-use Rattle.std.proofs.Common.{◌≡◌, ◌≢◌, ℕ, ◌/◌, ◌%◌, ◌^◌, ◌<◌, ◌≤◌, length, Option, Some, None, Result, Ok, Err, OnOk, OnErr, IsErrAnd, IfErr, refl, sym, ap, ◌∙◌, subst}
+use Rattle.std.proofs.Common.{◌≡◌, ◌≢◌, ℕ, ◌^◌, ◌<◌, ◌≤◌, length, Option, Some, None, Result, Ok, Err, OnOk, OnErr, IsErrAnd, IfErr, refl, sym, ap, ◌∙◌, subst}
 use Rattle.ivy_model.specs.declared.Config.{Config}
 use Rattle.ivy_model.specs.declared.Call.{Call}
 use Rattle.ivy_model.specs.Legal.{HasWidth}
@@ -12,11 +12,11 @@ use Rattle.ivy_pagetable.specs.Manager.{Ops, Laws}
 use Rattle.ivy_coherence.specs.declared.Need.{Need}
 use Rattle.ivy_coherence.specs.declared.Need.TheVariants as need
 use Rattle.ivy_coherence.specs.Coherent.{Coherent}
-use Rattle.ivy_coherence.specs.Faults.{Begun, begun}
+use Rattle.ivy_coherence.specs.Faults.{Begun, HasToAsk, begun}
 use Rattle.ivy_coherence.specs.Sound.{IsSound}
 use Rattle.ivy_coherence.proofs.Keeping.{begun-keeps}
 use Rattle.ivy_memory.specs.declared.asked.Asked.TheVariants as asked
-use Rattle.ivy_memory.specs.Asking.{CanAsk, asked_of}
+use Rattle.ivy_memory.specs.Asking.{CanAsk, HasToAskFor, CallHasToAsk, asked_of}
 use Rattle.ivy_memory.specs.Memories.{Memory, CallBegun, needed, begun_as, call_begun, memory_told}
 use Rattle.ivy_memory.proofs.Asking.{can_ask}
 use Rattle.ivy_memory.specs.Sound.{IsSoundMemory}
@@ -94,6 +94,12 @@ module _ {S : Type 0} {ops : Ops S} (laws : Laws ops) where
     begun_is : call_begun ops n c number ≡ needed v c access access.need
     unfolding call_begun
     begun_is = ap (λ x. call_begun ops x c number) (sym l.same) ∙ ap (begun_as ops v c number) asking
+
+    -- a call whose word has to be asked for
+    pub call_asks : {A E : Type 0} (r : Result A E) → HasToAsk v.coherence page w → OnErr r (CallHasToAsk n.coherence c)
+    call_asks (Ok a) asks = tt
+    call_asks (Err x) asks =
+        subst (λ (m : Memory S). CallHasToAsk m.coherence c) l.same (subst (HasToAskFor v.coherence) (sym asking) asks)
 
     -- what the call comes to, by what its access does
     pub begun_by : (told : Need) → told ≡ access.need → call_begun ops n c number ≡ needed v c access told

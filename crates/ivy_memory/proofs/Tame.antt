@@ -1,43 +1,30 @@
 -- Accesses and messages keep what holds of a memory, and post only what can be sent. For every manager that keeps the laws.
-use Rattle.std.proofs.Common.{◌≡◌, ◌≢◌, ℕ, ◌+◌, ◌*◌, ◌/◌, ◌%◌, ◌^◌, ◌<◌, ◌≤◌, ◌⊎◌, inl, inr, Bool, true, false, List, [], ◌∷◌, length, Option, Some, None, refl, sym, ap, ◌∙◌, arith, if◌then◌else◌, ◌==◌}
+use Rattle.std.proofs.Common.{◌≡◌, ◌≢◌, ℕ, ◌^◌, ◌<◌, ◌≤◌, ◌⊎◌, inl, inr, Bool, true, false, List, [], length, Option, Some, None, refl, sym, ap, ◌∙◌, arith}
 use Rattle.std.specs.Prelude.{All}
-use Rattle.std.specs.FinSet as set
-use Rattle.std.proofs.lemmas.Bool.{eqb-true}
-use Rattle.std.proofs.lemmas.List.Elements.{All-contains, All-from_recursion}
 use Rattle.std.proofs.lemmas.Option.{same_Some, none-some}
 use Rattle.ivy_model.specs.declared.Config.{Config}
 use Rattle.ivy_model.specs.declared.Call.{Call}
-use Rattle.ivy_model.specs.declared.Call.TheVariants as call
 use Rattle.ivy_model.specs.declared.Reply.{Reply}
 use Rattle.ivy_model.specs.Config.{IsConfig}
 use Rattle.ivy_model.specs.Legal.{HasWidth}
-use Rattle.ivy_model.specs.Serves.{access_refusal}
-use Rattle.ivy_model.proofs.Limits.{page_has_words}
-use Rattle.ivy_model.proofs.Sizes.{access_placed}
-use Rattle.ivy_model.proofs.Words.{IsPlaced}
-use Rattle.ivy_wire.specs.declared.Content.TheVariants as content
-use Rattle.ivy_wire.specs.Data.{Content, Message}
+use Rattle.ivy_wire.specs.Data.{Message, Parcel}
 use Rattle.ivy_wire.specs.Spelling.{FitsMessage, FitsParcel}
 use Rattle.ivy_pagetable.specs.declared.Entry.{Entry}
-use Rattle.ivy_pagetable.specs.declared.Entry.TheVariants as entry
 use Rattle.ivy_pagetable.specs.declared.Out.{Out}
-use Rattle.ivy_pagetable.specs.declared.PutOff.{PutOff}
-use Rattle.ivy_pagetable.specs.declared.Request.TheVariants as request
 use Rattle.ivy_pagetable.specs.declared.Word.{Word}
-use Rattle.ivy_pagetable.specs.NodeSets.{Nodes, nodes_with}
 use Rattle.ivy_pagetable.specs.States.{IdleState, WaitingState}
-use Rattle.ivy_pagetable.specs.Entries.{is_locked, can_put_off, copying, owning}
-use Rattle.ivy_pagetable.specs.Tables.{entry_at, page_at}
-use Rattle.ivy_pagetable.specs.Words.{IsWord}
+use Rattle.ivy_pagetable.specs.Entries.{is_locked, copying, owning}
+use Rattle.ivy_pagetable.specs.Tables.{page_at}
 use Rattle.ivy_pagetable.specs.Manager.{Ops, Laws}
 use Rattle.ivy_coherence.specs.declared.Need.{Need}
 use Rattle.ivy_coherence.specs.declared.Need.TheVariants as need
 use Rattle.ivy_coherence.specs.Coherent.{Coherent}
-use Rattle.ivy_coherence.specs.Steps.{Effect, is_none, is_order, breach, unlocked, put_aside, given_up, asked, copy_came, owned_with, page_came, left_with, acknowledged, handled, handled_as}
-use Rattle.ivy_coherence.specs.Faults.{Begun, hit, faulted, accessed, begun, begun_at, busy, suffices}
+use Rattle.ivy_coherence.specs.Steps.{unlocked, handled}
+use Rattle.ivy_coherence.specs.Faults.{Begun, started, begun}
 use Rattle.ivy_coherence.specs.Sound.{IsSound, first_coherent}
 use Rattle.ivy_coherence.proofs.Keeping.{handled-keeps, begun-keeps, first-sound}
 use Rattle.ivy_coherence.proofs.IdleServing.{all_none}
+use Rattle.ivy_coherence.proofs.Rows.{Rows, AccessRows, handled-by_rows, begun-by_rows}
 use Rattle.ivy_coherence.proofs.Few.{begun-few}
 use Rattle.ivy_memory.specs.declared.answer.Answer.TheVariants.{Awaited}
 use Rattle.ivy_memory.specs.declared.asked.Asked.{Asked}
@@ -69,16 +56,8 @@ reply_done None r h = absurd (none-some r h)
 reply_done (Some o) r h = (o, refl)
 
 module _ {S : Type 0} where
-  either-told : (c : Coherent S) (b : Bool) (x y : Effect S) → Told c x.after → Told c y.after → Told c (if b then x else y).after
-  either-told c true x y h k = h
-  either-told c false x y h k = k
-
   stays : {c : Coherent S} {new : Coherent S} → new.config ≡ c.config → new.me ≡ c.me → new.locked ≡ c.locked → new.done ≡ c.done → Told c new
   stays config me locked done = (record { config = config; me = me }, inl (locked, done))
-
-  either-begins : (c : Coherent S) (b : Bool) (x y : Begun S) → Begins c x → Begins c y → Begins c (if b then x else y)
-  either-begins c true x y h k = h
-  either-begins c false x y h k = k
 
   answered-fits : (k : Config) (me : ℕ) (c : Call) (b : Begun S) (r : Option Reply) → All (FitsParcel k me) b.posted → All (FitsParcel k me) (answered c b r).posted
   answered-fits k me c b None fits = fits
@@ -109,94 +88,40 @@ module _ {S : Type 0} where
   needed-posted m c b need.Busy bs is = sym (bs.none is)
 
 module _ {S : Type 0} (ops : Ops S) where
-  put_aside-told : (c : Coherent S) (page : ℕ) (e : Entry) (q : PutOff) → Told c (put_aside ops c page e q).after
-  put_aside-told c page e q = either-told c (can_put_off e) _ _ (stays refl refl refl refl) (stays refl refl refl refl)
-
-  asked-told : (c : Coherent S) (page : ℕ) (q : PutOff) (e : Entry) → Told c (asked ops c page q e).after
-  asked-told c page q (entry.Idle s) = stays refl refl refl refl
-  asked-told c page q (entry.AwaitRead s) = put_aside-told c page (entry.AwaitRead s) q
-  asked-told c page q (entry.AwaitWrite s) = either-told c (is_order q.kind) (given_up ops c page s.waiting q) (put_aside ops c page (entry.AwaitWrite s) q) (stays refl refl refl refl) (put_aside-told c page (entry.AwaitWrite s) q)
-  asked-told c page q (entry.AwaitAcks s) = either-told c (is_order q.kind) (breach ops c) (put_aside ops c page (entry.AwaitAcks s) q) (stays refl refl refl refl) (put_aside-told c page (entry.AwaitAcks s) q)
-
   -- the word that waited was carried out
   unlocked-told : (c : Coherent S) (from page : ℕ) (idle : IdleState) (reply : Option Bool) (bytes : List ℕ) (s : WaitingState) → c.locked ≡ Some page → Told c (unlocked ops c from page idle reply bytes s).after
   unlocked-told c from page idle reply bytes s locked = (record { config = refl; me = refl }, inr (page, locked, refl))
 
-  copy_came-told : (c : Coherent S) (from call page : ℕ) (bytes : List ℕ) (e : Entry) → IsSound ops c → entry_at c.table page ≡ e → Told c (copy_came ops c from call page bytes e).after
-  copy_came-told c from call page bytes (entry.Idle s) sound is = stays refl refl refl refl
-  copy_came-told c from call page bytes (entry.AwaitRead s) sound is =
-      either-told c (s.call == call) _ _ (unlocked-told c from page copying (Some false) bytes s (sound.others page (ap is_locked is))) (stays refl refl refl refl)
-  copy_came-told c from call page bytes (entry.AwaitWrite s) sound is = stays refl refl refl refl
-  copy_came-told c from call page bytes (entry.AwaitAcks s) sound is = stays refl refl refl refl
-
-  page_came-told : (c : Coherent S) (from call page : ℕ) (copies : Nodes) (bytes : List ℕ) (e : Entry) → IsSound ops c → entry_at c.table page ≡ e → Told c (page_came ops c from call page copies bytes e).after
-  page_came-told c from call page copies bytes (entry.Idle s) sound is = stays refl refl refl refl
-  page_came-told c from call page copies bytes (entry.AwaitRead s) sound is = stays refl refl refl refl
-  page_came-told c from call page copies bytes (entry.AwaitWrite s) sound is =
-      either-told c _ (owned_with ops c from call page copies bytes s.waiting) (breach ops c)
-      (either-told c (is_none copies) _ _ (unlocked-told c from page owning (Some true) bytes s.waiting (sound.others page (ap is_locked is))) (stays refl refl refl refl))
-      (stays refl refl refl refl)
-  page_came-told c from call page copies bytes (entry.AwaitAcks s) sound is = stays refl refl refl refl
-
-  acknowledged-told : (c : Coherent S) (from call page : ℕ) (e : Entry) → IsSound ops c → entry_at c.table page ≡ e → Told c (acknowledged ops c from call page e).after
-  acknowledged-told c from call page (entry.Idle s) sound is = stays refl refl refl refl
-  acknowledged-told c from call page (entry.AwaitRead s) sound is = stays refl refl refl refl
-  acknowledged-told c from call page (entry.AwaitWrite s) sound is = stays refl refl refl refl
-  acknowledged-told c from call page (entry.AwaitAcks s) sound is =
-      either-told c _ (left_with ops c from page (set.remove s.left from) s.waiting) (breach ops c)
-      (either-told c (is_none (set.remove s.left from)) _ _ (unlocked-told c from page owning None (page_at c.table page) s.waiting (sound.others page (ap is_locked is))) (stays refl refl refl refl))
-      (stays refl refl refl refl)
-
-  -- this node's own request comes to none
-  foreign-told : (c : Coherent S) (origin page : ℕ) (q : PutOff) → Told c (if origin == c.me then breach ops c else asked ops c page q (entry_at c.table page)).after
-  foreign-told c origin page q = either-told c (origin == c.me) (breach ops c) (asked ops c page q (entry_at c.table page)) (stays refl refl refl refl) (asked-told c page q (entry_at c.table page))
-
-  -- the order of the node that is to write
-  order-told : (c : Coherent S) (from origin page : ℕ) (q : PutOff) → Told c (if origin == from then asked ops c page q (entry_at c.table page) else breach ops c).after
-  order-told c from origin page q = either-told c (origin == from) (asked ops c page q (entry_at c.table page)) (breach ops c) (asked-told c page q (entry_at c.table page)) (stays refl refl refl refl)
-
-  -- a reply comes to this node
-  reply-told : (c : Coherent S) (origin : ℕ) (x : Effect S) → Told c x.after → Told c (if origin == c.me then x else breach ops c).after
-  reply-told c origin x h = either-told c (origin == c.me) x (breach ops c) h (stays refl refl refl refl)
-
-  as-told : (c : Coherent S) (from origin call : ℕ) (m : Content) → IsSound ops c → Told c (handled_as ops c from origin call m).after
-  as-told c from origin call (content.ReadReq page) s = foreign-told c origin page (record { kind = request.Read; origin = origin; call = call })
-  as-told c from origin call (content.ReadRep page bytes) s = reply-told c origin (copy_came ops c from call page bytes (entry_at c.table page)) (copy_came-told c from call page bytes (entry_at c.table page) s refl)
-  as-told c from origin call (content.WriteReq page) s = foreign-told c origin page (record { kind = request.Write; origin = origin; call = call })
-  as-told c from origin call (content.WriteRep page copies bytes) s = reply-told c origin (page_came ops c from call page (nodes_with copies) bytes (entry_at c.table page)) (page_came-told c from call page (nodes_with copies) bytes (entry_at c.table page) s refl)
-  as-told c from origin call (content.Inval page) s = order-told c from origin page (record { kind = request.Invalidate; origin = origin; call = call })
-  as-told c from origin call (content.InvalAck page) s = reply-told c origin (acknowledged ops c from call page (entry_at c.table page)) (acknowledged-told c from call page (entry_at c.table page) s refl)
-  as-told c from origin call (content.AllocReq size) s = stays refl refl refl refl
-  as-told c from origin call (content.AllocRep code addr) s = stays refl refl refl refl
-  as-told c from origin call (content.FreeReq addr) s = stays refl refl refl refl
-  as-told c from origin call (content.FreeRep code) s = stays refl refl refl refl
+  told-rows : (c : Coherent S) (from origin call : ℕ) → IsSound ops c → Rows ops c from origin call (λ m e. Told c e.after)
+  told-rows c from origin call s = record {
+    breach = λ m why. stays refl refl refl refl;
+    served = λ kind page i may is order. stays refl refl refl refl;
+    put_off = λ kind page e may is room at. stays refl refl refl refl;
+    given_up = λ page w by is. stays refl refl refl refl;
+    copy = λ page bytes w mine is this. unlocked-told c from page copying (Some false) bytes w (s.others page (ap is_locked is));
+    alone = λ page copies bytes w mine is this none. unlocked-told c from page owning (Some true) bytes w.waiting (s.others page (ap is_locked is));
+    shared = λ page copies bytes w mine is this some apart. stays refl refl refl refl;
+    acknowledged = λ page w mine is this missing others. stays refl refl refl refl;
+    last = λ page w mine is this missing none. unlocked-told c from page owning None (page_at c.table page) w.waiting (s.others page (ap is_locked is));
+  }
 
   pub handled-told : (c : Coherent S) (from : ℕ) (m : Message) → IsSound ops c → Told c (handled ops c from m).after
-  unfolding handled
-  handled-told c from m s = as-told c from m.origin m.call m.content s
+  handled-told c from m s = handled-by_rows m (told-rows c from m.origin m.call s)
 
-  hit-begins : (c : Coherent S) (page : ℕ) (w : Word) → Begins c (hit ops c page w)
-  hit-begins c page w = record { same = record { config = refl; me = refl }; done = refl; lock = λ o h. refl; busy = λ h. absurd cc; none = λ h. absurd cc }
+  started-begins : (c : Coherent S) (page : ℕ) (e : Entry) (ps : List Parcel) → Begins c (started ops c page e ps)
+  started-begins c page e ps = record { same = record { config = refl; me = refl }; done = refl; lock = λ o h. absurd cc; busy = λ h. absurd cc; none = λ h. absurd cc }
 
-  fault-begins : (c : Coherent S) (page : ℕ) (w : Word) (number : ℕ) (s : IdleState) → Begins c (faulted ops c page w number s)
-  fault-begins c page w number s = record { same = record { config = refl; me = refl }; done = refl; lock = λ o h. absurd cc; busy = λ h. absurd cc; none = λ h. absurd cc }
-
-  busy-begins : (c : Coherent S) → Begins c (busy ops c)
-  busy-begins c = record { same = record { config = refl; me = refl }; done = refl; lock = λ o h. refl; busy = λ h. refl; none = λ h. refl }
-
-  accessed-begins : (c : Coherent S) (page : ℕ) (w : Word) (number : ℕ) (e : Entry) → Begins c (accessed ops c page w number e)
-  accessed-begins c page w number (entry.Idle s) = either-begins c (suffices s.access w) _ _ (hit-begins c page w) (fault-begins c page w number s)
-  accessed-begins c page w number (entry.AwaitRead s) = busy-begins c
-  accessed-begins c page w number (entry.AwaitWrite s) = busy-begins c
-  accessed-begins c page w number (entry.AwaitAcks s) = busy-begins c
-
-  at-begins : (c : Coherent S) (page : ℕ) (w : Word) (number : ℕ) (o : Option ℕ) → Begins c (begun_at ops c page w number o)
-  at-begins c page w number None = accessed-begins c page w number _
-  at-begins c page w number (Some p) = busy-begins c
+  begins-rows : (c : Coherent S) (page : ℕ) (w : Word) (number : ℕ) → AccessRows ops c page w number (Begins c)
+  begins-rows c page w number = record {
+    busy = record { same = record { config = refl; me = refl }; done = refl; lock = λ o h. refl; busy = λ h. refl; none = λ h. refl };
+    hit = λ i none is enough. record { same = record { config = refl; me = refl }; done = refl; lock = λ o h. refl; busy = λ h. absurd cc; none = λ h. absurd cc };
+    read = λ i none is short reads. started-begins c page _ _;
+    write = λ i none is short writes other. started-begins c page _ _;
+    owner = λ i none is short writes own. started-begins c page _ _;
+  }
 
   pub begun-begins : (c : Coherent S) (page : ℕ) (w : Word) (number : ℕ) → Begins c (begun ops c page w number)
-  unfolding begun
-  begun-begins c page w number = at-begins c page w number c.locked
+  begun-begins c page w number = begun-by_rows (begins-rows c page w number)
 
 module _ {S : Type 0} {ops : Ops S} where
   -- the memory after an access, by what it was told

@@ -8,6 +8,8 @@ use Rattle.ivy_model.specs.Serves.{access_refusal}
 use Rattle.ivy_pagetable.specs.declared.Word.{Word}
 use Rattle.ivy_pagetable.specs.declared.Word.TheVariants as word
 use Rattle.ivy_pagetable.specs.Words.{IsWord}
+use Rattle.ivy_coherence.specs.Coherent.{Coherent}
+use Rattle.ivy_coherence.specs.Faults.{HasToAsk}
 use Rattle.ivy_memory.specs.declared.asked.Asked.{Asked}
 use Rattle.ivy_memory.specs.declared.asked.Asked.TheVariants as asked
 
@@ -32,18 +34,22 @@ abbrev pub asked_of : Config → Call → Asked
 asked_of c (Load width addr) =
     word_unless (access_refusal c width addr) (addr / c.page_size) (word_loaded c width addr)
 asked_of c (Store width addr value) =
-    word_unless (access_refusal c width addr) (addr / c.page_size) (word.Store width (addr % c.page_size) value)
+    word_unless (access_refusal c width addr) (addr / c.page_size)
+    (word.Store width (addr % c.page_size) value)
 asked_of c (Count k) = count_asked c k (word.Count (8 * k))
 asked_of c (Advance k) = count_asked c k (word.Advance (8 * k))
 asked_of c (Await k least) = count_asked c k (word.Await (8 * k) least)
 asked_of c (Alloc size) = asked.Heap
 asked_of c (Free addr) = asked.Heap
 
--- it is a word of a page
-abbrev pub IsWordOfPage : Asked → Type 0
-IsWordOfPage (asked.Refused code) = ⊥
-IsWordOfPage (asked.Word page w) = Unit {0}
-IsWordOfPage asked.Heap = ⊥
+-- other nodes have to be asked: it is a word of a page, and not at hand
+abbrev pub HasToAskFor : {S : Type 0} → Coherent S → Asked → Type 0
+HasToAskFor c (asked.Refused code) = ⊥
+HasToAskFor c (asked.Word page w) = HasToAsk c page w
+HasToAskFor c asked.Heap = ⊥
+
+abbrev pub CallHasToAsk : {S : Type 0} → Coherent S → Call → Type 0
+CallHasToAsk c call = HasToAskFor c (asked_of c.config call)
 
 -- a word can be asked for: the page is there, and the word lies in it
 abbrev pub CanAsk : Config → Asked → Type 0

@@ -38,8 +38,16 @@ pub record CallBegun (S : Type 0) : Type 0 where
 module _ {S : Type 0} where
   -- it is answered, or it is in progress where it has no reply
   abbrev pub answered : Call → Begun S → Option Reply → CallBegun S
-  answered call b None = record { answer = Awaited; after = record { coherence = b.after; asked = Some call }; posted = b.posted }
-  answered call b (Some r) = record { answer = Given r; after = record { coherence = b.after; asked = None }; posted = b.posted }
+  answered call b None = record {
+    answer = Awaited;
+    after = record { coherence = b.after; asked = Some call };
+    posted = b.posted;
+  }
+  answered call b (Some r) = record {
+    answer = Given r;
+    after = record { coherence = b.after; asked = None };
+    posted = b.posted;
+  }
 
   abbrev pub refused : Memory S → ℕ → CallBegun S
   refused m code = record { answer = Given (reply.Refused code); after = m; posted = [] }

@@ -3,10 +3,11 @@ ghost use Rattle.std.specs.Prelude.{◌≡◌, ◌≢◌, ◌<◌, ◌≤◌, No
 ghost use Rattle.ivy_model.specs.Config.{IsConfig};
 ghost use Rattle.ivy_model.specs.Legal.{HasWidth};
 ghost use Rattle.ivy_model.specs.Wants.{IsWant};
+ghost use Rattle.ivy_wire.specs.Lent.{owned_message};
 ghost use Rattle.ivy_wire.specs.Spelling.{FitsMessage};
 ghost use Rattle.ivy_coherence.specs.Sound.{first_coherent};
 ghost use Rattle.ivy_coherence.specs.Steps.{handled};
-ghost use Rattle.ivy_memory.specs.Asking.{asked_of, IsWordOfPage};
+ghost use Rattle.ivy_memory.specs.Asking.{CallHasToAsk};
 ghost use Rattle.ivy_memory.specs.Memories.{reply_of, call_begun, memory_told, reply_there, taken_out};
 
 use crate::answer::Answer;
@@ -14,7 +15,7 @@ use crate::asked::{Asked, asked_of};
 use ivy_coherence::{Coherence, Need};
 use ivy_model::{Call, Config, Fault, Reply};
 use ivy_pagetable::{Manager, Out};
-use ivy_wire::{Message, Page, Post};
+use ivy_wire::{Message, Post};
 use std::alloc::Allocator;
 use std::marker::Model;
 
@@ -85,8 +86,8 @@ impl<M: Manager, A: Allocator> Memory<M, A> {
     #[tactic(auto, unfolding(crate::specs::Memories::call_begun))]
     /// A call begins, as the one of this number [1, 17]: it is answered at once, or it is in progress from now on.
     ///
-    /// No call is in progress. A call of the heap is not served yet. A refused call takes no memory, and asks the
-    /// post nothing.
+    /// No call is in progress. A call of the heap is not served yet. Only a call that other nodes have to be asked
+    /// for is refused by a fault: any other takes no memory, and asks the post nothing.
     pub fn begin<P: Post>(&mut self, call: Call, number: u64, post: &mut P) -> Result<Answer, Fault>
         requires idle { self.old.asked ≡ None }
         requires width { HasWidth call }
@@ -100,7 +101,7 @@ impl<M: Manager, A: Allocator> Memory<M, A> {
         ensures took { OnOk result (P.takes post.old (call_begun M.ops self.old call number).posted) }
         ensures err { OnErr result ((self.new ≡ self.old) × (post.new ≡ post.old)) }
         ensures fault { IfErr result (P.refuses post.old (call_begun M.ops self.old call number).posted) }
-        ensures sure { OnErr result (IsWordOfPage (asked_of self.old.coherence.config call)) }
+        ensures sure { OnErr result (CallHasToAsk self.old.coherence call) }
         ensures want { IfErr result IsWant }
     {
         match asked_of(&self.coherence.config(), call) {
@@ -134,24 +135,24 @@ impl<M: Manager, A: Allocator> Memory<M, A> {
         Some(reply)
     }
 
-    /// A message of another node [1, 17].
+    /// A message of another node [1, 17]. The bytes of a page that it brings are copied once; that takes no memory.
     pub fn handle<P: Post>(
         &mut self,
         from: u8,
-        message: Message<Page<A>>,
+        message: Message<&[u8]>,
         post: &mut P,
     ) -> Result<(), Fault>
         requires from { from < self.old.coherence.config.nodes }
         requires foreign { from ≢ self.old.coherence.me }
-        requires fits { FitsMessage self.old.coherence.config message }
+        requires fits { FitsMessage self.old.coherence.config (owned_message message) }
         requires config { P.config post.old ≡ self.old.coherence.config }
         requires node { P.node post.old ≡ self.old.coherence.me }
-        ensures few { length (handled M.ops self.old.coherence from message).posted ≤ 8 }
-        ensures ok { OnOk result (self.new ≡ memory_told M.ops self.old from message) }
-        ensures posted { OnOk result (post.new ≡ P.after post.old (handled M.ops self.old.coherence from message).posted) }
-        ensures took { OnOk result (P.takes post.old (handled M.ops self.old.coherence from message).posted) }
+        ensures few { length (handled M.ops self.old.coherence from (owned_message message.entry)).posted ≤ 8 }
+        ensures ok { OnOk result (self.new ≡ memory_told M.ops self.old from (owned_message message.entry)) }
+        ensures posted { OnOk result (post.new ≡ P.after post.old (handled M.ops self.old.coherence from (owned_message message.entry)).posted) }
+        ensures took { OnOk result (P.takes post.old (handled M.ops self.old.coherence from (owned_message message.entry)).posted) }
         ensures err { OnErr result ((self.new ≡ self.old) × (post.new ≡ post.old)) }
-        ensures fault { IfErr result (P.refuses post.old (handled M.ops self.old.coherence from message).posted) }
+        ensures fault { IfErr result (P.refuses post.old (handled M.ops self.old.coherence from (owned_message message.entry)).posted) }
         ensures want { IfErr result IsWant }
     {
         self.coherence.handle(from, message, post)

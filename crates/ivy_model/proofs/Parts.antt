@@ -7,7 +7,7 @@ use Rattle.std.specs.Prelude.{◌==◌}
 use Rattle.ivy_model.specs.declared.config.Config.{Config}
 use Rattle.ivy_model.specs.declared.call.Record.{Record}
 use Rattle.ivy_model.specs.Memory.{Memory, first}
-use Rattle.ivy_model.specs.Legal.{Makes, Leads, Legal}
+use Rattle.ivy_model.specs.Legal.{Makes, ServesAll, Legal}
 use Rattle.ivy_model.specs.Explains.{part}
 use Rattle.ivy_model.proofs.Orders.{leads_push}
 
@@ -29,10 +29,10 @@ pub part-push_other : (i : ℕ) (rs : List Record) (r : Record) → (r.node ≡ 
 part-push_other i rs r ne = part-append i rs (r ∷ []) ∙ ap (λ own. part i rs ++ own) (part-other i r ne) ∙ append-nil (part i rs)
 
 -- the memory leads on from where it led
-pub leads-append : (c : Config) (old mid new : Memory) (rs ss : List Record) → Leads c old rs mid → Leads c mid ss new → Leads c old (rs ++ ss) new
-leads-append c old mid new [] ss led more = subst (λ m. Leads c m ss new) led more
+pub leads-append : (c : Config) (old mid new : Memory) (rs ss : List Record) → ServesAll c old rs mid → ServesAll c mid ss new → ServesAll c old (rs ++ ss) new
+leads-append c old mid new [] ss led more = subst (λ m. ServesAll c m ss new) led more
 leads-append c old mid new (r ∷ rs) ss led more = (led.0, led.1, leads-append c led.0 mid new rs ss led.2 more)
 
 -- a legal order, and one record more that its end memory makes
-pub legal_push : (c : Config) (mid new : Memory) (rs : List Record) (r : Record) → Leads c (first c) rs mid → Makes c mid r new → Legal c (rs ++ r ∷ [])
+pub legal_push : (c : Config) (mid new : Memory) (rs : List Record) (r : Record) → ServesAll c (first c) rs mid → Makes c mid r new → Legal c (rs ++ r ∷ [])
 legal_push c mid new rs r led made = (new, leads_push c (first c) mid new rs r led made)

@@ -14,8 +14,8 @@ use Rattle.ivy_model.specs.declared.call.Record.{Record}
 use Rattle.ivy_model.specs.declared.call.Reply.{Reply}
 use Rattle.ivy_model.specs.declared.call.Reply.TheVariants.{Done, Refused, Value}
 use Rattle.ivy_model.specs.Config.{IsConfig, heap_end, heap_len, count_len}
-use Rattle.ivy_model.specs.Legal.{HasWidth, IsWidth, Leads}
-use Rattle.ivy_model.specs.Memory.{Memory, IsSized, first, page_at}
+use Rattle.ivy_model.specs.Legal.{HasWidth, IsWidth, ServesAll}
+use Rattle.ivy_model.specs.Memory.{Memory, IsSized, first, flat_page}
 use Rattle.ivy_model.specs.Serves.{Serves, access_refusal}
 use Rattle.ivy_model.proofs.Counts.{length-words, zero_words}
 use Rattle.ivy_model.proofs.Limits.{page_has_words}
@@ -101,16 +101,16 @@ serves_sized c old new (Alloc size) (Refused code) h w s p =
 serves_sized c old new (Free addr) reply h w s p =
     by_option (get old.blocks addr) p (λ _ x. subst (IsSized c) (sym x.1) s) (λ _ _ x. subst (IsSized c) (sym x.1) (record { bytes = s.bytes; counts = s.counts; words = s.words }))
 
-pub leads_sized : (c : Config) (old new : Memory) (rs : List Record) → IsConfig c → IsSized c old → Leads c old rs new → IsSized c new
+pub leads_sized : (c : Config) (old new : Memory) (rs : List Record) → IsConfig c → IsSized c old → ServesAll c old rs new → IsSized c new
 leads_sized c old new [] h s led = subst (IsSized c) (sym led) s
 leads_sized c old new (r ∷ rs) h s led = leads_sized c led.0 new rs h (serves_sized c old led.0 r.call r.reply h led.1.width s led.1.served) led.2
 
 -- each page has the page size
-pub page_sized : (c : Config) (m : Memory) (page : ℕ) → IsConfig c → IsSized c m → page < c.pages → length (page_at c m page) ≡ c.page_size
+pub page_sized : (c : Config) (m : Memory) (page : ℕ) → IsConfig c → IsSized c m → page < c.pages → length (flat_page c m page) ≡ c.page_size
 page_sized c m zero h s to = length-words m.counts ∙ ap (λ n. 8 * n) s.counts ∙ sym (page_has_words c.page_size h.page_size).words
 page_sized c m (suc k) h s to = length-page c m (suc k) s.bytes (omega arith) to
 
 -- at first each page is zeros
-pub zero_page : (c : Config) (page : ℕ) → IsConfig c → page < c.pages → page_at c (first c) page ≡ replicate c.page_size 0
+pub zero_page : (c : Config) (page : ℕ) → IsConfig c → page < c.pages → flat_page c (first c) page ≡ replicate c.page_size 0
 zero_page c zero h to = zero_words (count_len c) ∙ ap (λ n. replicate n 0) (sym (page_has_words c.page_size h.page_size).words)
 zero_page c (suc k) h to = first_page c (suc k) (omega arith) to

@@ -9,7 +9,7 @@ use Rattle.byteorder.specs.Numbers.{big_from-take, length-bytes_high_first}
 use Rattle.ivy_model.specs.declared.config.Config.{Config}
 use Rattle.ivy_model.specs.Config.{IsConfig, heap_end, heap_len}
 use Rattle.ivy_model.specs.Legal.{IsWidth}
-use Rattle.ivy_model.specs.Memory.{Memory, page_at, first}
+use Rattle.ivy_model.specs.Memory.{Memory, flat_page, first}
 use Rattle.ivy_model.specs.Serves.{overwrite}
 use Rattle.ivy_model.proofs.Limits.{page_has_words}
 use Rattle.ivy_model.proofs.Lists.{piece-overwrite, piece-overwrite_before, piece-overwrite_after}
@@ -47,12 +47,12 @@ word_placed c width addr h w aligned above below =
       start = omega (arith, mul-le 1 c.page_size page c.page_size from (omega arith));
     }
 
-pub page_at-heap : (c : Config) (m : Memory) (page : ℕ) → 1 ≤ page → page_at c m page ≡ take c.page_size (drop (page * c.page_size - c.page_size) m.bytes)
-page_at-heap c m page h = rw (ne_eqb page 0 (omega (arith, h))) refl
+pub flat_page-heap : (c : Config) (m : Memory) (page : ℕ) → 1 ≤ page → flat_page c m page ≡ take c.page_size (drop (page * c.page_size - c.page_size) m.bytes)
+flat_page-heap c m page h = rw (ne_eqb page 0 (omega (arith, h))) refl
 
 -- a word read from a page
 pub read_by_page : (c : Config) (m : Memory) (width addr : ℕ) → IsPlaced c width addr
-    → big_number width (drop (addr - c.page_size) m.bytes) ≡ big_number width (drop (addr % c.page_size) (page_at c m (addr / c.page_size)))
+    → big_number width (drop (addr - c.page_size) m.bytes) ≡ big_number width (drop (addr % c.page_size) (flat_page c m (addr / c.page_size)))
 read_by_page c m width addr h =
     let size : ℕ = c.page_size in
     let from : ℕ = addr / size * size - size in
@@ -66,7 +66,7 @@ read_by_page c m width addr h =
     ∙ ap (big_number width) (sym (drop-drop offset from m.bytes))
     ∙ sym (big_from-take 0 width (size - offset) (drop offset rest) (omega (arith, h.within)))
     ∙ ap (big_number width) (sym cut)
-    ∙ ap (λ page. big_number width (drop offset page)) (sym (page_at-heap c m (addr / size) h.page_from))
+    ∙ ap (λ page. big_number width (drop offset page)) (sym (flat_page-heap c m (addr / size) h.page_from))
 
 -- the memory with a word stored in its heap
 abbrev pub with_word : Config → Memory → ℕ → ℕ → ℕ → Memory
@@ -80,21 +80,21 @@ page_inside c m page e from to =
 
 -- a word written to a page
 pub write_by_page : (c : Config) (m : Memory) (width addr value : ℕ) → length m.bytes ≡ heap_len c → IsPlaced c width addr
-    → page_at c (with_word c m width addr value) (addr / c.page_size) ≡ overwrite (page_at c m (addr / c.page_size)) (addr % c.page_size) (big_bytes width value)
+    → flat_page c (with_word c m width addr value) (addr / c.page_size) ≡ overwrite (flat_page c m (addr / c.page_size)) (addr % c.page_size) (big_bytes width value)
 write_by_page c m width addr value e h =
     let size : ℕ = c.page_size in
     let page : ℕ = addr / size in
     let from : ℕ = page * size - size in
     let new : List ℕ = big_bytes width value in
     let place : addr - size ≡ from + addr % size = omega (arith, h.split, h.start) in
-    page_at-heap c (with_word c m width addr value) page h.page_from
+    flat_page-heap c (with_word c m width addr value) page h.page_from
     ∙ ap (λ n. take size (drop from (overwrite m.bytes n new))) place
     ∙ piece-overwrite m.bytes new from size (addr % size) (page_inside c m page e h.page_from h.page_to) (omega (arith, h.within, length-bytes_high_first width value))
-    ∙ ap (λ p. overwrite p (addr % size) new) (sym (page_at-heap c m page h.page_from))
+    ∙ ap (λ p. overwrite p (addr % size) new) (sym (flat_page-heap c m page h.page_from))
 
 -- and what it leaves of another page
 pub write_elsewhere : (c : Config) (m : Memory) (width addr value page : ℕ) → length m.bytes ≡ heap_len c → IsPlaced c width addr → page < c.pages → (page ≡ addr / c.page_size → ⊥)
-    → page_at c (with_word c m width addr value) page ≡ page_at c m page
+    → flat_page c (with_word c m width addr value) page ≡ flat_page c m page
 write_elsewhere c m width addr value zero e h to other = refl
 write_elsewhere c m width addr value (suc k) e h to other =
     let size : ℕ = c.page_size in
@@ -107,7 +107,7 @@ write_elsewhere c m width addr value (suc k) e h to other =
     let inside = page_inside c m page e from to in
     let start = mul-le 1 size page size from (omega arith) in
     let fits : at + length new ≤ own * size - size + size = omega (arith, h.split, h.within, long, h.start) in
-    page_at-heap c (with_word c m width addr value) page from
+    flat_page-heap c (with_word c m width addr value) page from
     ∙ elim (cases_order page own) [
       | inl same ↦ absurd (other same)
       | inr apart ↦ elim apart [
@@ -121,21 +121,21 @@ write_elsewhere c m width addr value (suc k) e h to other =
             piece-overwrite_before m.bytes new (page * size - size) size at inside (omega (arith, next, split, fits, h.start))
       ]
     ]
-    ∙ sym (page_at-heap c m page from)
+    ∙ sym (flat_page-heap c m page from)
 
 -- at first all pages are zeros
-pub first_page : (c : Config) (page : ℕ) → 1 ≤ page → page < c.pages → page_at c (first c) page ≡ replicate c.page_size 0
+pub first_page : (c : Config) (page : ℕ) → 1 ≤ page → page < c.pages → flat_page c (first c) page ≡ replicate c.page_size 0
 first_page c page from to =
     let size : ℕ = c.page_size in
     let inside = page_inside c (first c) page (length-replicate {A = ℕ} (heap_len c) 0) from to in
     let long = length-replicate {A = ℕ} (heap_len c) 0 in
-    page_at-heap c (first c) page from
+    flat_page-heap c (first c) page from
     ∙ ap (take size) (drop-replicate (page * size - size) (heap_len c) 0)
     ∙ take-replicate size (heap_len c - (page * size - size)) 0 (omega (arith, inside, long))
 
-pub length-page : (c : Config) (m : Memory) (page : ℕ) → length m.bytes ≡ heap_len c → 1 ≤ page → page < c.pages → length (page_at c m page) ≡ c.page_size
+pub length-page : (c : Config) (m : Memory) (page : ℕ) → length m.bytes ≡ heap_len c → 1 ≤ page → page < c.pages → length (flat_page c m page) ≡ c.page_size
 length-page c m page e from to =
     let size : ℕ = c.page_size in
     let inside = page_inside c m page e from to in
-    ap length (page_at-heap c m page from)
+    ap length (flat_page-heap c m page from)
     ∙ length-take-le size (drop (page * size - size) m.bytes) (omega (arith, inside, length-drop (page * size - size) m.bytes))

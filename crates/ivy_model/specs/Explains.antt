@@ -25,4 +25,5 @@ IsOwed asked (r ∷ s ∷ rest) = ⊥
 -- the order is legal, and each node's part of it is what the node was answered
 pub record IsExplained (c : Config) (order : List Record) (nodes : List Answered) : Type 0 where
   pub legal : Legal c order
-  pub parts : (i : ℕ) (n : Answered) → slice_get nodes i ≡ Some n → (rest : List Record) × (part i order ≡ n.history ++ rest) × IsOwed n.asked rest
+  pub parts : (i : ℕ) (n : Answered) → slice_get nodes i ≡ Some n
+      → (rest : List Record) × (part i order ≡ n.history ++ rest) × IsOwed n.asked rest

@@ -62,7 +62,7 @@ relinked n v same s l ws mine fits =
     subst (λ (x : Outbox). IsSoundOutbox (record { config = x.config; me = x.me; link = l; waiting = ws })) (sym same)
     (record { limits = at.limits; mine = mine ∙ at.mine; fits = fits at })
 
-pub accepted-box : (n v : Outbox) → v ≡ n → IsSoundOutbox v → (f : Frame) (l : Linked) → f.number < 2 ^ 64 → l ≡ accepted v.link f → IsSoundOutbox (record { config = v.config; me = v.me; link = l; waiting = v.waiting })
+pub accepted-box : {B : Type 0} (n v : Outbox) → v ≡ n → IsSoundOutbox v → (f : frame.Frame B) (l : Linked) → f.number < 2 ^ 64 → l ≡ accepted v.link f → IsSoundOutbox (record { config = v.config; me = v.me; link = l; waiting = v.waiting })
 accepted-box n v same s f l small is =
     let now : l ≡ accepted n.link f = is ∙ ap (λ (x : Outbox). accepted x.link f) same in
     relinked n v same s l v.waiting (ap (λ k. k.me) now ∙ accepted-me n.link f) (λ at. subst (FitsLink n.config) (sym now) (heard-link-fits n.config n.link f at.fits small))

@@ -24,7 +24,7 @@ use Rattle.ivy_memory.specs.Memories.{Memory, memory_told}
 use Rattle.ivy_host.specs.Hosts.{Host, host_rules, serving}
 use Rattle.ivy_node.specs.Outboxes.{Outbox, HasNumbers, IsRefused, with_link, posted_by}
 use Rattle.ivy_node.specs.Shown.{Shown, after_event, after_delivery}
-use Rattle.ivy_node.specs.Sites.{Delivers, IsSpentDelivery, IsSite}
+use Rattle.ivy_node.specs.Sites.{AfterDelivery, IsSpentDelivery, IsSite}
 use Rattle.ivy_node.proofs.Boxes.{as_many}
 use Rattle.ivy_memory.proofs.Same.{handled-same}
 use Rattle.ivy_host.proofs.Tame.{IsAskingHost}
@@ -54,21 +54,23 @@ receives v k f bytes w r =
     let once : (checked v.config bytes ≡ Ok (frame_kind f.body)) × (frame_at (frame_kind f.body) bytes ≡ f) = spelled_once v.config f bytes (subst IsConfig r.config r.limits) (spelled_here v k f bytes w r) in
     ap (λ x. delivered_as rules x v.node bytes) once.0 ∙ (ap (λ x. received rules v.node x) once.1 ∙ ap (λ x. received_as rules x v.node f) (sym r.is))
 
--- a string that no frame was read from, for another reason than memory, is not delivered
-refused_is : (c : Config) (m : Node H) (bytes : List ℕ) (x : Result FrameKind Fault) → checked c bytes ≡ x → (e : Fault) (Q : Fault → Type 0) → MatchResult x (λ k. e ≡ fault.Memory) Q → e ≡ fault.NumbersSpent → delivered rules c m bytes ≡ None
+-- a string that no frame was read from is not delivered
+refused_is : (c : Config) (m : Node H) (bytes : List ℕ) (x : Result FrameKind Fault) → checked c bytes ≡ x
+    → (Q : Fault → Type 0) → MatchResult x (λ k. false ≡ true) Q → delivered rules c m bytes ≡ None
 unfolding delivered
-refused_is c m bytes (Ok kind) is e Q why spent = absurd (let both : fault.Memory ≡ fault.NumbersSpent = sym why ∙ spent in cc)
-refused_is c m bytes (Err k) is e Q why spent = ap (λ x. delivered_as rules x m bytes) is
+refused_is c m bytes (Ok kind) is Q why = absurd cc
+refused_is c m bytes (Err k) is Q why = ap (λ x. delivered_as rules x m bytes) is
 
-pub spent_reading : (n v : Shown) → v ≡ n → (k : Config) (bytes : List ℕ) (e : Fault) (Q : Fault → Type 0) → k ≡ v.config → MatchResult (checked k bytes) (λ x. e ≡ fault.Memory) Q → IsSpentDelivery n bytes e
+pub spent_reading : (n v : Shown) → v ≡ n → (k : Config) (bytes : List ℕ) (e : Fault) (Q : Fault → Type 0) → k ≡ v.config
+    → MatchResult (checked k bytes) (λ x. false ≡ true) Q → IsSpentDelivery n bytes e
 spent_reading n v same k bytes e Q config why spent =
     subst (λ (x : Shown). delivered rules x.config x.node bytes ≡ None) same
-    (subst (λ x. delivered rules x v.node bytes ≡ None) config (refused_is k v.node bytes (checked k bytes) refl e Q why spent))
+    (subst (λ x. delivered rules x v.node bytes ≡ None) config (refused_is k v.node bytes (checked k bytes) refl Q why))
 
 -- a frame for another node
-pub not_mine : (n v : Shown) → v ≡ n → (k : Config) (f : Frame) (bytes : List ℕ) (w : Verdict) → IsRead v k f bytes w → w ≡ verdict.NotMine → Delivers bytes w n n
+pub not_mine : (n v : Shown) → v ≡ n → (k : Config) (f : Frame) (bytes : List ℕ) (w : Verdict) → IsRead v k f bytes w → w ≡ verdict.NotMine → AfterDelivery bytes w n n
 not_mine n v same k f bytes w r not =
-    subst (λ x. Delivers bytes w x x) same
+    subst (λ x. AfterDelivery bytes w x x) same
     (record {
       frame = f;
       spelled = spelled_here v k f bytes w r;
@@ -174,10 +176,10 @@ is_event v bytes verdict.Repeat e ne = refl
 is_event v bytes verdict.Ahead e ne = refl
 
 pub heard_delivers : (n v : Shown) → v ≡ n → (k : Config) (f : Frame) (bytes : List ℕ) (w : Verdict) → IsRead v k f bytes w → (w ≡ verdict.NotMine → ⊥)
-    → (h : H) (box new : Outbox) (events : List Mark) → IsHeard v f w h box → new ≡ with_link box (accepted box.link f) → events ≡ v.events ++ Delivery bytes ∷ [] → Delivers bytes w n (shown_of h new events)
+    → (h : H) (box new : Outbox) (events : List Mark) → IsHeard v f w h box → new ≡ with_link box (accepted box.link f) → events ≡ v.events ++ Delivery bytes ∷ [] → AfterDelivery bytes w n (shown_of h new events)
 heard_delivers n v same k f bytes w r ne h box new events x is listed =
     let e : Effect H = record { after = record { core = h; link = accepted x.link f }; sent = x.sent } in
-    subst (λ y. Delivers bytes w y (shown_of h new events)) same
+    subst (λ y. AfterDelivery bytes w y (shown_of h new events)) same
     (record {
       frame = f;
       spelled = spelled_here v k f bytes w r;

@@ -5,7 +5,7 @@ use Rattle.ivy_model.specs.declared.Config.{Config}
 use Rattle.ivy_model.specs.Config.{IsConfig}
 use Rattle.ivy_wire.specs.Data.{Message}
 use Rattle.ivy_host.specs.Managers.{Managed, managed_ops}
-use Rattle.ivy_host.specs.Managers.{managed_laws}
+use Rattle.ivy_host.specs.ManagedLaws.{managed_laws}
 use Rattle.ivy_program.specs.declared.Instruction.{Instruction}
 use Rattle.ivy_ether.specs.declared.Move.{Move}
 use Rattle.ivy_ether.specs.Worlds.{World, Leads}
@@ -18,8 +18,10 @@ use Rattle.ivy_host.specs.Sound.{IsSoundHost}
 use Rattle.ivy_host.specs.Openings.{opening}
 use Rattle.ivy_host.specs.Holding.{IsExclusive, AreRuns, HasNoBreach, AllSpell}
 use Rattle.ivy_explain.proofs.FaithfulWorlds.{opening_explained, opening_runs}
-use Rattle.ivy_order.proofs.Worlds.{exclusive_led}
-use Rattle.ivy_routes.proofs.QuietWorlds.{no_breach_led}
+use Rattle.ivy_worlds.proofs.Runs.{led_in_order}
+use Rattle.ivy_worlds.proofs.Worlds.{exclusive_led}
+use Rattle.ivy_routes.proofs.EitherRoutes.{either_awaited, either_routed}
+use Rattle.ivy_routes.proofs.EitherWorlds.{either_no_breach}
 use Rattle.ivy_node.specs.RunState.{Run}
 use Rattle.ivy_node.specs.Runs.{IsLedTo, IsReached, IsExplainedAlong, opening_of}
 use Rattle.ivy_node.specs.Keeping.{Keeps}
@@ -37,7 +39,7 @@ module _ (c : Config) (programs : List (List Instruction)) (config : IsConfig c)
   exclusive-led = exclusive_led managed_laws c config (managed_ops.first c 0) programs each
 
   pub no_breach-led : (moves : List Move) (w : World (Host Managed)) → Leads (host_rules managed_ops) c (opening managed_ops c programs) moves w → HasNoBreach w
-  no_breach-led = no_breach_led c config (managed_ops.first c 0) programs each
+  no_breach-led = either_no_breach c config (managed_ops.first c 0) programs each
 
   pub runs-led : (moves : List Move) (w : World (Host Managed)) → Leads (host_rules managed_ops) c (opening managed_ops c programs) moves w → AreRuns programs w
   runs-led moves w h = opening_runs managed_ops managed_laws c config programs each opened w moves h
@@ -60,6 +62,9 @@ keeps-reached r config each reached = record {
   runs = runs-led r.config r.programs config each reached.0 r.world reached.1;
   no_breach = no_breach-led r.config r.programs config each reached.0 r.world reached.1;
   spelled = spelled-led r.config r.programs config each reached.0 r.world reached.1;
+  ordered = led_in_order managed_laws r.config config r.programs each reached.0 r.world reached.1;
+  waits = either_awaited r.config config r.programs each;
+  routes = either_routed r.config config r.programs each;
   explained = λ moves led. explained-along r.config r.programs config each moves;
 }
 

@@ -35,7 +35,7 @@ use Rattle.ivy_memory.specs.Memories.{CallBegun, reply_there, call_begun, taken_
 use Rattle.ivy_host.specs.Holding.{AllSpell}
 use Rattle.ivy_node.specs.Runs.{IsRefusedBy}
 use Rattle.ivy_node.specs.Shown.{Shown, after_pulse_to, after_delivery}
-use Rattle.ivy_node.specs.Sites.{AfterTurn, IsSpentTurn, Delivers, IsSpentDelivery}
+use Rattle.ivy_node.specs.Sites.{AfterTurn, IsSpentTurn, AfterDelivery, IsSpentDelivery}
 use Rattle.ivy_node.specs.WorldSites.{programs_of, world_of, AreSites}
 
 -- what a test guards
@@ -251,7 +251,7 @@ after_gone verdict.Next old new f bytes e after is = event_gone old new e (ap (�
 after_gone verdict.Repeat old new f bytes e after is = event_gone old new e (ap (λ (s : Shown). s.node) after) (ap (λ (s : Shown). s.waiting) after) (ap (λ (s : Shown). s.config) after) (ap (λ (s : Shown). s.me) after) (received-program verdict.Repeat old.node f e is)
 after_gone verdict.Ahead old new f bytes e after is = event_gone old new e (ap (λ (s : Shown). s.node) after) (ap (λ (s : Shown). s.waiting) after) (ap (λ (s : Shown). s.config) after) (ap (λ (s : Shown). s.me) after) (received-program verdict.Ahead old.node f e is)
 
-delivery_gone : (old new : Shown) (bytes : List ℕ) (v : Verdict) → IsConfig old.config → (h : Delivers bytes v old new) → IsGone old new h.effect
+delivery_gone : (old new : Shown) (bytes : List ℕ) (v : Verdict) → IsConfig old.config → (h : AfterDelivery bytes v old new) → IsGone old new h.effect
 delivery_gone old new bytes v config h =
     after_gone v old new h.frame bytes h.effect h.after
     (ap (λ x. received_as (host_rules managed_ops) x old.node h.frame) h.is ∙ (sym (delivered-is old.config config old.node h.frame bytes h.spelled) ∙ h.delivered))
@@ -269,7 +269,7 @@ delivery_is c sites sent index i old bytes there found =
 
 -- a delivery to the site, and its strings put on the wire
 pub delivery_went : (c : Config) (sites : List Shown) (sent : List (List ℕ)) (index i : ℕ) (old done site : Shown) (bytes : List ℕ) (v : Verdict) (step : Move) (more : List (List ℕ))
-    → IsConfig c → AreSites c sites → slice_get sites i ≡ Some old → slice_get sent index ≡ Some bytes → Delivers bytes v old done → step ≡ move.Deliver index i → site ≡ record done { waiting = [] } → more ≡ sent ++ done.waiting
+    → IsConfig c → AreSites c sites → slice_get sites i ≡ Some old → slice_get sent index ≡ Some bytes → AfterDelivery bytes v old done → step ≡ move.Deliver index i → site ≡ record done { waiting = [] } → more ≡ sent ++ done.waiting
     → Went c sites (set sites i site) sent more step
 delivery_went c sites sent index i old done site bytes v step more limits h there found d is same added =
     let config : old.config ≡ c = h.config i old there in

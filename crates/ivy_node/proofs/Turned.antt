@@ -1,5 +1,5 @@
 -- A site's turn, from what its parts did: `v` is what the fields are seen as, `n` the value.
-use Rattle.std.proofs.Common.{◌≡◌, ℕ, Bool, true, false, List, [], ◌∷◌, ◌++◌, length, Some, None, refl, sym, ap, ◌∙◌, subst, arith}
+use Rattle.std.proofs.Common.{◌≡◌, ℕ, Bool, true, false, List, [], ◌∷◌, ◌++◌, Some, None, refl, sym, ap, ◌∙◌, subst}
 use Rattle.ivy_model.specs.declared.Call.{Call}
 use Rattle.ivy_model.specs.declared.Fault.{Fault}
 use Rattle.ivy_model.specs.declared.Record.{Record}

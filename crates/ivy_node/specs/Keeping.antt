@@ -2,6 +2,9 @@
 use Rattle.std.specs.Prelude.{List}
 use Rattle.ivy_ether.specs.declared.Move.{Move}
 use Rattle.ivy_host.specs.Holding.{IsExclusive, AreRuns, HasNoBreach, AllSpell}
+use Rattle.ivy_host.specs.Managers.{managed_ops}
+use Rattle.ivy_worlds.specs.Runs.{FollowsInOrder}
+use Rattle.ivy_routes.specs.RoutedRuns.{AllAwaited, AllRouted}
 use Rattle.ivy_node.specs.RunState.{Run}
 use Rattle.ivy_node.specs.Runs.{IsLedTo, IsReached, IsExplainedAlong, opening_of}
 
@@ -16,6 +19,13 @@ pub record Keeps (r : Run) : Type 0 where
   pub no_breach : HasNoBreach r.world
   -- each string ever sent spells a frame
   pub spelled : AllSpell r.config r.world
+  -- it follows an ordered world, where each message is delivered once and in order, that moves led to from the opening;
+  -- and in each ordered world that moves lead to from there, whoever waits has its message, and the routes to each
+  -- page run in no circle and lead to the page from everywhere
+  pub ordered : FollowsInOrder managed_ops r.config r.programs r.world
+  pub waits : AllAwaited managed_ops r.config r.programs
+  pub routes : AllRouted managed_ops r.config r.programs
   -- whatever moves led here from the opening: at each of them one order of records explains what the nodes were
   -- answered, growing from move to move
-  pub explained : (moves : List Move) → IsLedTo r.config (opening_of r) moves r.world → IsExplainedAlong r moves
+  pub explained : (moves : List Move) → IsLedTo r.config (opening_of r) moves r.world
+      → IsExplainedAlong r moves

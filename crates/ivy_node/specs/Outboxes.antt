@@ -30,7 +30,12 @@ with_link o link = record { config = o.config; me = o.me; link = link; waiting =
 
 -- a link made frames: their spellings wait, in order
 abbrev pub with_sending : Outbox → Sending → Outbox
-with_sending o s = record { config = o.config; me = o.me; link = s.after; waiting = o.waiting ++ map spelling s.frames }
+with_sending o s = record {
+  config = o.config;
+  me = o.me;
+  link = s.after;
+  waiting = o.waiting ++ map spelling s.frames;
+}
 
 -- there are numbers for the parcels
 abbrev pub HasNumbers : Outbox → List Parcel → Type 0
@@ -53,13 +58,15 @@ Refuses o parcels f = IsRefused f o parcels
 abbrev pub Takes : Option (List ℕ) → Outbox → Outbox → Type 0
 Takes None old new = (old.waiting ≡ []) × (new ≡ old)
 Takes (Some bytes) old new =
-    (old.waiting ≡ bytes ∷ new.waiting) × (new.config ≡ old.config) × (new.me ≡ old.me) × (new.link ≡ old.link)
+    (old.waiting ≡ bytes ∷ new.waiting) × (new.config ≡ old.config) × (new.me ≡ old.me)
+    × (new.link ≡ old.link)
 
 pub takes_none : (o : Outbox) → HasNumbers o []
 takes_none o = refl
 
 pub after_none : (o : Outbox) → posted_by o [] ≡ o
-after_none o = ap (λ w. record { config = o.config; me = o.me; link = o.link; waiting = w }) (append-nil o.waiting)
+after_none o = ap (λ w. record { config = o.config; me = o.me; link = o.link; waiting = w })
+    (append-nil o.waiting)
 
 pub refuses_none : (o : Outbox) (f : Fault) → Refuses o [] f → ⊥
 refuses_none o Memory why = why refl

@@ -46,4 +46,5 @@ IsReached r = (before : List Move) × IsLedTo r.config (opening_of r) before r.w
 -- at the opening no record explains what the nodes were answered, and after each of the moves an order that goes on
 -- from the one before does
 abbrev pub IsExplainedAlong : Run → List Move → Type 0
-IsExplainedAlong r moves = GoesOn (host_rules managed_ops) r.config answered_by (opening_of r) [] moves
+IsExplainedAlong r moves =
+    GoesOn (host_rules managed_ops) r.config answered_by (opening_of r) [] moves

@@ -17,7 +17,13 @@ pub record Shown : Type 0 where
 
 -- the site after an event that it lists
 abbrev pub after_event : Shown → Mark → Effect (Host Managed) → Shown
-after_event s mark e = record { config = s.config; me = s.me; node = e.after; events = s.events ++ mark ∷ []; waiting = s.waiting ++ e.sent }
+after_event s mark e = record {
+  config = s.config;
+  me = s.me;
+  node = e.after;
+  events = s.events ++ mark ∷ [];
+  waiting = s.waiting ++ e.sent;
+}
 
 -- a frame that is not for this node is no event
 abbrev pub after_delivery : Shown → List ℕ → Verdict → Effect (Host Managed) → Shown
@@ -32,4 +38,10 @@ pulse_marks to [] = []
 pulse_marks to (s ∷ ss) = Pulse to ∷ []
 
 abbrev pub after_pulse_to : Shown → ℕ → Effect (Host Managed) → Shown
-after_pulse_to s to e = record { config = s.config; me = s.me; node = e.after; events = s.events ++ pulse_marks to e.sent; waiting = s.waiting ++ e.sent }
+after_pulse_to s to e = record {
+  config = s.config;
+  me = s.me;
+  node = e.after;
+  events = s.events ++ pulse_marks to e.sent;
+  waiting = s.waiting ++ e.sent;
+}

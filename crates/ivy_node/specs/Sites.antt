@@ -26,7 +26,13 @@ use Rattle.ivy_host.specs.Openings.{first_node}
 use Rattle.ivy_node.specs.Shown.{Shown, after_event, after_delivery}
 
 abbrev pub first_shown : Config → ℕ → List Instruction → Shown
-first_shown c me program = record { config = c; me = me; node = first_node managed_ops c me program; events = []; waiting = [] }
+first_shown c me program = record {
+  config = c;
+  me = me;
+  node = first_node managed_ops c me program;
+  events = [];
+  waiting = [];
+}
 
 -- it is the same node, under the same configuration
 abbrev pub IsSameNode : Shown → Shown → Type 0
@@ -43,10 +49,11 @@ pub record Turns (old new : Shown) : Type 0 where
 abbrev pub AfterTurn : turn.Turn → Shown → Shown → Type 0
 AfterTurn Idle old new = (turn_of managed_ops old.node.core ≡ None) × (new ≡ old)
 AfterTurn Moved old new = Turns old new
-AfterTurn Ended old new = HasEnded old.node.core.process × (turn_of managed_ops old.node.core ≡ None) × (new ≡ old)
+AfterTurn Ended old new =
+    HasEnded old.node.core.process × (turn_of managed_ops old.node.core ≡ None) × (new ≡ old)
 
 -- the string spells a frame, which is what the verdict says, and the delivery is that of the definitions
-pub record Delivers (bytes : List ℕ) (verdict : Verdict) (old new : Shown) : Type 0 where
+pub record AfterDelivery (bytes : List ℕ) (verdict : Verdict) (old new : Shown) : Type 0 where
   pub frame : Frame
   pub spelled : Spells old.config frame bytes
   pub is : verdict ≡ offered old.node.link frame
@@ -59,19 +66,22 @@ abbrev pub IsSpentTurn : Shown → Fault → Type 0
 IsSpentTurn old fault = fault ≡ NumbersSpent → turned (host_rules managed_ops) old.node ≡ None
 
 abbrev pub IsSpentDelivery : Shown → List ℕ → Fault → Type 0
-IsSpentDelivery old bytes fault = fault ≡ NumbersSpent → delivered (host_rules managed_ops) old.config old.node bytes ≡ None
+IsSpentDelivery old bytes fault =
+    fault ≡ NumbersSpent → delivered (host_rules managed_ops) old.config old.node bytes ≡ None
 
 -- what holds of a site, beside what its parts keep
 pub record IsSite (s : Shown) : Type 0 where
   pub config : s.node.core.memory.coherence.config ≡ s.config
   pub me : s.node.core.memory.coherence.me ≡ s.me
-  pub asking : (call : Call) → s.node.core.memory.asked ≡ Some call → step_of s.node.core.process ≡ Asks call
+  pub asking : (call : Call) → s.node.core.memory.asked ≡ Some call
+      → step_of s.node.core.process ≡ Asks call
 
 abbrev pub host_of : memories.Memory Managed → Process → List Record → Host Managed
 host_of memory process history = record { memory = memory; process = process; history = history }
 
 -- a call that the program makes begins, by the rules of the definitions, and what is posted is sent
-pub record Begins (call : Call) (old : Host Managed) (box : Outbox) (new : Host Managed) (after : Outbox) : Type 0 where
+pub record Begins (call : Call) (old : Host Managed) (box : Outbox) (new : Host Managed)
+    (after : Outbox) : Type 0 where
   pub outcome : Outcome (Host Managed)
   pub begun : begins managed_ops old call ≡ Some outcome
   pub host : new ≡ outcome.after
@@ -81,13 +91,17 @@ pub record Begins (call : Call) (old : Host Managed) (box : Outbox) (new : Host 
 -- or it does not begin, and nothing changes
 abbrev pub AfterBegin : Bool → Call → Host Managed → Outbox → Host Managed → Outbox → Type 0
 AfterBegin true call old box new after = Begins call old box new after
-AfterBegin false call old box new after = (begins managed_ops old call ≡ None) × (new ≡ old) × (after ≡ box)
+AfterBegin false call old box new after =
+    (begins managed_ops old call ≡ None) × (new ≡ old) × (after ≡ box)
 
 -- numbers are at an end for what it would post
 abbrev pub CannotBegin : Call → Host Managed → Outbox → Fault → Type 0
-CannotBegin call old box fault = fault ≡ NumbersSpent → (outcome : Outcome (Host Managed)) × (begins managed_ops old call ≡ Some outcome) × (has_numbers box.link outcome.posted ≡ false)
+CannotBegin call old box fault = fault ≡ NumbersSpent
+    → (outcome : Outcome (Host Managed)) × (begins managed_ops old call ≡ Some outcome)
+    × (has_numbers box.link outcome.posted ≡ false)
 
 -- the first string that waits is taken, if there is one, and nothing else changes
 abbrev pub TakesFrame : Option (List ℕ) → Shown → Shown → Type 0
 TakesFrame None old new = (old.waiting ≡ []) × (new ≡ old)
-TakesFrame (Some bytes) old new = (old.waiting ≡ bytes ∷ new.waiting) × (new ≡ record old { waiting = new.waiting })
+TakesFrame (Some bytes) old new =
+    (old.waiting ≡ bytes ∷ new.waiting) × (new ≡ record old { waiting = new.waiting })

@@ -31,7 +31,8 @@ first_sites_from c me [] = []
 first_sites_from c me (p ∷ ps) = first_shown c me p ∷ first_sites_from c (me + 1) ps
 
 abbrev pub run_of : Config → List Shown → List (List ℕ) → Run
-run_of c sites sent = record { config = c; programs = programs_of sites; world = world_of sites sent }
+run_of c sites sent =
+    record { config = c; programs = programs_of sites; world = world_of sites sent }
 
 pub record IsRunning (c : Config) (sites : List Shown) (sent : List (List ℕ)) : Type 0 where
   pub limits : IsConfig c

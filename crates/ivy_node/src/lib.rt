@@ -9,7 +9,6 @@ mod turn;
 mod world;
 
 pub use ivy_ether::Move;
-pub use ivy_host::is_built;
 pub use ivy_link::Verdict;
 pub use ivy_program::{Program, parse};
 pub use site::Site;

@@ -10,7 +10,7 @@ ghost use Rattle.ivy_node.specs.Outboxes.{with_link, with_sending, Takes, most_s
 
 use ivy_link::{Link, Verdict};
 use ivy_model::{Config, Fault};
-use ivy_wire::{Bytes, Frame, Page, Parcel, Post, encode};
+use ivy_wire::{Bytes, Frame, Parcel, Post, encode};
 use std::alloc::Allocator;
 use std::collections::VecDeque;
 use std::marker::Model;
@@ -103,7 +103,7 @@ impl<A: Allocator + Copy> Outbox<A> {
     }
 
     /// Takes the acknowledgement of a frame, and counts its message where it is the next.
-    pub(crate) fn accept(&mut self, frame: &Frame<Page<A>>)
+    pub(crate) fn accept<B>(&mut self, frame: &Frame<B>)
         requires source { frame.now.source < self.old.config.nodes }
         requires number { frame.now.number < 2 ^ 64 }
         ensures { self.new ≡ with_link self.old (accepted self.old.link frame.now) }

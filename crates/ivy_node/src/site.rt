@@ -4,23 +4,23 @@ ghost use Rattle.ivy_model.specs.Config.{IsConfig};
 ghost use Rattle.ivy_model.specs.Wants.{IsWant};
 ghost use Rattle.ivy_wire.specs.Faults.{checked};
 ghost use Rattle.ivy_program.specs.Steps.{IsAsking, HasEnded, Asks, step_of, answered_with};
-ghost use Rattle.ivy_host.specs.Managers.{managed_ops, IsBuilt};
+ghost use Rattle.ivy_host.specs.Managers.{managed_ops};
 ghost use Rattle.ivy_ether.specs.Nodes.{pulsing};
 ghost use Rattle.ivy_node.specs.Outboxes.{most_sent};
 ghost use Rattle.ivy_node.specs.Shown.{after_pulse_to};
-ghost use Rattle.ivy_node.specs.Sites.{first_shown, host_of, AfterBegin, CannotBegin, AfterTurn, Delivers, IsSpentTurn, IsSpentDelivery, TakesFrame, IsSameNode};
+ghost use Rattle.ivy_node.specs.Sites.{first_shown, host_of, AfterBegin, CannotBegin, AfterTurn, AfterDelivery, IsSpentTurn, IsSpentDelivery, TakesFrame, IsSameNode};
 ghost use Rattle.ivy_ether.specs.Marks.{marks};
 ghost use Rattle.ivy_model.specs.Legal.{HasWidth};
 
 use crate::outbox::Outbox;
 use crate::turn::Turn;
 use ivy_ether::{Event, Events};
-use ivy_host::{NodeManager, first_manager};
+use ivy_host::NodeManager;
 use ivy_link::Verdict;
 use ivy_memory::{Answer, Memory};
 use ivy_model::{Call, Config, Fault, Record, Reply};
 use ivy_program::{Machine, Next, Program};
-use ivy_wire::{Bytes, decode};
+use ivy_wire::{Bytes, read};
 use std::alloc::Allocator;
 use std::marker::Model;
 
@@ -98,15 +98,14 @@ fn begin<A: Allocator + Copy>(
 impl<A: Allocator + Copy> Site<A> {
     /// Node `me` at the beginning of its program [1].
     ///
-    /// The configuration is within its limits, its manager is built, and `me` is one of its nodes.
+    /// The configuration is within its limits, and `me` is one of its nodes.
     pub fn new(alloc: A, config: &Config, me: u8, program: Program<A>) -> Result<Site<A>, Fault>
         requires limits { IsConfig config.now }
         requires here { me < config.now.nodes }
-        requires built { IsBuilt config.now }
         ensures first { IfOk result (λ site. site ≡ first_shown config.now me program) }
         ensures memory { IsOkUnless result Fault.Memory }
     {
-        let manager = first_manager(alloc, config, me)?;
+        let manager = NodeManager::new(alloc, config, me)?;
         Ok(Site {
             alloc,
             memory: Memory::new(alloc, config, me, manager)?,
@@ -196,16 +195,16 @@ impl<A: Allocator + Copy> Site<A> {
 
     /// A string comes, any bytes at all [1, 11 to 17]. What the frame in it is to this node is the answer: one
     /// for another node is left alone, and the message of the next one is served before the frame is accepted.
-    /// A refused delivery changes nothing.
+    /// A page in it is lent to what serves the message. A refused delivery changes nothing.
     pub fn deliver(&mut self, bytes: &[u8]) -> Result<Verdict, Fault>
         ensures same { IsSameNode self.old self.new }
-        ensures done { MatchResult result (λ verdict. Delivers bytes.now verdict self.old self.new) (λ _. self.new ≡ self.old) }
+        ensures done { MatchResult result (λ verdict. AfterDelivery bytes.now verdict self.old self.new) (λ _. self.new ≡ self.old) }
         ensures refused { MatchResult (checked self.old.config bytes.now) (λ _. IfErr result IsWant) (λ fault. result ≡ Err fault) }
         ensures few { length self.new.waiting ≤ length self.old.waiting + most_sent }
         ensures spent { IfErr result (IsSpentDelivery self.old bytes.now) }
     {
         let config = self.outbox.config();
-        let mut frame = decode(self.alloc, &config, bytes)?;
+        let mut frame = read(&config, bytes)?;
         let verdict = self.outbox.offer(&frame);
         if verdict == Verdict::NotMine {
             return Ok(verdict);

@@ -2,7 +2,7 @@
 ghost use Rattle.std.specs.Prelude.{◌≡◌, ◌+◌, ◌<◌, ◌≤◌, ◌↔◌, ◌++◌, ◌∷◌, [], List, Some, Err, length, map, take, slice_get, vec_len, vec_capacity, IsTrue, IfOk, IfErr, IfSome, OnOk, OnErr, IsErrOf};
 ghost use Rattle.ivy_model.specs.Config.{IsConfig};
 ghost use Rattle.ivy_program.specs.Steps.{HasEnded};
-ghost use Rattle.ivy_host.specs.Managers.{managed_ops, IsBuilt};
+ghost use Rattle.ivy_host.specs.Managers.{managed_ops};
 ghost use Rattle.ivy_ether.specs.declared.Move.{Move};
 ghost use Rattle.ivy_ether.specs.Worlds.{moved};
 ghost use Rattle.ivy_host.specs.Hosts.{host_rules};
@@ -14,7 +14,6 @@ ghost use Rattle.ivy_node.specs.WorldSites.{programs_of, world_of, AreSites, IsM
 
 use crate::site::Site;
 use ivy_ether::Move;
-use ivy_host::is_built;
 use ivy_model::{Config, Fault, Record};
 use ivy_program::Program;
 use ivy_wire::Bytes;
@@ -123,7 +122,6 @@ fn first_sites<A: Allocator + Copy>(
 ) -> Result<Vec<Site<A>, A>, Fault>
     requires limits { IsConfig config.now }
     requires each { length programs.items ≡ config.now.nodes }
-    requires built { IsBuilt config.now }
     ensures first { IfOk result (λ sites. AreFirst config.now programs.items sites.items) }
     ensures memory { IfErr result IsMemory }
 {
@@ -139,16 +137,14 @@ fn first_sites<A: Allocator + Copy>(
 impl<A: Allocator + Copy> World<A> {
     /// The opening world of these programs, one for each node [1, 2].
     ///
-    /// It is 2 where the configuration is out of its limits, where there are not as many programs as nodes,
-    /// and, for now, where there are more than two nodes under the dynamic manager. Two nodes send every
-    /// request to each other under either manager, so they run as under the fixed one.
+    /// It is 2 exactly where the configuration is out of its limits, or there are not as many programs as nodes.
     pub fn new(alloc: A, config: Config, programs: Vec<Program<A>, A>) -> Result<World<A>, Fault>
         ensures opens { IfOk result (λ world. world ≡ record { config = config; programs = programs.items; world = opening managed_ops config programs.items }) }
-        ensures bad { IsErrOf result Fault.BadConfig ↔ ¬ (IsConfig config × (length programs.items ≡ config.nodes) × IsBuilt config) }
+        ensures bad { IsErrOf result Fault.BadConfig ↔ ¬ (IsConfig config × (length programs.items ≡ config.nodes)) }
         ensures want { IfErr result IsWorldWant }
     {
         config.check()?;
-        if programs.len() != usize::from(config.nodes) || !is_built(&config) {
+        if programs.len() != usize::from(config.nodes) {
             return Err(Fault::BadConfig);
         }
         let sites = first_sites(alloc, &config, programs)?;

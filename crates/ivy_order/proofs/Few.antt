@@ -11,7 +11,7 @@ use Rattle.ivy_pagetable.specs.declared.Request.{Request}
 use Rattle.ivy_pagetable.specs.declared.Request.TheVariants as request
 use Rattle.ivy_pagetable.specs.Entries.{put_offs}
 use Rattle.ivy_order.specs.Letters.{Net, Aside, IsAt, content_of, letter_of}
-use Rattle.ivy_order.specs.Orderly.{AwaitsCopy, AwaitsPage, Collects, key_of, FitsAs, IsOrderly}
+use Rattle.ivy_order.specs.Orderly.{AwaitsCopy, AwaitsPage, Collects, key_of, IsExpectedAs, IsOrderly}
 use Rattle.ivy_order.specs.Rows.{letter}
 use Rattle.ivy_order.proofs.Needs.{Needs}
 
@@ -94,12 +94,12 @@ one_key x p o call call' e request.Invalidate request.Read a b = absurd (copy_or
 one_key x p o call call' e request.Invalidate request.Write a b = absurd (page_or_acks e call' call x b a)
 one_key x p o call call' e request.Invalidate request.Invalidate a b = refl
 
-origin_below : (c : Config) (n : Net) (x p o call : ℕ) (kind : Request) → FitsAs c n (letter o x o call (content_of kind p)) (content_of kind p) → o < c.nodes
+origin_below : (c : Config) (n : Net) (x p o call : ℕ) (kind : Request) → IsExpectedAs c n (letter o x o call (content_of kind p)) (content_of kind p) → o < c.nodes
 origin_below c n x p o call request.Read f = f.0.below
 origin_below c n x p o call request.Write f = f.0.below
 origin_below c n x p o call request.Invalidate f = f.0.below
 
-aside_needs : (c : Config) (n : Net) (x p o call : ℕ) (kind : Request) → FitsAs c n (letter o x o call (content_of kind p)) (content_of kind p)
+aside_needs : (c : Config) (n : Net) (x p o call : ℕ) (kind : Request) → IsExpectedAs c n (letter o x o call (content_of kind p)) (content_of kind p)
     → Needs (n.entry o p) (letter o x o call (content_of kind p)) (content_of kind p)
 aside_needs c n x p o call request.Read f = f.1
 aside_needs c n x p o call request.Write f = f.1
@@ -109,7 +109,7 @@ module _ (c : Config) (n : Net) (order : IsOrderly c n) (x p : ℕ) (here : x < 
   there : (k : ℕ) (q : PutOff) → slice_get (put_offs (n.entry x p)) k ≡ Some q → IsAt n (Aside x p k) (letter_of x p q)
   there k q h = (q, h, refl)
 
-  fit : (k : ℕ) (q : PutOff) → slice_get (put_offs (n.entry x p)) k ≡ Some q → FitsAs c n (letter_of x p q) (content_of q.kind p)
+  fit : (k : ℕ) (q : PutOff) → slice_get (put_offs (n.entry x p)) k ≡ Some q → IsExpectedAs c n (letter_of x p q) (content_of q.kind p)
   fit k q h = order.fits (Aside x p k) (letter_of x p q) (there k q h)
 
   -- two messages of one node are one

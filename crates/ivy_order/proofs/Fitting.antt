@@ -11,7 +11,7 @@ use Rattle.ivy_pagetable.specs.declared.Entry.TheVariants as entry
 use Rattle.ivy_pagetable.specs.NodeSets.{nodes_with}
 use Rattle.ivy_pagetable.specs.Entries.{is_owner, copies_of, put_offs, can_put_off}
 use Rattle.ivy_order.specs.Letters.{Letter, Net, Place, IsAt}
-use Rattle.ivy_order.specs.Orderly.{AwaitsCopy, AwaitsPage, Collects, At, In, FitsAs, IsOrderly}
+use Rattle.ivy_order.specs.Orderly.{AwaitsCopy, AwaitsPage, Collects, At, In, IsExpectedAs, IsOrderly}
 use Rattle.ivy_order.specs.Rows.{IsFull, Misfits}
 use Rattle.ivy_order.proofs.Needs.{collects_owner}
 use Rattle.ivy_order.proofs.Sole.{no_other_owner}
@@ -58,7 +58,7 @@ module _ (c : Config) (config : IsConfig c) (n : Net) (order : IsOrderly c n) (x
         )
   ]
 
-  none_misfits_as : (a : Place) (l : Letter) (m : Content) → IsAt n a l → l.dest ≡ x → (IsRequest m → l.message.origin ≢ x) → l.message.content ≡ m → FitsAs c n l m
+  none_misfits_as : (a : Place) (l : Letter) (m : Content) → IsAt n a l → l.dest ≡ x → (IsRequest m → l.message.origin ≢ x) → l.message.content ≡ m → IsExpectedAs c n l m
       → Misfits n x l m → ⊥
   none_misfits_as a l (content.ReadReq page) at dest away is fit mis = elim mis [ inl y ↦ away tt y | inr y ↦ never_full page y ]
   none_misfits_as a l (content.WriteReq page) at dest away is fit mis = elim mis [ inl y ↦ away tt y | inr y ↦ never_full page y ]

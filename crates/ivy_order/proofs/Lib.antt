@@ -1,9 +1,3 @@
-pub mod LiftedNets
-pub mod LiftedRows
-pub mod LiftedEvents
-pub mod LiftedServing
-pub mod LiftedMessages
-pub mod LiftedTurns
 pub mod Places
 pub mod Needs
 pub mod Members
@@ -23,9 +17,3 @@ pub mod Opening
 pub mod Exclusive
 pub mod Few
 pub mod Fitting
-pub mod LiftedWorlds
-pub mod LiftedSteps
-pub mod LiftedHosts
-pub mod LiftedRuns
-pub mod Led
-pub mod Worlds

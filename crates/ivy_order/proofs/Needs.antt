@@ -10,7 +10,7 @@ use Rattle.ivy_pagetable.specs.declared.PutOff.{PutOff}
 use Rattle.ivy_pagetable.specs.States.{IdleState, WaitingState, AwaitWriteState, AwaitAcksState}
 use Rattle.ivy_pagetable.specs.Entries.{is_owner, with_put_off}
 use Rattle.ivy_order.specs.Letters.{Letter, Net}
-use Rattle.ivy_order.specs.Orderly.{AwaitsCopy, AwaitsPage, Collects, HasCopy, Key, Own, Order, Call, key_as, FitsAs}
+use Rattle.ivy_order.specs.Orderly.{AwaitsCopy, AwaitsPage, Collects, HasCopy, Key, Own, Order, Call, key_as, IsExpectedAs}
 
 -- the page that a letter is about; none for the allocator's
 abbrev pub page_of : Content → ℕ
@@ -37,7 +37,7 @@ Needs e l (content.AllocRep code addr) = ⊥
 Needs e l (content.FreeReq addr) = ⊥
 Needs e l (content.FreeRep code) = ⊥
 
-pub needs : (c : Config) (n : Net) (l : Letter) (m : Content) → FitsAs c n l m → Needs (n.entry l.message.origin (page_of m)) l m
+pub needs : (c : Config) (n : Net) (l : Letter) (m : Content) → IsExpectedAs c n l m → Needs (n.entry l.message.origin (page_of m)) l m
 needs c n l (content.ReadReq page) f = f.1
 needs c n l (content.WriteReq page) f = f.1
 needs c n l (content.ReadRep page bytes) f = f.2
@@ -50,8 +50,8 @@ needs c n l (content.FreeReq addr) f = f
 needs c n l (content.FreeRep code) f = f
 
 -- a letter fits another net too where its needs are met, and where no copy came to a node that gave its own up
-pub refit : (c : Config) (n n' : Net) (l : Letter) (m : Content) → FitsAs c n l m → Needs (n'.entry l.message.origin (page_of m)) l m
-    → ((q : ℕ) → m ≡ content.InvalAck q → HasCopy n' l.source q → HasCopy n l.source q) → FitsAs c n' l m
+pub refit : (c : Config) (n n' : Net) (l : Letter) (m : Content) → IsExpectedAs c n l m → Needs (n'.entry l.message.origin (page_of m)) l m
+    → ((q : ℕ) → m ≡ content.InvalAck q → HasCopy n' l.source q → HasCopy n l.source q) → IsExpectedAs c n' l m
 refit c n n' l (content.ReadReq page) f need acks = (f.0, need)
 refit c n n' l (content.WriteReq page) f need acks = (f.0, need)
 refit c n n' l (content.ReadRep page bytes) f need acks = (f.0, f.1, need)

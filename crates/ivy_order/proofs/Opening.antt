@@ -16,6 +16,7 @@ use Rattle.ivy_order.specs.Orderly.{HasCopy, reads, comes, Seat, At, In, IsOwned
 pub record IsFirst (n : Net) : Type 0 where
   pub entries : (i p : ℕ) → ((i ≡ 0) × (n.entry i p ≡ owned)) ⊎ (n.entry i p ≡ nothing)
   pub posted : (i j : ℕ) → n.posted i j ≡ []
+  pub delivered : (i j : ℕ) → n.delivered i j ≡ 0
   pub loose : n.loose ≡ []
 
 module _ (n : Net) (first : IsFirst n) where

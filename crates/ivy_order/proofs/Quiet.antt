@@ -6,7 +6,7 @@ use Rattle.ivy_wire.specs.declared.Content.TheVariants as content
 use Rattle.ivy_pagetable.specs.declared.Entry.{Entry}
 use Rattle.ivy_pagetable.specs.NodeSets.{Nodes}
 use Rattle.ivy_order.specs.Letters.{Letter, Net, Place, Underway, Loose, IsAt}
-use Rattle.ivy_order.specs.Orderly.{Collects, HasCopy, Order, key_of, IsAbout, Fits, IsOrderly}
+use Rattle.ivy_order.specs.Orderly.{Collects, HasCopy, Order, key_of, IsAbout, IsExpected, IsOrderly}
 use Rattle.ivy_order.specs.Rows.{letter}
 use Rattle.ivy_order.proofs.Needs.{page_of, Needs, needs, key_origin, key_page, of_origin, of_page}
 use Rattle.ivy_order.proofs.Steps.{IsAccounted, IsStep, step_orderly}
@@ -50,7 +50,7 @@ module _ (c : Config) (n n' : Net) (x p : ℕ) (e z : Entry) (now : Place → Pl
   ordered_orderly call nodes step about collects none keeps acks entry accounted = step_orderly c n n' x p e z now (IsOrder n x p call nodes) step (record {
     keeps = keeps;
     acks = λ b l q at stays. acks b l q at;
-    news = λ a l new. subst (Fits c n') (sym new.3)
+    news = λ a l new. subst (IsExpected c n') (sym new.3)
         (record { below = about.below; inside = about.inside }, refl, subst (λ y. Collects y call new.0) (sym step.after) (collects new.0 new.1));
     fresh = λ a b l m new at stays same. (
         let key : Order x new.0 p ≡ key_of m = ap key_of (sym new.3) ∙ same in

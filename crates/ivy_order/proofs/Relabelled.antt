@@ -9,7 +9,7 @@ use Rattle.ivy_pagetable.specs.NodeSets.{Nodes}
 use Rattle.ivy_pagetable.specs.Entries.{put_offs, readable, writable, is_owner, copies_of}
 use Rattle.ivy_ether.specs.Ordered.{one_more}
 use Rattle.ivy_order.specs.Letters.{Letter, Net, Place, Underway, Aside, Loose, IsAt, installs}
-use Rattle.ivy_order.specs.Orderly.{CanWait, HasCopy, reads, comes, Seat, At, In, IsOwned, Fits, IsOrderly}
+use Rattle.ivy_order.specs.Orderly.{CanWait, HasCopy, reads, comes, Seat, At, In, IsOwned, IsExpected, IsOrderly}
 use Rattle.ivy_order.specs.Rows.{taken, dropped, AreAlike}
 use Rattle.ivy_order.proofs.Places.{served}
 use Rattle.ivy_order.proofs.Needs.{page_of, Needs, needs, refit}
@@ -32,7 +32,7 @@ module _ (n n' : Net) (now : Place → Place) (part : IsPart n n' now) where
   part_orderly c o = record {
     fits = λ a l at. (
         let f = part.letters a l at in
-        let fit : Fits c n l = o.fits f.0 l f.1 in
+        let fit : IsExpected c n l = o.fits f.0 l f.1 in
         refit c n n' l l.message.content fit
         (subst (λ y. Needs y l l.message.content) (sym (part.entries l.message.origin (page_of l.message.content))) (needs c n l l.message.content fit))
         (λ q is. part_copy l.source q)

@@ -9,7 +9,7 @@ use Rattle.ivy_pagetable.specs.declared.PutOff.{PutOff}
 use Rattle.ivy_pagetable.specs.declared.Request.TheVariants as request
 use Rattle.ivy_pagetable.specs.Entries.{put_offs, readable, writable, is_owner, copies_of}
 use Rattle.ivy_order.specs.Letters.{Letter, Net, Place, IsAt}
-use Rattle.ivy_order.specs.Orderly.{CanWait, HasCopy, reads, key_of, Fits, IsOrderly}
+use Rattle.ivy_order.specs.Orderly.{CanWait, HasCopy, reads, key_of, IsExpected, IsOrderly}
 use Rattle.ivy_order.proofs.Places.{served}
 use Rattle.ivy_order.proofs.Needs.{Needs}
 use Rattle.ivy_order.proofs.Steps.{IsAccounted, IsStep, step_orderly}
@@ -35,7 +35,7 @@ module _ (c : Config) (n n' : Net) (x p : ℕ) (e z : Entry) (at : Place) (old n
   pub record IsReply : Type 0 where
     pub loose : n.loose ≡ old ∷ rest
     pub same_key : key_of new ≡ key_of old
-    pub fits : Fits c n' new
+    pub fits : IsExpected c n' new
     pub keeps : (l : Letter) → Needs e l l.message.content → Needs z l l.message.content
     pub entry : IsEntryOf x z
 
@@ -46,7 +46,7 @@ module _ (c : Config) (n n' : Net) (x p : ℕ) (e z : Entry) (at : Place) (old n
     reply_orderly accounted acks = step_orderly c n n' x p e z served (IsThe at new) step (record {
       keeps = λ b l bt stays origin page. reply.keeps l;
       acks = λ b l q bt stays is. acks b l q bt is;
-      news = λ a l is. subst (Fits c n') (sym is.1) reply.fits;
+      news = λ a l is. subst (IsExpected c n') (sym is.1) reply.fits;
       fresh = λ a b l m is bt stays same. first_alone c n o old rest reply.loose b m bt stays (sym same ∙ ap key_of is.1 ∙ reply.same_key);
       apart = λ a b l m is it same. is.0 ∙ sym it.0;
       foreign = reply.entry.foreign;

@@ -14,7 +14,7 @@ use Rattle.ivy_pagetable.specs.States.{IdleState, WaitingState, AwaitWriteState}
 use Rattle.ivy_pagetable.specs.Entries.{put_offs, readable, writable, is_owner, copies_of, can_put_off, with_put_off, without}
 use Rattle.ivy_coherence.specs.Serving.{parcel_to}
 use Rattle.ivy_order.specs.Letters.{Letter, Net, Place, Underway, Aside, content_of, letter_of, goes_on}
-use Rattle.ivy_order.specs.Orderly.{AwaitsCopy, AwaitsPage, Collects, CanWait, key_of, Fits, FitsAs, IsOrderly}
+use Rattle.ivy_order.specs.Orderly.{AwaitsCopy, AwaitsPage, Collects, CanWait, key_of, IsExpected, IsExpectedAs, IsOrderly}
 use Rattle.ivy_order.specs.Rows.{letter, Serves}
 use Rattle.ivy_order.proofs.Places.{get_append, written-other, served}
 use Rattle.ivy_order.proofs.Needs.{needs_met, put_copy, put_page, put_acks}
@@ -35,7 +35,7 @@ module _ (c : Config) (n : Net) (x p : ℕ) (rest : List Letter) (order : IsOrde
   sent_on : (from o call hop : ℕ) (body : Content) (s : IdleState) → n.loose ≡ letter from x o call body ∷ rest → n.entry x p ≡ entry.Idle s
       → key_of (letter x hop o call body) ≡ key_of (letter from x o call body)
       → ((q : ℕ) (bytes : List ℕ) → body ≡ content.ReadRep q bytes → ⊥) → ((q bits : ℕ) (bytes : List ℕ) → body ≡ content.WriteRep q bits bytes → ⊥)
-      → Fits c (goes_on n x p (entry.Idle s) rest (parcel_to x hop o call body ∷ [])) (letter x hop o call body)
+      → IsExpected c (goes_on n x p (entry.Idle s) rest (parcel_to x hop o call body ∷ [])) (letter x hop o call body)
       → IsOrderly c (goes_on n x p (entry.Idle s) rest (parcel_to x hop o call body ∷ []))
   sent_on from o call hop body s loose is key no_copy no_page fits =
       calm_orderly c n _ x p (entry.Idle s) (entry.Idle s) (Underway x hop (length (n.posted x hop))) (letter from x o call body) (letter x hop o call body) rest
@@ -46,14 +46,14 @@ module _ (c : Config) (n : Net) (x p : ℕ) (rest : List Letter) (order : IsOrde
   pub read_sent_on : (from o call hop : ℕ) (s : IdleState) → Serves c n x p (letter from x o call (content.ReadReq p)) rest → o ≢ x → n.entry x p ≡ entry.Idle s
       → IsOrderly c (goes_on n x p (entry.Idle s) rest (parcel_to x hop o call (content.ReadReq p) ∷ []))
   read_sent_on from o call hop s serves foreign is =
-      let fit : FitsAs c n (letter from x o call (content.ReadReq p)) (content.ReadReq p) = first_fits c n order (letter from x o call (content.ReadReq p)) rest serves.loose in
+      let fit : IsExpectedAs c n (letter from x o call (content.ReadReq p)) (content.ReadReq p) = first_fits c n order (letter from x o call (content.ReadReq p)) rest serves.loose in
       sent_on from o call hop (content.ReadReq p) s serves.loose is refl (λ q bytes h. cc) (λ q bits bytes h. cc)
       (record { below = fit.0.below; inside = fit.0.inside }, subst (λ y. AwaitsCopy y call) (sym (written-other n.entry x p (entry.Idle s) o p (inl foreign))) fit.1)
 
   pub write_sent_on : (from o call hop : ℕ) (s : IdleState) → Serves c n x p (letter from x o call (content.WriteReq p)) rest → o ≢ x → n.entry x p ≡ entry.Idle s
       → IsOrderly c (goes_on n x p (entry.Idle s) rest (parcel_to x hop o call (content.WriteReq p) ∷ []))
   write_sent_on from o call hop s serves foreign is =
-      let fit : FitsAs c n (letter from x o call (content.WriteReq p)) (content.WriteReq p) = first_fits c n order (letter from x o call (content.WriteReq p)) rest serves.loose in
+      let fit : IsExpectedAs c n (letter from x o call (content.WriteReq p)) (content.WriteReq p) = first_fits c n order (letter from x o call (content.WriteReq p)) rest serves.loose in
       sent_on from o call hop (content.WriteReq p) s serves.loose is refl (λ q bytes h. cc) (λ q bits bytes h. cc)
       (record { below = fit.0.below; inside = fit.0.inside }, subst (λ y. AwaitsPage y call) (sym (written-other n.entry x p (entry.Idle s) o p (inl foreign))) fit.1)
 
@@ -97,7 +97,7 @@ module _ (c : Config) (n : Net) (x p : ℕ) (rest : List Letter) (order : IsOrde
       n' : Net
       n' = goes_on n x p z rest (parcel_to x o o call (content.InvalAck p) ∷ [])
 
-      fit : FitsAs c n (letter o x o call (content.Inval p)) (content.Inval p)
+      fit : IsExpectedAs c n (letter o x o call (content.Inval p)) (content.Inval p)
       fit = first_fits c n order (letter o x o call (content.Inval p)) rest serves.loose
 
       step : IsStep n n' x p e z served (IsThe at new)
@@ -151,7 +151,7 @@ put_no_page request.Write p q bits bytes h = cc
 put_no_page request.Invalidate p q bits bytes h = cc
 
 put_fits : (c : Config) (n n' : Net) (x p from o call : ℕ) (kind : Request) → n'.entry o p ≡ n.entry o p
-    → FitsAs c n (letter from x o call (content_of kind p)) (content_of kind p) → FitsAs c n' (letter o x o call (content_of kind p)) (content_of kind p)
+    → IsExpectedAs c n (letter from x o call (content_of kind p)) (content_of kind p) → IsExpectedAs c n' (letter o x o call (content_of kind p)) (content_of kind p)
 put_fits c n n' x p from o call request.Read same f = (record { below = f.0.below; inside = f.0.inside }, subst (λ y. AwaitsCopy y call) (sym same) f.1)
 put_fits c n n' x p from o call request.Write same f = (record { below = f.0.below; inside = f.0.inside }, subst (λ y. AwaitsPage y call) (sym same) f.1)
 put_fits c n n' x p from o call request.Invalidate same f = (record { below = f.0.below; inside = f.0.inside }, refl, subst (λ y. Collects y call x) (sym same) f.2)
@@ -217,7 +217,7 @@ module _ (c : Config) (n : Net) (x p : ℕ) (rest : List Letter) (order : IsOrde
           × (readable (with_put_off e q) ≡ readable e)
       same = put_same e q
 
-      fit : FitsAs c n (letter from x q.origin q.call (content_of q.kind p)) (content_of q.kind p)
+      fit : IsExpectedAs c n (letter from x q.origin q.call (content_of q.kind p)) (content_of q.kind p)
       fit = first_fits c n order (letter from x q.origin q.call (content_of q.kind p)) rest serves.loose
 
       step : IsStep n n' x p e z served (IsThe at (letter_of x p q))

@@ -14,7 +14,7 @@ use Rattle.ivy_coherence.specs.Serving.{parcel_to}
 use Rattle.ivy_coherence.specs.Steps.{invalidations}
 use Rattle.ivy_coherence.specs.Faults.{waiting_from}
 use Rattle.ivy_order.specs.Letters.{Letter, Net, Place, Underway, goes_on}
-use Rattle.ivy_order.specs.Orderly.{AwaitsCopy, AwaitsPage, reads, Own, key_of, Fits, IsOrderly}
+use Rattle.ivy_order.specs.Orderly.{AwaitsCopy, AwaitsPage, reads, Own, key_of, IsExpected, IsOrderly}
 use Rattle.ivy_order.specs.Rows.{letter, Begins}
 use Rattle.ivy_order.proofs.Places.{served, written-here}
 use Rattle.ivy_order.proofs.Needs.{idle_needs, key_origin, key_page}
@@ -37,12 +37,12 @@ module _ (c : Config) (n : Net) (x p call : ℕ) (order : IsOrderly c n) (s : Id
   asked : (hop : ℕ) (body : Content) (z : Entry) → n.loose ≡ [] → put_offs z ≡ [] → writable z ≡ false → is_owner z ≡ false → (readable z ≡ true → can_read s.access ≡ true)
       → key_of (letter x hop x call body) ≡ Own x p
       → ((q : ℕ) (bytes : List ℕ) → body ≡ content.ReadRep q bytes → ⊥) → ((q bits : ℕ) (bytes : List ℕ) → body ≡ content.WriteRep q bits bytes → ⊥)
-      → Fits c (goes_on n x p z [] (parcel_to x hop x call body ∷ [])) (letter x hop x call body)
+      → IsExpected c (goes_on n x p z [] (parcel_to x hop x call body ∷ [])) (letter x hop x call body)
       → IsOrderly c (goes_on n x p z [] (parcel_to x hop x call body ∷ []))
   asked hop body z loose none shut plain reader key no_copy no_page fits = step_orderly c n n' x p (entry.Idle s) z served (IsThe at new) step (record {
     keeps = λ b l bt stays origin page h. absurd (idle_needs s l l.message.content h);
     acks = λ b l q bt stays it. no_copies n n' x p (entry.Idle s) z served (IsThe at new) step q (copies q) l.source;
-    news = λ a l it. subst (Fits c n') (sym it.1) fits;
+    news = λ a l it. subst (IsExpected c n') (sym it.1) fits;
     fresh = λ a b l m it bt stays same. (
         let mine : key_of m ≡ Own x p = sym same ∙ ap key_of it.1 ∙ key in
         idle_needs s m m.message.content (needs_here c n x p (entry.Idle s) order is b m bt (ap key_origin mine) (ap key_page mine))

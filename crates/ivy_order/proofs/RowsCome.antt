@@ -14,7 +14,7 @@ use Rattle.ivy_pagetable.specs.States.{IdleState, WaitingState, AwaitWriteState,
 use Rattle.ivy_pagetable.specs.Entries.{readable, writable, is_owner, copies_of, copying, owning}
 use Rattle.ivy_coherence.specs.Steps.{invalidations}
 use Rattle.ivy_order.specs.Letters.{Letter, Net, Place, Loose, IsAt, letter_of, goes_on}
-use Rattle.ivy_order.specs.Orderly.{Collects, HasCopy, reads, comes, At, In, Own, Order, key_of, FitsAs, IsOrderly}
+use Rattle.ivy_order.specs.Orderly.{Collects, HasCopy, reads, comes, At, In, Own, Order, key_of, IsExpectedAs, IsOrderly}
 use Rattle.ivy_order.specs.Rows.{letter, Serves}
 use Rattle.ivy_order.proofs.Places.{served, freed}
 use Rattle.ivy_order.proofs.Needs.{page_of, Needs, read_key, write_key, acks_key, acks_still}
@@ -164,7 +164,7 @@ module _ (c : Config) (n : Net) (x p from call : ℕ) (order : IsOrderly c n) wh
 
     gave_up : HasCopy n from p → ⊥
     gave_up =
-        let fit : FitsAs c n ack_letter (content.InvalAck p) = first_fits c n order ack_letter [] serves.loose in
+        let fit : IsExpectedAs c n ack_letter (content.InvalAck p) = first_fits c n order ack_letter [] serves.loose in
         fit.3
 
     -- of the letters that stay none is of the order that was acknowledged

@@ -14,7 +14,7 @@ use Rattle.ivy_pagetable.specs.Entries.{is_owner, copies_of, without, sharing}
 use Rattle.ivy_pagetable.proofs.Bits.{with_bits_of, remove_below}
 use Rattle.ivy_coherence.specs.Serving.{parcel_to}
 use Rattle.ivy_order.specs.Letters.{Letter, Net, Place, Underway, IsAt, goes_on}
-use Rattle.ivy_order.specs.Orderly.{AwaitsCopy, AwaitsPage, Collects, HasCopy, At, In, FitsAs, IsOrderly}
+use Rattle.ivy_order.specs.Orderly.{AwaitsCopy, AwaitsPage, Collects, HasCopy, At, In, IsExpectedAs, IsOrderly}
 use Rattle.ivy_order.specs.Rows.{letter, Serves}
 use Rattle.ivy_order.proofs.Places.{written-other, served}
 use Rattle.ivy_order.proofs.Needs.{page_of, idle_needs}
@@ -100,7 +100,7 @@ module _ (c : Config) (n : Net) (x p : ℕ) (rest : List Letter) (order : IsOrde
               (other_copies n shared_net x p (entry.Idle s) sharing_entry served (IsThe to_reader copy_letter) share_step x (set.insert s.copies o) (At x) share_move q ne) l.source h
         ])
       where
-        fit : FitsAs c n (letter from x o call (content.ReadReq p)) (content.ReadReq p)
+        fit : IsExpectedAs c n (letter from x o call (content.ReadReq p)) (content.ReadReq p)
         fit = first_fits c n order (letter from x o call (content.ReadReq p)) rest serves.loose
 
   module _ (bytes : List ℕ) (serves : Serves c n x p (letter from x o call (content.WriteReq p)) rest) (config : IsConfig c) (low : IsBelow c.nodes s.copies) where
@@ -174,5 +174,5 @@ module _ (c : Config) (n : Net) (x p : ℕ) (rest : List Letter) (order : IsOrde
               (other_copies n given_net x p (entry.Idle s) (entry.Idle without) served (IsThe to_writer page_letter) give_step o (nodes_with (bits_of left)) (In to_writer) give_move q ne) l.source h
         ])
       where
-        fit : FitsAs c n (letter from x o call (content.WriteReq p)) (content.WriteReq p)
+        fit : IsExpectedAs c n (letter from x o call (content.WriteReq p)) (content.WriteReq p)
         fit = first_fits c n order (letter from x o call (content.WriteReq p)) rest serves.loose

@@ -9,20 +9,20 @@ use Rattle.ivy_pagetable.specs.declared.Entry.{Entry}
 use Rattle.ivy_pagetable.specs.NodeSets.{nodes_with}
 use Rattle.ivy_pagetable.specs.Entries.{readable, is_owner, copies_of}
 use Rattle.ivy_order.specs.Letters.{Letter, Net, Place, Loose, IsAt}
-use Rattle.ivy_order.specs.Orderly.{AwaitsCopy, Collects, HasCopy, reads, comes, At, In, IsOwned, key_of, FitsAs, Fits, IsOrderly}
+use Rattle.ivy_order.specs.Orderly.{AwaitsCopy, Collects, HasCopy, reads, comes, At, In, IsOwned, key_of, IsExpectedAs, IsExpected, IsOrderly}
 use Rattle.ivy_order.proofs.Needs.{collects_owner}
 use Rattle.ivy_order.proofs.Steps.{IsStep}
 
 module _ (c : Config) (n : Net) (o : IsOrderly c n) where
   -- a letter fits as what it is
-  pub fits_as : (a : Place) (l : Letter) (m : Content) → IsAt n a l → l.message.content ≡ m → FitsAs c n l m
-  fits_as a l m at is = subst (FitsAs c n l) is (o.fits a l at)
+  pub fits_as : (a : Place) (l : Letter) (m : Content) → IsAt n a l → l.message.content ≡ m → IsExpectedAs c n l m
+  fits_as a l m at is = subst (IsExpectedAs c n l) is (o.fits a l at)
 
   -- the first loose letter is there, and no other has its key
   pub first_there : (l : Letter) (rest : List Letter) → n.loose ≡ l ∷ rest → IsAt n (Loose 0) l
   first_there l rest loose = ap (λ v. slice_get v 0) loose
 
-  pub first_fits : (l : Letter) (rest : List Letter) → n.loose ≡ l ∷ rest → Fits c n l
+  pub first_fits : (l : Letter) (rest : List Letter) → n.loose ≡ l ∷ rest → IsExpected c n l
   first_fits l rest loose = o.fits (Loose 0) l (first_there l rest loose)
 
   pub first_alone : (l : Letter) (rest : List Letter) → n.loose ≡ l ∷ rest → (b : Place) (m : Letter) → IsAt n b m → b ≢ Loose 0 → key_of m ≡ key_of l → ⊥
@@ -67,7 +67,7 @@ module _ (c : Config) (n : Net) (o : IsOrderly c n) where
   pub no_acks : (x p : ℕ) → ((k node : ℕ) → Collects (n.entry x p) k node → ⊥) → ((w : ℕ) → w ≢ x → is_owner (n.entry w p) ≡ true → ⊥)
       → (b : Place) (l : Letter) → IsAt n b l → l.message.content ≡ content.InvalAck p → ⊥
   no_acks x p none nobody b l at is =
-      let f : FitsAs c n l (content.InvalAck p) = fits_as b l (content.InvalAck p) at is in
+      let f : IsExpectedAs c n l (content.InvalAck p) = fits_as b l (content.InvalAck p) at is in
       elim (cases_eq l.message.origin x) [
         | inl same ↦ none l.message.call l.source (subst (λ w. Collects (n.entry w p) l.message.call l.source) same f.2)
         | inr ne ↦ nobody l.message.origin ne (collects_owner (n.entry l.message.origin p) l.message.call l.source f.2)
@@ -77,7 +77,7 @@ module _ (c : Config) (n : Net) (o : IsOrderly c n) where
   pub no_copy_comes : (x p : ℕ) → ((k : ℕ) → AwaitsCopy (n.entry x p) k → ⊥) → (a : Place) (l : Letter) (bytes : List ℕ) → IsAt n a l → l.dest ≡ x
       → l.message.content ≡ content.ReadRep p bytes → ⊥
   no_copy_comes x p none a l bytes at dest is =
-      let f : FitsAs c n l (content.ReadRep p bytes) = fits_as a l (content.ReadRep p bytes) at is in
+      let f : IsExpectedAs c n l (content.ReadRep p bytes) = fits_as a l (content.ReadRep p bytes) at is in
       none l.message.call (subst (λ w. AwaitsCopy (n.entry w p) l.message.call) (sym f.1 ∙ dest) f.2)
 
 -- After a step: where the entry that is written is not readable and no copy is awaited there, the node has none.

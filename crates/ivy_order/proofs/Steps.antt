@@ -10,7 +10,7 @@ use Rattle.ivy_pagetable.specs.declared.Request.TheVariants as request
 use Rattle.ivy_pagetable.specs.NodeSets.{Nodes}
 use Rattle.ivy_pagetable.specs.Entries.{put_offs, writable, is_owner, copies_of}
 use Rattle.ivy_order.specs.Letters.{Letter, Net, Place, Loose, IsAt}
-use Rattle.ivy_order.specs.Orderly.{CanWait, HasCopy, Seat, IsOwned, key_of, Fits, IsOrderly}
+use Rattle.ivy_order.specs.Orderly.{CanWait, HasCopy, Seat, IsOwned, key_of, IsExpected, IsOrderly}
 use Rattle.ivy_order.proofs.Places.{IsOld}
 use Rattle.ivy_order.proofs.Needs.{page_of, Needs, needs, refit}
 
@@ -35,7 +35,7 @@ module _ (c : Config) (n n' : Net) (x p : ℕ) (e z : Entry) (now : Place → Pl
         → Needs e l l.message.content → Needs z l l.message.content
     pub acks : (b : Place) (l : Letter) (q : ℕ) → IsAt n b l → b ≢ Loose 0 → l.message.content ≡ content.InvalAck q
         → HasCopy n' l.source q → HasCopy n l.source q
-    pub news : (a : Place) (l : Letter) → New a l → Fits c n' l
+    pub news : (a : Place) (l : Letter) → New a l → IsExpected c n' l
     pub fresh : (a b : Place) (l m : Letter) → New a l → IsAt n b m → b ≢ Loose 0 → key_of l ≡ key_of m → ⊥
     pub apart : (a b : Place) (l m : Letter) → New a l → New b m → key_of l ≡ key_of m → a ≡ b
     pub foreign : (k : ℕ) (q : PutOff) → slice_get (put_offs z) k ≡ Some q → q.origin ≢ x
@@ -62,7 +62,7 @@ module _ (c : Config) (n n' : Net) (x p : ℕ) (e z : Entry) (now : Place → Pl
                 (subst (λ y. Needs y l l.message.content) (ap (λ i. n.entry i (page_of l.message.content)) same.0 ∙ ap (n.entry x) same.1 ∙ step.before) need))
           ]
 
-      fits_after : (a : Place) (l : Letter) → IsAt n' a l → Fits c n' l
+      fits_after : (a : Place) (l : Letter) → IsAt n' a l → IsExpected c n' l
       fits_after a l at = elim (step.letters a l at) [
         | inl h ↦ refit c n n' l l.message.content (o.fits h.0 l h.1) (still_needs h.0 l h.1 h.3) (λ q is. tidy.acks h.0 l q h.1 h.3 is)
         | inr h ↦ tidy.news a l h

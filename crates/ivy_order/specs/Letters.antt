@@ -49,8 +49,10 @@ letter_of node page q = record {
 -- the letter is at this place: under way to its node, or put off there
 abbrev pub IsAt : Net → Place → Letter → Type 0
 IsAt n (Underway i j k) l =
-    (n.delivered i j ≤ k) × (slice_get (n.posted i j) k ≡ Some l.message) × (l.source ≡ i) × (l.dest ≡ j)
-IsAt n (Aside x p k) l = (q : PutOff) × (slice_get (put_offs (n.entry x p)) k ≡ Some q) × (l ≡ letter_of x p q)
+    (n.delivered i j ≤ k) × (slice_get (n.posted i j) k ≡ Some l.message) × (l.source ≡ i)
+    × (l.dest ≡ j)
+IsAt n (Aside x p k) l =
+    (q : PutOff) × (slice_get (put_offs (n.entry x p)) k ≡ Some q) × (l ≡ letter_of x p q)
 IsAt n (Loose k) l = slice_get n.loose k ≡ Some l
 
 -- what a node has of one page is written

@@ -54,7 +54,8 @@ pub data Seat : Type 0 where
 -- the page is this node's, or is to be; these others have a copy, or have not given theirs up yet
 abbrev pub IsOwned : Net → ℕ → ℕ → Nodes → Seat → Type 0
 IsOwned n page node copies (At owner) =
-    (owner ≡ node) × (is_owner (n.entry node page) ≡ true) × (copies ≡ copies_of (n.entry node page))
+    (owner ≡ node) × (is_owner (n.entry node page) ≡ true)
+    × (copies ≡ copies_of (n.entry node page))
 IsOwned n page node copies (In at) =
     (l : Letter) × (bits : ℕ) × (bytes : List ℕ) × IsAt n at l × (l.dest ≡ node)
     × (l.message.content ≡ content.WriteRep page bits bytes) × (copies ≡ nodes_with bits)
@@ -91,36 +92,45 @@ abbrev pub origin_entry : Net → Letter → ℕ → Entry
 origin_entry n l page = n.entry l.message.origin page
 
 -- the letter's origin waits for what it asks or brings. Programs make no calls of the allocator yet.
-abbrev pub FitsAs : Config → Net → Letter → Content → Type 0
-FitsAs c n l (content.ReadReq page) = IsAbout c l page × AwaitsCopy (origin_entry n l page) l.message.call
-FitsAs c n l (content.WriteReq page) = IsAbout c l page × AwaitsPage (origin_entry n l page) l.message.call
-FitsAs c n l (content.ReadRep page bytes) =
-    IsAbout c l page × (l.dest ≡ l.message.origin) × AwaitsCopy (origin_entry n l page) l.message.call
-FitsAs c n l (content.WriteRep page copies bytes) =
-    IsAbout c l page × (l.dest ≡ l.message.origin) × AwaitsPage (origin_entry n l page) l.message.call
+abbrev pub IsExpectedAs : Config → Net → Letter → Content → Type 0
+IsExpectedAs c n l (content.ReadReq page) =
+    IsAbout c l page × AwaitsCopy (origin_entry n l page) l.message.call
+IsExpectedAs c n l (content.WriteReq page) =
+    IsAbout c l page × AwaitsPage (origin_entry n l page) l.message.call
+IsExpectedAs c n l (content.ReadRep page bytes) =
+    IsAbout c l page × (l.dest ≡ l.message.origin)
+    × AwaitsCopy (origin_entry n l page) l.message.call
+IsExpectedAs c n l (content.WriteRep page copies bytes) =
+    IsAbout c l page × (l.dest ≡ l.message.origin)
+    × AwaitsPage (origin_entry n l page) l.message.call
     × IsBelow c.nodes (nodes_with copies)
-FitsAs c n l (content.Inval page) =
-    IsAbout c l page × (l.source ≡ l.message.origin) × Collects (origin_entry n l page) l.message.call l.dest
-FitsAs c n l (content.InvalAck page) =
-    IsAbout c l page × (l.dest ≡ l.message.origin) × Collects (origin_entry n l page) l.message.call l.source
+IsExpectedAs c n l (content.Inval page) =
+    IsAbout c l page × (l.source ≡ l.message.origin)
+    × Collects (origin_entry n l page) l.message.call l.dest
+IsExpectedAs c n l (content.InvalAck page) =
+    IsAbout c l page × (l.dest ≡ l.message.origin)
+    × Collects (origin_entry n l page) l.message.call l.source
     × (HasCopy n l.source page → ⊥)
-FitsAs c n l (content.AllocReq size) = ⊥
-FitsAs c n l (content.AllocRep code addr) = ⊥
-FitsAs c n l (content.FreeReq addr) = ⊥
-FitsAs c n l (content.FreeRep code) = ⊥
+IsExpectedAs c n l (content.AllocReq size) = ⊥
+IsExpectedAs c n l (content.AllocRep code addr) = ⊥
+IsExpectedAs c n l (content.FreeReq addr) = ⊥
+IsExpectedAs c n l (content.FreeRep code) = ⊥
 
-abbrev pub Fits : Config → Net → Letter → Type 0
-Fits c n l = FitsAs c n l l.message.content
+abbrev pub IsExpected : Config → Net → Letter → Type 0
+IsExpected c n l = IsExpectedAs c n l l.message.content
 
 pub record IsOrderly (c : Config) (n : Net) : Type 0 where
-  pub fits : (at : Place) (l : Letter) → IsAt n at l → Fits c n l
-  pub one_letter : (a b : Place) (l m : Letter) → IsAt n a l → IsAt n b m → key_of l ≡ key_of m → a ≡ b
+  pub fits : (at : Place) (l : Letter) → IsAt n at l → IsExpected c n l
+  pub one_letter : (a b : Place) (l m : Letter) → IsAt n a l → IsAt n b m → key_of l ≡ key_of m
+      → a ≡ b
   -- what is put off is another node's
-  pub foreign : (x p k : ℕ) (q : PutOff) → slice_get (put_offs (n.entry x p)) k ≡ Some q → q.origin ≢ x
+  pub foreign : (x p k : ℕ) (q : PutOff) → slice_get (put_offs (n.entry x p)) k ≡ Some q
+      → q.origin ≢ x
   pub orders : (x p k : ℕ) (q : PutOff) → slice_get (put_offs (n.entry x p)) k ≡ Some q
       → q.kind ≡ request.Invalidate → CanWait (n.entry x p)
   -- ownership
-  pub one_owner : (p i j : ℕ) (s t : Nodes) (a b : Seat) → IsOwned n p i s a → IsOwned n p j t b → a ≡ b
+  pub one_owner : (p i j : ℕ) (s t : Nodes) (a b : Seat) → IsOwned n p i s a → IsOwned n p j t b
+      → a ≡ b
   pub counted : (p i x : ℕ) (s : Nodes) (a : Seat) → IsOwned n p i s a → x ≢ i → HasCopy n x p
       → set.contains s x ≡ true
   pub others : (p i : ℕ) (s : Nodes) (a : Seat) → IsOwned n p i s a → set.contains s i ≡ false

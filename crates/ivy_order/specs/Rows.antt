@@ -115,79 +115,107 @@ pub record Begins (c : Config) (n : Net) (x p call : ℕ) : Type 0 where
   pub free : (q : ℕ) → is_locked (n.entry x q) ≡ false
 
 -- P is kept by each step
-pub record IsKept {S : Type 0} (ops : Ops S) (c : Config) (P : (ℕ → S) → Net → (ℕ → List ℕ) → Type 0) : Type 0 where
-  pub alike : (m m' : ℕ → S) (n n' : Net) (f : ℕ → List ℕ) → AreAlike m m' n n' → P m n f → P m' n' f
+pub record IsKept {S : Type 0} (ops : Ops S) (c : Config)
+    (P : (ℕ → S) → Net → (ℕ → List ℕ) → Type 0) : Type 0 where
+  pub alike : (m m' : ℕ → S) (n n' : Net) (f : ℕ → List ℕ) → AreAlike m m' n n' → P m n f
+      → P m' n' f
   -- a word is carried out where access suffices
   pub carries : (m : ℕ → S) (n : Net) (f : ℕ → List ℕ) (x p : ℕ) (s : IdleState) (w : Word)
-      → x < c.nodes → p < c.pages → IsWord c.page_size w → n.entry x p ≡ entry.Idle s → suffices s.access w ≡ true
+      → x < c.nodes → p < c.pages → IsWord c.page_size w → n.entry x p ≡ entry.Idle s
+      → suffices s.access w ≡ true
       → P m n f
-      → P m (installs n x p (carried_out w (n.page x p)).bytes) (with_page f p (carried_out w (f p)).bytes)
+      → P m (installs n x p (carried_out w (n.page x p)).bytes)
+      (with_page f p (carried_out w (f p)).bytes)
   -- a letter is taken; one that fits no rule is dropped
   pub takes : (m : ℕ → S) (n : Net) (f : ℕ → List ℕ) (i j : ℕ) (message : Message) → n.loose ≡ []
-      → slice_get (n.posted i j) (n.delivered i j) ≡ Some message → P m n f → P m (taken n i j message) f
-  pub drops : (m : ℕ → S) (n : Net) (f : ℕ → List ℕ) (x : ℕ) (l : Letter) (rest : List Letter) → x < c.nodes
-      → n.loose ≡ l ∷ rest → l.dest ≡ x → Misfits n x l l.message.content → P m n f → P m (dropped n x rest) f
+      → slice_get (n.posted i j) (n.delivered i j) ≡ Some message → P m n f
+      → P m (taken n i j message) f
+  pub drops : (m : ℕ → S) (n : Net) (f : ℕ → List ℕ) (x : ℕ) (l : Letter) (rest : List Letter)
+      → x < c.nodes
+      → n.loose ≡ l ∷ rest → l.dest ≡ x → Misfits n x l l.message.content → P m n f
+      → P m (dropped n x rest) f
   -- at an idle entry of the owner: a copy is given, or the page itself
-  pub shares : (m : ℕ → S) (n : Net) (f : ℕ → List ℕ) (x p from o call : ℕ) (s : IdleState) (rest : List Letter)
+  pub shares : (m : ℕ → S) (n : Net) (f : ℕ → List ℕ) (x p from o call : ℕ) (s : IdleState)
+      (rest : List Letter)
       → Serves c n x p (letter from x o call (content.ReadReq p)) rest → o ≢ x
       → n.entry x p ≡ entry.Idle s → s.owner ≡ true → IsBelow c.nodes s.copies → P m n f
       → P m (goes_on n x p (entry.Idle (sharing (set.insert s.copies o))) rest
       (parcel_to x o o call (content.ReadRep p (n.page x p)) ∷ [])) f
-  pub gives : (m : ℕ → S) (n : Net) (f : ℕ → List ℕ) (x p from o call : ℕ) (s : IdleState) (rest : List Letter)
+  pub gives : (m : ℕ → S) (n : Net) (f : ℕ → List ℕ) (x p from o call : ℕ) (s : IdleState)
+      (rest : List Letter)
       → Serves c n x p (letter from x o call (content.WriteReq p)) rest → o ≢ x
       → n.entry x p ≡ entry.Idle s → s.owner ≡ true → IsBelow c.nodes s.copies → P m n f
       → P (told m x (ops.on_given (m x) p o)) (goes_on n x p (entry.Idle without) rest
-      (parcel_to x o o call (content.WriteRep p (bits_of (set.remove s.copies o)) (n.page x p)) ∷ [])) f
+      (parcel_to x o o call (content.WriteRep p (bits_of (set.remove s.copies o)) (n.page x p))
+      ∷ [])) f
   -- at an idle entry of another node: a request is sent on, or the copy is given up
-  pub sends_on_read : (m : ℕ → S) (n : Net) (f : ℕ → List ℕ) (x p from o call : ℕ) (s : IdleState) (rest : List Letter)
+  pub sends_on_read : (m : ℕ → S) (n : Net) (f : ℕ → List ℕ) (x p from o call : ℕ) (s : IdleState)
+      (rest : List Letter)
       → Serves c n x p (letter from x o call (content.ReadReq p)) rest → o ≢ x
       → n.entry x p ≡ entry.Idle s → s.owner ≡ false → IsHop c x (ops.next_hop (m x) p) → P m n f
       → P (told m x (ops.on_forward (m x) p false o)) (goes_on n x p (entry.Idle s) rest
       (parcel_to x (ops.next_hop (m x) p) o call (content.ReadReq p) ∷ [])) f
-  pub sends_on_write : (m : ℕ → S) (n : Net) (f : ℕ → List ℕ) (x p from o call : ℕ) (s : IdleState) (rest : List Letter)
+  pub sends_on_write : (m : ℕ → S) (n : Net) (f : ℕ → List ℕ) (x p from o call : ℕ) (s : IdleState)
+      (rest : List Letter)
       → Serves c n x p (letter from x o call (content.WriteReq p)) rest → o ≢ x
       → n.entry x p ≡ entry.Idle s → s.owner ≡ false → IsHop c x (ops.next_hop (m x) p) → P m n f
       → P (told m x (ops.on_forward (m x) p true o)) (goes_on n x p (entry.Idle s) rest
       (parcel_to x (ops.next_hop (m x) p) o call (content.WriteReq p) ∷ [])) f
-  pub ends_copy : (m : ℕ → S) (n : Net) (f : ℕ → List ℕ) (x p o call : ℕ) (s : IdleState) (rest : List Letter)
+  pub ends_copy : (m : ℕ → S) (n : Net) (f : ℕ → List ℕ) (x p o call : ℕ) (s : IdleState)
+      (rest : List Letter)
       → Serves c n x p (letter o x o call (content.Inval p)) rest → o ≢ x
       → n.entry x p ≡ entry.Idle s → s.owner ≡ false → P m n f
       → P (told m x (ops.on_invalidated (m x) p o)) (goes_on n x p (entry.Idle without) rest
       (parcel_to x o o call (content.InvalAck p) ∷ [])) f
   -- at a locked entry: a copy is given up at once where the page is awaited, all else is put off
-  pub gives_up : (m : ℕ → S) (n : Net) (f : ℕ → List ℕ) (x p o call : ℕ) (s : AwaitWriteState) (rest : List Letter)
-      → Serves c n x p (letter o x o call (content.Inval p)) rest → o ≢ x → n.entry x p ≡ entry.AwaitWrite s → P m n f
+  pub gives_up : (m : ℕ → S) (n : Net) (f : ℕ → List ℕ) (x p o call : ℕ) (s : AwaitWriteState)
+      (rest : List Letter)
+      → Serves c n x p (letter o x o call (content.Inval p)) rest → o ≢ x
+      → n.entry x p ≡ entry.AwaitWrite s → P m n f
       → P (told m x (ops.on_invalidated (m x) p o))
       (goes_on n x p (entry.AwaitWrite (record { had_copy = false; waiting = s.waiting })) rest
       (parcel_to x o o call (content.InvalAck p) ∷ [])) f
-  pub puts_off : (m : ℕ → S) (n : Net) (f : ℕ → List ℕ) (x p from : ℕ) (q : PutOff) (e : Entry) (rest : List Letter)
+  pub puts_off : (m : ℕ → S) (n : Net) (f : ℕ → List ℕ) (x p from : ℕ) (q : PutOff) (e : Entry)
+      (rest : List Letter)
       → Serves c n x p (letter from x q.origin q.call (content_of q.kind p)) rest → q.origin ≢ x
-      → (q.kind ≡ request.Invalidate → (from ≡ q.origin) × ((w : WaitingState) × (e ≡ entry.AwaitRead w)))
-      → n.entry x p ≡ e → can_put_off e ≡ true → P m n f → P m (goes_on n x p (with_put_off e q) rest []) f
+      → (q.kind ≡ request.Invalidate
+      → (from ≡ q.origin) × ((w : WaitingState) × (e ≡ entry.AwaitRead w)))
+      → n.entry x p ≡ e → can_put_off e ≡ true → P m n f
+      → P m (goes_on n x p (with_put_off e q) rest []) f
   -- what a word waits for comes: what was put off is loose then
-  pub copy_comes : (m : ℕ → S) (n : Net) (f : ℕ → List ℕ) (x p from call : ℕ) (w : WaitingState) (bytes : List ℕ)
+  pub copy_comes : (m : ℕ → S) (n : Net) (f : ℕ → List ℕ) (x p from call : ℕ) (w : WaitingState)
+      (bytes : List ℕ)
       → Serves c n x p (letter from x x call (content.ReadRep p bytes)) [] → from ≢ x
       → n.entry x p ≡ entry.AwaitRead w → w.call ≡ call → P m n f
       → P (told m x (ops.on_replied (m x) p false from))
       (installs (goes_on n x p (entry.Idle copying) (map (letter_of x p) w.put_off) []) x p bytes) f
-  pub page_comes : (m : ℕ → S) (n : Net) (f : ℕ → List ℕ) (x p from call copies : ℕ) (s : AwaitWriteState) (bytes : List ℕ)
+  pub page_comes : (m : ℕ → S) (n : Net) (f : ℕ → List ℕ) (x p from call copies : ℕ)
+      (s : AwaitWriteState) (bytes : List ℕ)
       → Serves c n x p (letter from x x call (content.WriteRep p copies bytes)) [] → from ≢ x
-      → n.entry x p ≡ entry.AwaitWrite s → s.waiting.call ≡ call → nodes_with copies ≡ set.empty → P m n f
+      → n.entry x p ≡ entry.AwaitWrite s → s.waiting.call ≡ call → nodes_with copies ≡ set.empty
+      → P m n f
       → P (told m x (ops.on_replied (m x) p true from))
-      (installs (goes_on n x p (entry.Idle owning) (map (letter_of x p) s.waiting.put_off) []) x p bytes) f
-  pub page_comes_shared : (m : ℕ → S) (n : Net) (f : ℕ → List ℕ) (x p from call copies : ℕ) (s : AwaitWriteState) (bytes : List ℕ)
+      (installs
+      (goes_on n x p (entry.Idle owning)
+      (map (letter_of x p) s.waiting.put_off) []) x p bytes) f
+  pub page_comes_shared : (m : ℕ → S) (n : Net) (f : ℕ → List ℕ) (x p from call copies : ℕ)
+      (s : AwaitWriteState) (bytes : List ℕ)
       → Serves c n x p (letter from x x call (content.WriteRep p copies bytes)) [] → from ≢ x
       → n.entry x p ≡ entry.AwaitWrite s → s.waiting.call ≡ call → nodes_with copies ≢ set.empty
       → set.contains (nodes_with copies) x ≡ false → IsBelow c.nodes (nodes_with copies) → P m n f
       → P (told m x (ops.on_replied (m x) p true from))
-      (installs (goes_on n x p (entry.AwaitAcks (record { left = nodes_with copies; waiting = s.waiting })) []
+      (installs
+      (goes_on n x p
+      (entry.AwaitAcks (record { left = nodes_with copies; waiting = s.waiting })) []
       (invalidations x p call (nodes_with copies))) x p bytes) f
   pub acknowledges : (m : ℕ → S) (n : Net) (f : ℕ → List ℕ) (x p from call : ℕ) (s : AwaitAcksState)
       → Serves c n x p (letter from x x call (content.InvalAck p)) [] → from ≢ x
       → n.entry x p ≡ entry.AwaitAcks s → s.waiting.call ≡ call → set.contains s.left from ≡ true
       → set.remove s.left from ≢ set.empty → P m n f
-      → P m (goes_on n x p (entry.AwaitAcks (record { left = set.remove s.left from; waiting = s.waiting })) [] []) f
-  pub acknowledges_last : (m : ℕ → S) (n : Net) (f : ℕ → List ℕ) (x p from call : ℕ) (s : AwaitAcksState)
+      → P m (goes_on n x p
+      (entry.AwaitAcks (record { left = set.remove s.left from; waiting = s.waiting })) [] []) f
+  pub acknowledges_last : (m : ℕ → S) (n : Net) (f : ℕ → List ℕ) (x p from call : ℕ)
+      (s : AwaitAcksState)
       → Serves c n x p (letter from x x call (content.InvalAck p)) [] → from ≢ x
       → n.entry x p ≡ entry.AwaitAcks s → s.waiting.call ≡ call → set.contains s.left from ≡ true
       → set.remove s.left from ≡ set.empty → P m n f
@@ -201,10 +229,12 @@ pub record IsKept {S : Type 0} (ops : Ops S) (c : Config) (P : (ℕ → S) → N
   pub asks_page : (m : ℕ → S) (n : Net) (f : ℕ → List ℕ) (x p call : ℕ) (s : IdleState) (w : Word)
       → Begins c n x p call → n.entry x p ≡ entry.Idle s → s.owner ≡ false
       → IsHop c x (ops.next_hop (m x) p) → P m n f
-      → P m (goes_on n x p (entry.AwaitWrite (record { had_copy = reads s.access; waiting = waiting_from w call })) []
+      → P m (goes_on n x p
+      (entry.AwaitWrite (record { had_copy = reads s.access; waiting = waiting_from w call })) []
       (parcel_to x (ops.next_hop (m x) p) x call (content.WriteReq p) ∷ [])) f
   pub ends_copies : (m : ℕ → S) (n : Net) (f : ℕ → List ℕ) (x p call : ℕ) (s : IdleState) (w : Word)
       → Begins c n x p call → n.entry x p ≡ entry.Idle s → s.owner ≡ true → reads s.access ≡ true
       → IsBelow c.nodes s.copies → set.contains s.copies x ≡ false → P m n f
-      → P m (goes_on n x p (entry.AwaitAcks (record { left = s.copies; waiting = waiting_from w call })) []
+      → P m (goes_on n x p
+      (entry.AwaitAcks (record { left = s.copies; waiting = waiting_from w call })) []
       (invalidations x p call s.copies)) f

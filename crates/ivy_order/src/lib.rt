@@ -1,3 +1,3 @@
-//! The ordered world: in every world that moves lead to, messages come in order, and no page is writable at one node
-//! and readable at another. Definitions and lemmas alone, for every manager that keeps the laws.
+//! The ordered world: the entries and letters of all nodes, what holds of them at every moment, and the steps that keep
+//! it. Definitions and lemmas alone, for every manager that keeps the laws.
 #![tactic(auto)]

@@ -50,7 +50,8 @@ copies_of (entry.AwaitRead s) = set.empty
 copies_of (entry.AwaitWrite s) = set.empty
 copies_of (entry.AwaitAcks s) = s.left
 
--- idle: nothing of the page; a copy of another node's page; the whole page; the owner's page, which these nodes have too
+-- idle: nothing of the page; a copy of another node's page; the whole page; the owner's page, which
+-- these nodes have too
 abbrev pub without : IdleState
 without = record { access = Nil; owner = false; copies = set.empty }
 
@@ -105,5 +106,7 @@ one_more s message = record { word = s.word; call = s.call; put_off = s.put_off 
 abbrev pub with_put_off : Entry → PutOff → Entry
 with_put_off (entry.Idle s) message = entry.Idle s
 with_put_off (entry.AwaitRead s) message = entry.AwaitRead (one_more s message)
-with_put_off (entry.AwaitWrite s) message = entry.AwaitWrite (record { had_copy = s.had_copy; waiting = one_more s.waiting message })
-with_put_off (entry.AwaitAcks s) message = entry.AwaitAcks (record { left = s.left; waiting = one_more s.waiting message })
+with_put_off (entry.AwaitWrite s) message =
+    entry.AwaitWrite (record { had_copy = s.had_copy; waiting = one_more s.waiting message })
+with_put_off (entry.AwaitAcks s) message =
+    entry.AwaitAcks (record { left = s.left; waiting = one_more s.waiting message })

@@ -16,4 +16,5 @@ module _ (A : RattleType) (heap : Ghosts A.Denot) where
   LendsBytes page bytes = Lends (the_row A heap) (Array u8 0) page bytes (rewritten page.now)
 
   abbrev pub LendsPage : MutBor Table → ℕ → MutBor (List ℕ) → Fml
-  LendsPage t page bytes = Lends (table.the_row A heap) (Array u8 0) t bytes (λ new. with_page t.now page (rewritten (page_at t.now page) new))
+  LendsPage t page bytes = Lends (table.the_row A heap)
+      (Array u8 0) t bytes (λ new. with_page t.now page (rewritten (page_at t.now page) new))

@@ -33,4 +33,5 @@ bits_of s = sum_by (λ q. 2 ^ q) (nodes_of s)
 
 -- the nodes whose bits the number has
 unfoldable pub nodes_with : ℕ → Nodes
-nodes_with bits = set.from_list (filter (λ q. bit_at bits q == 1) (range_with_len 0 most_nodes_in_a_set))
+nodes_with bits =
+    set.from_list (filter (λ q. bit_at bits q == 1) (range_with_len 0 most_nodes_in_a_set))

@@ -13,10 +13,12 @@ abbrev pub page_at : Table → ℕ → List ℕ
 page_at t page = slice_index_or t.pages page []
 
 abbrev pub with_entry : Table → ℕ → Entry → Table
-with_entry t page e = record { page_size = t.page_size; entries = slice_set t.entries page e; pages = t.pages }
+with_entry t page e =
+    record { page_size = t.page_size; entries = slice_set t.entries page e; pages = t.pages }
 
 abbrev pub with_page : Table → ℕ → List ℕ → Table
-with_page t page bytes = record { page_size = t.page_size; entries = t.entries; pages = slice_set t.pages page bytes }
+with_page t page bytes =
+    record { page_size = t.page_size; entries = t.entries; pages = slice_set t.pages page bytes }
 
 -- at first node 0 owns each page, and all bytes are 0
 abbrev pub first_entry : ℕ → Entry

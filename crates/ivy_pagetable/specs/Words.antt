@@ -56,8 +56,11 @@ abbrev pub awaited : ℕ → ℕ → Out
 awaited count least = if nat_le least count then Value count else NotYet
 
 abbrev pub carried_out : Word → List ℕ → Carried
-carried_out (Load width offset) bytes = record { out = Value (number_at width offset bytes); bytes = bytes }
-carried_out (Store width offset value) bytes = record { out = Done; bytes = overwrite bytes offset (big_bytes width value) }
+carried_out (Load width offset) bytes =
+    record { out = Value (number_at width offset bytes); bytes = bytes }
+carried_out (Store width offset value) bytes =
+    record { out = Done; bytes = overwrite bytes offset (big_bytes width value) }
 carried_out (Count offset) bytes = record { out = Value (number_at 8 offset bytes); bytes = bytes }
 carried_out (Advance offset) bytes = advanced (number_at 8 offset bytes) offset bytes
-carried_out (Await offset least) bytes = record { out = awaited (number_at 8 offset bytes) least; bytes = bytes }
+carried_out (Await offset least) bytes =
+    record { out = awaited (number_at 8 offset bytes) least; bytes = bytes }

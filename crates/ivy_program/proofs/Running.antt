@@ -10,10 +10,10 @@ use Rattle.ivy_program.specs.declared.instruction.Instruction.TheVariants.{Set, 
 use Rattle.ivy_program.specs.Instructions.{bytes_in}
 use Rattle.ivy_program.specs.States.{State}
 use Rattle.ivy_program.specs.Steps.{Step, Local, Asks, Ends, step, step_at, answered}
-use Rattle.ivy_program.specs.Runs.{Leads, Runs}
+use Rattle.ivy_program.specs.Runs.{StepsTo, Runs}
 use Rattle.ivy_program.specs.Calls.{IsAccess, OnlyAccesses}
 
-leads_on : (p : List Instruction) (n : ℕ) (old mid new : State) → Leads p n old mid → step p mid ≡ Local new → Leads p (suc n) old new
+leads_on : (p : List Instruction) (n : ℕ) (old mid new : State) → StepsTo p n old mid → step p mid ≡ Local new → StepsTo p (suc n) old new
 leads_on p zero old mid new e h = (new, subst (λ s. step p s ≡ Local new) e h, refl)
 leads_on p (suc n) old mid new l h = (l.0, l.1, leads_on p n l.0 mid new l.2 h)
 

@@ -6,18 +6,20 @@ use Rattle.ivy_program.specs.States.{State, first_state}
 use Rattle.ivy_program.specs.Steps.{Local, Asks, Ends, step, answered}
 
 -- so many instructions without a call lead from one state to another
-abbrev pub Leads : List Instruction → ℕ → State → State → Type 0
-Leads program zero old new = new ≡ old
-Leads program (suc n) old new = (mid : State) × (step program old ≡ Local mid) × Leads program n mid new
+abbrev pub StepsTo : List Instruction → ℕ → State → State → Type 0
+StepsTo program zero old new = new ≡ old
+StepsTo program (suc n) old new =
+    (mid : State) × (step program old ≡ Local mid) × StepsTo program n mid new
 
-abbrev pub Follows : List Instruction → State → State → Type 0
-Follows program old new = (n : ℕ) × Leads program n old new
+abbrev pub Reaches : List Instruction → State → State → Type 0
+Reaches program old new = (n : ℕ) × StepsTo program n old new
 
 -- the program makes the calls of the records one after another, each with its reply, and then comes to this state
 abbrev pub Runs : List Instruction → State → List Record → State → Type 0
-Runs program old [] new = Follows program old new
+Runs program old [] new = Reaches program old new
 Runs program old (r ∷ rs) new =
-    (asking : State) × Follows program old asking × (step program asking ≡ Asks r.call) × Runs program (answered program asking r.reply) rs new
+    (asking : State) × Reaches program old asking × (step program asking ≡ Asks r.call)
+    × Runs program (answered program asking r.reply) rs new
 
 -- a run of the program from its beginning
 abbrev pub IsRunTo : List Instruction → List Record → State → Type 0
@@ -27,7 +29,8 @@ abbrev pub IsRun : List Instruction → List Record → Type 0
 IsRun program history = (new : State) × IsRunTo program history new
 
 -- the run to the program's end, with this output
-pub record IsWholeRun (program : List Instruction) (history : List Record) (output : List ℕ) : Type 0 where
+pub record IsWholeRun (program : List Instruction) (history : List Record)
+    (output : List ℕ) : Type 0 where
   pub end : State
   pub run : IsRunTo program history end
   pub ended : step program end ≡ Ends

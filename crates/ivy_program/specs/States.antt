@@ -1,7 +1,8 @@
 -- What a program has while it runs.
 use Rattle.std.specs.Prelude.{ℕ, ◌+◌, List, [], ◌∷◌, ◌++◌, replicate, slice_index_or, slice_set}
 
--- the place of the next instruction, the sixteen registers, the number of the last call's refusal or 0, and what was printed
+-- the place of the next instruction, the sixteen registers, the number of the last call's refusal
+-- or 0, and what was printed
 pub record State : Type 0 where
   pub place : ℕ
   pub registers : List ℕ
@@ -17,7 +18,8 @@ held s r = slice_index_or s.registers r 0
 
 -- the state at another place
 abbrev pub gone_to : State → ℕ → State
-gone_to s place = record { place = place; registers = s.registers; status = s.status; output = s.output }
+gone_to s place =
+    record { place = place; registers = s.registers; status = s.status; output = s.output }
 
 -- the state at the next instruction
 abbrev pub moved_on : State → State
@@ -25,10 +27,21 @@ moved_on s = gone_to s (s.place + 1)
 
 -- the register takes a value
 abbrev pub put : State → ℕ → ℕ → State
-put s r value = record { place = s.place; registers = slice_set s.registers r value; status = s.status; output = s.output }
+put s r value = record {
+  place = s.place;
+  registers = slice_set s.registers r value;
+  status = s.status;
+  output = s.output;
+}
 
 abbrev pub printed : State → ℕ → State
-printed s value = record { place = s.place; registers = s.registers; status = s.status; output = s.output ++ value ∷ [] }
+printed s value = record {
+  place = s.place;
+  registers = s.registers;
+  status = s.status;
+  output = s.output ++ value ∷ [];
+}
 
 abbrev pub with_status : State → ℕ → State
-with_status s status = record { place = s.place; registers = s.registers; status = status; output = s.output }
+with_status s status =
+    record { place = s.place; registers = s.registers; status = status; output = s.output }

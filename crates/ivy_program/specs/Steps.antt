@@ -27,7 +27,8 @@ call_of s _ = None
 abbrev pub changed : State → Instruction → State
 changed s (Set to value) = put s to value
 changed s (Move to from) = put s to (held s from)
-changed s (Compute operation to left right) = put s to (result_of operation (held s left) (held s right))
+changed s (Compute operation to left right) =
+    put s to (result_of operation (held s left) (held s right))
 changed s (Status to) = put s to s.status
 changed s (Print from) = printed s (held s from)
 changed s _ = s

@@ -1,16 +1,16 @@
 -- Under managing nodes requests go down. The managing node is above all nodes that claim its page but the queued ones;
 -- of the others that claim it, and of those that do not, the turns say who is above whom.
-use Rattle.std.proofs.Common.{◌≡◌, ◌≢◌, ◌<◌, ◌≤◌, ◌+◌, ◌-◌, ◌*◌, ◌%◌, ℕ, Bool, true, false, sym, ap, ◌∙◌, subst, inl, inr, arith, if◌then◌else◌, ◌==◌}
+use Rattle.std.proofs.Common.{◌≡◌, ◌≢◌, ◌<◌, ◌≤◌, ◌+◌, ◌-◌, ◌*◌, ◌%◌, ℕ, Bool, true, false, refl, sym, ap, ◌∙◌, subst, inl, inr, arith, if◌then◌else◌, ◌==◌}
 use Rattle.std.proofs.lemmas.Bool.{cases_Bool, cases_eq, cases_lt, eq-eqb, ne_eqb}
 use Rattle.ivy_model.specs.declared.Config.{Config}
 use Rattle.ivy_wire.specs.declared.Content.TheVariants as content
 use Rattle.ivy_fixed.specs.Fixed.{Owners, hop_of}
 use Rattle.ivy_order.specs.Letters.{Net}
 use Rattle.ivy_order.specs.Orderly.{IsOrderly}
-use Rattle.ivy_routes.specs.Managing.{claims, IsRouted, Turns, HasTurns, IsManaged}
-use Rattle.ivy_routes.specs.Descending.{IsAsked, Descends}
-use Rattle.ivy_routes.proofs.Asked.{reader_inside, writer_inside}
-use Rattle.ivy_routes.proofs.Claims.{reader_unclaimed, writer_claims}
+use Rattle.ivy_requests.specs.Managing.{claims, IsReader, asking, IsRouted, Turns, HasTurns, IsManaged}
+use Rattle.ivy_requests.specs.Descending.{IsAsked, Descends}
+use Rattle.ivy_requests.proofs.Asked.{reader_inside, writer_inside}
+use Rattle.ivy_requests.proofs.Claims.{reader_unclaimed, writer_claims}
 
 module _ (a : ℕ → Bool) (W R : ℕ → ℕ → Type 0) (w k : ℕ) (r : IsRouted a W R w k) (t : Turns) (has : HasTurns a W R w k t) where
   abbrev claimer : ℕ → ℕ
@@ -57,7 +57,7 @@ module _ (a : ℕ → Bool) (W R : ℕ → ℕ → Type 0) (w k : ℕ) (r : IsRo
       let g : t.turn y ≤ t.latest = has.bounded y in
       omega (arith, e, g)
 
-  reader_down : (i y : ℕ) → R i y → a i ≡ false → height y < height i
+  pub reader_down : (i y : ℕ) → R i y → a i ≡ false → height y < height i
   reader_down i y asks plain = elim (cases_eq y w) [
     | inl here ↦ (
         let e : height y ≡ t.latest + 1 = manager_height y here in
@@ -90,7 +90,7 @@ module _ (a : ℕ → Bool) (W R : ℕ → ℕ → Type 0) (w k : ℕ) (r : IsRo
     ]
   ]
 
-  writer_down : (i y : ℕ) → W i y → a i ≡ true → height y < height i
+  pub writer_down : (i y : ℕ) → W i y → a i ≡ true → height y < height i
   writer_down i y asks claiming = elim (cases_eq y w) [
     | inl here ↦ (
         let d : height y ≡ t.latest + 1 = manager_height y here in
@@ -115,6 +115,20 @@ module _ (a : ℕ → Bool) (W R : ℕ → ℕ → Type 0) (w k : ℕ) (r : IsRo
         )
   ]
 
+  -- and so do the next hops of nodes that do not claim the page
+  pub hop_down_elsewhere : (y : ℕ) → y ≢ w → a y ≡ false → height w < height y
+  hop_down_elsewhere y ne plain =
+      let d : height w ≡ t.latest + 1 = manager_height w refl in
+      let g : t.latest + 3 ≤ height y = plain_high y ne plain in
+      omega (arith, d, g)
+
+  pub hop_down_here : a w ≡ false → height k < height w
+  hop_down_here plain =
+      let d : height w ≡ t.latest + 1 = manager_height w refl in
+      let e : height k ≡ t.turn k = turn_height k (r.kept_away plain) (r.kept_claims plain) (has.queued_unkept plain) in
+      let g : t.turn k ≤ t.latest = has.bounded k in
+      omega (arith, d, e, g)
+
 module _ (c : Config) (m : ℕ → Owners) (n : Net) (order : IsOrderly c n) (managed : IsManaged c m n) where
   pub descends : Descends n
   descends q = elim (cases_lt q c.pages) [
@@ -122,9 +136,9 @@ module _ (c : Config) (m : ℕ → Owners) (n : Net) (order : IsOrderly c n) (ma
         let t = managed.turns q lt in
         let routed = managed.routed q lt in
         let a : ℕ → Bool = λ y. claims (n.entry y q) in (
-          height a (IsAsked n (content.WriteReq q)) (IsAsked n (content.ReadReq q)) (q % c.nodes) (hop_of (m (q % c.nodes)) q) routed t.0 t.1,
+          height a (IsAsked n (content.WriteReq q)) (IsReader n q) (q % c.nodes) (hop_of (m (q % c.nodes)) q) routed t.0 t.1,
           record {
-            reads = λ i y k. reader_down a _ _ _ _ routed t.0 t.1 i y k (reader_unclaimed c n order q i y k);
+            reads = λ i y k. reader_down a _ _ _ _ routed t.0 t.1 i y (asking k) (reader_unclaimed c n order q i y k);
             writes = λ i y k. writer_down a _ _ _ _ routed t.0 t.1 i y k (writer_claims c n order q i y k);
           },
         )

@@ -9,10 +9,11 @@ use Rattle.ivy_dynamic.specs.Dynamic.{Hints, first_hints, hint_of}
 use Rattle.ivy_order.specs.Letters.{Net}
 use Rattle.ivy_order.specs.Orderly.{IsOrderly}
 use Rattle.ivy_order.proofs.Opening.{IsFirst, orderly_opening}
-use Rattle.ivy_routes.specs.Managing.{claims}
-use Rattle.ivy_routes.specs.Hinting.{HasPage, owns, comes, IsHinted}
-use Rattle.ivy_routes.proofs.Moves.{both}
-use Rattle.ivy_routes.proofs.FirstLetters.{no_letter, none_asked}
+use Rattle.ivy_requests.specs.Managing.{claims}
+use Rattle.ivy_requests.specs.Sending.{HasPage, owns, comes}
+use Rattle.ivy_requests.specs.Hinting.{IsHinted}
+use Rattle.ivy_requests.proofs.Moves.{both}
+use Rattle.ivy_requests.proofs.FirstLetters.{no_letter, none_asked}
 
 -- node 0 is below all others
 abbrev first_height : ℕ → ℕ

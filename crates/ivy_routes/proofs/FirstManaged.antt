@@ -4,16 +4,17 @@ use Rattle.std.proofs.lemmas.Bool.{cases_eq, eq-eqb, ne_eqb}
 use Rattle.std.proofs.lemmas.List.{get_or-replicate, length-replicate}
 use Rattle.ivy_model.specs.declared.Config.{Config}
 use Rattle.ivy_model.specs.Config.{IsConfig}
+use Rattle.ivy_wire.specs.declared.Content.TheVariants as content
 use Rattle.ivy_wire.specs.Data.{Content}
 use Rattle.ivy_pagetable.specs.Entries.{owned}
 use Rattle.ivy_fixed.specs.Fixed.{Owners, first_owners, hop_of}
 use Rattle.ivy_order.specs.Letters.{Net}
 use Rattle.ivy_order.specs.Orderly.{IsOrderly}
 use Rattle.ivy_order.proofs.Opening.{IsFirst, orderly_opening}
-use Rattle.ivy_routes.specs.Descending.{IsAsked}
-use Rattle.ivy_routes.specs.Managing.{claims, IsManaged}
-use Rattle.ivy_routes.proofs.Moves.{both}
-use Rattle.ivy_routes.proofs.FirstLetters.{none_asked}
+use Rattle.ivy_requests.specs.Descending.{IsAsked}
+use Rattle.ivy_requests.specs.Managing.{claims, IsReader, asking, getting, IsManaged}
+use Rattle.ivy_requests.proofs.Moves.{both}
+use Rattle.ivy_requests.proofs.FirstLetters.{no_letter, none_asked}
 
 -- a managing node keeps node 0
 first_kept : (c : Config) (p : ℕ) → p < c.pages → hop_of (first_owners c (p % c.nodes)) p ≡ 0
@@ -23,6 +24,10 @@ module _ (c : Config) (config : IsConfig c) (m : ℕ → Owners) (n : Net) (firs
     (managers : (i : ℕ) → i < c.nodes → m i ≡ first_owners c i) where
   unasked : (body : Content) (i y : ℕ) → IsAsked n body i y → ⊥
   unasked = none_asked n first
+
+  unread : (p i y : ℕ) → IsReader n p i y → ⊥
+  unread p i y (asking k) = unasked (content.ReadReq p) i y k
+  unread p i y (getting k) = no_letter n first k.at k.letter k.there
 
   module _ (p : ℕ) (lt : p < c.pages) where
     kept_zero : hop_of (m (p % c.nodes)) p ≡ 0
@@ -46,6 +51,7 @@ module _ (c : Config) (config : IsConfig c) (m : ℕ → Owners) (n : Net) (firs
     me = λ i lt. ap (λ (s : Owners). s.me) (managers i lt);
     nodes = λ i lt. ap (λ (s : Owners). s.nodes) (managers i lt);
     size = λ i lt. ap (λ (s : Owners). length s.owners) (managers i lt) ∙ length-replicate c.pages 0;
+    counted = λ i j. (let f : n.delivered i j ≡ 0 = first.delivered i j in omega (arith, f));
     routed = λ p lt. record {
       claimed = λ i y ne v. absurd (unasked _ i y v);
       one_writer = λ i j y ne v u. absurd (unasked _ i y v);
@@ -54,9 +60,10 @@ module _ (c : Config) (config : IsConfig c) (m : ℕ → Owners) (n : Net) (firs
       kept_unasked = λ f i v. unasked _ i _ v;
       queued_unasked = λ i j v u. unasked _ i _ v;
       queued_unkept = λ i v f. absurd (unasked _ i _ v);
+      chained = λ i y ni ny v. absurd (unasked _ i y v);
       writer_away = λ i y v. absurd (unasked _ i y v);
-      reader_away = λ i y v. absurd (unasked _ i y v);
-      manager_reads = λ y v. absurd (unasked _ _ y v);
+      reader_away = λ i y v. absurd (unread p i y v);
+      manager_reads = λ y v. absurd (unread p _ y v);
     };
     turns = λ p lt. (
       record { turn = first_turn; latest = 1; queued = λ y. false },
@@ -71,7 +78,7 @@ module _ (c : Config) (config : IsConfig c) (m : ℕ → Owners) (n : Net) (firs
             let d : first_turn (hop_of (m (p % c.nodes)) p) ≡ 1 = first_turn-0 _ (kept_zero p lt) in
             omega (arith, d, e)
             );
-        reader_earlier = λ i y ny ni v. absurd (unasked _ i y v);
+        reader_earlier = λ i y ny ni v. absurd (unread p i y v);
         queued = λ i v. absurd (unasked _ i _ v);
         queued_unasked = λ i j q v. unasked _ j i v;
         queued_unkept = λ f. refl;

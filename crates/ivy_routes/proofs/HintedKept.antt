@@ -23,7 +23,7 @@ use Rattle.ivy_coherence.specs.Faults.{waiting_from}
 use Rattle.ivy_coherence.proofs.Keeping.{owner_put}
 use Rattle.ivy_dynamic.specs.Dynamic.{Hints, hint_of, hinted, dynamic_ops}
 use Rattle.ivy_order.specs.Letters.{Letter, Net, Place, Loose, content_of, letter_of, goes_on, installs}
-use Rattle.ivy_order.specs.Orderly.{FitsAs, IsOrderly}
+use Rattle.ivy_order.specs.Orderly.{IsExpectedAs, IsOrderly}
 use Rattle.ivy_order.specs.Rows.{letter, told, IsKept}
 use Rattle.ivy_order.proofs.Needs.{page_of, collects_owner}
 use Rattle.ivy_order.proofs.Places.{served, freed}
@@ -31,15 +31,16 @@ use Rattle.ivy_order.proofs.Sole.{fits_as}
 use Rattle.ivy_order.proofs.Steps.{IsStep}
 use Rattle.ivy_order.proofs.Parcels.{IsThe, IsNone, IsOrder, answer_step, ask_step, orders_step, free_step, stay_step}
 use Rattle.ivy_order.proofs.Kept.{orderly-kept}
-use Rattle.ivy_routes.specs.Descending.{IsAsked, Descends}
-use Rattle.ivy_routes.specs.Managing.{claims}
-use Rattle.ivy_routes.specs.Hinting.{HasPage, owns, comes, LeadDown, IsHinted}
-use Rattle.ivy_routes.proofs.Asked.{reader_inside, writer_inside}
-use Rattle.ivy_routes.proofs.Moves.{both}
-use Rattle.ivy_routes.proofs.Claims.{put_claims}
-use Rattle.ivy_routes.proofs.Old.{alike_letters, installs_letters, taken_letters, put_off_step}
-use Rattle.ivy_routes.proofs.NoBreach.{no_breach}
-use Rattle.ivy_routes.proofs.Managers.{IsTold, none_told, told_itself}
+use Rattle.ivy_requests.specs.Descending.{IsAsked, Descends}
+use Rattle.ivy_requests.specs.Managing.{claims}
+use Rattle.ivy_requests.specs.Sending.{HasPage, owns, comes}
+use Rattle.ivy_requests.specs.Hinting.{LeadDown, IsHinted}
+use Rattle.ivy_requests.proofs.Asked.{reader_inside, writer_inside}
+use Rattle.ivy_requests.proofs.Moves.{both}
+use Rattle.ivy_requests.proofs.Claims.{put_claims}
+use Rattle.ivy_requests.proofs.Old.{alike_letters, installs_letters, taken_letters, put_off_step}
+use Rattle.ivy_requests.proofs.NoBreach.{no_breach}
+use Rattle.ivy_requests.proofs.Managers.{IsTold, none_told, told_itself}
 use Rattle.ivy_routes.proofs.HintedManagers.{told_hint, hint_now}
 use Rattle.ivy_routes.proofs.HintedSteps.{part_hinted, low_hinted}
 use Rattle.ivy_routes.proofs.HintedRows.{given_hinted, sent_hinted}
@@ -141,7 +142,7 @@ module _ (c : Config) (m : ℕ → Hints) (n : Net) (order : IsOrderly c n) (hin
   -- who orders a copy to be given up has the page
   orderer_has : (o call : ℕ) (rest : List Letter) → n.loose ≡ letter o x o call (content.Inval p) ∷ rest → HasPage n o p
   orderer_has o call rest loose =
-      let fit : FitsAs c n (letter o x o call (content.Inval p)) (content.Inval p)
+      let fit : IsExpectedAs c n (letter o x o call (content.Inval p)) (content.Inval p)
       = fits_as c n order (Loose 0) (letter o x o call (content.Inval p)) (content.Inval p) (ap (λ v. slice_get v 0) loose) refl in
       owns (collects_owner (n.entry o p) call x fit.2)
 

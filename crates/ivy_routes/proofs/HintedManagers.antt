@@ -3,7 +3,7 @@ use Rattle.std.proofs.Common.{◌≡◌, ◌<◌, ℕ, length, refl, ap, ◌∙�
 use Rattle.ivy_dynamic.specs.Dynamic.{Hints, hint_of, hinted, dynamic_ops}
 use Rattle.ivy_dynamic.specs.DynamicLaws.{dynamic_laws}
 use Rattle.ivy_order.specs.Rows.{told}
-use Rattle.ivy_routes.proofs.Managers.{IsTold, one_told, told_here}
+use Rattle.ivy_requests.proofs.Managers.{IsTold, one_told, told_here}
 
 module _ (m : ℕ → Hints) (x p o : ℕ) where
   pub told_hint : IsTold dynamic_ops m (told m x (hinted (m x) p o)) x p

@@ -11,20 +11,21 @@ use Rattle.ivy_pagetable.specs.Entries.{is_owner, without}
 use Rattle.ivy_coherence.specs.Serving.{parcel_to}
 use Rattle.ivy_dynamic.specs.Dynamic.{Hints, hint_of, hinted, dynamic_ops}
 use Rattle.ivy_order.specs.Letters.{Letter, Net, Place, Underway, Loose, IsAt, goes_on}
-use Rattle.ivy_order.specs.Orderly.{AwaitsPage, Own, key_as, FitsAs, IsOrderly}
+use Rattle.ivy_order.specs.Orderly.{AwaitsPage, Own, key_as, IsExpectedAs, IsOrderly}
 use Rattle.ivy_order.specs.Rows.{letter, told}
 use Rattle.ivy_order.proofs.Needs.{page_of}
 use Rattle.ivy_order.proofs.Places.{served}
 use Rattle.ivy_order.proofs.Sole.{fits_as, first_alone, no_other_owner, no_page_comes}
 use Rattle.ivy_order.proofs.Steps.{IsStep}
 use Rattle.ivy_order.proofs.Parcels.{IsThe, answer_step}
-use Rattle.ivy_routes.specs.Descending.{IsAsked}
-use Rattle.ivy_routes.specs.Managing.{claims}
-use Rattle.ivy_routes.specs.Hinting.{HasPage, owns, comes, LeadDown, IsHinted}
-use Rattle.ivy_routes.proofs.Asked.{IsOther, other_asker, asked_or_new, asked_others, writer_awaits}
-use Rattle.ivy_routes.proofs.Moves.{both}
-use Rattle.ivy_routes.proofs.Claims.{writer_claims, claims_else}
-use Rattle.ivy_routes.proofs.Managers.{hop_else}
+use Rattle.ivy_requests.specs.Descending.{IsAsked}
+use Rattle.ivy_requests.specs.Managing.{claims}
+use Rattle.ivy_requests.specs.Sending.{HasPage, owns, comes}
+use Rattle.ivy_requests.specs.Hinting.{LeadDown, IsHinted}
+use Rattle.ivy_requests.proofs.Asked.{IsOther, other_asker, asked_or_new, asked_others, writer_awaits}
+use Rattle.ivy_requests.proofs.Moves.{both}
+use Rattle.ivy_requests.proofs.Claims.{writer_claims, claims_else}
+use Rattle.ivy_requests.proofs.Managers.{hop_else}
 use Rattle.ivy_routes.proofs.HintedManagers.{told_hint, hint_now}
 use Rattle.ivy_routes.proofs.HintedSteps.{step_hinted}
 use Rattle.ivy_routes.proofs.HintedSunk.{sunk, IsSinking, sinking_leads}
@@ -54,20 +55,20 @@ module _ (c : Config) (m : ℕ → Hints) (n : Net) (order : IsOrderly c n) (hin
   -- nothing is on its way to o
   no_copy : (b : Place) (l : Letter) (bytes : List ℕ) → IsAt n b l → b ≢ Loose 0 → l.message.content ≡ content.ReadRep p bytes → l.dest ≢ o
   no_copy b l bytes at stays brings same = (
-      let fit : FitsAs c n l (content.ReadRep p bytes) = fits_as c n order b l (content.ReadRep p bytes) at brings in
+      let fit : IsExpectedAs c n l (content.ReadRep p bytes) = fits_as c n order b l (content.ReadRep p bytes) at brings in
       first_alone c n order first rest loose b l at stays (ap (key_as l) brings ∙ ap (λ j. Own j p) (sym fit.1 ∙ same))
       )
 
   no_page : (b : Place) (l : Letter) (bits : ℕ) (bytes : List ℕ) → IsAt n b l → b ≢ Loose 0 → l.message.content ≡ content.WriteRep p bits bytes → l.dest ≢ o
   no_page b l bits bytes at stays brings same = (
-      let fit : FitsAs c n l (content.WriteRep p bits bytes) = fits_as c n order b l (content.WriteRep p bits bytes) at brings in
+      let fit : IsExpectedAs c n l (content.WriteRep p bits bytes) = fits_as c n order b l (content.WriteRep p bits bytes) at brings in
       first_alone c n order first rest loose b l at stays (ap (key_as l) brings ∙ ap (λ j. Own j p) (sym fit.1 ∙ same))
       )
 
   -- nor to x
   none_here : (b : Place) (l : Letter) (bits : ℕ) (bytes : List ℕ) → IsAt n b l → l.message.content ≡ content.WriteRep p bits bytes → l.dest ≢ x
   none_here b l bits bytes at brings same = (
-      let fit : FitsAs c n l (content.WriteRep p bits bytes) = fits_as c n order b l (content.WriteRep p bits bytes) at brings in
+      let fit : IsExpectedAs c n l (content.WriteRep p bits bytes) = fits_as c n order b l (content.WriteRep p bits bytes) at brings in
       subst (λ e. AwaitsPage e l.message.call) (ap (λ i. n.entry i p) (sym fit.1 ∙ same) ∙ is) fit.2
       )
 

@@ -9,10 +9,11 @@ use Rattle.ivy_dynamic.specs.Dynamic.{Hints, hint_of, dynamic_ops}
 use Rattle.ivy_order.specs.Letters.{Letter, Net, Place, IsAt}
 use Rattle.ivy_order.proofs.Needs.{page_of}
 use Rattle.ivy_order.proofs.Steps.{IsStep}
-use Rattle.ivy_routes.specs.Descending.{IsAsked}
-use Rattle.ivy_routes.specs.Managing.{claims}
-use Rattle.ivy_routes.specs.Hinting.{IsSent, HasPage, owns, comes, LeadDown, IsHinted}
-use Rattle.ivy_routes.proofs.Managers.{IsTold, hop_else}
+use Rattle.ivy_requests.specs.Descending.{IsAsked}
+use Rattle.ivy_requests.specs.Managing.{claims}
+use Rattle.ivy_requests.specs.Sending.{IsSent, HasPage, owns, comes}
+use Rattle.ivy_requests.specs.Hinting.{LeadDown, IsHinted}
+use Rattle.ivy_requests.proofs.Managers.{IsTold, hop_else}
 
 -- each letter is one of the net before, and the entries are the same
 pub record IsPart (n n' : Net) : Type 0 where

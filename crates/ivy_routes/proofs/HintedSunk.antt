@@ -6,9 +6,10 @@ use Rattle.ivy_model.specs.declared.Config.{Config}
 use Rattle.ivy_wire.specs.declared.Content.TheVariants as content
 use Rattle.ivy_dynamic.specs.Dynamic.{Hints, hint_of}
 use Rattle.ivy_order.specs.Letters.{Net}
-use Rattle.ivy_routes.specs.Descending.{IsAsked}
-use Rattle.ivy_routes.specs.Managing.{claims}
-use Rattle.ivy_routes.specs.Hinting.{IsSent, HasPage, LeadDown}
+use Rattle.ivy_requests.specs.Descending.{IsAsked}
+use Rattle.ivy_requests.specs.Managing.{claims}
+use Rattle.ivy_requests.specs.Sending.{IsSent, HasPage}
+use Rattle.ivy_requests.specs.Hinting.{LeadDown}
 
 module _ (g : ℕ → ℕ) (x o : ℕ) where
   abbrev pub sunk : ℕ → ℕ

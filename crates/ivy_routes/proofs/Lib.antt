@@ -1,15 +1,8 @@
-pub mod Asked
-pub mod Old
-pub mod NoBreach
-pub mod Claims
-pub mod Moves
-pub mod Managers
 pub mod Turns
 pub mod Managed
 pub mod Sent
 pub mod Descent
 pub mod Kept
-pub mod FirstLetters
 pub mod FirstManaged
 pub mod HintedManagers
 pub mod HintedSteps
@@ -17,4 +10,8 @@ pub mod HintedSunk
 pub mod HintedRows
 pub mod HintedKept
 pub mod FirstHinted
+pub mod Routes
 pub mod QuietWorlds
+pub mod EitherWorlds
+pub mod RoutedRuns
+pub mod EitherRoutes

@@ -23,13 +23,13 @@ use Rattle.ivy_host.specs.Openings.{opening}
 use Rattle.ivy_order.specs.Letters.{Net}
 use Rattle.ivy_order.specs.Orderly.{IsOrderly}
 use Rattle.ivy_order.specs.Rows.{IsKept}
-use Rattle.ivy_order.proofs.Led.{HasOrder, core_there, first_count, opening_first}
-use Rattle.ivy_order.proofs.LiftedWorlds.{entry_of, breaches_of, manager_of, net_of, managers_of}
-use Rattle.ivy_order.proofs.LiftedRuns.{Holds}
+use Rattle.ivy_worlds.proofs.Led.{HasOrder, core_there, first_count, opening_first}
+use Rattle.ivy_worlds.proofs.LiftedWorlds.{entry_of, breaches_of, manager_of, net_of, managers_of}
+use Rattle.ivy_worlds.proofs.LiftedRuns.{Holds}
 use Rattle.ivy_order.proofs.Opening.{IsFirst, orderly_opening}
-use Rattle.ivy_order.proofs.Worlds.{first_net, opening-led}
-use Rattle.ivy_routes.specs.Managing.{IsManaged}
-use Rattle.ivy_routes.specs.Hinting.{IsHinted}
+use Rattle.ivy_worlds.proofs.Worlds.{first_net, opening-led}
+use Rattle.ivy_requests.specs.Managing.{IsManaged}
+use Rattle.ivy_requests.specs.Hinting.{IsHinted}
 use Rattle.ivy_routes.proofs.FirstManaged.{managed_opening}
 use Rattle.ivy_routes.proofs.FirstHinted.{first_hinted}
 use Rattle.ivy_routes.proofs.Kept.{quiet-kept}
@@ -78,12 +78,14 @@ module _ {S : Type 0} {ops : Ops S} (laws : Laws ops) (c : Config) (limits : IsC
     | inr past ↦ ap breaches_of past.1
   ]
 
+  pub quiet_first : IsQuiet Routed c (managers_of spare first) (net_of first) (λ p. [])
+  quiet_first = (orderly_opening (net_of first) (first_net ops c programs) c, begins (managers_of spare first) (net_of first) (first_net ops c programs) first_owned first_managers, first_breaches)
+
   quiet-led : (moves : List Move) (w : World (Host S)) → Leads (host_rules ops) c (opening ops c programs) moves w → HasOrder ops c (Holds ops c (IsQuiet Routed c) spare) w
   quiet-led =
-      opening-led laws c limits kept spare programs many (λ p. [])
-      (orderly_opening (net_of first) (first_net ops c programs) c, begins (managers_of spare first) (net_of first) (first_net ops c programs) first_owned first_managers, first_breaches)
+      opening-led laws c limits kept spare programs many (λ p. []) quiet_first
 
-  quiet_no_breach : (moves : List Move) (w : World (Host S)) → Leads (host_rules ops) c (opening ops c programs) moves w → HasNoBreach w
+  pub quiet_no_breach : (moves : List Move) (w : World (Host S)) → Leads (host_rules ops) c (opening ops c programs) moves w → HasNoBreach w
   quiet_no_breach moves w led i n there =
       let h = quiet-led moves w led in
       ap breaches_of (sym (core_there w.nodes i n there)) ∙ h.holds.1.1.2 i

@@ -20,13 +20,14 @@ use Rattle.ivy_order.specs.Rows.{letter, told}
 use Rattle.ivy_order.proofs.Places.{served}
 use Rattle.ivy_order.proofs.Steps.{IsStep}
 use Rattle.ivy_order.proofs.Parcels.{IsThe, answer_step, ask_step}
-use Rattle.ivy_routes.specs.Descending.{IsAsked}
-use Rattle.ivy_routes.specs.Managing.{claims, IsRouted, IsManaged}
-use Rattle.ivy_routes.proofs.Moves.{ReadSent, WriteSent, GivenHere, GivenElsewhere, AskedHere, AskedElsewhere, both}
-use Rattle.ivy_routes.proofs.Managers.{IsTold, none_told, one_told, told_here, told_else, told_itself, hop_elsewhere, hop_kept}
-use Rattle.ivy_routes.proofs.Asked.{IsOther, idle_unread, other_asker, asked_or_new, asked_others, asked_elsewhere}
-use Rattle.ivy_routes.proofs.Claims.{reader_unclaimed, writer_claims, claims_else, claims_same}
+use Rattle.ivy_requests.specs.Descending.{IsAsked}
+use Rattle.ivy_requests.specs.Managing.{claims, IsReader, asking, IsRouted, IsManaged}
+use Rattle.ivy_requests.proofs.Moves.{ReadSent, WriteSent, GivenHere, GivenElsewhere, AskedHere, AskedElsewhere, both}
+use Rattle.ivy_requests.proofs.Managers.{IsTold, none_told, one_told, told_here, told_else, told_itself, hop_elsewhere, hop_kept}
+use Rattle.ivy_requests.proofs.Asked.{IsOther, idle_unread, other_asker, asked_or_new, asked_others, asked_elsewhere, AreStill, idle_silent, reader_or_new, reader_others, reader_elsewhere, only_still, none_gone, served_or_still, still_elsewhere}
+use Rattle.ivy_requests.proofs.Claims.{reader_unclaimed, writer_claims, claims_else, claims_same}
 use Rattle.ivy_routes.proofs.Managed.{MoveAt, page_managed}
+use Rattle.ivy_requests.proofs.Remaining.{IsThere, Remain, IsOnly, IsCounted, still_counted, served_remain, begun_remain, letter_there}
 
 -- at an idle entry of another node than the owner
 module _ (c : Config) (m : ℕ → Owners) (n : Net) (order : IsOrderly c n) (managed : IsManaged c m n) (x p : ℕ) (here : x < c.nodes) (page : p < c.pages)
@@ -38,7 +39,7 @@ module _ (c : Config) (m : ℕ → Owners) (n : Net) (order : IsOrderly c n) (ma
   kept_owner = hop_of (m manager) p
 
   abbrev Routed : Type 0
-  Routed = IsRouted (λ y. claims (n.entry y p)) (IsAsked n (content.WriteReq p)) (IsAsked n (content.ReadReq p)) manager kept_owner
+  Routed = IsRouted (λ y. claims (n.entry y p)) (IsAsked n (content.WriteReq p)) (IsReader n p) manager kept_owner
 
   routed : Routed
   routed = managed.routed p page
@@ -72,7 +73,7 @@ module _ (c : Config) (m : ℕ → Owners) (n : Net) (order : IsOrderly c n) (ma
       | inr ne ↦ inl (
         hop_there ne,
         λ h. both (claims (n.entry x p)) (
-            ap (λ i. claims (n.entry i p)) (routed.manager_reads x (subst (λ i. IsAsked n (content.ReadReq p) i x) h asked))
+            ap (λ i. claims (n.entry i p)) (routed.manager_reads x (asking (subst (λ i. IsAsked n (content.ReadReq p) i x) h asked)))
             ∙ routed.kept_claims (subst (λ i. claims (n.entry i p) ≡ false) h (reader_unclaimed c n order p o x asked))
             ) unclaimed,
       )
@@ -89,19 +90,22 @@ module _ (c : Config) (m : ℕ → Owners) (n : Net) (order : IsOrderly c n) (ma
 
     -- one letter is new, a request of o to read
     read_moved : (m' : ℕ → Owners) (n' : Net) (z : Entry) (at : Place) (source o call : ℕ) → IsTold fixed_ops m m' x p → hop_of (m' manager) p ≡ kept_owner
-        → IsStep n n' x p (entry.Idle s) z served (IsThe at (letter source (hop_of (m x) p) o call (content.ReadReq p))) → claims z ≡ s.owner
+        → IsStep n n' x p (entry.Idle s) z served (IsThe at (letter source (hop_of (m x) p) o call (content.ReadReq p))) → IsCounted n' → AreStill n n' → claims z ≡ s.owner
         → ((hop_of (m x) p ≡ manager) × (o ≢ manager)) ⊎ ((hop_of (m x) p ≡ kept_owner) × (claims (n.entry manager p) ≡ false) × (o ≢ kept_owner))
         → IsManaged c m' n'
-    read_moved m' n' z at source o call t kept step still route = page_managed c m m' n n' x p t order
+    read_moved m' n' z at source o call t kept step counted remains still route = page_managed c m m' n n' x p t order counted
         (λ y q ne. claims_same n n' x p (entry.Idle s) z served (IsThe at new) step still y q)
-        (λ q ne. asked_elsewhere n n' x p (entry.Idle s) z served at new step q refl ne)
+        (λ q ne. asked_elsewhere n n' x p (entry.Idle s) z served at new step q refl ne (content.WriteReq q) refl)
+        (λ q ne. reader_elsewhere n n' x p (entry.Idle s) z served at new step q refl ne)
+        (λ q ne. remains q)
         (ReadSent o (hop_of (m x) p) (record {
           claims = λ y. claims_same n n' x p (entry.Idle s) z served (IsThe at new) step still y p;
           writes = λ i y v. (asked_others n n' x p (entry.Idle s) z served at new step (content.WriteReq p) (λ h. cc) i y v).was;
-          reads = λ i y v. elim (asked_or_new n n' x p (entry.Idle s) z served at new step (content.ReadReq p) i y v) [
-            | inl h ↦ inl h.was
+          reads = λ i y v. elim (reader_or_new n n' x p (entry.Idle s) z served at new step p (λ bytes h. cc) i y v) [
+            | inl h ↦ inl h
             | inr h ↦ inr (sym h.1, sym h.0)
           ];
+          stays = remains p;
           kept = kept;
           route = route;
         })) managed
@@ -111,10 +115,13 @@ module _ (c : Config) (m : ℕ → Owners) (n : Net) (order : IsOrderly c n) (ma
 
     -- one letter is new, a request of x to write, and x waits for the page
     write_moved : (m' : ℕ → Owners) (n' : Net) (z : Entry) (at : Place) (call : ℕ) → IsTold fixed_ops m m' x p → hop_of (m' manager) p ≡ kept_owner
-        → IsStep n n' x p (entry.Idle s) z served (IsThe at (letter x (hop_of (m x) p) x call (content.WriteReq p))) → claims z ≡ true → IsManaged c m' n'
-    write_moved m' n' z at call t kept step waits = page_managed c m m' n n' x p t order
+        → IsStep n n' x p (entry.Idle s) z served (IsThe at (letter x (hop_of (m x) p) x call (content.WriteReq p))) → IsCounted n' → AreStill n n'
+        → IsThere n' (letter x (hop_of (m x) p) x call (content.WriteReq p)) → claims z ≡ true → IsManaged c m' n'
+    write_moved m' n' z at call t kept step counted remains there waits = page_managed c m m' n n' x p t order counted
         (λ y q ne. claims_else n n' x p (entry.Idle s) z served (IsThe at new) step y q (inr ne))
-        (λ q ne. asked_elsewhere n n' x p (entry.Idle s) z served at new step q refl ne)
+        (λ q ne. asked_elsewhere n n' x p (entry.Idle s) z served at new step q refl ne (content.WriteReq q) refl)
+        (λ q ne. reader_elsewhere n n' x p (entry.Idle s) z served at new step q refl ne)
+        (λ q ne. remains q)
         move managed
       where
         new : Letter
@@ -123,8 +130,8 @@ module _ (c : Config) (m : ℕ → Owners) (n : Net) (order : IsOrderly c n) (ma
         other_claims : (y : ℕ) → y ≢ x → claims (n'.entry y p) ≡ claims (n.entry y p)
         other_claims y ne = claims_else n n' x p (entry.Idle s) z served (IsThe at new) step y p (inl ne)
 
-        other_reads : (i y : ℕ) → IsAsked n' (content.ReadReq p) i y → IsAsked n (content.ReadReq p) i y
-        other_reads i y v = (asked_others n n' x p (entry.Idle s) z served at new step (content.ReadReq p) (λ h. cc) i y v).was
+        other_reads : (i y : ℕ) → IsReader n' p i y → IsReader n p i y
+        other_reads = reader_others n n' x p (entry.Idle s) z served at new step p (λ bytes h. cc) (λ h. cc)
 
         move : MoveAt c m m' n n' p
         move = elim (cases_eq x manager) [
@@ -135,6 +142,8 @@ module _ (c : Config) (m : ℕ → Owners) (n : Net) (order : IsOrderly c n) (ma
               | inr h ↦ inr (sym h.1 ∙ same, sym h.0 ∙ hop_here same)
             ];
             reads = other_reads;
+            stays = remains p;
+            asks = record { at = there.0; letter = new; there = there.1; dest = hop_here same; asker = same; asks = refl };
             kept = kept;
             plain = subst (λ i. claims (n.entry i p) ≡ false) same unclaimed;
             waits = subst (λ i. claims (n'.entry i p) ≡ true) same (ap claims step.after ∙ waits);
@@ -146,6 +155,7 @@ module _ (c : Config) (m : ℕ → Owners) (n : Net) (order : IsOrderly c n) (ma
               | inr h ↦ inr (sym h.1, sym h.0 ∙ hop_there ne)
             ];
             reads = other_reads;
+            stays = remains p;
             kept = kept;
             away = ne;
             plain = unclaimed;
@@ -157,19 +167,28 @@ module _ (c : Config) (m : ℕ → Owners) (n : Net) (order : IsOrderly c n) (ma
     pub sent_on_read : (from o call : ℕ) (rest : List Letter) → n.loose ≡ letter from x o call (content.ReadReq p) ∷ rest
         → IsManaged c (told m x (m x)) (goes_on n x p (entry.Idle s) rest (parcel_to x (hop_of (m x) p) o call (content.ReadReq p) ∷ []))
     sent_on_read from o call rest loose = read_moved (told m x (m x)) _ (entry.Idle s) _ x o call (none_told fixed_ops m _ x p (told_itself m x)) (ap (λ v. hop_of v p) (told_itself m x manager))
-        (answer_step n x p (entry.Idle s) (entry.Idle s) _ rest (hop_of (m x) p) o call (content.ReadReq p) is loose (λ k q h. h)) refl
+        (answer_step n x p (entry.Idle s) (entry.Idle s) _ rest (hop_of (m x) p) o call (content.ReadReq p) is loose (λ k q h. h))
+        (still_counted n x p (entry.Idle s) rest (parcel_to x (hop_of (m x) p) o call (content.ReadReq p) ∷ []) managed.counted)
+        (only_still n _ (letter from x o call (content.ReadReq p))
+        (served_remain n x p (entry.Idle s) (entry.Idle s) rest (parcel_to x (hop_of (m x) p) o call (content.ReadReq p) ∷ []) is (letter from x o call (content.ReadReq p)) loose (λ j r h. h)) (λ q h. cc)) refl
         (read_route o (record { at = Loose 0; letter = letter from x o call (content.ReadReq p); there = ap (λ v. slice_get v 0) loose; dest = refl; asker = refl; asks = refl }))
 
     pub began_to_read : (call : ℕ) (w : Word) → n.loose ≡ []
         → IsManaged c m (goes_on n x p (entry.AwaitRead (waiting_from w call)) [] (parcel_to x (hop_of (m x) p) x call (content.ReadReq p) ∷ []))
     began_to_read call w loose = read_moved m _ (entry.AwaitRead (waiting_from w call)) _ x x call (none_told fixed_ops m m x p (λ i. refl)) refl
-        (ask_step n x p (entry.Idle s) (entry.AwaitRead (waiting_from w call)) (hop_of (m x) p) x call (content.ReadReq p) is loose (λ k q h. absurd (none-some q h))) (sym plain)
-        begun_route
+        (ask_step n x p (entry.Idle s) (entry.AwaitRead (waiting_from w call)) (hop_of (m x) p) x call (content.ReadReq p) is loose (λ k q h. absurd (none-some q h)))
+        (still_counted n x p (entry.AwaitRead (waiting_from w call)) [] (parcel_to x (hop_of (m x) p) x call (content.ReadReq p) ∷ []) managed.counted)
+        (none_gone n _ (begun_remain n x p (entry.Idle s) (entry.AwaitRead (waiting_from w call)) [] (parcel_to x (hop_of (m x) p) x call (content.ReadReq p) ∷ []) is loose (λ j r h. absurd (none-some r h))))
+        (sym plain) begun_route
 
     pub began_to_write : (call : ℕ) (w : Word) → n.loose ≡ []
         → IsManaged c m (goes_on n x p (entry.AwaitWrite (record { had_copy = reads s.access; waiting = waiting_from w call })) [] (parcel_to x (hop_of (m x) p) x call (content.WriteReq p) ∷ []))
     began_to_write call w loose = write_moved m _ (entry.AwaitWrite (record { had_copy = reads s.access; waiting = waiting_from w call })) _ call (none_told fixed_ops m m x p (λ i. refl)) refl
-        (ask_step n x p (entry.Idle s) (entry.AwaitWrite (record { had_copy = reads s.access; waiting = waiting_from w call })) (hop_of (m x) p) x call (content.WriteReq p) is loose (λ k q h. absurd (none-some q h))) refl
+        (ask_step n x p (entry.Idle s) (entry.AwaitWrite (record { had_copy = reads s.access; waiting = waiting_from w call })) (hop_of (m x) p) x call (content.WriteReq p) is loose (λ k q h. absurd (none-some q h)))
+        (still_counted n x p (entry.AwaitWrite (record { had_copy = reads s.access; waiting = waiting_from w call })) [] (parcel_to x (hop_of (m x) p) x call (content.WriteReq p) ∷ []) managed.counted)
+        (none_gone n _ (begun_remain n x p (entry.Idle s) (entry.AwaitWrite (record { had_copy = reads s.access; waiting = waiting_from w call })) []
+        (parcel_to x (hop_of (m x) p) x call (content.WriteReq p) ∷ []) is loose (λ j r h. absurd (none-some r h))))
+        (letter_there n x p (entry.AwaitWrite (record { had_copy = reads s.access; waiting = waiting_from w call })) [] (hop_of (m x) p) x call (content.WriteReq p) managed.counted) refl
 
   -- a request of o to write is served
   module _ (from o call : ℕ) (rest : List Letter) (loose : n.loose ≡ letter from x o call (content.WriteReq p) ∷ rest) where
@@ -186,15 +205,20 @@ module _ (c : Config) (m : ℕ → Owners) (n : Net) (order : IsOrderly c n) (ma
     pub sent_on_write : s.owner ≡ false
         → IsManaged c (told m x (owner_kept (m x) p o)) (goes_on n x p (entry.Idle s) rest (parcel_to x (hop_of (m x) p) o call (content.WriteReq p) ∷ []))
     sent_on_write plain = page_managed c m (told m x (owner_kept (m x) p o)) n n' x p t order
+        (still_counted n x p (entry.Idle s) rest (parcel_to x (hop_of (m x) p) o call (content.WriteReq p) ∷ []) managed.counted)
         (λ y q ne. claims_same n n' x p (entry.Idle s) (entry.Idle s) served (IsThe at new) step refl y q)
-        (λ q ne. asked_elsewhere n n' x p (entry.Idle s) (entry.Idle s) served at new step q refl ne)
+        (λ q ne. asked_elsewhere n n' x p (entry.Idle s) (entry.Idle s) served at new step q refl ne (content.WriteReq q) refl)
+        (λ q ne. reader_elsewhere n n' x p (entry.Idle s) (entry.Idle s) served at new step q refl ne)
+        (still_elsewhere n n' from x o call p remain)
         (WriteSent o (record {
           claims = λ y. claims_same n n' x p (entry.Idle s) (entry.Idle s) served (IsThe at new) step refl y p;
           writes = λ i y v. elim (asked_or_new n n' x p (entry.Idle s) (entry.Idle s) served at new step (content.WriteReq p) i y v) [
             | inl h ↦ inl (h.was, not_o i y h)
             | inr h ↦ inr (sym h.1, sym h.0 ∙ hop_here same)
           ];
-          reads = λ i y v. (asked_others n n' x p (entry.Idle s) (entry.Idle s) served at new step (content.ReadReq p) (λ h. cc) i y v).was;
+          reads = reader_others n n' x p (entry.Idle s) (entry.Idle s) served at new step p (λ bytes h. cc) (λ h. cc);
+          stays = λ i y v. elim (served_or_still n n' from x o call p remain i y v) [ inl h ↦ inl h | inr h ↦ inr (h.0, h.1 ∙ same) ];
+          sent = record { at = there.0; letter = new; there = there.1; dest = hop_here same; asker = refl; asks = refl };
           kept = kept_told o same;
           plain = subst (λ i. claims (n.entry i p) ≡ false) same (claims_owner ∙ plain);
           unread = λ y k. idle_unread c n order p manager y s (subst (λ i. n.entry i p ≡ entry.Idle s) same is) k;
@@ -214,6 +238,12 @@ module _ (c : Config) (m : ℕ → Owners) (n : Net) (order : IsOrderly c n) (ma
         step : IsStep n n' x p (entry.Idle s) (entry.Idle s) served (IsThe at new)
         step = answer_step n x p (entry.Idle s) (entry.Idle s) _ rest (hop_of (m x) p) o call (content.WriteReq p) is loose (λ k q h. h)
 
+        remain : Remain n n' (IsOnly (letter from x o call (content.WriteReq p)))
+        remain = served_remain n x p (entry.Idle s) (entry.Idle s) rest (parcel_to x (hop_of (m x) p) o call (content.WriteReq p) ∷ []) is (letter from x o call (content.WriteReq p)) loose (λ j r h. h)
+
+        there : IsThere n' new
+        there = letter_there n x p (entry.Idle s) rest (hop_of (m x) p) o call (content.WriteReq p) managed.counted
+
         same : x ≡ manager
         same = elim (cases_eq x manager) [
           | inl h ↦ h
@@ -221,11 +251,14 @@ module _ (c : Config) (m : ℕ → Owners) (n : Net) (order : IsOrderly c n) (ma
         ]
 
     -- by the owner, which gives the page
-    pub given : (bits : ℕ) (bytes : List ℕ)
+    pub given : s.owner ≡ true → (bits : ℕ) (bytes : List ℕ)
         → IsManaged c (told m x (owner_kept (m x) p o)) (goes_on n x p (entry.Idle without) rest (parcel_to x o o call (content.WriteRep p bits bytes) ∷ []))
-    given bits bytes = page_managed c m (told m x (owner_kept (m x) p o)) n n' x p t order
+    given owner bits bytes = page_managed c m (told m x (owner_kept (m x) p o)) n n' x p t order
+        (still_counted n x p (entry.Idle without) rest (parcel_to x o o call (content.WriteRep p bits bytes) ∷ []) managed.counted)
         (λ y q ne. claims_else n n' x p (entry.Idle s) (entry.Idle without) served (IsThe at new) step y q (inr ne))
-        (λ q ne. asked_elsewhere n n' x p (entry.Idle s) (entry.Idle without) served at new step q refl ne)
+        (λ q ne. asked_elsewhere n n' x p (entry.Idle s) (entry.Idle without) served at new step q refl ne (content.WriteReq q) refl)
+        (λ q ne. reader_elsewhere n n' x p (entry.Idle s) (entry.Idle without) served at new step q refl ne)
+        (still_elsewhere n n' from x o call p remain)
         move managed
       where
         n' : Net
@@ -246,8 +279,11 @@ module _ (c : Config) (m : ℕ → Owners) (n : Net) (order : IsOrderly c n) (ma
         other_writes : (i y : ℕ) → IsAsked n' (content.WriteReq p) i y → IsAsked n (content.WriteReq p) i y × (i ≢ o)
         other_writes i y v = (let h = asked_others n n' x p (entry.Idle s) (entry.Idle without) served at new step (content.WriteReq p) (λ h. cc) i y v in (h.was, not_o i y h))
 
-        other_reads : (i y : ℕ) → IsAsked n' (content.ReadReq p) i y → IsAsked n (content.ReadReq p) i y
-        other_reads i y v = (asked_others n n' x p (entry.Idle s) (entry.Idle without) served at new step (content.ReadReq p) (λ h. cc) i y v).was
+        other_reads : (i y : ℕ) → IsReader n' p i y → IsReader n p i y
+        other_reads = reader_others n n' x p (entry.Idle s) (entry.Idle without) served at new step p (λ bytes h. cc) (λ h. cc)
+
+        remain : Remain n n' (IsOnly (letter from x o call (content.WriteReq p)))
+        remain = served_remain n x p (entry.Idle s) (entry.Idle without) rest (parcel_to x o o call (content.WriteRep p bits bytes) ∷ []) is (letter from x o call (content.WriteReq p)) loose (λ j r h. h)
 
         move : MoveAt c m (told m x (owner_kept (m x) p o)) n n' p
         move = elim (cases_eq x manager) [
@@ -255,6 +291,8 @@ module _ (c : Config) (m : ℕ → Owners) (n : Net) (order : IsOrderly c n) (ma
             claims = λ y ne. other_claims y (λ h. ne (h ∙ same));
             writes = other_writes;
             reads = other_reads;
+            stays = λ i y v. elim (served_or_still n n' from x o call p remain i y v) [ inl h ↦ inl h | inr h ↦ inr (h.0, h.1 ∙ same) ];
+            owner = subst (λ i. claims (n.entry i p) ≡ true) same (claims_owner ∙ owner);
             kept = kept_told o same;
             unread = λ y k. idle_unread c n order p manager y s (subst (λ i. n.entry i p ≡ entry.Idle s) same is) k;
             asked = subst (IsAsked n (content.WriteReq p) o) same asked;
@@ -264,6 +302,8 @@ module _ (c : Config) (m : ℕ → Owners) (n : Net) (order : IsOrderly c n) (ma
             claims = other_claims;
             writes = other_writes;
             reads = other_reads;
+            stays = served_or_still n n' from x o call p remain;
+            silent = λ y. idle_silent c n order p x y s is;
             kept = ap (λ v. hop_of v p) (told_else m x (owner_kept (m x) p o) manager (λ h. ne (sym h)));
             away = ne;
             asked = asked;

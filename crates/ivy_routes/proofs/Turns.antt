@@ -1,8 +1,8 @@
 -- The turns that the managing node gives, once the requests for its page have moved.
 use Rattle.std.proofs.Common.{◌≡◌, ◌≢◌, ◌⊎◌, ◌<◌, ◌≤◌, ◌+◌, ℕ, Bool, true, false, refl, sym, ap, ◌∙◌, subst, inl, inr, arith, if◌then◌else◌, ◌==◌}
 use Rattle.std.proofs.lemmas.Bool.{cases_eq, eq-eqb, ne_eqb}
-use Rattle.ivy_routes.specs.Managing.{IsRouted, Turns, HasTurns}
-use Rattle.ivy_routes.proofs.Moves.{IsCalm, IsReadSent, IsWriteSent, IsGivenHere, IsGivenElsewhere, IsAskedHere, IsAskedElsewhere, Move, Calm, ReadSent, WriteSent, GivenHere, GivenElsewhere, AskedHere, AskedElsewhere, both}
+use Rattle.ivy_requests.specs.Managing.{IsRouted, Turns, HasTurns}
+use Rattle.ivy_requests.proofs.Moves.{IsCalm, IsReadSent, IsWriteSent, IsGivenHere, IsGivenElsewhere, IsAskedHere, IsAskedElsewhere, Move, Calm, ReadSent, WriteSent, GivenHere, GivenElsewhere, AskedHere, AskedElsewhere, both}
 
 -- one value of a function is another
 abbrev but : {X : Type 0} → (ℕ → X) → ℕ → X → ℕ → X

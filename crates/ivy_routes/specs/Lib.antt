@@ -1,3 +1,1 @@
-pub mod Descending
-pub mod Managing
-pub mod Hinting
+pub mod RoutedRuns

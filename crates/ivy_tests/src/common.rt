@@ -3,7 +3,7 @@ ghost use Rattle.std.specs.Prelude.{◌≡◌, ◌<◌, length, IfOk, IfErr};
 
 use growths::Refusing;
 use ivy_model::{Config, Fault, Kind, Record, Reply};
-use ivy_node::{Move, Program, Site, Turn, Verdict, World, is_built, parse};
+use ivy_node::{Move, Program, Site, Turn, Verdict, World, parse};
 use ivy_wire::{FrameKind, decode};
 use std::alloc::{Allocator, Global};
 use std::process::Abort;
@@ -47,9 +47,6 @@ pub(crate) fn world<A: Allocator + Copy>(
 /// Node 0 of a configuration, whose program is empty.
 pub(crate) fn owner<A: Allocator + Copy>(alloc: A, config: &Config) -> Result<Site<A>, Fail> {
     config.check()?;
-    if !is_built(config) {
-        return Err("its manager is not built".into());
-    }
     Ok(Site::new(alloc, config, 0, Program::new(alloc, Vec::new(alloc)))?)
 }
 
@@ -58,9 +55,6 @@ pub(crate) fn loading<A: Allocator + Copy>(alloc: A) -> Result<Site<A>, Fail>
     ensures { IfOk result (λ site. (site.config.nodes ≡ 2) × (site.me ≡ 1)) }
 {
     PAIR.check()?;
-    if !is_built(&PAIR) {
-        return Err("its manager is not built".into());
-    }
     let mut programs = parse(alloc, LOADS)?;
     let program = programs.pop().ok_or("no program")?;
     let mut site = Site::new(alloc, &PAIR, 1, program)?;

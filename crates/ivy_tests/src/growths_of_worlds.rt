@@ -1,12 +1,17 @@
 //! Each growth refused in turn in a world that runs. The place of the refused move is answered, the moves
 //! before it were made, and the run goes on from there to the same end. The runs have all that a store can
 //! lead to: turns in which it faults, page requests at the owner and put off, pages with and without copies,
-//! copies that are ended, and acknowledgements, the last of them and others.
+//! copies that are ended at once and once they came, acknowledgements, the last of them and others, and seven
+//! requests that are put off and then served in one event.
 ghost use Rattle.std.specs.Prelude.{◌≡◌, ◌<◌};
 
 use crate::common::{LOADS, MANY, PAIR, TRIO, deliver, has_loaded_zero, play, pulse, world};
+use crate::eight_nodes::{
+    ALL_STORE, EIGHT, ONE_STORES, put_off_by_a_writer, put_off_while_awaited,
+};
 use crate::stores::{
-    UPGRADE_OF_THREE, UPGRADE_OF_THREE_MOVES, UPGRADE_OF_TWO, UPGRADE_OF_TWO_MOVES,
+    LATE, LATE_MOVES, UPGRADE_OF_THREE, UPGRADE_OF_THREE_MOVES, UPGRADE_OF_TWO,
+    UPGRADE_OF_TWO_MOVES,
 };
 use growths::Refusing;
 use ivy_model::{Config, Fault};
@@ -105,6 +110,8 @@ fn growths_of(rt: &impl Abort, memory: &Refusing<Global>, run: &Run) -> Result<u
 
 #[test]
 fn growths_of_runs(rt: HostRuntime) -> Result<(), Fail> {
+    let seven_put_off = put_off_by_a_writer(rt.alloc(), &[7, 0, 2, 3, 4, 5, 6])?;
+    let seven_copies = put_off_while_awaited(rt.alloc())?;
     let memory = Refusing::new(rt.alloc());
     for run in [
         Run {
@@ -121,6 +128,21 @@ fn growths_of_runs(rt: HostRuntime) -> Result<(), Fail> {
             config: TRIO,
             text: UPGRADE_OF_THREE,
             moves: &UPGRADE_OF_THREE_MOVES,
+        },
+        Run {
+            config: TRIO,
+            text: LATE,
+            moves: &LATE_MOVES,
+        },
+        Run {
+            config: EIGHT,
+            text: ALL_STORE,
+            moves: &seven_put_off,
+        },
+        Run {
+            config: EIGHT,
+            text: ONE_STORES,
+            moves: &seven_copies,
         },
     ] {
         assert!(rt; growths_of(&rt, &memory, &run)? > 0);

@@ -8,6 +8,8 @@
 #[cfg(test)]
 mod common;
 #[cfg(test)]
+mod dynamic;
+#[cfg(test)]
 mod eight_nodes;
 #[cfg(test)]
 mod first_load;

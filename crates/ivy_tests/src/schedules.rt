@@ -107,10 +107,10 @@ fn worlds_that_are_refused(rt: HostRuntime) -> Result<(), Fail> {
     assert_eq!(rt; refusal(rt.alloc(), Config { nodes: 9, ..PAIR }, nine), bad);
     assert_eq!(rt; refusal(rt.alloc(), PAIR, "node 0\nnode 1\nnode 2\n"), bad);
     assert_eq!(rt; refusal(rt.alloc(), PAIR, ""), bad);
+    assert_eq!(rt; refusal(rt.alloc(), TRIO, "node 0\nnode 1\nnode 2\n"), None);
     assert_eq!(rt;
         refusal(rt.alloc(), dynamic, "node 0\nnode 1\nnode 2\n"),
-        bad
+        None
     );
-    assert_eq!(rt; refusal(rt.alloc(), TRIO, "node 0\nnode 1\nnode 2\n"), None);
     Ok(())
 }

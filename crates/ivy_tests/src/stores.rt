@@ -1,5 +1,5 @@
 //! Stores: to a page that the node owns, to one that others have copies of, and by several nodes at once.
-use crate::common::{PAIR, TRIO, ZEROS, are_sent, deliver, is_answered, is_sent, play, world};
+use crate::common::{PAIR, TRIO, ZEROS, are_sent, is_answered, is_sent, play, world};
 use ivy_model::{Call, Config, Record, Reply};
 use ivy_node::Move;
 use ivy_wire::FrameKind;
@@ -77,7 +77,7 @@ fn local_stores(rt: HostRuntime) -> Result<(), Fail> {
 }
 
 /// Node 2 loads a word that node 1 stores.
-const LATE: &str = "node 0
+pub(crate) const LATE: &str = "node 0
 node 1
 set r1 64
 set r2 5
@@ -88,20 +88,36 @@ load 8 r3 r1
 print r3
 ";
 
+/// The copy for node 2, string 2, is held back until the message that is to end it came.
+pub(crate) const LATE_MOVES: [Move; 16] = [
+    Move::Turn(2),
+    Move::Turn(2),
+    Move::Deliver { index: 0, to: 1 },
+    Move::Deliver { index: 1, to: 0 },
+    Move::Turn(1),
+    Move::Turn(1),
+    Move::Turn(1),
+    Move::Deliver { index: 3, to: 0 },
+    Move::Deliver { index: 4, to: 1 },
+    Move::Deliver { index: 5, to: 2 },
+    Move::Deliver { index: 2, to: 2 },
+    Move::Turn(1),
+    Move::Deliver { index: 6, to: 1 },
+    Move::Turn(1),
+    Move::Turn(2),
+    Move::Turn(2),
+];
+
 /// The copy for node 2 is late: the message that is to end it comes first, and waits for it.
 #[test]
 fn late_read_page(rt: HostRuntime) -> Result<(), Fail> {
     let alloc = rt.alloc();
     let mut world = world(alloc, TRIO, LATE)?;
-    let asks = [Move::Turn(2), Move::Turn(2), deliver(0, 1), deliver(1, 0)];
-    assert!(rt; play(&mut world, &asks).is_ok());
-    assert!(rt; play(&mut world, &[Move::Turn(1); 3]).is_ok());
-    assert!(rt; play(&mut world, &[deliver(3, 0), deliver(4, 1), deliver(5, 2)]).is_ok());
+    assert!(rt; play(&mut world, &LATE_MOVES[..10]).is_ok());
     assert!(rt; world.sent().len() == 6);
-    assert!(rt; play(&mut world, &[deliver(2, 2), Move::Turn(1)]).is_ok());
+    assert!(rt; play(&mut world, &LATE_MOVES[10..12]).is_ok());
     assert!(rt; world.history(1).is_empty());
-    assert!(rt; play(&mut world, &[deliver(6, 1), Move::Turn(1)]).is_ok());
-    assert!(rt; play(&mut world, &[Move::Turn(2), Move::Turn(2)]).is_ok());
+    assert!(rt; play(&mut world, &LATE_MOVES[12..]).is_ok());
     assert!(rt; is_answered(&world, 1, &[stored(1, 8, 64, 5, Reply::Done)]));
     assert!(rt; is_answered(&world, 2, &[loaded(2, 8, 64, 0)]));
     assert!(rt; world.sent().len() == 7);

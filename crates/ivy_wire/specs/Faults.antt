@@ -44,7 +44,8 @@ abbrev pub is_copy_set : Config → ℕ → Bool
 is_copy_set c copies = nat_lt copies (2 ^ c.nodes)
 
 abbrev pub is_block_or_refusal : ℕ → ℕ → Bool
-is_block_or_refusal code addr = (code == 0) || ((code == fault_number ZeroSize || code == fault_number NoRoom) && (addr == 0))
+is_block_or_refusal code addr =
+    (code == 0) || ((code == fault_number ZeroSize || code == fault_number NoRoom) && (addr == 0))
 
 abbrev pub is_freed_or_refusal : ℕ → Bool
 is_freed_or_refusal code = (code == 0) || (code == fault_number NotABlock)
@@ -55,11 +56,13 @@ is_sound_content c Ack rest = true
 is_sound_content c ReadReq rest = is_page c (big_number 4 rest)
 is_sound_content c WriteReq rest = is_page c (big_number 4 rest)
 is_sound_content c ReadRep rest = is_page c (big_number 4 rest)
-is_sound_content c WriteRep rest = is_page c (big_number 4 rest) && is_copy_set c (slice_index rest 4)
+is_sound_content c WriteRep rest =
+    is_page c (big_number 4 rest) && is_copy_set c (slice_index rest 4)
 is_sound_content c Inval rest = is_page c (big_number 4 rest)
 is_sound_content c InvalAck rest = is_page c (big_number 4 rest)
 is_sound_content c AllocReq rest = true
-is_sound_content c AllocRep rest = is_block_or_refusal (slice_index rest 0) (big_number 8 (drop 1 rest))
+is_sound_content c AllocRep rest =
+    is_block_or_refusal (slice_index rest 0) (big_number 8 (drop 1 rest))
 is_sound_content c FreeReq rest = true
 is_sound_content c FreeRep rest = is_freed_or_refusal (slice_index rest 0)
 
@@ -69,12 +72,15 @@ unfoldable pub is_sound_text : Config → FrameKind → ℕ → List ℕ → Boo
 is_sound_text c kind number text =
     if code_of kind == 0
     then number == 0
-    else (not (number == 0) && (nat_lt (slice_index text 0) c.nodes && (not (big_number 8 (drop 1 text) == 0) && is_sound_content c kind (drop call_len text))))
+    else (not (number == 0)
+    && (nat_lt (slice_index text 0) c.nodes
+    && (not (big_number 8 (drop 1 text) == 0) && is_sound_content c kind (drop call_len text))))
 
 -- 15 and 16: the tests of nodes, length and body, for a string of this kind that is long enough
 unfoldable pub checked_in : Config → FrameKind → List ℕ → Result FrameKind Fault
 checked_in c kind bytes =
-    if nat_le c.nodes (source_at bytes) || (nat_le c.nodes (dest_at bytes) || (source_at bytes == dest_at bytes)) then Err BadNode
+    if nat_le c.nodes (source_at bytes)
+    || (nat_le c.nodes (dest_at bytes) || (source_at bytes == dest_at bytes)) then Err BadNode
     else if not (length bytes == header_len + len_at bytes) then Err BadBody
     else if not (len_at bytes == text_len c kind) then Err BadBody
     else if is_sound_text c kind (frame_number_at bytes) (text_at bytes) then Ok kind

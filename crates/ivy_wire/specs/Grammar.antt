@@ -7,12 +7,15 @@ use Rattle.ivy_wire.specs.Spelling.{Fits, Spells}
 
 -- a frame that fits has one spelling
 abbrev pub HasOneSpelling : Type 0
-HasOneSpelling = (c : Config) (f : Frame) → Fits c f → (bytes : List ℕ) × Spells c f bytes × ((other : List ℕ) → Spells c f other → other ≡ bytes)
+HasOneSpelling = (c : Config) (f : Frame) → Fits c f
+    → (bytes : List ℕ) × Spells c f bytes × ((other : List ℕ) → Spells c f other → other ≡ bytes)
 
 -- a string spells at most one frame
 abbrev pub SpellsAtMostOne : Type 0
-SpellsAtMostOne = (c : Config) (f g : Frame) (bytes : List ℕ) → IsConfig c → Spells c f bytes → Spells c g bytes → f ≡ g
+SpellsAtMostOne = (c : Config) (f g : Frame) (bytes : List ℕ) → IsConfig c → Spells c f bytes
+    → Spells c g bytes → f ≡ g
 
 -- no spelling begins another
 abbrev pub NoneBeginsAnother : Type 0
-NoneBeginsAnother = (c : Config) (f g : Frame) (bytes more : List ℕ) → IsConfig c → Spells c f bytes → Spells c g (bytes ++ more) → (more ≡ []) × (f ≡ g)
+NoneBeginsAnother = (c : Config) (f g : Frame) (bytes more : List ℕ) → IsConfig c
+    → Spells c f bytes → Spells c g (bytes ++ more) → (more ≡ []) × (f ≡ g)

@@ -27,11 +27,18 @@ abbrev pub owned_body : Option (message.Message (Bor (List ℕ))) → Option Mes
 owned_body body = option_map owned_message body
 
 abbrev pub owned_frame : frame.Frame (Bor (List ℕ)) → Frame
-owned_frame f = record { source = f.source; dest = f.dest; number = f.number; ack = f.ack; body = owned_body f.body }
+owned_frame f = record {
+  source = f.source;
+  dest = f.dest;
+  number = f.number;
+  ack = f.ack;
+  body = owned_body f.body;
+}
 
 abbrev pub owned_parcel : parcel.Parcel (Bor (List ℕ)) → Parcel
 owned_parcel p = record { source = p.source; dest = p.dest; message = owned_message p.message }
 
 -- what fills a place that holds no parcel yet: no message of a call, since these are numbered from 1
 abbrev pub filling : Parcel
-filling = record { source = 0; dest = 0; message = record { origin = 0; call = 0; content = ReadReq 0 } }
+filling =
+    record { source = 0; dest = 0; message = record { origin = 0; call = 0; content = ReadReq 0 } }

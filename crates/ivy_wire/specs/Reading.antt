@@ -16,20 +16,29 @@ content_at kinds.Ack rest = None
 content_at kinds.ReadReq rest = Some (contents.ReadReq (big_number 4 rest))
 content_at kinds.WriteReq rest = Some (contents.WriteReq (big_number 4 rest))
 content_at kinds.ReadRep rest = Some (contents.ReadRep (big_number 4 rest) (drop 4 rest))
-content_at kinds.WriteRep rest = Some (contents.WriteRep (big_number 4 rest) (slice_index rest 4) (drop 5 rest))
+content_at kinds.WriteRep rest =
+    Some (contents.WriteRep (big_number 4 rest) (slice_index rest 4) (drop 5 rest))
 content_at kinds.Inval rest = Some (contents.Inval (big_number 4 rest))
 content_at kinds.InvalAck rest = Some (contents.InvalAck (big_number 4 rest))
 content_at kinds.AllocReq rest = Some (contents.AllocReq (big_number 8 rest))
-content_at kinds.AllocRep rest = Some (contents.AllocRep (slice_index rest 0) (big_number 8 (drop 1 rest)))
+content_at kinds.AllocRep rest =
+    Some (contents.AllocRep (slice_index rest 0) (big_number 8 (drop 1 rest)))
 content_at kinds.FreeReq rest = Some (contents.FreeReq (big_number 8 rest))
 content_at kinds.FreeRep rest = Some (contents.FreeRep (slice_index rest 0))
 
 -- the message with this content of a body that begins with origin and call
 abbrev pub message_with : List ℕ → Content → Message
-message_with text content = record { origin = slice_index text 0; call = big_number 8 (drop 1 text); content = content }
+message_with text content =
+    record { origin = slice_index text 0; call = big_number 8 (drop 1 text); content = content }
 
 unfoldable pub message_at : FrameKind → List ℕ → Option Message
 message_at kind text = option_map (message_with text) (content_at kind (drop call_len text))
 
 unfoldable pub frame_at : FrameKind → List ℕ → Frame
-frame_at kind bytes = record { source = source_at bytes; dest = dest_at bytes; number = frame_number_at bytes; ack = ack_at bytes; body = message_at kind (text_at bytes) }
+frame_at kind bytes = record {
+  source = source_at bytes;
+  dest = dest_at bytes;
+  number = frame_number_at bytes;
+  ack = ack_at bytes;
+  body = message_at kind (text_at bytes);
+}

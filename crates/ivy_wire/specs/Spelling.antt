@@ -27,7 +27,9 @@ code_of kinds.FreeRep = 10
 
 -- all kinds, in the order of their numbers
 abbrev pub all_kinds : List FrameKind
-all_kinds = kinds.Ack ∷ kinds.ReadReq ∷ kinds.WriteReq ∷ kinds.ReadRep ∷ kinds.WriteRep ∷ kinds.Inval ∷ kinds.InvalAck ∷ kinds.AllocReq ∷ kinds.AllocRep ∷ kinds.FreeReq ∷ kinds.FreeRep ∷ []
+all_kinds = kinds.Ack ∷ kinds.ReadReq ∷ kinds.WriteReq ∷ kinds.ReadRep ∷ kinds.WriteRep
+    ∷ kinds.Inval ∷ kinds.InvalAck ∷ kinds.AllocReq ∷ kinds.AllocRep ∷ kinds.FreeReq
+    ∷ kinds.FreeRep ∷ []
 
 -- what a message is about, and what a frame with this body is about
 abbrev pub kind_of : Content → FrameKind
@@ -69,7 +71,8 @@ message_text (Some m) = m.origin ∷ (big_bytes 8 m.call ++ content_text m.conte
 abbrev pub spelling : Frame → List ℕ
 spelling f =
     73 ∷ 86 ∷ 1 ∷ code_of (frame_kind f.body) ∷ f.source ∷ f.dest
-    ∷ (big_bytes 2 (length (message_text f.body)) ++ (big_bytes 8 f.number ++ (big_bytes 8 f.ack ++ message_text f.body)))
+    ∷ (big_bytes 2 (length (message_text f.body))
+    ++ (big_bytes 8 f.number ++ (big_bytes 8 f.ack ++ message_text f.body)))
 
 -- how long the body of a frame of this kind is
 abbrev pub text_len : Config → FrameKind → ℕ
@@ -91,11 +94,13 @@ abbrev pub FitsContent : Config → Content → Type 0
 FitsContent c (contents.ReadReq page) = page < c.pages
 FitsContent c (contents.WriteReq page) = page < c.pages
 FitsContent c (contents.ReadRep page bytes) = (page < c.pages) × (length bytes ≡ c.page_size)
-FitsContent c (contents.WriteRep page copies bytes) = (page < c.pages) × (copies < 2 ^ c.nodes) × (length bytes ≡ c.page_size)
+FitsContent c (contents.WriteRep page copies bytes) =
+    (page < c.pages) × (copies < 2 ^ c.nodes) × (length bytes ≡ c.page_size)
 FitsContent c (contents.Inval page) = page < c.pages
 FitsContent c (contents.InvalAck page) = page < c.pages
 FitsContent c (contents.AllocReq size) = size < 2 ^ 64
-FitsContent c (contents.AllocRep code addr) = ((code ≡ 0) × (addr < 2 ^ 64)) ⊎ (((code ≡ fault_number ZeroSize) ⊎ (code ≡ fault_number NoRoom)) × (addr ≡ 0))
+FitsContent c (contents.AllocRep code addr) = ((code ≡ 0) × (addr < 2 ^ 64))
+    ⊎ (((code ≡ fault_number ZeroSize) ⊎ (code ≡ fault_number NoRoom)) × (addr ≡ 0))
 FitsContent c (contents.FreeReq addr) = addr < 2 ^ 64
 FitsContent c (contents.FreeRep code) = (code ≡ 0) ⊎ (code ≡ fault_number NotABlock)
 

@@ -1,4 +1,4 @@
-use Rattle.std.proofs.Common.{◌≡◌, ◌<◌, length, arith}
+use Rattle.std.proofs.Common.{arith}
 use Rattle.ivy_program.specs.Steps.{step_of}
 use Rattle.ivy.specs.Nodes.{end_line, has_ended}
 use Rattle.ivy.proofs.Printing.{numbered-next, told-end, appends-more}

@@ -1,4 +1,4 @@
-use Rattle.std.proofs.Common.{◌≡◌, ◌<◌, length, flat_map, arith}
+use Rattle.std.proofs.Common.{flat_map, arith}
 use Rattle.ivy.specs.Nodes.{value_line}
 use Rattle.ivy.proofs.Printing.{numbered-next, appends-more}
 use Rattle.ivy.proofs.print.print_outputs.Goals as goal

@@ -4,7 +4,7 @@ use Rattle.ivy_pagetable.specs.declared.PutOff.{PutOff}
 use Rattle.ivy_pagetable.specs.States.{IdleState}
 use Rattle.ivy_pagetable.specs.Manager.{Ops}
 use Rattle.ivy_coherence.specs.Serving.{Serving, serving, all_served, told, settled}
-use Rattle.ivy_coherence.proofs.Undoing.{Follows, settled-follows, me-follows, undone}
+use Rattle.ivy_coherence.proofs.Undoing.{IsMadeBy, settled-follows, me-follows, undone}
 use Rattle.ivy_coherence.proofs.serving.settle.Goals as goal
 
 -- the manager learns of the reply first, then all messages are served
@@ -15,7 +15,7 @@ settled_then ops me from page bytes idle m breaches reply qs n v replied each =
 
 -- and what it is then, it is by calls for this page
 follows_then : {S : Type 0} (ops : Ops S) (me from page : ℕ) (bytes : List ℕ) (idle : IdleState) (m : S) (breaches : ℕ) (reply : Option Bool) (qs : List PutOff) (n : S) (v : Serving S)
-    → n ≡ told ops from page m reply → v ≡ all_served ops me page bytes (serving idle n breaches []) qs → Follows ops page m v.manager
+    → n ≡ told ops from page m reply → v ≡ all_served ops me page bytes (serving idle n breaches []) qs → IsMadeBy ops page m v.manager
 follows_then ops me from page bytes idle m breaches reply qs n v replied each =
     rw (settled_then ops me from page bytes idle m breaches reply qs n v replied each) (settled-follows ops page me bytes from idle m breaches reply qs)
 

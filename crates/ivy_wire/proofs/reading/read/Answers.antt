@@ -1,12 +1,9 @@
-use Rattle.std.proofs.Common.{◌≡◌, ℕ, List, ap, sym, ◌∙◌, arith, Result, Ok, Err}
-use Rattle.ivy_model.specs.declared.Config.{Config}
+use Rattle.std.proofs.Common.{◌≡◌, ap, sym, ◌∙◌, arith, Result, Ok, Err}
 use Rattle.ivy_model.specs.declared.Fault.{Fault}
-use Rattle.ivy_model.specs.declared.Fault.TheVariants.{Memory}
 use Rattle.ivy_wire.specs.declared.frame.FrameKind.{FrameKind}
 use Rattle.ivy_wire.specs.Spelling.{frame_kind}
-use Rattle.ivy_wire.specs.Faults.{checked}
 use Rattle.ivy_wire.specs.Reading.{frame_at}
-use Rattle.ivy_wire.proofs.Frames.{sound_checked, frame_spelled, spelled_once, never_memory}
+use Rattle.ivy_wire.proofs.Frames.{sound_checked, frame_spelled, spelled_once}
 use Rattle.ivy_wire.proofs.reading.read.Goals as goal
 
 ok_is : (x y : FrameKind) → (let r : Result FrameKind Fault = Ok x in r) ≡ Ok y → x ≡ y

@@ -1,24 +1,37 @@
-use Rattle.std.proofs.Common.{◌≡◌, sym, ◌∙◌, ap}
+use Rattle.std.proofs.Common.{◌≡◌, List, ℕ, length, sym, ◌∙◌, ap}
 use Rattle.ivy_pagetable.specs.Words.{carried_out}
-use Rattle.ivy_coherence.proofs.Opened.{unlocked_below, unlock_word, unlock_fits, unlock_sound}
+use Rattle.ivy_coherence.proofs.Opened.{fits_spare, unlocked_below, unlock_word, unlock_fits, unlock_sound}
 use Rattle.ivy_coherence.proofs.coherence.Coherence.unlock.Goals as goal
+
+pub copy_from-requires : goal.copy_from-requires
+copy_from-requires g c = fits_spare _ _ c.self.view_is c.args.bytes.now c.self.inside.spare c.requires.sized c.self.invariant.1
 
 pub carry_out-out-requires : goal.carry_out-out-requires
 carry_out-out-requires g c =
-    rw c.word.ensures (unlock_word g.met.M.Manager.laws _ _ c.self.view_is c.self.invariant c.args.page c.args.write c.args.bytes.now c.args.waiting.now c.requires.waits c.requires.sized)
+    rw (c.word.ensures, c.copy_from.ensures)
+    (unlock_word g.met.M.Manager.laws _ _ c.self.view_is c.self.invariant.0 c.args.page c.args.write c.args.bytes.now c.args.waiting.now c.requires.waits c.requires.sized)
 
 pub settle-requires-clause-below : goal.settle-requires-clause-below
 settle-requires-clause-below g c = rw c.unlocked_as-idle.ensures (unlocked_below c.args.write)
 
 pub settle-requires-clause-fits : goal.settle-requires-clause-fits
 settle-requires-clause-fits g c =
-    unlock_fits g.met.M.Manager.laws _ _ c.self.view_is c.self.invariant c.args.from c.args.page c.args.write c.args.bytes.now _ c.args.waiting.now _ _ _ _
+    unlock_fits g.met.M.Manager.laws _ _ c.self.view_is c.self.invariant.0 c.args.from c.args.page c.args.write c.args.bytes.now _ c.args.waiting.now _ _ _ _
     (record { below = c.requires.from; foreign = c.requires.foreign; inside = c.requires.page; sized = c.requires.sized }) c.requires.waits
-    (rw c.word.ensures at c.carry_out-out.ensures.bytes) c.unlocked_as-idle.ensures c.put_offs-messages.ensures.list c.requires.config c.requires.node
+    (c.bytes.ensures ∙ rw (c.word.ensures, c.copy_from.ensures) at c.carry_out-out.ensures.bytes) c.unlocked_as-idle.ensures c.put_offs-messages.ensures.list c.requires.config c.requires.node
+
+pub invariant_of-self : goal.invariant_of-self
+invariant_of-self g c = (
+  rw (c.in_err-after.ensures.err.0, c.in_err-after.ensures.err.1) c.self.invariant.0,
+  c.carry_out-out.ensures.sized ∙ ap length c.copy_from.ensures ∙ fits_spare _ _ c.self.view_is c.args.bytes.now c.self.inside.spare c.requires.sized c.self.invariant.1 ∙ c.self.invariant.1,
+)
 
 pub invariant_of-self-2 : goal.invariant_of-self-2
 invariant_of-self-2 g c =
-    unlock_sound g.met.M.Manager.laws _ _ c.self.view_is c.self.invariant c.args.from c.args.page c.args.write c.args.bytes.now c.carry_out-out.new.bytes c.args.waiting.now c.unlocked_as-idle.result _ c.put_offs-messages.result.now _ _ _ _
-    (record { below = c.requires.from; foreign = c.requires.foreign; inside = c.requires.page; sized = c.requires.sized }) c.requires.waits
-    (rw c.word.ensures at c.carry_out-out.ensures.bytes) c.unlocked_as-idle.ensures c.put_offs-messages.ensures.list c.in_ok-after.ensures.idle
-    (rw c.set_entry.ensures at c.install.ensures) c.in_ok-after.ensures.manager (rw c.word.ensures at c.carry_out-out.ensures.out) c.in_ok-after.ensures.breaches
+    let now : c.bytes.result.now ≡ (carried_out c.args.waiting.now.word c.args.bytes.now).bytes = c.bytes.ensures ∙ rw (c.word.ensures, c.copy_from.ensures) at c.carry_out-out.ensures.bytes in (
+      unlock_sound g.met.M.Manager.laws _ _ c.self.view_is c.self.invariant.0 c.args.from c.args.page c.args.write c.args.bytes.now c.bytes.result.now c.args.waiting.now c.unlocked_as-idle.result _ c.put_offs-messages.result.now _ _ _ _
+          (record { below = c.requires.from; foreign = c.requires.foreign; inside = c.requires.page; sized = c.requires.sized }) c.requires.waits
+          now c.unlocked_as-idle.ensures c.put_offs-messages.ensures.list c.in_ok-after.ensures.idle
+          (rw (c.set_entry.ensures, ← c.bytes.ensures) at c.swap_page.ensures.table) c.in_ok-after.ensures.manager (rw (c.word.ensures, c.copy_from.ensures) at c.carry_out-out.ensures.out) c.in_ok-after.ensures.breaches,
+      c.swap_page.ensures.size ∙ ap (λ t. t.page_size) c.set_entry.ensures ∙ c.self.invariant.0.size,
+    )

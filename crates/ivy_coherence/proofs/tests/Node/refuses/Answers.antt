@@ -1,4 +1,5 @@
 use Rattle.std.proofs.Common.{ap, sym, ◌∙◌}
+use Rattle.ivy_wire.specs.Lent.{owned_message}
 use Rattle.ivy_fixed.specs.Fixed.{fixed_ops}
 use Rattle.ivy_coherence.proofs.Same.{handled-same}
 use Rattle.ivy_coherence.proofs.tests.Node.refuses.Goals as goal
@@ -6,7 +7,7 @@ use Rattle.ivy_coherence.proofs.tests.Node.refuses.Goals.{in-Ok, in-Err}
 
 pub invariant_of-self : goal.invariant_of-self
 invariant_of-self c =
-    let same = handled-same fixed_ops c.self.inside.coherence c.args.from c.args.message in
+    let same = handled-same fixed_ops c.self.inside.coherence c.args.from (owned_message c.args.message) in
     elim c.match-handle.branch [
       | in-Ok w ↦ (
         ap (λ x. x.config) w.in-Ok.ensures.ok ∙ same.config ∙ c.self.invariant.0,

@@ -1,6 +1,5 @@
 use Rattle.std.proofs.Common.{IfErr, ◌∙◌, sym, ap, subst, arith}
-use Rattle.ivy_memory.specs.Memories.{CallBegun}
-use Rattle.ivy_memory.proofs.Beginning.{can, had_memory, started_memory, busy_memory, busy_is, call_posts, few_posted, err_there}
+use Rattle.ivy_memory.proofs.Beginning.{can, had_memory, started_memory, busy_memory, busy_is, call_posts, few_posted, err_there, call_asks}
 use Rattle.ivy_memory.proofs.memory.Memory.begin.Goals as goal
 
 pub need-requires-clause-word : goal.need-requires-clause-word
@@ -39,6 +38,10 @@ returns-in-Busy-clause-posted g c =
 pub returns-in_err-out-in-Word-clause-fault : goal.returns-in_err-out-in-Word-clause-fault
 returns-in_err-out-in-Word-clause-fault g c =
     subst (λ x. IfErr c.from_residual.result (g.P.Post.refuses c.args.post.now x)) (call_posts g.met.M.Manager.laws _ _ c.config.result c.args.call c.args.number c.in-Word.page c.in-Word.word (record { same = c.self.view_is; sound = c.self.invariant; config = c.config.ensures; idle = c.requires.idle; legal = c.requires.width; least = c.requires.number; most = omega arith; asks = sym c.asked_of.ensures.is ∙ c.in-Word.is })) (err_there c.from_residual.result _ _ c.from_residual.ensures.1 c.in_err-out-in-Word.ensures.fault)
+
+pub returns-in_err-out-in-Word-clause-sure : goal.returns-in_err-out-in-Word-clause-sure
+returns-in_err-out-in-Word-clause-sure g c =
+    call_asks g.met.M.Manager.laws _ _ c.config.result c.args.call c.args.number c.in-Word.page c.in-Word.word (record { same = c.self.view_is; sound = c.self.invariant; config = c.config.ensures; idle = c.requires.idle; legal = c.requires.width; least = c.requires.number; most = omega arith; asks = sym c.asked_of.ensures.is ∙ c.in-Word.is }) c.from_residual.result c.in_err-out-in-Word.ensures.sure
 
 pub returns-in_err-out-in-Word-clause-few : goal.returns-in_err-out-in-Word-clause-few
 returns-in_err-out-in-Word-clause-few g c = few_posted _ _ c.self.view_is c.self.invariant c.args.call c.args.number

@@ -1,4 +1,5 @@
 use Rattle.std.proofs.Common.{rules, ◌≡◌, ◌≢◌, List, ◌++◌, ◌∷◌, [], None, sym, refl, ap, ◌∙◌}
+use Rattle.ivy_wire.specs.Lent.{owned_message, owned_body, owned_frame}
 use Rattle.ivy_link.specs.declared.Verdict.TheVariants as verdict
 use Rattle.ivy_link.specs.Linked.{Linked}
 use Rattle.ivy_link.specs.Accepted.{accepted}
@@ -16,17 +17,17 @@ module _ (g : Over) (c : After-accept g) where
   apart = search rules
 
   -- what the fields are before the frame is accepted
-  heard : IsHeard (record { config = c.self.inside.outbox.config; me = c.self.inside.outbox.me; node = record { core = host_of c.self.inside.memory c.self.inside.machine c.self.inside.history.items; link = c.self.inside.outbox.link }; events = c.self.inside.events.marks; waiting = c.self.inside.outbox.waiting }) c.in_ok-frame.frame c.offer-verdict.result (host_of c.if-eq-2.self-inside.memory c.if-eq-2.self-inside.machine c.if-eq-2.self-inside.history.items) c.if-eq-2.self-inside.outbox
+  heard : IsHeard (record { config = c.self.inside.outbox.config; me = c.self.inside.outbox.me; node = record { core = host_of c.self.inside.memory c.self.inside.machine c.self.inside.history.items; link = c.self.inside.outbox.link }; events = c.self.inside.events.marks; waiting = c.self.inside.outbox.waiting }) (owned_frame c.in_ok-frame.frame) c.offer-verdict.result (host_of c.if-eq-2.self-inside.memory c.if-eq-2.self-inside.machine c.if-eq-2.self-inside.history.items) c.if-eq-2.self-inside.outbox
   heard = elim c.if-eq-2.branch [
     | then-eq-2+in-Some+in_ok-handle w ↦
         let next : c.offer-verdict.result ≡ verdict.Next = search rules in
-        rw w.self-inside-is (heard_message _ c.in_ok-frame.frame c.offer-verdict.result w.in-Some.message _ _ next (sym w.take.ensures.value ∙ w.in-Some.is) w.in_ok-handle.ensures.ok w.in_ok-handle.ensures.took w.in_ok-handle.ensures.few w.in_ok-handle.ensures.posted)
+        rw w.self-inside-is (heard_message _ (owned_frame c.in_ok-frame.frame) c.offer-verdict.result (owned_message w.in-Some.message) _ _ next (ap owned_body (sym w.take.ensures.value ∙ w.in-Some.is)) w.in_ok-handle.ensures.ok w.in_ok-handle.ensures.took w.in_ok-handle.ensures.few w.in_ok-handle.ensures.posted)
     | then-eq-2+in_default w ↦
         let none : c.in_ok-frame.frame.body ≡ None = search rules in
-        rw w.self-inside-is (heard_quietly _ c.in_ok-frame.frame c.offer-verdict.result apart (λ n. none))
+        rw w.self-inside-is (heard_quietly _ (owned_frame c.in_ok-frame.frame) c.offer-verdict.result apart (λ n. ap owned_body none))
     | else-eq-2 w ↦
         let other : c.offer-verdict.result ≢ verdict.Next = search rules in
-        rw w.self-inside-is (heard_quietly _ c.in_ok-frame.frame c.offer-verdict.result apart (λ n. absurd (other n)))
+        rw w.self-inside-is (heard_quietly _ (owned_frame c.in_ok-frame.frame) c.offer-verdict.result apart (λ n. absurd (other n)))
   ]
 
   -- the frame is accepted without its message, of which nothing is read then
@@ -38,7 +39,7 @@ module _ (g : Over) (c : After-accept g) where
   ]
 
   accepts : (new : Outbox) → new ≡ with_link c.if-eq-2.self-inside.outbox (accepted c.if-eq-2.self-inside.outbox.link c.if-eq-2.frame)
-      → new ≡ with_link c.if-eq-2.self-inside.outbox (accepted c.if-eq-2.self-inside.outbox.link c.in_ok-frame.frame)
+      → new ≡ with_link c.if-eq-2.self-inside.outbox (accepted c.if-eq-2.self-inside.outbox.link (owned_frame c.in_ok-frame.frame))
   accepts new is = is ∙ ap (with_link c.if-eq-2.self-inside.outbox) (without_body c.if-eq-2.self-inside.outbox.link)
 
 pub returns-in_err-frame-clause-spent : goal.returns-in_err-frame-clause-spent
@@ -49,19 +50,19 @@ returns-in_err-frame-clause-spent g c =
 pub returns-then-eq-clause-done : goal.returns-then-eq-clause-done
 returns-then-eq-clause-done g c =
     let not : c.offer-verdict.result ≡ verdict.NotMine = search rules in
-    not_mine _ _ c.self.view_is c.config-config.result c.in_ok-frame.frame c.args.bytes.now c.offer-verdict.result
+    not_mine _ _ c.self.view_is c.config-config.result (owned_frame c.in_ok-frame.frame) c.args.bytes.now c.offer-verdict.result
     (record { config = c.config-config.ensures.is; limits = c.config-config.ensures.limits; spelled = c.in_ok-frame.ensures.found; is = c.offer-verdict.ensures }) not
 
 pub returns-in_err-handle-clause-spent : goal.returns-in_err-handle-clause-spent
 returns-in_err-handle-clause-spent g c =
     let next : c.offer-verdict.result ≡ verdict.Next = search rules in
     err_there c.from_residual-in_err-handle.result (IsSpentDelivery c.args.self.now c.args.bytes.now) _ c.from_residual-in_err-handle.ensures.1
-    (spent_message _ _ c.self.view_is c.config-config.result c.in_ok-frame.frame c.args.bytes.now c.offer-verdict.result
-    (record { config = c.config-config.ensures.is; limits = c.config-config.ensures.limits; spelled = c.in_ok-frame.ensures.found; is = c.offer-verdict.ensures }) next c.in-Some.message (sym c.take.ensures.value ∙ c.in-Some.is) _ c.in_err-handle.ensures.fault)
+    (spent_message _ _ c.self.view_is c.config-config.result (owned_frame c.in_ok-frame.frame) c.args.bytes.now c.offer-verdict.result
+    (record { config = c.config-config.ensures.is; limits = c.config-config.ensures.limits; spelled = c.in_ok-frame.ensures.found; is = c.offer-verdict.ensures }) next (owned_message c.in-Some.message) (ap owned_body (sym c.take.ensures.value ∙ c.in-Some.is)) _ c.in_err-handle.ensures.fault)
 
 pub invariant_of-self-2 : goal.invariant_of-self-2
 invariant_of-self-2 g c =
-    heard_site _ c.in_ok-frame.frame c.offer-verdict.result _ _ c.accept.new.self c.push_delivery.new.self.marks c.self.invariant (heard g (goal.at.invariant_of-self-2 g c).After-accept) (accepts g (goal.at.invariant_of-self-2 g c).After-accept _ c.accept.ensures)
+    heard_site _ (owned_frame c.in_ok-frame.frame) c.offer-verdict.result _ _ c.accept.new.self c.push_delivery.new.self.marks c.self.invariant (heard g (goal.at.invariant_of-self-2 g c).After-accept) (accepts g (goal.at.invariant_of-self-2 g c).After-accept _ c.accept.ensures)
 
 pub returns-clause-done : goal.returns-clause-done
 returns-clause-done g c =
@@ -72,10 +73,10 @@ returns-clause-done g c =
     ] in
     let listed : c.push_delivery.new.self.marks ≡ c.self.inside.events.marks ++ Delivery c.args.bytes.now ∷ [] =
     c.push_delivery.ensures ∙ (ap (λ (ms : List Mark). ms ++ Delivery c.in_ok-copy.copy ∷ []) kept ∙ ap (λ b. c.self.inside.events.marks ++ Delivery b ∷ []) c.in_ok-copy.ensures) in
-    heard_delivers _ _ c.self.view_is c.config-config.result c.in_ok-frame.frame c.args.bytes.now c.offer-verdict.result
+    heard_delivers _ _ c.self.view_is c.config-config.result (owned_frame c.in_ok-frame.frame) c.args.bytes.now c.offer-verdict.result
     (record { config = c.config-config.ensures.is; limits = c.config-config.ensures.limits; spelled = c.in_ok-frame.ensures.found; is = c.offer-verdict.ensures })
     (apart g (goal.at.returns-clause-done g c).After-accept) _ _ c.accept.new.self c.push_delivery.new.self.marks (heard g (goal.at.returns-clause-done g c).After-accept) (accepts g (goal.at.returns-clause-done g c).After-accept _ c.accept.ensures) listed
 
 pub returns-clause-few : goal.returns-clause-few
 returns-clause-few g c =
-    heard_few _ _ c.self.view_is c.in_ok-frame.frame c.offer-verdict.result _ _ c.accept.new.self (heard g (goal.at.returns-clause-few g c).After-accept) (accepts g (goal.at.returns-clause-few g c).After-accept _ c.accept.ensures)
+    heard_few _ _ c.self.view_is (owned_frame c.in_ok-frame.frame) c.offer-verdict.result _ _ c.accept.new.self (heard g (goal.at.returns-clause-few g c).After-accept) (accepts g (goal.at.returns-clause-few g c).After-accept _ c.accept.ensures)

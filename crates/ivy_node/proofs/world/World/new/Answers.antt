@@ -1,6 +1,5 @@
 use Rattle.std.proofs.Common.{rules}
 use Rattle.ivy_model.specs.Config.{IsConfig}
-use Rattle.ivy_host.specs.Managers.{IsBuilt}
 use Rattle.ivy_node.proofs.Worlds.{first_running-of, first_run-of}
 use Rattle.ivy_node.proofs.world.World.new.Goals as goal
 
@@ -16,5 +15,4 @@ returns-clause-opens g c =
 pub returns-clause-bad : goal.returns-clause-bad
 returns-clause-bad g c =
     let config : IsConfig c.args.config = c.in_ok-check.ensures.accepted.0 (search rules) in
-    let built : IsBuilt c.args.config = c.is_built.ensures.0 (search rules) in
-    (λ e both. search rules, λ n. absurd (n (config, search rules, built)))
+    (λ e both. search rules, λ n. absurd (n (config, search rules)))

@@ -1,0 +1,40 @@
+-- What contracts see of a heap.
+use Rattle.std.specs.Prelude.{ℕ, refl}
+use Rattle.std.specs.Coded.{Coded, code_by, coded×, coded_ℕ}
+use Rattle.std.specs.FinMap as map
+use Rattle.std.specs.Ordering.{nat_cmp}
+use Rattle.ivy_model.specs.declared.config.Config.{Config}
+use Rattle.ivy_model.specs.contracts.config.Config.{the_row}
+use Rattle.ivy_model.specs.Memory.{Blocks}
+use Rattle.ivy_model.specs.Serves.{IsLeast, IsRoom, rounded}
+
+-- a configuration, and the live blocks, as the flat memory has them
+pub record HeapState : Type 0 where
+  pub config : Config
+  pub blocks : Blocks
+
+-- a state is stored as the pair of its fields
+abbrev pub heap_state_code : Coded HeapState
+heap_state_code =
+    code_by (Config × Blocks) (coded× the_row.coded (map.code {R = nat_cmp} coded_ℕ coded_ℕ))
+    (λ s. (s.config, s.blocks)) (λ p. record { config = p.0; blocks = p.1 }) (λ _. refl)
+
+-- the heap before the first call: no block
+abbrev pub first_heap : Config → HeapState
+first_heap c = record { config = c; blocks = map.empty }
+
+-- the address that the flat memory gives to a block of so many bytes
+abbrev pub IsLeastRoom : HeapState → ℕ → ℕ → Type 0
+IsLeastRoom h size addr = IsLeast (IsRoom h.config h.blocks (rounded size)) addr
+
+-- the flat memory has no address for so many bytes
+abbrev pub HasNoRoom : HeapState → ℕ → Type 0
+HasNoRoom h size = (addr : ℕ) → IsRoom h.config h.blocks (rounded size) addr → ⊥
+
+-- the heap with a block more
+abbrev pub with_block : HeapState → ℕ → ℕ → HeapState
+with_block h addr size = record { config = h.config; blocks = map.insert h.blocks addr size }
+
+-- the heap without the block that starts here
+abbrev pub without_block : HeapState → ℕ → HeapState
+without_block h addr = record { config = h.config; blocks = map.remove h.blocks addr }

@@ -1,0 +1,13 @@
+pub mod Asked
+pub mod Old
+pub mod NoBreach
+pub mod Claims
+pub mod Moves
+pub mod Managers
+pub mod FirstLetters
+pub mod Remaining
+pub mod Owed
+pub mod OwedKept
+pub mod Awaited
+pub mod Found
+pub mod Embedded

@@ -1,0 +1,31 @@
+-- What is promised of each ordered world that programs reach: whoever waits has its message, and the
+-- routes to each page.
+use Rattle.std.specs.Prelude.{◌≡◌, ◌<◌, ℕ, List}
+use Rattle.ivy_model.specs.declared.Config.{Config}
+use Rattle.ivy_model.specs.declared.Kind.TheVariants as kind
+use Rattle.ivy_pagetable.specs.Manager.{Ops}
+use Rattle.ivy_program.specs.declared.Instruction.{Instruction}
+use Rattle.ivy_ether.specs.Ordered.{Ordered}
+use Rattle.ivy_host.specs.Hosts.{Host}
+use Rattle.ivy_order.specs.Orderly.{IsOrderly}
+use Rattle.ivy_worlds.specs.Nets.{net_of, managers_of}
+use Rattle.ivy_worlds.specs.Runs.{IsReachedInOrder}
+use Rattle.ivy_requests.specs.Waiting.{IsAwaited}
+use Rattle.ivy_requests.specs.Routing.{AreRoutes, AreManaged}
+
+module _ {S : Type 0} (ops : Ops S) (c : Config) (programs : List (List Instruction)) where
+  -- each node's next hop for a page
+  abbrev pub hops_of : Ordered (Host S) → ℕ → ℕ → ℕ
+  hops_of o page node = ops.next_hop (managers_of (ops.first c 0) o node) page
+
+  -- the entries and letters fit together, and whoever waits has its message
+  abbrev pub AllAwaited : Type 0
+  AllAwaited = (o : Ordered (Host S)) → IsReachedInOrder ops c programs o
+      → IsOrderly c (net_of o) × IsAwaited (net_of o)
+
+  -- the routes to each page, and besides where nodes manage pages
+  abbrev pub AllRouted : Type 0
+  AllRouted =
+      (o : Ordered (Host S)) → IsReachedInOrder ops c programs o → (page : ℕ) → page < c.pages
+      → AreRoutes c (net_of o) page (hops_of o page)
+      × (c.manager ≡ kind.Fixed → AreManaged c (net_of o) page (hops_of o page))

@@ -1,0 +1,13 @@
+pub mod LiftedNets
+pub mod LiftedRows
+pub mod LiftedEvents
+pub mod LiftedServing
+pub mod LiftedMessages
+pub mod LiftedTurns
+pub mod LiftedWorlds
+pub mod LiftedSteps
+pub mod LiftedHosts
+pub mod LiftedRuns
+pub mod Led
+pub mod Worlds
+pub mod Runs

@@ -1,0 +1,69 @@
+-- What each row keeps, each event of an ordered world keeps.
+use Rattle.std.proofs.Common.{◌≡◌, ◌<◌, ◌≤◌, ℕ, List, [], ◌∷◌, refl, ap, ◌∙◌, subst}
+use Rattle.ivy_model.specs.declared.Config.{Config}
+use Rattle.ivy_link.specs.Paired.{extended}
+use Rattle.ivy_pagetable.specs.declared.Word.{Word}
+use Rattle.ivy_pagetable.specs.Words.{IsWord}
+use Rattle.ivy_pagetable.specs.Manager.{Ops, Laws}
+use Rattle.ivy_coherence.specs.Coherent.{Coherent}
+use Rattle.ivy_coherence.specs.Steps.{handled}
+use Rattle.ivy_coherence.specs.Faults.{begun}
+use Rattle.ivy_coherence.proofs.Same.{handled-same}
+use Rattle.ivy_ether.specs.Ordered.{Ordered, Turns, Delivers, one_more}
+use Rattle.ivy_host.specs.Hosts.{Host, host_rules, serving}
+use Rattle.ivy_host.specs.Sound.{IsSoundHost}
+use Rattle.ivy_order.specs.Letters.{Letter, Net}
+use Rattle.ivy_order.specs.Rows.{taken, IsKept}
+use Rattle.ivy_worlds.proofs.LiftedEvents.{IsNode, ComesTo, Tells, Starts}
+use Rattle.ivy_worlds.proofs.LiftedMessages.{kept-handled}
+use Rattle.ivy_worlds.proofs.LiftedTurns.{kept-begun, kept-quiet}
+use Rattle.ivy_worlds.proofs.LiftedWorlds.{net_of, managers_of, node_of, leads_to, IsSent, IsSoundWorld}
+
+module _ {S : Type 0} {ops : Ops S} {P : (ℕ → S) → Net → (ℕ → List ℕ) → Type 0} (laws : Laws ops) (c : Config) (kept : IsKept ops c P) (spare : S) (o o' : Ordered (Host S)) (f : ℕ → List ℕ) (w : IsSoundWorld ops c o) (h : P (managers_of spare o) (net_of o) f) where
+  -- P of the world after an event, and of these pages
+  abbrev pub Then : (ℕ → List ℕ) → Type 0
+  Then flat = P (managers_of spare o') (net_of o') flat
+
+  -- a message is delivered
+  pub kept-delivers : (source x : ℕ) (t : Delivers (host_rules ops) o source x o')
+      → (flat : ℕ → List ℕ) × Then flat × Tells P c x f t.core.memory.coherence (handled ops t.core.memory.coherence source t.message).after flat
+  unfolding serving
+  kept-delivers source x t =
+      let k : Coherent S = t.core.memory.coherence in
+      let good : IsSoundHost ops c x t.core = w.sound x t.core t.there in
+      let sent : IsSent c source x t.message = w.sent source x (o.delivered source x) t.message t.first in
+      let letters : List Letter = record { source = source; dest = x; message = t.message } ∷ [] in
+      let node : IsNode (managers_of spare o) (taken (net_of o) source x t.message) x k = node_of spare o (one_more o.delivered source x) letters x t.core t.there good.me in
+      let all = kept-handled laws c x (managers_of spare o) (taken (net_of o) source x t.message) f k source t.message good.config good.me kept good.memory.coherent node sent.below sent.apart sent.fits refl
+      (kept.takes (managers_of spare o) (net_of o) f source x t.message refl t.first h) in (
+        all.0,
+        all.1 (managers_of spare o') (net_of o')
+            (leads_to spare o o' (one_more o.delivered source x) letters x t.core (serving ops t.core source t.message).after (handled ops k source t.message).posted t.there t.cores
+            ((handled-same ops k source t.message).me ∙ good.me) t.posted t.delivered),
+        all.2,
+      )
+
+  -- a turn after which the node's entries, bytes, manager and count are as before
+  pub kept-still : (x : ℕ) (t : Turns (host_rules ops) o x o') → t.outcome.after.memory.coherence.me ≡ t.core.memory.coherence.me → t.outcome.after.memory.coherence.manager ≡ t.core.memory.coherence.manager
+      → t.outcome.after.memory.coherence.table ≡ t.core.memory.coherence.table → t.outcome.after.memory.coherence.breaches ≡ t.core.memory.coherence.breaches → t.outcome.posted ≡ [] → Then f
+  kept-still x t me manager table breaches none =
+      let good : IsSoundHost ops c x t.core = w.sound x t.core t.there in
+      kept-quiet c kept x (managers_of spare o) (managers_of spare o') (net_of o) (net_of o') f t.core.memory.coherence t.outcome.after.memory.coherence (node_of spare o o.delivered [] x t.core t.there good.me) refl h manager table breaches
+      (leads_to spare o o' o.delivered [] x t.core t.outcome.after [] t.there t.cores (me ∙ good.me) (t.posted ∙ ap (extended o.posted) none) t.delivered)
+
+  -- a turn in which a word is asked for
+  pub kept-begins : (x : ℕ) (t : Turns (host_rules ops) o x o') (page : ℕ) (word : Word) (number : ℕ) → page < c.pages → IsWord c.page_size word → 1 ≤ number
+      → t.outcome.after.memory.coherence.me ≡ t.core.memory.coherence.me → t.outcome.after.memory.coherence ≡ (begun ops t.core.memory.coherence page word number).after
+      → t.outcome.posted ≡ (begun ops t.core.memory.coherence page word number).posted
+      → (flat : ℕ → List ℕ) × Then flat
+      × Starts P c x f page word number t.core.memory.coherence (begun ops t.core.memory.coherence page word number).need (begun ops t.core.memory.coherence page word number).after flat
+  kept-begins x t page word number inside is_word numbered me after posts =
+      let k : Coherent S = t.core.memory.coherence in
+      let good : IsSoundHost ops c x t.core = w.sound x t.core t.there in
+      let all = kept-begun c x (managers_of spare o) (net_of o) f k page word number good.config good.me kept good.memory.coherent (node_of spare o o.delivered [] x t.core t.there good.me) refl h inside is_word numbered in (
+        all.0,
+        all.1 (managers_of spare o') (net_of o')
+            (subst (λ z. ComesTo (managers_of spare o) (net_of o) x z (begun ops k page word number).posted (managers_of spare o') (net_of o')) after
+            (leads_to spare o o' o.delivered [] x t.core t.outcome.after (begun ops k page word number).posted t.there t.cores (me ∙ good.me) (t.posted ∙ ap (extended o.posted) posts) t.delivered)),
+        all.2,
+      )

@@ -1,0 +1,117 @@
+-- Each world that moves lead to from an opening is orderly, so its pages are exclusive. For every manager that keeps the
+-- laws, and for programs that read and write.
+use Rattle.std.proofs.Common.{◌≡◌, ◌⊎◌, ℕ, zero, suc, Bool, List, [], length, get_or, replicate, slice_get, Some, refl, sym, ap, ◌∙◌, inl, inr, if◌then◌else◌, ◌+◌, ◌∷◌, arith, map, option_map}
+use Rattle.std.proofs.lemmas.Bool.{cases_eq, ne_eqb}
+use Rattle.std.proofs.lemmas.Option.{slice_get_cases, same_Some, none-some, slice_get-map, get_or_from_slice_get}
+use Rattle.ivy_model.specs.declared.Config.{Config}
+use Rattle.ivy_model.specs.Config.{IsConfig}
+use Rattle.ivy_wire.specs.Data.{Message}
+use Rattle.ivy_pagetable.specs.declared.Entry.{Entry}
+use Rattle.ivy_pagetable.specs.Entries.{nothing, owned, readable, writable}
+use Rattle.ivy_pagetable.specs.Tables.{entry_at, first_entry}
+use Rattle.ivy_pagetable.specs.Manager.{Ops, Laws}
+use Rattle.ivy_program.specs.declared.Instruction.{Instruction}
+use Rattle.ivy_ether.specs.declared.moves.Move.{Move}
+use Rattle.ivy_ether.specs.Ordered.{Ordered}
+use Rattle.ivy_ether.specs.Worlds.{World, Leads}
+use Rattle.ivy_ether.specs.Following.{ordered_of, links_of}
+use Rattle.ivy_ether.proofs.Opening.{opening_follows}
+use Rattle.ivy_host.specs.Hosts.{Host, host_rules, first_host}
+use Rattle.ivy_host.specs.Holding.{IsExclusive}
+use Rattle.ivy_host.specs.Openings.{opening, first_nodes}
+use Rattle.ivy_host.specs.Sound.{IsSoundHost}
+use Rattle.ivy_host.proofs.Tame.{opening_is}
+use Rattle.ivy_order.specs.Letters.{Net}
+use Rattle.ivy_order.specs.Orderly.{IsOrderly}
+use Rattle.ivy_order.specs.Rows.{IsKept}
+use Rattle.ivy_worlds.proofs.Led.{HasOrder, core_there, opening_first}
+use Rattle.ivy_worlds.proofs.LiftedWorlds.{entry_of, net_of, managers_of}
+use Rattle.ivy_worlds.proofs.LiftedRuns.{Holds, kept-led, sound_opening}
+use Rattle.ivy_order.proofs.Opening.{IsFirst, orderly_opening}
+use Rattle.ivy_order.proofs.Exclusive.{orderly_exclusive}
+use Rattle.ivy_order.proofs.Kept.{orderly-kept}
+use Rattle.std.proofs.lemmas.List.{get_or_past, length-map}
+use Rattle.ivy_link.specs.Linked.{Peer, fresh, first_link, peer_at}
+use Rattle.ivy_link.specs.Paired.{link_at}
+use Rattle.ivy_ether.specs.Nodes.{Node}
+
+entry_first : (n p : ℕ) (e : Entry) → (get_or (replicate n e) p nothing ≡ e) ⊎ (get_or (replicate n e) p nothing ≡ nothing)
+entry_first zero p e = inr refl
+entry_first (suc n) zero e = inl refl
+entry_first (suc n) (suc p) e = entry_first n p e
+
+first_at : (i p n : ℕ) → ((i ≡ 0) × (get_or (replicate n (first_entry i)) p nothing ≡ owned)) ⊎ (get_or (replicate n (first_entry i)) p nothing ≡ nothing)
+first_at i p n = elim (entry_first n p (first_entry i)) [
+  | inr past ↦ inr past
+  | inl is ↦ elim (cases_eq i 0) [
+    | inl zero_node ↦ inl (zero_node, is ∙ ap first_entry zero_node)
+    | inr other ↦ inr (is ∙ ap (λ (b : Bool). if b then owned else nothing) (ne_eqb i 0 other))
+  ]
+]
+
+-- a new link has delivered nothing
+fresh_peer : (n j : ℕ) → get_or (replicate n fresh) j fresh ≡ fresh
+fresh_peer zero j = refl
+fresh_peer (suc n) zero = refl
+fresh_peer (suc n) (suc j) = fresh_peer n j
+
+module _ {S : Type 0} (ops : Ops S) (c : Config) where
+  first_link_there : (me : ℕ) (ps : List (List Instruction)) (i : ℕ) (n : Node (Host S)) → slice_get (first_nodes ops c me ps) i ≡ Some n → n.link ≡ first_link (me + i) c.nodes
+  first_link_there me [] i n is = absurd (none-some n is)
+  first_link_there me (p ∷ ps) zero n is = ap (λ (m : Node (Host S)). m.link) (sym (same_Some _ n is)) ∙ ap (λ k. first_link k c.nodes) (let f : me ≡ me + 0 = omega arith in f)
+  first_link_there me (p ∷ ps) (suc i) n is = first_link_there (me + 1) ps i n is ∙ ap (λ k. first_link k c.nodes) (let f : me + 1 + i ≡ me + suc i = omega arith in f)
+
+  link_there : (ns : List (Node (Host S))) (j : ℕ) (n : Node (Host S)) → slice_get ns j ≡ Some n → link_at (map (λ (m : Node (Host S)). m.link) ns) j ≡ n.link
+  link_there ns j n is = get_or_from_slice_get (map (λ (m : Node (Host S)). m.link) ns) j n.link (first_link j 0) (slice_get-map (λ (m : Node (Host S)). m.link) ns j ∙ ap (option_map (λ (m : Node (Host S)). m.link)) is)
+
+  -- the net of the world as it begins
+  pub first_net : (programs : List (List Instruction)) → IsFirst (net_of (ordered_of (opening ops c programs) (λ i j. [])))
+  first_net programs = record { entries = entries; posted = λ i j. refl; delivered = λ i j. delivered j i; loose = refl }
+    where
+      o : Ordered (Host S)
+      o = ordered_of (opening ops c programs) (λ i j. [])
+
+      delivered : (j i : ℕ) → (peer_at (link_at (links_of (opening ops c programs)) j) i).delivered ≡ 0
+      delivered j i = elim (slice_get_cases (opening ops c programs).nodes j).1 [
+        | inl there ↦ ap (λ l. (peer_at l i).delivered) (link_there (opening ops c programs).nodes j there.0 there.2 ∙ first_link_there 0 programs j there.0 there.2)
+            ∙ ap (λ (q : Peer). q.delivered) (fresh_peer c.nodes i)
+        | inr past ↦ ap (λ l. (peer_at l i).delivered) (get_or_past (links_of (opening ops c programs)) j (first_link j 0)
+            (rw (length-map (opening ops c programs).nodes (λ (n : Node (Host S)). n.link)) past.0))
+      ]
+
+      entries : (i p : ℕ) → ((i ≡ 0) × ((net_of o).entry i p ≡ owned)) ⊎ ((net_of o).entry i p ≡ nothing)
+      entries i p = elim (slice_get_cases o.cores i).1 [
+        | inr past ↦ inr (ap (λ z. entry_of z p) past.1)
+        | inl there ↦ (
+            let first : (program : List Instruction) × (there.0 ≡ first_host ops c i program) = opening_first ops c programs i there.0 there.2 in
+            let here : (net_of o).entry i p ≡ get_or (replicate c.pages (first_entry i)) p nothing
+            = ap (λ z. entry_of z p) there.2 ∙ ap (λ (h : Host S). entry_at h.memory.coherence.table p) first.1 in
+            elim (first_at i p c.pages) [ inl y ↦ inl (y.0, here ∙ y.1) | inr y ↦ inr (here ∙ y) ]
+            )
+      ]
+
+-- what the rows keep, and holds of the world as it begins, holds of each world that moves lead to
+module _ {S : Type 0} {ops : Ops S} {P : (ℕ → S) → Net → (ℕ → List ℕ) → Type 0} (laws : Laws ops) (c : Config) (limits : IsConfig c) (kept : IsKept ops c P) (spare : S) where
+  pub opening-led : (programs : List (List Instruction)) → length programs ≡ c.nodes → (f : ℕ → List ℕ)
+      → P (managers_of spare (ordered_of (opening ops c programs) (λ i j. []))) (net_of (ordered_of (opening ops c programs) (λ i j. []))) f
+      → (moves : List Move) (w : World (Host S)) → Leads (host_rules ops) c (opening ops c programs) moves w → HasOrder ops c (Holds ops c P spare) w
+  opening-led programs many f first moves w led =
+      kept-led laws c limits kept spare (opening ops c programs) w moves (record {
+        posted = λ i j. [];
+        follows = opening_follows c (IsSoundHost ops c) (opening ops c programs) (opening_is laws c programs limits many);
+        holds = (sound_opening laws c limits programs many, (f, first));
+      }) led
+
+module _ {S : Type 0} {ops : Ops S} (laws : Laws ops) (c : Config) (limits : IsConfig c) where
+  -- an ordered world whose net is orderly is exclusive
+  pub exclusive_world : (w : World (Host S)) (posted : ℕ → ℕ → List Message) → IsOrderly c (net_of (ordered_of w posted)) → IsExclusive w
+  exclusive_world w posted orderly p i j n m at_n at_m writes may_read =
+      orderly_exclusive c (net_of (ordered_of w posted)) orderly i j p
+      (ap (λ z. writable (entry_of z p)) (core_there w.nodes i n at_n) ∙ writes)
+      (ap (λ z. readable (entry_of z p)) (core_there w.nodes j m at_m) ∙ may_read)
+
+  pub exclusive_led : (spare : S) (programs : List (List Instruction)) → length programs ≡ c.nodes
+      → (moves : List Move) (w : World (Host S)) → Leads (host_rules ops) c (opening ops c programs) moves w → IsExclusive w
+  exclusive_led spare programs many moves w led =
+      let h = opening-led laws c limits (orderly-kept ops c limits) spare programs many (λ p. []) (orderly_opening _ (first_net ops c programs) c) moves w led in
+      exclusive_world w h.posted h.holds.1.1
