@@ -31,7 +31,7 @@ use Rattle.ivy_memory.proofs.Asking.{can_ask}
 use Rattle.ivy_memory.proofs.Tame.{SameNode, Begins, begun-begins, taken-sound, with_done-sound, again-sound, KeepsMemory, IsBegun, again-begun, unserved-begun}
 
 -- the call in progress as the definitions have it
-polled_so : {S : Type 0} (ops : Ops S) (m : Memory S) (k : Call) (number : ℕ) → m.asked ≡ Some k → polled ops m number ≡ polled_as ops m k number (reply_there m.coherence.done)
+pub polled_so : {S : Type 0} (ops : Ops S) (m : Memory S) (k : Call) (number : ℕ) → m.asked ≡ Some k → polled ops m number ≡ polled_as ops m k number (reply_there m.coherence.done)
 unfolding polled
 polled_so ops m k number is = ap (polled_at ops m number) is
 
