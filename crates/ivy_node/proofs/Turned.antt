@@ -1,13 +1,12 @@
 -- A site's turn, from what its parts did: `v` is what the fields are seen as, `n` the value.
-use Rattle.std.proofs.Common.{◌≡◌, ℕ, Bool, true, false, List, [], ◌∷◌, ◌++◌, Some, None, refl, sym, ap, ◌∙◌, subst}
+use Rattle.std.proofs.Common.{◌≡◌, Bool, true, false, List, [], ◌∷◌, ◌++◌, None, refl, sym, ap, ◌∙◌, subst}
 use Rattle.ivy_model.specs.declared.Call.{Call}
 use Rattle.ivy_model.specs.declared.Fault.{Fault}
 use Rattle.ivy_model.specs.declared.Record.{Record}
-use Rattle.ivy_model.specs.declared.Reply.{Reply}
 use Rattle.ivy_host.specs.Managers.{Managed, managed_ops}
 use Rattle.ivy_program.specs.declared.machine.Next.{Next}
 use Rattle.ivy_program.specs.declared.machine.Next.TheVariants as next
-use Rattle.ivy_program.specs.Steps.{Process, Local, Asks, Ends, HasEnded, Steps, step_of, at_state, answered_with}
+use Rattle.ivy_program.specs.Steps.{Process, Local, Ends, HasEnded, Steps, at_state}
 use Rattle.ivy_ether.specs.Marks.{Mark, Turn}
 use Rattle.ivy_memory.specs.Memories.{Memory}
 use Rattle.ivy_host.specs.Hosts.{Host, turn_of}
