@@ -35,13 +35,13 @@ module _ {S : Type 0} (ops : Ops S) where
   steps-same n (Asks c) o is = begins-same n c o is
   steps-same n Ends o is = absurd (none-some o is)
 
-  at-same : (n : Host S) (a : Option Call) (o : Outcome (Host S)) → n.memory.asked ≡ a → turned_at ops n a ≡ Some o → IsSame n o
-  at-same n (Some c) o at is =
+  at-same : (n : Host S) (a : Option Call) (o : Outcome (Host S)) → turned_at ops n a ≡ Some o → IsSame n o
+  at-same n (Some c) o is =
       let a : CallBegun S = polled ops n.memory (length n.history + 1) in
-      with-same n c a a.answer o (polled-same ops n.memory c (length n.history + 1) at) is
-  at-same n None o at is = steps-same n (step_of n.process) o is
+      with-same n c a a.answer o (polled-same ops n.memory (length n.history + 1)) is
+  at-same n None o is = steps-same n (step_of n.process) o is
 
   -- the node stays who it is
   pub turn-same : (n : Host S) (o : Outcome (Host S)) → turn_of ops n ≡ Some o → SameNode n.memory.coherence o.after.memory.coherence
   unfolding turn_of
-  turn-same n o is = at-same n n.memory.asked o refl is
+  turn-same n o is = at-same n n.memory.asked o is

@@ -72,11 +72,6 @@ module _ {S : Type 0} (ops : Ops S) (m : Memory S) (k : Call) (number : ℕ) whe
   as-same None = tried-same (asked_of m.coherence.config k)
   as-same (Some r) = record { config = refl; me = refl }
 
-  -- the node stays who it is
-  pub polled-same : m.asked ≡ Some k → SameNode m.coherence (polled ops m number).after.coherence
-  polled-same is =
-      subst (λ (a : CallBegun S). SameNode m.coherence a.after.coherence) (sym (polled_so ops m k number is)) (as-same (reply_there m.coherence.done))
-
   tried-begun : m.asked ≡ Some k → (x : Asked) → IsBegun k (tried_as ops m k number x)
   tried-begun is (asked.Refused code) = unserved-begun m k is
   tried-begun is (asked.Word page w) = again-begun m k (retry page w) (retry page w).need is
@@ -103,6 +98,15 @@ module _ {S : Type 0} (ops : Ops S) (m : Memory S) (k : Call) (number : ℕ) whe
   as-few s (Some r) = omega arith
 
 module _ {S : Type 0} (ops : Ops S) where
+  at-same : (m : Memory S) (number : ℕ) (a : Option Call) → SameNode m.coherence (polled_at ops m number a).after.coherence
+  at-same m number None = record { config = refl; me = refl }
+  at-same m number (Some k) = as-same ops m k number (reply_there m.coherence.done)
+
+  -- the node stays who it is
+  pub polled-same : (m : Memory S) (number : ℕ) → SameNode m.coherence (polled ops m number).after.coherence
+  unfolding polled
+  polled-same m number = at-same m number m.asked
+
   at-few : (m : Memory S) (number : ℕ) → IsSound ops m.coherence → (a : Option Call) → length (polled_at ops m number a).posted ≤ 8
   at-few m number s None = omega arith
   at-few m number s (Some k) = as-few ops m k number s (reply_there m.coherence.done)
@@ -140,7 +144,7 @@ module _ {S : Type 0} {ops : Ops S} (laws : Laws ops) (m : Memory S) (k : Call) 
   pub polled-keeps : KeepsMemory ops m (polled ops m number)
   polled-keeps =
       let kept = subst (λ (a : CallBegun S). IsSoundMemory ops a.after × All (FitsParcel m.coherence.config m.coherence.me) a.posted) (sym (polled_so ops m k number called)) (as-keeps (reply_there m.coherence.done) refl) in
-      (kept.0, kept.1, polled-same ops m k number called)
+      (kept.0, kept.1, polled-same ops m number)
 
 -- an access after which no answer stands there
 abbrev cleared : {S : Type 0} → Begun S → Begun S

@@ -10,3 +10,6 @@ mod memory;
 pub use answer::Answer;
 pub use asked::{Asked, asked_of};
 pub use memory::Memory;
+
+#[cfg(test)]
+mod tests;
