@@ -176,6 +176,7 @@ impl<M: Manager, A: Allocator> Coherence<M, A> {
     ///
     /// The word lies within the page and is aligned; the page is below the number of pages. Where access
     /// suffices, and where an entry is locked already, it asks the post nothing, takes no memory and succeeds.
+    /// An answer that is there stays there.
     pub fn need<P: Post>(
         &mut self,
         page: u32,
@@ -188,7 +189,6 @@ impl<M: Manager, A: Allocator> Coherence<M, A> {
         requires call { 1 ≤ call }
         requires config { P.config post.old ≡ self.old.config }
         requires node { P.node post.old ≡ self.old.me }
-        requires taken { self.old.done ≡ None }
         ensures sure { OnErr result (HasToAsk self.old page word) }
         ensures need { IfOk result (λ need. need ≡ (begun M.ops self.old page word call).need) }
         ensures ok { OnOk result (self.new ≡ (begun M.ops self.old page word call).after) }

@@ -28,16 +28,17 @@ use Rattle.ivy_program.specs.States.{State, first_state}
 use Rattle.ivy_program.specs.Steps.{Local, Asks, step_of, at_state}
 use Rattle.ivy_program.proofs.Running.{runs_on, runs_answered, only_accesses}
 use Rattle.ivy_ether.specs.Cores.{Outcome}
-use Rattle.ivy_memory.specs.declared.Asked.TheVariants as asked
+use Rattle.ivy_memory.specs.declared.Asked.TheVariants as kinds
 use Rattle.ivy_memory.specs.Asking.{asked_of}
 use Rattle.ivy_memory.specs.Memories.{Memory, reply_of, reply_there, taken_out, answered, needed}
+use Rattle.ivy_memory.proofs.Tame.{without-sound}
 use Rattle.ivy_host.specs.Hosts.{Host, number_of, recorded, begins_as, serving}
 use Rattle.ivy_host.specs.Sound.{IsSoundHost}
 use Rattle.ivy_order.specs.Letters.{Net}
 use Rattle.ivy_order.specs.Orderly.{IsOrderly}
 use Rattle.ivy_order.specs.Rows.{with_page}
 use Rattle.ivy_worlds.proofs.LiftedEvents.{WaitsAt, Carries, Tells, quiet, answers as is_answered, Starts, busy, hits, waits}
-use Rattle.ivy_worlds.proofs.LiftedHosts.{asks as access, HostTurn, answers, goes_on, refuses, asks_for, TurnTells}
+use Rattle.ivy_worlds.proofs.LiftedHosts.{asks as access, HostTurn, answers, tries_again, goes_on, refuses, asks_for, TurnTells, without_call}
 use Rattle.ivy_explain.specs.Copied.{IsCopied}
 use Rattle.ivy_explain.proofs.CopiedWords.{bytes_there}
 use Rattle.ivy_explain.proofs.WordsServed.{Answers, IsServed}
@@ -208,16 +209,6 @@ module _ {S : Type 0} (ops : Ops S) (c : Config) (config : IsConfig c) (x : ℕ)
         subst (λ r. IsWordOf c called r w) at (subst (IsWordOf c called page) one of)
         )))
 
-  -- a turn
-  pub turn_adds : (e : Outcome (Host S)) (turn : HostTurn ops c n e) (flat : ℕ → List ℕ) → TurnTells (Copies {S = S} c) c x f n e turn flat → Adds c mem x n e.after flat
-  turn_adds e (answers called r asked there is) flat tells = subst (λ (z : Outcome (Host S)). Adds c mem x n z.after flat) (sym is) (records_reply called r asked there flat tells)
-  turn_adds e (goes_on s idle step is) flat tells = subst (λ (z : Outcome (Host S)). Adds c mem x n z.after flat) (sym is) (goes_alone s idle step flat tells)
-  turn_adds e (refuses called code idle step refusal is) flat tells =
-      subst (λ (z : Outcome (Host S)). Adds c mem x n z.after flat) (sym is)
-      (records_call n.memory called (reply.Refused code) mem idle step idle (refusal_served c mem sized called code (subst (λ k. asked_of k called ≡ asked.Refused code) good.config refusal)) flat (same_pages flat tells))
-  turn_adds e (asks_for called page word idle step of inside lies few is) flat tells =
-      starts_adds called page word idle step (subst (λ k. IsWordOf k called page word) good.config of) e flat (length n.history + 1) is tells
-
   -- a message
   module _ (source : ℕ) (m : Message) where
     abbrev told : Coherent S
@@ -266,3 +257,51 @@ module _ {S : Type 0} (ops : Ops S) (c : Config) (config : IsConfig c) (x : ℕ)
     unfolding serving
     message_adds flat (quiet same done locked waiting) = quiet_adds flat same done locked waiting
     message_adds flat (is_answered page word number out lock there free done carries) = answer_adds flat page word number out n.memory.asked refl lock there free done carries
+
+-- the call in progress begins anew, as its word was not carried out or gave no reply
+again_adds : {S : Type 0} (c : Config) (mem : model.Memory) (x : ℕ) (n n' : Host S) (flat : ℕ → List ℕ) → reply_there n.memory.coherence.done ≡ None → Adds c mem x (without_call n) n' flat → Adds c mem x n n' flat
+again_adds c mem x n n' flat untold a = record {
+  more = a.more;
+  new = a.new;
+  legal = a.legal;
+  shows = a.shows;
+  own = a.own;
+  other = a.other;
+  history = a.history ∙ ap (λ xs. (n.history ++ xs) ++ a.more) (sym (owed-untold (number_of n) n.memory.asked (reply_there n.memory.coherence.done) untold));
+  running = a.running;
+  program = a.program;
+}
+
+module _ {S : Type 0} (ops : Ops S) (c : Config) (config : IsConfig c) (x : ℕ) (mem : model.Memory) (sized : IsSized c mem) (f : ℕ → List ℕ) (shows : (p : ℕ) → p < c.pages → f p ≡ flat_page c mem p)
+    (n : Host S) (good : IsSoundHost ops c x n) (running : IsRunning c n) where
+  -- without its call in progress, where no word waits, the node is sound, and its program runs
+  good_without : n.memory.coherence.locked ≡ None → IsSoundHost ops c x (without_call n)
+  good_without free = record {
+    memory = without-sound n.memory good.memory free;
+    config = good.config;
+    me = good.me;
+    numbered = λ called is. absurd (none-some called is);
+  }
+
+  running_without : IsRunning c (without_call n)
+  running_without = record {
+    run = running.run;
+    makes = λ called is. absurd (none-some called is);
+    waits = λ called page word number is. absurd (none-some called is);
+  }
+
+  -- a turn
+  pub turn_adds : (e : Outcome (Host S)) (turn : HostTurn ops c n e) (flat : ℕ → List ℕ) → TurnTells (Copies {S = S} c) c x f n e turn flat → Adds c mem x n e.after flat
+  turn_adds e (answers called r asked there is) flat tells =
+      subst (λ (z : Outcome (Host S)). Adds c mem x n z.after flat) (sym is) (records_reply ops c config x mem sized f shows n good running called r asked there flat tells)
+  turn_adds e (tries_again called page word asked untold free of inside lies is) flat tells =
+      again_adds c mem x n e.after flat untold
+      (starts_adds ops c config x mem sized f shows (without_call n) (good_without free) running_without called page word refl (running.makes called asked) (subst (λ k. IsWordOf k called page word) good.config of) e flat (length n.history + 1) is tells)
+  turn_adds e (goes_on s idle step is) flat tells =
+      subst (λ (z : Outcome (Host S)). Adds c mem x n z.after flat) (sym is) (goes_alone ops c config x mem sized f shows n good running s idle step flat tells)
+  turn_adds e (refuses called code idle step refusal is) flat tells =
+      subst (λ (z : Outcome (Host S)). Adds c mem x n z.after flat) (sym is)
+      (records_call ops c config x mem sized f shows n good running n.memory called (reply.Refused code) mem idle step idle
+      (refusal_served c mem sized called code (subst (λ k. asked_of k called ≡ kinds.Refused code) good.config refusal)) flat (same_pages ops c config x mem sized f shows n good running flat tells))
+  turn_adds e (asks_for called page word idle step of inside lies few is) flat tells =
+      starts_adds ops c config x mem sized f shows n good running called page word idle step (subst (λ k. IsWordOf k called page word) good.config of) e flat (length n.history + 1) is tells

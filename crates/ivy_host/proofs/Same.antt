@@ -1,14 +1,16 @@
--- A call that begins leaves a node who it is.
-use Rattle.std.proofs.Common.{◌≡◌, ◌+◌, ◌^◌, Bool, true, false, length, Some, None, nat_lt, subst, if◌then◌else◌}
+-- A turn leaves a node who it is.
+use Rattle.std.proofs.Common.{◌≡◌, ◌+◌, ◌^◌, Bool, true, false, length, Option, Some, None, nat_lt, refl, subst, if◌then◌else◌}
 use Rattle.std.proofs.lemmas.Option.{same_Some, none-some}
 use Rattle.ivy_model.specs.declared.Call.{Call}
 use Rattle.ivy_pagetable.specs.Manager.{Ops}
+use Rattle.ivy_program.specs.Steps.{Step, Local, Asks, Ends, step_of, at_state}
 use Rattle.ivy_ether.specs.Cores.{Outcome}
 use Rattle.ivy_memory.specs.declared.Answer.{Answer}
 use Rattle.ivy_memory.specs.declared.Answer.TheVariants.{Given, Awaited, Unserved}
-use Rattle.ivy_memory.specs.Memories.{CallBegun, call_begun}
-use Rattle.ivy_host.specs.Hosts.{Host, recorded, begins, begins_as, begins_with}
+use Rattle.ivy_memory.specs.Memories.{CallBegun, call_begun, polled}
+use Rattle.ivy_host.specs.Hosts.{Host, recorded, quietly, begins, begins_as, begins_with, steps, turned_at, turn_of}
 use Rattle.ivy_memory.proofs.Tame.{SameNode, call-same}
+use Rattle.ivy_memory.proofs.Polling.{polled-same}
 
 module _ {S : Type 0} (ops : Ops S) where
   abbrev IsSame : Host S → Outcome (Host S) → Type 0
@@ -25,5 +27,21 @@ module _ {S : Type 0} (ops : Ops S) where
       let a : CallBegun S = call_begun ops n.memory c (length n.history + 1) in
       with-same n c a a.answer o (call-same ops n.memory c (length n.history + 1)) is
 
-  pub begins-same : (n : Host S) (c : Call) (o : Outcome (Host S)) → begins ops n c ≡ Some o → SameNode n.memory.coherence o.after.memory.coherence
+  begins-same : (n : Host S) (c : Call) (o : Outcome (Host S)) → begins ops n c ≡ Some o → SameNode n.memory.coherence o.after.memory.coherence
   begins-same n c o is = if-same n c (nat_lt (length n.history + 1) (2 ^ 64)) o is
+
+  steps-same : (n : Host S) (t : Step) (o : Outcome (Host S)) → steps ops n t ≡ Some o → IsSame n o
+  steps-same n (Local t) o is = subst (IsSame n) (same_Some (quietly (record n { process = at_state n.process t })) o is) (record { config = refl; me = refl })
+  steps-same n (Asks c) o is = begins-same n c o is
+  steps-same n Ends o is = absurd (none-some o is)
+
+  at-same : (n : Host S) (a : Option Call) (o : Outcome (Host S)) → n.memory.asked ≡ a → turned_at ops n a ≡ Some o → IsSame n o
+  at-same n (Some c) o at is =
+      let a : CallBegun S = polled ops n.memory (length n.history + 1) in
+      with-same n c a a.answer o (polled-same ops n.memory c (length n.history + 1) at) is
+  at-same n None o at is = steps-same n (step_of n.process) o is
+
+  -- the node stays who it is
+  pub turn-same : (n : Host S) (o : Outcome (Host S)) → turn_of ops n ≡ Some o → SameNode n.memory.coherence o.after.memory.coherence
+  unfolding turn_of
+  turn-same n o is = at-same n n.memory.asked o refl is

@@ -5,7 +5,6 @@ use Rattle.std.proofs.lemmas.Bool.{ltb-true}
 use Rattle.std.proofs.lemmas.Option.{same_Some, none-some}
 use Rattle.ivy_model.specs.declared.Config.{Config}
 use Rattle.ivy_model.specs.declared.Call.{Call}
-use Rattle.ivy_model.specs.declared.Reply.{Reply}
 use Rattle.ivy_model.specs.Config.{IsConfig}
 use Rattle.ivy_model.specs.Legal.{HasWidth}
 use Rattle.ivy_wire.specs.Data.{Message}
@@ -20,12 +19,13 @@ use Rattle.ivy_ether.specs.Nodes.{Node}
 use Rattle.ivy_ether.specs.Following.{IsTame, IsOpening}
 use Rattle.ivy_memory.specs.declared.Answer.{Answer}
 use Rattle.ivy_memory.specs.declared.Answer.TheVariants.{Given, Awaited, Unserved}
-use Rattle.ivy_memory.specs.Memories.{CallBegun, reply_there, taken_out, call_begun}
+use Rattle.ivy_memory.specs.Memories.{CallBegun, call_begun, polled}
 use Rattle.ivy_memory.specs.Sound.{IsSoundMemory}
 use Rattle.ivy_host.specs.Sound.{IsSoundHost}
-use Rattle.ivy_host.specs.Hosts.{Host, recorded, quietly, replied, begins_with, begins_as, begins, steps, turned_at, turn_of, serving, host_rules, first_host}
+use Rattle.ivy_host.specs.Hosts.{Host, recorded, quietly, begins_with, begins_as, begins, steps, turned_at, turn_of, serving, host_rules, first_host}
 use Rattle.ivy_host.specs.Openings.{first_node, first_nodes, opening}
-use Rattle.ivy_memory.proofs.Tame.{SameNode, KeepsMemory, IsBegun, handled-told, taken-sound, first_sound-memory, told-sound, call-sound, call-begun}
+use Rattle.ivy_memory.proofs.Tame.{SameNode, KeepsMemory, IsBegun, handled-told, first_sound-memory, told-sound, call-sound, call-begun}
+use Rattle.ivy_memory.proofs.Polling.{polled-keeps, polled-begun}
 
 module _ {S : Type 0} {ops : Ops S} (laws : Laws ops) where
   -- what an event of node i has to keep
@@ -33,22 +33,20 @@ module _ {S : Type 0} {ops : Ops S} (laws : Laws ops) where
   Tamed c i o = IsSoundHost ops c i o.after × All (FitsParcel c i) o.posted
 
   tamed : (c : Config) (i : ℕ) (n : Host S) (o : Outcome (Host S)) → IsSoundHost ops c i n → IsSoundMemory ops o.after.memory → SameNode n.memory.coherence o.after.memory.coherence
-      → All (FitsParcel n.memory.coherence.config n.memory.coherence.me) o.posted → Tamed c i o
-  tamed c i n o s good same fits = (
-    record { memory = good; config = same.config ∙ s.config; me = same.me ∙ s.me },
+      → All (FitsParcel n.memory.coherence.config n.memory.coherence.me) o.posted → ((k : Call) → o.after.memory.asked ≡ Some k → length o.after.history + 1 < 2 ^ 64) → Tamed c i o
+  tamed c i n o s good same fits numbered = (
+    record { memory = good; config = same.config ∙ s.config; me = same.me ∙ s.me; numbered = numbered },
     subst (λ k. All (FitsParcel k i) o.posted) s.config (subst (λ j. All (FitsParcel n.memory.coherence.config j) o.posted) s.me fits),
   )
 
-  replied-tame : (c : Config) (i : ℕ) (n : Host S) (k : Call) (r : Option Reply) (o : Outcome (Host S)) → IsSoundHost ops c i n → reply_there n.memory.coherence.done ≡ r → replied n k r ≡ Some o → Tamed c i o
-  replied-tame c i n k None o s there is = absurd (none-some o is)
-  replied-tame c i n k (Some r) o s there is =
+  begins_with-tame : (c : Config) (i : ℕ) (n : Host S) (k : Call) (a : CallBegun S) (r : Answer) (o : Outcome (Host S)) → IsSoundHost ops c i n → KeepsMemory ops n.memory a
+      → length n.history + 1 < 2 ^ 64 → IsBegun k a → a.answer ≡ r → begins_with n k a r ≡ Some o → Tamed c i o
+  begins_with-tame c i n k a (Given r) o s h small begun given is =
       subst (Tamed c i) (same_Some _ o is)
-      (tamed c i n (quietly (recorded n (taken_out n.memory) k r)) s (taken-sound n.memory r s.memory there) (record { config = refl; me = refl }) (all_none (FitsParcel n.memory.coherence.config n.memory.coherence.me)))
-
-  begins_with-tame : (c : Config) (i : ℕ) (n : Host S) (k : Call) (a : CallBegun S) (r : Answer) (o : Outcome (Host S)) → IsSoundHost ops c i n → KeepsMemory ops n.memory a → begins_with n k a r ≡ Some o → Tamed c i o
-  begins_with-tame c i n k a (Given r) o s h is = subst (Tamed c i) (same_Some _ o is) (tamed c i n (record { after = recorded n a.after k r; posted = a.posted }) s h.0 h.2 h.1)
-  begins_with-tame c i n k a Awaited o s h is = subst (Tamed c i) (same_Some _ o is) (tamed c i n (record { after = record n { memory = a.after }; posted = a.posted }) s h.0 h.2 h.1)
-  begins_with-tame c i n k a Unserved o s h is = absurd (none-some o is)
+      (tamed c i n (record { after = recorded n a.after k r; posted = a.posted }) s h.0 h.2 h.1 (λ j asked. absurd (none-some j (sym (begun.over r given) ∙ asked))))
+  begins_with-tame c i n k a Awaited o s h small begun given is =
+      subst (Tamed c i) (same_Some _ o is) (tamed c i n (record { after = record n { memory = a.after }; posted = a.posted }) s h.0 h.2 h.1 (λ j asked. small))
+  begins_with-tame c i n k a Unserved o s h small begun given is = absurd (none-some o is)
 
   begins_if-tame : (c : Config) (i : ℕ) (n : Host S) (k : Call) (b : Bool) (o : Outcome (Host S)) → IsSoundHost ops c i n → n.memory.asked ≡ None → HasWidth k → nat_lt (length n.history + 1) (2 ^ 64) ≡ b
       → (if b then begins_as n k (call_begun ops n.memory k (length n.history + 1)) else None) ≡ Some o → Tamed c i o
@@ -56,7 +54,8 @@ module _ {S : Type 0} {ops : Ops S} (laws : Laws ops) where
   begins_if-tame c i n k true o s idle w small is =
       let number : ℕ = length n.history + 1 in
       let a : CallBegun S = call_begun ops n.memory k number in
-      begins_with-tame c i n k a a.answer o s (call-sound laws n.memory k number s.memory idle w (omega arith) (ltb-true number (2 ^ 64) small)) is
+      let below : number < 2 ^ 64 = ltb-true number (2 ^ 64) small in
+      begins_with-tame c i n k a a.answer o s (call-sound laws n.memory k number s.memory idle w (omega arith) below) below (call-begun ops n.memory k number idle) refl is
 
   begins-tame : (c : Config) (i : ℕ) (n : Host S) (k : Call) (o : Outcome (Host S)) → IsSoundHost ops c i n → n.memory.asked ≡ None → step_of n.process ≡ Asks k → begins ops n k ≡ Some o → Tamed c i o
   begins-tame c i n k o s idle asks is =
@@ -65,12 +64,17 @@ module _ {S : Type 0} {ops : Ops S} (laws : Laws ops) where
   steps-tame : (c : Config) (i : ℕ) (n : Host S) (t : Step) (o : Outcome (Host S)) → IsSoundHost ops c i n → n.memory.asked ≡ None → step_of n.process ≡ t → steps ops n t ≡ Some o → Tamed c i o
   steps-tame c i n (Local t) o s idle at is =
       subst (Tamed c i) (same_Some _ o is)
-      (tamed c i n (quietly (record n { process = at_state n.process t })) s s.memory (record { config = refl; me = refl }) (all_none (FitsParcel n.memory.coherence.config n.memory.coherence.me)))
+      (tamed c i n (quietly (record n { process = at_state n.process t })) s s.memory (record { config = refl; me = refl }) (all_none (FitsParcel n.memory.coherence.config n.memory.coherence.me))
+      (λ j h. absurd (none-some j (sym idle ∙ h))))
   steps-tame c i n (Asks k) o s idle at is = begins-tame c i n k o s idle at is
   steps-tame c i n Ends o s idle at is = absurd (none-some o is)
 
   at-tame : (c : Config) (i : ℕ) (n : Host S) (a : Option Call) (o : Outcome (Host S)) → IsSoundHost ops c i n → n.memory.asked ≡ a → turned_at ops n a ≡ Some o → Tamed c i o
-  at-tame c i n (Some k) o s at is = replied-tame c i n k _ o s refl is
+  at-tame c i n (Some k) o s at is =
+      let number : ℕ = length n.history + 1 in
+      let a : CallBegun S = polled ops n.memory number in
+      let small : number < 2 ^ 64 = s.numbered k at in
+      begins_with-tame c i n k a a.answer o s (polled-keeps laws n.memory k number s.memory at (omega arith) small) small (polled-begun ops n.memory k number at) refl is
   at-tame c i n None o s at is = steps-tame c i n _ o s at refl is
 
   turn-tame : (c : Config) (i : ℕ) (n : Host S) (o : Outcome (Host S)) → IsSoundHost ops c i n → turn_of ops n ≡ Some o → Tamed c i o
@@ -81,7 +85,7 @@ module _ {S : Type 0} {ops : Ops S} (laws : Laws ops) where
   unfolding serving
   serve-tame c i source n m s below foreign fits =
       let told = told-sound laws n.memory source m s.memory (subst (λ k. source < k.nodes) (sym s.config) below) (subst (λ j. source ≢ j) (sym s.me) foreign) (subst (λ k. FitsMessage k m) (sym s.config) fits) in
-      tamed c i n _ s told.0 (handled-told ops n.memory.coherence source m s.memory.coherent).0 told.1
+      tamed c i n _ s told.0 (handled-told ops n.memory.coherence source m s.memory.coherent).0 told.1 s.numbered
 
   -- turns and messages keep what holds of a node, and post only what can be sent
   pub tame : (c : Config) → IsTame (host_rules ops) c (IsSoundHost ops c)
@@ -97,18 +101,13 @@ IsAskingHost n = (k : Call) → n.memory.asked ≡ Some k → step_of n.process 
 module _ {S : Type 0} where
   pub begins_with-asking : (n : Host S) (k : Call) (a : CallBegun S) (r : Answer) (o : Outcome (Host S)) → step_of n.process ≡ Asks k → IsBegun k a → a.answer ≡ r → begins_with n k a r ≡ Some o → IsAskingHost o.after
   begins_with-asking n k a Awaited o asks begun is at =
-      subst (λ (x : Outcome (Host S)). IsAskingHost x.after) (same_Some (record { after = record n { memory = a.after }; posted = a.posted }) o at) (λ j h. asks ∙ ap Asks (begun j h).1)
+      subst (λ (x : Outcome (Host S)). IsAskingHost x.after) (same_Some (record { after = record n { memory = a.after }; posted = a.posted }) o at) (λ j h. asks ∙ ap Asks (begun.same j h))
   begins_with-asking n k a (Given r) o asks begun is at =
       subst (λ (x : Outcome (Host S)). IsAskingHost x.after) (same_Some (record { after = recorded n a.after k r; posted = a.posted }) o at)
-      (λ j h. absurd (let e : Awaited ≡ Given r = sym (begun j h).0 ∙ is in cc))
+      (λ j h. absurd (none-some j (sym (begun.over r is) ∙ h)))
   begins_with-asking n k a Unserved o asks begun is at = absurd (none-some o at)
 
 module _ {S : Type 0} (ops : Ops S) where
-  pub replied-asking : (n : Host S) (k : Call) (r : Option Reply) (o : Outcome (Host S)) → replied n k r ≡ Some o → IsAskingHost o.after
-  replied-asking n k None o is = absurd (none-some o is)
-  replied-asking n k (Some r) o is =
-      subst (λ (x : Outcome (Host S)). IsAskingHost x.after) (same_Some (quietly (recorded n (taken_out n.memory) k r)) o is) (λ j h. absurd (none-some j h))
-
   begins_if-asking : (n : Host S) (k : Call) (b : Bool) (o : Outcome (Host S)) → n.memory.asked ≡ None → step_of n.process ≡ Asks k
       → (if b then begins_as n k (call_begun ops n.memory k (length n.history + 1)) else None) ≡ Some o → IsAskingHost o.after
   begins_if-asking n k false o idle asks is = absurd (none-some o is)
@@ -125,14 +124,16 @@ module _ {S : Type 0} (ops : Ops S) where
   steps-asking n (Asks k) o idle at is = begins-asking n k o idle at is
   steps-asking n Ends o idle at is = absurd (none-some o is)
 
-  at-asking : (n : Host S) (a : Option Call) (o : Outcome (Host S)) → n.memory.asked ≡ a → turned_at ops n a ≡ Some o → IsAskingHost o.after
-  at-asking n (Some k) o at is = replied-asking n k (reply_there n.memory.coherence.done) o is
-  at-asking n None o at is = steps-asking n (step_of n.process) o at refl is
+  at-asking : (n : Host S) (a : Option Call) (o : Outcome (Host S)) → IsAskingHost n → n.memory.asked ≡ a → turned_at ops n a ≡ Some o → IsAskingHost o.after
+  at-asking n (Some k) o asking at is =
+      let a : CallBegun S = polled ops n.memory (length n.history + 1) in
+      begins_with-asking n k a a.answer o (asking k at) (polled-begun ops n.memory k (length n.history + 1) at) refl is
+  at-asking n None o asking at is = steps-asking n (step_of n.process) o at refl is
 
-  -- after a turn, a call in progress is the one that the program makes
-  pub turn-asking : (n : Host S) (o : Outcome (Host S)) → turn_of ops n ≡ Some o → IsAskingHost o.after
+  -- after a turn, a call in progress is the one that the program makes, if it was so before
+  pub turn-asking : (n : Host S) (o : Outcome (Host S)) → IsAskingHost n → turn_of ops n ≡ Some o → IsAskingHost o.after
   unfolding turn_of
-  turn-asking n o is = at-asking n n.memory.asked o refl is
+  turn-asking n o asking is = at-asking n n.memory.asked o asking refl is
 
   -- and so after a message, if it was so before
   pub serve-asking : (n : Host S) (from : ℕ) (m : Message) → IsAskingHost n → IsAskingHost (serving ops n from m).after
@@ -160,7 +161,7 @@ opening_is {S} {ops} laws c programs limits many = record {
   nodes = first_length ops c 0 programs ∙ many;
   sound = λ i n is. (let x = first_at ops c 0 i programs i n (omega arith) is in
       subst (λ (m : Node (Host S)). IsSoundHost ops c i m.core) (sym x.1)
-      (record { memory = first_sound-memory laws c i limits (let below = x.2 in omega (arith, below, many)); config = refl; me = refl }));
+      (record { memory = first_sound-memory laws c i limits (let below = x.2 in omega (arith, below, many)); config = refl; me = refl; numbered = λ k asked. absurd (none-some k asked) }));
   links = λ i n is. (let x = first_at ops c 0 i programs i n (omega arith) is in ap (λ (m : Node (Host S)). m.link) x.1);
   sent = refl;
 }

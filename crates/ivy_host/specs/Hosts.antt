@@ -16,7 +16,7 @@ use Rattle.ivy_program.specs.Steps.{Process, Step, Local, Asks, Ends, step_of, a
 use Rattle.ivy_ether.specs.Cores.{Core, Outcome}
 use Rattle.ivy_memory.specs.declared.Answer.{Answer}
 use Rattle.ivy_memory.specs.declared.Answer.TheVariants.{Given, Awaited, Unserved}
-use Rattle.ivy_memory.specs.Memories.{Memory, CallBegun, call_begun, reply_there, taken_out, memory_told}
+use Rattle.ivy_memory.specs.Memories.{Memory, CallBegun, call_begun, polled, memory_told}
 
 pub record Host (S : Type 0) : Type 0 where
   pub memory : Memory S
@@ -42,12 +42,7 @@ module _ {S : Type 0} where
   abbrev pub quietly : Host S → Outcome (Host S)
   quietly n = record { after = n; posted = [] }
 
-  -- the call in progress: it waits, or its reply is there
-  abbrev pub replied : Host S → Call → Option Reply → Option (Outcome (Host S))
-  replied n c None = None
-  replied n c (Some r) = Some (quietly (recorded n (taken_out n.memory) c r))
-
-  -- a call begins: it is answered at once, or it is in progress from now on; none where it does not begin
+  -- a call begins, or is asked for its reply: it is answered, or it waits from now on; none where nothing changes
   abbrev pub begins_with : Host S → Call → CallBegun S → Answer → Option (Outcome (Host S))
   begins_with n c a (Given r) = Some (record { after = recorded n a.after c r; posted = a.posted })
   begins_with n c a Awaited =
@@ -69,8 +64,9 @@ module _ {S : Type 0} (ops : Ops S) where
   steps n (Asks c) = begins n c
   steps n Ends = None
 
+  -- the call in progress is the one after the records, and is asked for its reply
   abbrev pub turned_at : Host S → Option Call → Option (Outcome (Host S))
-  turned_at n (Some c) = replied n c (reply_there n.memory.coherence.done)
+  turned_at n (Some c) = begins_as n c (polled ops n.memory (length n.history + 1))
   turned_at n None = steps n (step_of n.process)
 
   -- one turn of the program; none where it changes nothing

@@ -1,6 +1,7 @@
 -- What holds of a node but for its link, whatever comes to it.
-use Rattle.std.specs.Prelude.{◌≡◌, ℕ}
+use Rattle.std.specs.Prelude.{◌≡◌, ℕ, ◌+◌, ◌^◌, ◌<◌, length, Some}
 use Rattle.ivy_model.specs.declared.Config.{Config}
+use Rattle.ivy_model.specs.declared.Call.{Call}
 use Rattle.ivy_pagetable.specs.Manager.{Ops}
 use Rattle.ivy_host.specs.Hosts.{Host}
 use Rattle.ivy_memory.specs.Sound.{IsSoundMemory}
@@ -10,3 +11,5 @@ pub record IsSoundHost {S : Type 0} (ops : Ops S) (c : Config) (i : ℕ) (n : Ho
   pub memory : IsSoundMemory ops n.memory
   pub config : n.memory.coherence.config ≡ c
   pub me : n.memory.coherence.me ≡ i
+  -- the call in progress has a number
+  pub numbered : (call : Call) → n.memory.asked ≡ Some call → length n.history + 1 < 2 ^ 64

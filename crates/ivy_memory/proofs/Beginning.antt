@@ -20,7 +20,7 @@ use Rattle.ivy_memory.specs.Asking.{CanAsk, HasToAskFor, CallHasToAsk, asked_of}
 use Rattle.ivy_memory.specs.Memories.{Memory, CallBegun, needed, begun_as, call_begun, memory_told}
 use Rattle.ivy_memory.proofs.Asking.{can_ask}
 use Rattle.ivy_memory.specs.Sound.{IsSoundMemory}
-use Rattle.ivy_memory.proofs.Tame.{Begins, begun-begins, had-sound, started-sound, told-sound, needed-posted, call-few}
+use Rattle.ivy_memory.proofs.Tame.{Begins, begun-begins, one_wide, had-sound, started-sound, told-sound, needed-posted, call-few}
 
 -- what holds of a result either way
 pub of_either : {A B X : Type 0} (P : Type 0) (F : X → Type 0) (r : Result A B) (new good old : X) → OnOk r (new ≡ good) → OnErr r ((new ≡ old) × P) → F good → F old → F new
@@ -74,14 +74,18 @@ module _ {S : Type 0} {ops : Ops S} (laws : Laws ops) where
     resting : v.asked ≡ None
     resting = ap (λ (x : Memory S). x.asked) l.same ∙ l.idle
 
-    pub had_memory : (new : Coherent S) (told : Need) (o : Out) (a : Option Call) → new ≡ access.after → told ≡ access.need → told ≡ need.Have o
+    pub had_memory : (new : Coherent S) (told : Need) (o : Out) (a : Option Call) → ((j : Call) → a ≡ Some j → HasWidth j) → new ≡ access.after → told ≡ access.need → told ≡ need.Have o
         → IsSoundMemory ops (record { coherence = new; asked = a })
-    had_memory new told o a is was had =
-        subst (λ x. IsSoundMemory ops (record { coherence = x; asked = a })) (sym is) (had-sound v access o a l.sound resting access-begins access-sound (sym was ∙ had))
+    had_memory new told o a wide is was had =
+        subst (λ x. IsSoundMemory ops (record { coherence = x; asked = a })) (sym is) (had-sound v access o a wide l.sound resting access-begins access-sound (sym was ∙ had))
 
-    pub started_memory : (new : Coherent S) (a : Call) → new ≡ access.after → IsSoundMemory ops (record { coherence = new; asked = Some a })
-    started_memory new a is =
-        subst (λ x. IsSoundMemory ops (record { coherence = x; asked = Some a })) (sym is) (started-sound v access a l.sound resting access-begins access-sound)
+    pub started_memory : (new : Coherent S) → new ≡ access.after → IsSoundMemory ops (record { coherence = new; asked = Some c })
+    started_memory new is =
+        subst (λ x. IsSoundMemory ops (record { coherence = x; asked = Some c })) (sym is) (started-sound v access c l.legal l.sound resting access-begins access-sound)
+
+    -- the call in progress is that call
+    pub wide : (j : Call) → Some c ≡ Some j → HasWidth j
+    wide = one_wide c l.legal
 
     pub busy_stays : (new : Coherent S) (told : Need) → new ≡ access.after → told ≡ access.need → told ≡ need.Busy → new ≡ v.coherence
     busy_stays new told is was busy = is ∙ access-begins.busy (sym was ∙ busy)

@@ -1,4 +1,5 @@
 pub mod Asking
 pub mod Tame
 pub mod Beginning
+pub mod Polling
 pub mod Same

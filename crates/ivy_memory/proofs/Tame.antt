@@ -1,36 +1,43 @@
 -- Accesses and messages keep what holds of a memory, and post only what can be sent. For every manager that keeps the laws.
-use Rattle.std.proofs.Common.{◌≡◌, ◌≢◌, ℕ, ◌^◌, ◌<◌, ◌≤◌, ◌⊎◌, inl, inr, Bool, true, false, List, [], length, Option, Some, None, refl, sym, ap, ◌∙◌, arith}
-use Rattle.std.specs.Prelude.{All}
+use Rattle.std.proofs.Common.{◌≡◌, ◌≢◌, ℕ, ◌-◌, ◌^◌, ◌<◌, ◌≤◌, ◌⊎◌, inl, inr, Bool, true, false, List, [], length, Option, Some, None, refl, sym, ap, ◌∙◌, subst, arith, if◌then◌else◌, ◌==◌}
+use Rattle.std.specs.Prelude.{All, slice_set}
+use Rattle.std.proofs.lemmas.List.{set-get_or}
 use Rattle.std.proofs.lemmas.Option.{same_Some, none-some}
 use Rattle.ivy_model.specs.declared.Config.{Config}
 use Rattle.ivy_model.specs.declared.Call.{Call}
 use Rattle.ivy_model.specs.declared.Reply.{Reply}
+use Rattle.ivy_model.specs.declared.Reply.TheVariants as reply
 use Rattle.ivy_model.specs.Config.{IsConfig}
 use Rattle.ivy_model.specs.Legal.{HasWidth}
 use Rattle.ivy_wire.specs.Data.{Message, Parcel}
 use Rattle.ivy_wire.specs.Spelling.{FitsMessage, FitsParcel}
 use Rattle.ivy_pagetable.specs.declared.Entry.{Entry}
 use Rattle.ivy_pagetable.specs.declared.Out.{Out}
+use Rattle.ivy_pagetable.specs.declared.Out.TheVariants as out
 use Rattle.ivy_pagetable.specs.declared.Word.{Word}
+use Rattle.ivy_pagetable.specs.declared.Word.TheVariants as word
 use Rattle.ivy_pagetable.specs.States.{IdleState, WaitingState}
 use Rattle.ivy_pagetable.specs.Entries.{is_locked, copying, owning}
-use Rattle.ivy_pagetable.specs.Tables.{page_at}
+use Rattle.ivy_pagetable.specs.TableState.{Table}
+use Rattle.ivy_pagetable.specs.Tables.{page_at, with_page}
+use Rattle.ivy_pagetable.specs.Words.{Carried, number_at, carried_out}
 use Rattle.ivy_pagetable.specs.Manager.{Ops, Laws}
 use Rattle.ivy_coherence.specs.declared.Need.{Need}
 use Rattle.ivy_coherence.specs.declared.Need.TheVariants as need
 use Rattle.ivy_coherence.specs.Coherent.{Coherent}
 use Rattle.ivy_coherence.specs.Steps.{unlocked, handled}
-use Rattle.ivy_coherence.specs.Faults.{Begun, started, begun}
+use Rattle.ivy_coherence.specs.Faults.{Begun, started, hit, begun}
 use Rattle.ivy_coherence.specs.Sound.{IsSound, first_coherent}
 use Rattle.ivy_coherence.proofs.Keeping.{handled-keeps, begun-keeps, first-sound}
 use Rattle.ivy_coherence.proofs.IdleServing.{all_none}
 use Rattle.ivy_coherence.proofs.Rows.{Rows, AccessRows, handled-by_rows, begun-by_rows}
 use Rattle.ivy_coherence.proofs.Few.{begun-few}
-use Rattle.ivy_memory.specs.declared.answer.Answer.TheVariants.{Awaited}
+use Rattle.ivy_memory.specs.declared.answer.Answer.{Answer}
+use Rattle.ivy_memory.specs.declared.answer.Answer.TheVariants.{Given, Unserved}
 use Rattle.ivy_memory.specs.declared.asked.Asked.{Asked}
 use Rattle.ivy_memory.specs.declared.asked.Asked.TheVariants as asked
 use Rattle.ivy_memory.specs.Asking.{CanAsk, asked_of}
-use Rattle.ivy_memory.specs.Memories.{Memory, CallBegun, reply_of, reply_there, taken_out, answered, needed, begun_as, call_begun, memory_told}
+use Rattle.ivy_memory.specs.Memories.{Memory, CallBegun, reply_of, reply_there, taken_out, answered, unserved, needed, again_unless, again, begun_as, call_begun, memory_told}
 use Rattle.ivy_memory.proofs.Asking.{can_ask}
 use Rattle.ivy_memory.specs.Sound.{IsSoundMemory}
 
@@ -48,8 +55,33 @@ pub record Begins {S : Type 0} (c : Coherent S) (b : Begun S) : Type 0 where
   pub same : SameNode c b.after
   pub done : b.after.done ≡ c.done
   pub lock : (o : Out) → b.need ≡ need.Have o → b.after.locked ≡ c.locked
+  pub free : (o : Out) → b.need ≡ need.Have o → c.locked ≡ None
+  pub start : b.need ≡ need.Started → c.locked ≡ None
   pub busy : b.need ≡ need.Busy → b.after ≡ c
   pub none : b.need ≡ need.Busy → b.posted ≡ []
+  pub had : (o : Out) → b.need ≡ need.Have o → b.posted ≡ []
+  pub quiet : (o : Out) → b.need ≡ need.Have o → reply_of o ≡ None → b.after ≡ c
+
+-- bytes that stay as they are
+kept_page : (t : Table) (page : ℕ) (bytes : List ℕ) → bytes ≡ page_at t page → with_page t page bytes ≡ t
+kept_page t page bytes is =
+    ap (λ x. record { page_size = t.page_size; entries = t.entries; pages = x }) (ap (slice_set t.pages page) is ∙ set-get_or t.pages page [])
+
+abbrev advance_by : Bool → List ℕ → List ℕ → Carried
+advance_by b bytes more = if b then record { out = out.Full; bytes = bytes } else record { out = out.Done; bytes = more }
+
+quiet_advance : (b : Bool) (bytes more : List ℕ) → reply_of (advance_by b bytes more).out ≡ None → (advance_by b bytes more).bytes ≡ bytes
+quiet_advance true bytes more h = refl
+quiet_advance false bytes more h = absurd cc
+
+-- a word that has no answer yet writes nothing
+quiet_bytes : (w : Word) (bytes : List ℕ) → reply_of (carried_out w bytes).out ≡ None → (carried_out w bytes).bytes ≡ bytes
+quiet_bytes (word.Load width offset) bytes h = refl
+quiet_bytes (word.Store width offset value) bytes h = absurd cc
+quiet_bytes (word.Count offset) bytes h = refl
+quiet_bytes (word.Advance offset) bytes h =
+    quiet_advance (number_at 8 offset bytes == 2 ^ 64 - 1) bytes _ h
+quiet_bytes (word.Await offset least) bytes h = refl
 
 reply_done : (d : Option Out) (r : Reply) → reply_there d ≡ Some r → (o : Out) × (d ≡ Some o)
 reply_done None r h = absurd (none-some r h)
@@ -72,7 +104,7 @@ module _ {S : Type 0} where
   answered-same m c b None same = same
   answered-same m c b (Some r) same = same
 
-  needed-same : (m : Memory S) (c : Call) (b : Begun S) (n : Need) → SameNode m.coherence b.after → SameNode m.coherence (needed m c b n).after.coherence
+  pub needed-same : (m : Memory S) (c : Call) (b : Begun S) (n : Need) → SameNode m.coherence b.after → SameNode m.coherence (needed m c b n).after.coherence
   needed-same m c b (need.Have o) same = answered-same m c b (reply_of o) same
   needed-same m c b need.Started same = same
   needed-same m c b need.Busy same = record { config = refl; me = refl }
@@ -108,51 +140,81 @@ module _ {S : Type 0} (ops : Ops S) where
   pub handled-told : (c : Coherent S) (from : ℕ) (m : Message) → IsSound ops c → Told c (handled ops c from m).after
   handled-told c from m s = handled-by_rows m (told-rows c from m.origin m.call s)
 
-  started-begins : (c : Coherent S) (page : ℕ) (e : Entry) (ps : List Parcel) → Begins c (started ops c page e ps)
-  started-begins c page e ps = record { same = record { config = refl; me = refl }; done = refl; lock = λ o h. absurd cc; busy = λ h. absurd cc; none = λ h. absurd cc }
+  started-begins : (c : Coherent S) (page : ℕ) → c.locked ≡ None → (e : Entry) (ps : List Parcel) → Begins c (started ops c page e ps)
+  started-begins c page free e ps = record { same = record { config = refl; me = refl }; done = refl; lock = λ o h. absurd cc; free = λ o h. absurd cc; start = λ h. free; busy = λ h. absurd cc; none = λ h. absurd cc; had = λ o h. absurd cc; quiet = λ o h n. absurd cc }
+
+  hit-begins : (c : Coherent S) (page : ℕ) (w : Word) → c.locked ≡ None → Begins c (hit ops c page w)
+  hit-begins c page w free = record {
+    same = record { config = refl; me = refl };
+    done = refl;
+    lock = λ o h. refl;
+    free = λ o h. free;
+    start = λ h. free;
+    busy = λ h. absurd cc;
+    none = λ h. absurd cc;
+    had = λ o h. refl;
+    quiet = λ o h n.
+        (let given : (carried_out w (page_at c.table page)).out ≡ o = cc in
+        ap (λ t. record c { table = t }) (kept_page c.table page _ (quiet_bytes w (page_at c.table page) (ap reply_of given ∙ n))));
+  }
 
   begins-rows : (c : Coherent S) (page : ℕ) (w : Word) (number : ℕ) → AccessRows ops c page w number (Begins c)
   begins-rows c page w number = record {
-    busy = record { same = record { config = refl; me = refl }; done = refl; lock = λ o h. refl; busy = λ h. refl; none = λ h. refl };
-    hit = λ i none is enough. record { same = record { config = refl; me = refl }; done = refl; lock = λ o h. refl; busy = λ h. absurd cc; none = λ h. absurd cc };
-    read = λ i none is short reads. started-begins c page _ _;
-    write = λ i none is short writes other. started-begins c page _ _;
-    owner = λ i none is short writes own. started-begins c page _ _;
+    busy = record {
+      same = record { config = refl; me = refl };
+      done = refl;
+      lock = λ o h. refl;
+      free = λ o h. absurd cc;
+      start = λ h. absurd cc;
+      busy = λ h. refl;
+      none = λ h. refl;
+      had = λ o h. refl;
+      quiet = λ o h n. refl;
+    };
+    hit = λ i none is enough. hit-begins c page w none;
+    read = λ i none is short reads. started-begins c page none _ _;
+    write = λ i none is short writes other. started-begins c page none _ _;
+    owner = λ i none is short writes own. started-begins c page none _ _;
   }
 
   pub begun-begins : (c : Coherent S) (page : ℕ) (w : Word) (number : ℕ) → Begins c (begun ops c page w number)
   begun-begins c page w number = begun-by_rows (begins-rows c page w number)
 
+pub one_wide : (c : Call) → HasWidth c → (j : Call) → Some c ≡ Some j → HasWidth j
+one_wide c wide j h = subst HasWidth (same_Some c j h) wide
+
 module _ {S : Type 0} {ops : Ops S} where
   -- the memory after an access, by what it was told
-  pub had-sound : (m : Memory S) (b : Begun S) (o : Out) (a : Option Call) → IsSoundMemory ops m → m.asked ≡ None → Begins m.coherence b → IsSound ops b.after → b.need ≡ need.Have o
+  pub had-sound : (m : Memory S) (b : Begun S) (o : Out) (a : Option Call) → ((j : Call) → a ≡ Some j → HasWidth j) → IsSoundMemory ops m → m.asked ≡ None → Begins m.coherence b → IsSound ops b.after → b.need ≡ need.Have o
       → IsSoundMemory ops (record { coherence = b.after; asked = a })
-  had-sound m b o a s idle bs good is = record {
+  had-sound m b o a wide s idle bs good is = record {
+    width = wide;
     coherent = good;
     done = λ h. bs.done ∙ s.done idle;
     locked = λ h. bs.lock o is ∙ s.locked idle;
     answered = λ p h. bs.lock o is ∙ s.locked idle;
   }
 
-  pub started-sound : (m : Memory S) (b : Begun S) (c : Call) → IsSoundMemory ops m → m.asked ≡ None → Begins m.coherence b → IsSound ops b.after
+  pub started-sound : (m : Memory S) (b : Begun S) (c : Call) → HasWidth c → IsSoundMemory ops m → m.asked ≡ None → Begins m.coherence b → IsSound ops b.after
       → IsSoundMemory ops (record { coherence = b.after; asked = Some c })
-  started-sound m b c s idle bs good = record {
+  started-sound m b c wide s idle bs good = record {
+    width = one_wide c wide;
     coherent = good;
     done = λ h. absurd (none-some c (sym h));
     locked = λ h. absurd (none-some c (sym h));
     answered = λ o h. absurd (none-some o (sym (bs.done ∙ s.done idle) ∙ h));
   }
 
-  answered-sound : (m : Memory S) (c : Call) (b : Begun S) (o : Out) (r : Option Reply) → IsSoundMemory ops m → m.asked ≡ None → Begins m.coherence b → IsSound ops b.after → b.need ≡ need.Have o
+  answered-sound : (m : Memory S) (c : Call) (b : Begun S) (o : Out) (r : Option Reply) → HasWidth c → IsSoundMemory ops m → m.asked ≡ None → Begins m.coherence b → IsSound ops b.after → b.need ≡ need.Have o
       → IsSoundMemory ops (answered c b r).after
-  answered-sound m c b o None s idle bs good is = had-sound m b o (Some c) s idle bs good is
-  answered-sound m c b o (Some r) s idle bs good is = had-sound m b o None s idle bs good is
+  answered-sound m c b o None wide s idle bs good is = had-sound m b o (Some c) (one_wide c wide) s idle bs good is
+  answered-sound m c b o (Some r) wide s idle bs good is = had-sound m b o None (λ j h. absurd (none-some j h)) s idle bs good is
 
-  needed-sound : (m : Memory S) (c : Call) (b : Begun S) (n : Need) → IsSoundMemory ops m → m.asked ≡ None → Begins m.coherence b → IsSound ops b.after → b.need ≡ n
+  needed-sound : (m : Memory S) (c : Call) (b : Begun S) (n : Need) → HasWidth c → IsSoundMemory ops m → m.asked ≡ None → Begins m.coherence b → IsSound ops b.after → b.need ≡ n
       → IsSoundMemory ops (needed m c b n).after
-  needed-sound m c b (need.Have o) s idle bs good is = answered-sound m c b o (reply_of o) s idle bs good is
-  needed-sound m c b need.Started s idle bs good is = started-sound m b c s idle bs good
-  needed-sound m c b need.Busy s idle bs good is = s
+  needed-sound m c b (need.Have o) wide s idle bs good is = answered-sound m c b o (reply_of o) wide s idle bs good is
+  needed-sound m c b need.Started wide s idle bs good is = started-sound m b c wide s idle bs good
+  needed-sound m c b need.Busy wide s idle bs good is = s
 
   pub told-memory : (m : Memory S) (new : Coherent S) → IsSoundMemory ops m → Told m.coherence new → IsSound ops new → IsSoundMemory ops (record { coherence = new; asked = m.asked })
   told-memory m new s told good =
@@ -162,39 +224,59 @@ module _ {S : Type 0} {ops : Ops S} where
           done = λ h. x.1 ∙ s.done h;
           locked = λ h. x.0 ∙ s.locked h;
           answered = λ o h. x.0 ∙ s.answered o (sym x.1 ∙ h);
+          width = s.width;
         }
         | inr x ↦ record {
           coherent = good;
           done = λ h. absurd (none-some x.0 (sym (s.locked h) ∙ x.1));
           locked = λ h. x.2;
           answered = λ o h. x.2;
+          width = s.width;
         }
       ]
 
+  -- whatever stands there as the answer
+  pub with_done-sound : (c : Coherent S) (d : Option Out) → IsSound ops c → IsSound ops (record c { done = d })
+  with_done-sound c d s = record {
+    limits = s.limits;
+    here = s.here;
+    mine = s.mine;
+    managed = s.managed;
+    nodes = s.nodes;
+    size = s.size;
+    entries = s.entries;
+    pages = s.pages;
+    sized = s.sized;
+    each = s.each;
+    hop = s.hop;
+    away = s.away;
+    locked = s.locked;
+    others = s.others;
+  }
+
+  -- the memory without its call in progress, where no word waits
+  pub without-sound : (m : Memory S) → IsSoundMemory ops m → m.coherence.locked ≡ None → IsSoundMemory ops (taken_out m)
+  without-sound m s free = record {
+    coherent = with_done-sound m.coherence None s.coherent;
+    done = λ h. refl;
+    locked = λ h. free;
+    answered = λ o h. absurd (none-some o h);
+    width = λ j h. absurd (none-some j h);
+  }
+
   pub taken-sound : (m : Memory S) (r : Reply) → IsSoundMemory ops m → reply_there m.coherence.done ≡ Some r → IsSoundMemory ops (taken_out m)
-  taken-sound m r s there =
-      let d = reply_done m.coherence.done r there in
-      record {
-        coherent = record {
-          limits = s.coherent.limits;
-          here = s.coherent.here;
-          mine = s.coherent.mine;
-          managed = s.coherent.managed;
-          nodes = s.coherent.nodes;
-          size = s.coherent.size;
-          entries = s.coherent.entries;
-          pages = s.coherent.pages;
-          sized = s.coherent.sized;
-          each = s.coherent.each;
-          hop = s.coherent.hop;
-          away = s.coherent.away;
-          locked = s.coherent.locked;
-          others = s.coherent.others;
-        };
-        done = λ h. refl;
-        locked = λ h. s.answered d.0 d.1;
-        answered = λ o h. absurd (none-some o h);
-      }
+  taken-sound m r s there = let d = reply_done m.coherence.done r there in without-sound m s (s.answered d.0 d.1)
+
+  again_unless-sound : (m : Memory S) (c : Call) (b : Begun S) (o : Out) (r : Option Reply) → HasWidth c → IsSoundMemory ops m → Begins (taken_out m).coherence b → IsSound ops b.after → b.need ≡ need.Have o
+      → IsSoundMemory ops (again_unless m (answered c b r) r).after
+  again_unless-sound m c b o None wide s bs good is = s
+  again_unless-sound m c b o (Some r) wide s bs good is = answered-sound (taken_out m) c b o (Some r) wide (without-sound m s (bs.free o is)) refl bs good is
+
+  pub again-sound : (m : Memory S) (c : Call) (b : Begun S) (n : Need) → HasWidth c → IsSoundMemory ops m → Begins (taken_out m).coherence b → IsSound ops b.after → b.need ≡ n
+      → IsSoundMemory ops (again m (needed (taken_out m) c b n) n).after
+  again-sound m c b (need.Have o) wide s bs good is = again_unless-sound m c b o (reply_of o) wide s bs good is
+  again-sound m c b need.Started wide s bs good is = started-sound (taken_out m) b c wide (without-sound m s (bs.start is)) refl bs good
+  again-sound m c b need.Busy wide s bs good is = s
 
 -- what a call that begins keeps
 abbrev pub KeepsMemory : {S : Type 0} → Ops S → Memory S → CallBegun S → Type 0
@@ -207,6 +289,7 @@ module _ {S : Type 0} {ops : Ops S} (laws : Laws ops) where
     done = λ h. refl;
     locked = λ h. refl;
     answered = λ o h. refl;
+    width = λ j h. absurd (none-some j h);
   }
 
   pub told-sound : (m : Memory S) (from : ℕ) (message : Message) → IsSoundMemory ops m → from < m.coherence.config.nodes → from ≢ m.coherence.me → FitsMessage m.coherence.config message
@@ -215,44 +298,61 @@ module _ {S : Type 0} {ops : Ops S} (laws : Laws ops) where
       let kept = handled-keeps laws m.coherence from message s.coherent below foreign fits in
       (told-memory m _ s (handled-told ops m.coherence from message s.coherent) kept.0, kept.1)
 
-  as-sound : (m : Memory S) (k : Call) (number : ℕ) (x : Asked) → IsSoundMemory ops m → m.asked ≡ None → CanAsk m.coherence.config x → 1 ≤ number → number < 2 ^ 64
+  as-sound : (m : Memory S) (k : Call) (number : ℕ) (x : Asked) → HasWidth k → IsSoundMemory ops m → m.asked ≡ None → CanAsk m.coherence.config x → 1 ≤ number → number < 2 ^ 64
       → KeepsMemory ops m (begun_as ops m k number x)
-  as-sound m k number (asked.Refused code) s idle can least most = (s, all_none (FitsParcel m.coherence.config m.coherence.me), record { config = refl; me = refl })
-  as-sound m k number asked.Heap s idle can least most = (s, all_none (FitsParcel m.coherence.config m.coherence.me), record { config = refl; me = refl })
-  as-sound m k number (asked.Word page w) s idle can least most =
+  as-sound m k number (asked.Refused code) wide s idle can least most = (s, all_none (FitsParcel m.coherence.config m.coherence.me), record { config = refl; me = refl })
+  as-sound m k number asked.Heap wide s idle can least most = (s, all_none (FitsParcel m.coherence.config m.coherence.me), record { config = refl; me = refl })
+  as-sound m k number (asked.Word page w) wide s idle can least most =
       let b : Begun S = begun ops m.coherence page w number in
       let kept = begun-keeps laws m.coherence page w number s.coherent can.0 can.1 least most in
       let marks : Begins m.coherence b = begun-begins ops m.coherence page w number in
-      (needed-sound m k b b.need s idle marks kept.0 refl, needed-fits m.coherence.config m.coherence.me m k b b.need kept.1, needed-same m k b b.need marks.same)
+      (needed-sound m k b b.need wide s idle marks kept.0 refl, needed-fits m.coherence.config m.coherence.me m k b b.need kept.1, needed-same m k b b.need marks.same)
 
   -- a call that begins
   pub call-sound : (m : Memory S) (k : Call) (number : ℕ) → IsSoundMemory ops m → m.asked ≡ None → HasWidth k → 1 ≤ number → number < 2 ^ 64 → KeepsMemory ops m (call_begun ops m k number)
   unfolding call_begun
-  call-sound m k number s idle w least most = as-sound m k number (asked_of m.coherence.config k) s idle (can_ask m.coherence.config k s.coherent.limits w) least most
+  call-sound m k number s idle w least most = as-sound m k number (asked_of m.coherence.config k) w s idle (can_ask m.coherence.config k s.coherent.limits w) least most
+
+-- a call that has its reply is not in progress, and what is in progress is that call
+pub record IsBegun {S : Type 0} (k : Call) (a : CallBegun S) : Type 0 where
+  pub over : (r : Reply) → a.answer ≡ Given r → a.after.asked ≡ None
+  pub same : (j : Call) → a.after.asked ≡ Some j → k ≡ j
 
 module _ {S : Type 0} where
-  -- a call that begins is in progress where it waits for its reply, and only there
-  abbrev pub IsBegun : Call → CallBegun S → Type 0
-  IsBegun k a = (j : Call) → a.after.asked ≡ Some j → (a.answer ≡ Awaited) × (k ≡ j)
+  -- what changes nothing
+  idle-begun : (m : Memory S) (k : Call) → m.asked ≡ None → (r : Answer) (ps : List Parcel) → IsBegun k (record { answer = r; after = m; posted = ps })
+  idle-begun m k idle r ps = record { over = λ q h. idle; same = λ j h. absurd (none-some j (sym idle ∙ h)) }
+
+  pub unserved-begun : (m : Memory S) (k : Call) → m.asked ≡ Some k → IsBegun k (unserved m)
+  unserved-begun m k asked = record { over = λ r h. absurd cc; same = λ j h. same_Some k j (sym asked ∙ h) }
 
   answered-begun : (k : Call) (b : Begun S) (r : Option Reply) → IsBegun k (answered k b r)
-  answered-begun k b None j h = (refl, same_Some k j h)
-  answered-begun k b (Some r) j h = absurd (none-some j h)
+  answered-begun k b None = record { over = λ r h. absurd cc; same = λ j h. same_Some k j h }
+  answered-begun k b (Some r) = record { over = λ q h. refl; same = λ j h. absurd (none-some j h) }
 
   needed-begun : (m : Memory S) (k : Call) (b : Begun S) (n : Need) → m.asked ≡ None → IsBegun k (needed m k b n)
-  needed-begun m k b (need.Have o) idle j h = answered-begun k b (reply_of o) j h
-  needed-begun m k b need.Started idle j h = (refl, same_Some k j h)
-  needed-begun m k b need.Busy idle j h = absurd (none-some j (sym idle ∙ h))
+  needed-begun m k b (need.Have o) idle = answered-begun k b (reply_of o)
+  needed-begun m k b need.Started idle = answered-begun k b None
+  needed-begun m k b need.Busy idle = idle-begun m k idle Unserved []
+
+  again_unless-begun : (m : Memory S) (k : Call) (b : Begun S) (r : Option Reply) → m.asked ≡ Some k → IsBegun k (again_unless m (answered k b r) r)
+  again_unless-begun m k b None asked = unserved-begun m k asked
+  again_unless-begun m k b (Some r) asked = answered-begun k b (Some r)
+
+  pub again-begun : (m : Memory S) (k : Call) (b : Begun S) (n : Need) → m.asked ≡ Some k → IsBegun k (again m (needed (taken_out m) k b n) n)
+  again-begun m k b (need.Have o) asked = again_unless-begun m k b (reply_of o) asked
+  again-begun m k b need.Started asked = answered-begun k b None
+  again-begun m k b need.Busy asked = unserved-begun m k asked
 
 module _ {S : Type 0} (ops : Ops S) where
   as-begun : (m : Memory S) (k : Call) (number : ℕ) (x : Asked) → m.asked ≡ None → IsBegun k (begun_as ops m k number x)
-  as-begun m k number (asked.Refused code) idle j h = absurd (none-some j (sym idle ∙ h))
-  as-begun m k number (asked.Word page w) idle j h = let b : Begun S = begun ops m.coherence page w number in needed-begun m k b b.need idle j h
-  as-begun m k number asked.Heap idle j h = absurd (none-some j (sym idle ∙ h))
+  as-begun m k number (asked.Refused code) idle = idle-begun m k idle (Given (reply.Refused code)) []
+  as-begun m k number (asked.Word page w) idle = let b : Begun S = begun ops m.coherence page w number in needed-begun m k b b.need idle
+  as-begun m k number asked.Heap idle = idle-begun m k idle Unserved []
 
   pub call-begun : (m : Memory S) (k : Call) (number : ℕ) → m.asked ≡ None → IsBegun k (call_begun ops m k number)
   unfolding call_begun
-  call-begun m k number idle j h = as-begun m k number (asked_of m.coherence.config k) idle j h
+  call-begun m k number idle = as-begun m k number (asked_of m.coherence.config k) idle
 
   as-same : (m : Memory S) (k : Call) (number : ℕ) (x : Asked) → SameNode m.coherence (begun_as ops m k number x).after.coherence
   as-same m k number (asked.Refused code) = record { config = refl; me = refl }

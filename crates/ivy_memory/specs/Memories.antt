@@ -1,5 +1,5 @@
 -- A node's memory: its coherence, and the call that it has in progress.
-use Rattle.std.specs.Prelude.{ℕ, Option, Some, None, List, []}
+use Rattle.std.specs.Prelude.{◌≡◌, ℕ, Option, Some, None, List, []}
 use Rattle.ivy_model.specs.declared.Call.{Call}
 use Rattle.ivy_model.specs.declared.Reply.{Reply}
 use Rattle.ivy_model.specs.declared.Reply.TheVariants as reply
@@ -16,7 +16,7 @@ use Rattle.ivy_memory.specs.declared.answer.Answer.{Answer}
 use Rattle.ivy_memory.specs.declared.answer.Answer.TheVariants.{Given, Awaited, Unserved}
 use Rattle.ivy_memory.specs.declared.asked.Asked.{Asked}
 use Rattle.ivy_memory.specs.declared.asked.Asked.TheVariants as asked
-use Rattle.ivy_memory.specs.Asking.{asked_of}
+use Rattle.ivy_memory.specs.Asking.{asked_of, CallHasToAsk}
 
 pub record Memory (S : Type 0) : Type 0 where
   pub coherence : Coherent S
@@ -29,7 +29,23 @@ reply_of out.Done = Some reply.Done
 reply_of out.Full = Some (reply.Refused 7)
 reply_of out.NotYet = None
 
--- what a call comes to when it begins: what it is answered, the memory after, and what is posted
+-- the reply of the call in progress, once the word that waited was carried out
+abbrev pub reply_there : Option Out → Option Reply
+reply_there None = None
+reply_there (Some o) = reply_of o
+
+-- the memory without the call in progress: its reply was taken out, or it begins anew
+abbrev pub taken_out : {S : Type 0} → Memory S → Memory S
+taken_out m = record { coherence = record m.coherence { done = None }; asked = None }
+
+-- other nodes have to be asked for the call in progress, which has no reply yet
+pub record HasToAskAgain {S : Type 0} (m : Memory S) : Type 0 where
+  pub call : Call
+  pub asked : m.asked ≡ Some call
+  pub untold : reply_there m.coherence.done ≡ None
+  pub asks : CallHasToAsk m.coherence call
+
+-- what a call comes to when it begins or is tried again: what it is answered, the memory after, and what is posted
 pub record CallBegun (S : Type 0) : Type 0 where
   pub answer : Answer
   pub after : Memory S
@@ -60,6 +76,16 @@ module _ {S : Type 0} where
   needed m call b need.Started = answered call b None
   needed m call b need.Busy = unserved m
 
+  -- a call that is tried again: where its word has no answer now either, or another one waits, nothing changes
+  abbrev pub again_unless : Memory S → CallBegun S → Option Reply → CallBegun S
+  again_unless m a None = unserved m
+  again_unless m a (Some r) = a
+
+  abbrev pub again : Memory S → CallBegun S → Need → CallBegun S
+  again m a (need.Have o) = again_unless m a (reply_of o)
+  again m a need.Started = a
+  again m a need.Busy = unserved m
+
 module _ {S : Type 0} (ops : Ops S) where
   -- a call of the heap is not served yet
   abbrev pub begun_as : Memory S → Call → ℕ → Asked → CallBegun S
@@ -73,15 +99,27 @@ module _ {S : Type 0} (ops : Ops S) where
   unfoldable pub call_begun : Memory S → Call → ℕ → CallBegun S
   call_begun m call number = begun_as m call number (asked_of m.coherence.config call)
 
+  -- the word of the call in progress is tried again, as if the call began
+  abbrev pub tried_as : Memory S → Call → ℕ → Asked → CallBegun S
+  tried_as m call number (asked.Refused code) = unserved m
+  tried_as m call number (asked.Word page word) =
+      let b = begun ops (taken_out m).coherence page word number in
+      again m (needed (taken_out m) call b b.need) b.need
+  tried_as m call number asked.Heap = unserved m
+
+  abbrev pub polled_as : Memory S → Call → ℕ → Option Reply → CallBegun S
+  polled_as m call number (Some r) =
+      record { answer = Given r; after = taken_out m; posted = [] }
+  polled_as m call number None = tried_as m call number (asked_of m.coherence.config call)
+
+  abbrev pub polled_at : Memory S → ℕ → Option Call → CallBegun S
+  polled_at m number None = unserved m
+  polled_at m number (Some call) = polled_as m call number (reply_there m.coherence.done)
+
+  -- the reply of the call in progress, the one of this number: it is there, or the call is tried again
+  unfoldable pub polled : Memory S → ℕ → CallBegun S
+  polled m number = polled_at m number m.asked
+
   -- a message comes
   abbrev pub memory_told : Memory S → ℕ → Message → Memory S
   memory_told m from message = record m { coherence = (handled ops m.coherence from message).after }
-
--- the reply of the call in progress, once the word that waited was carried out
-abbrev pub reply_there : Option Out → Option Reply
-reply_there None = None
-reply_there (Some o) = reply_of o
-
--- the memory once that reply was taken out
-abbrev pub taken_out : {S : Type 0} → Memory S → Memory S
-taken_out m = record { coherence = record m.coherence { done = None }; asked = None }

@@ -1,12 +1,12 @@
 use ivy_model::Reply;
 
-/// What a call comes to when it begins.
+/// What a call comes to when it begins, or when its reply is asked for.
 #[derive(Clone, Copy, Debug, PartialEq, Eq)]
 pub enum Answer {
-    /// This reply, at once.
+    /// This reply.
     Given(Reply),
-    /// It is in progress from now on.
+    /// It is in progress, and its word waits from now on, or has no answer yet.
     Awaited,
-    /// It did not begin, and nothing changed.
+    /// Nothing changed: it did not begin, or has no reply yet.
     Unserved,
 }

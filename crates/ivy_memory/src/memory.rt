@@ -8,7 +8,7 @@ ghost use Rattle.ivy_wire.specs.Spelling.{FitsMessage};
 ghost use Rattle.ivy_coherence.specs.Sound.{first_coherent};
 ghost use Rattle.ivy_coherence.specs.Steps.{handled};
 ghost use Rattle.ivy_memory.specs.Asking.{CallHasToAsk};
-ghost use Rattle.ivy_memory.specs.Memories.{reply_of, call_begun, memory_told, reply_there, taken_out};
+ghost use Rattle.ivy_memory.specs.Memories.{reply_of, reply_there, HasToAskAgain, call_begun, polled, memory_told};
 
 use crate::answer::Answer;
 use crate::asked::{Asked, asked_of};
@@ -124,15 +124,59 @@ impl<M: Manager, A: Allocator> Memory<M, A> {
         }
     }
 
-    /// Takes out the reply of the call in progress, if it is there; the call is over then.
-    pub fn take_reply(&mut self) -> Option<Reply>
-        ensures reply { result ≡ reply_there self.old.coherence.done }
-        ensures over { MatchOption result (self.new ≡ self.old) (λ _. self.new ≡ taken_out self.old) }
+    /// The reply of the call in progress, if its word waited and was carried out.
+    fn reply(&self) -> Option<Reply>
+        ensures { result ≡ reply_there self.now.coherence.done }
     {
-        let reply = reply_of(self.coherence.answer()?)?;
-        let _ = self.coherence.returned();
-        self.asked = None;
-        Some(reply)
+        reply_of(self.coherence.answer()?)
+    }
+
+    #[tactic(auto, unfolding(crate::specs::Memories::polled))]
+    /// The reply of the call in progress, which is the one of this number [1, 17]: it is there, or the call's word is
+    /// tried again. The call is over with its reply.
+    ///
+    /// Where the word has no answer now either, and where no call is in progress, nothing changes. Only a word that
+    /// other nodes have to be asked for is refused by a fault: else it takes no memory, and asks the post nothing.
+    pub fn poll_reply<P: Post>(&mut self, number: u64, post: &mut P) -> Result<Answer, Fault>
+        requires number { 1 ≤ number }
+        requires config { P.config post.old ≡ self.old.coherence.config }
+        requires node { P.node post.old ≡ self.old.coherence.me }
+        ensures few { length (polled M.ops self.old number).posted ≤ 8 }
+        ensures reply { IfOk result (λ answer. answer ≡ (polled M.ops self.old number).answer) }
+        ensures ok { OnOk result (self.new ≡ (polled M.ops self.old number).after) }
+        ensures posted { OnOk result (post.new ≡ P.after post.old (polled M.ops self.old number).posted) }
+        ensures took { OnOk result (P.takes post.old (polled M.ops self.old number).posted) }
+        ensures err { OnErr result ((self.new ≡ self.old) × (post.new ≡ post.old)) }
+        ensures fault { IfErr result (P.refuses post.old (polled M.ops self.old number).posted) }
+        ensures sure { OnErr result (HasToAskAgain self.old) }
+        ensures want { IfErr result IsWant }
+    {
+        let Some(call) = self.asked else {
+            return Ok(Answer::Unserved);
+        };
+        if let Some(reply) = self.reply() {
+            let _ = self.coherence.returned();
+            self.asked = None;
+            return Ok(Answer::Given(reply));
+        }
+        let Asked::Word { page, word } = asked_of(&self.coherence.config(), call) else {
+            return Ok(Answer::Unserved);
+        };
+        match self.coherence.need(page, word, number, post)? {
+            Need::Have(out) => match reply_of(out) {
+                Some(reply) => {
+                    let _ = self.coherence.returned();
+                    self.asked = None;
+                    Ok(Answer::Given(reply))
+                }
+                None => Ok(Answer::Unserved),
+            },
+            Need::Started => {
+                let _ = self.coherence.returned();
+                Ok(Answer::Awaited)
+            }
+            Need::Busy => Ok(Answer::Unserved),
+        }
     }
 
     /// A message of another node [1, 17]. The bytes of a page that it brings are copied once; that takes no memory.

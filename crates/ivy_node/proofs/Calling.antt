@@ -1,4 +1,4 @@
--- A call of the program that begins, as the code has it.
+-- A call of the program that begins, or is asked for its reply, as the code has it.
 use Rattle.std.proofs.Common.{◌≡◌, ℕ, ◌+◌, ◌<◌, ◌≤◌, ◌^◌, true, false, List, [], ◌∷◌, ◌++◌, length, Option, Some, None, refl, sym, ap, ◌∙◌, subst, arith, if◌then◌else◌}
 use Rattle.std.proofs.lemmas.Bool.{lt-ltb}
 use Rattle.ivy_model.specs.declared.Call.{Call}
@@ -11,17 +11,18 @@ use Rattle.ivy_coherence.specs.declared.Need.{Need}
 use Rattle.ivy_coherence.specs.declared.Need.TheVariants as need
 use Rattle.ivy_coherence.specs.Faults.{Begun, begun}
 use Rattle.ivy_host.specs.Managers.{Managed, managed_ops}
-use Rattle.ivy_program.specs.Steps.{Process, answered_with}
+use Rattle.ivy_program.specs.Steps.{Process, Asks, step_of, answered_with}
 use Rattle.ivy_ether.specs.Cores.{Outcome}
 use Rattle.ivy_memory.specs.declared.Answer.{Answer}
 use Rattle.ivy_memory.specs.declared.Answer.TheVariants.{Given, Awaited, Unserved}
 use Rattle.ivy_memory.specs.declared.Asked.{Asked}
 use Rattle.ivy_memory.specs.declared.Asked.TheVariants as asked
 use Rattle.ivy_memory.specs.Asking.{asked_of}
-use Rattle.ivy_memory.specs.Memories.{Memory, CallBegun, reply_of, answered, needed, begun_as, call_begun}
-use Rattle.ivy_host.specs.Hosts.{Host, begins, begins_as, begins_with, number_of, recorded}
+use Rattle.ivy_memory.specs.Memories.{Memory, CallBegun, reply_of, reply_there, taken_out, answered, needed, again_unless, again, begun_as, call_begun, tried_as, polled_as, polled}
+use Rattle.ivy_memory.proofs.Polling.{polled_so}
+use Rattle.ivy_host.specs.Hosts.{Host, begins_as, begins_with, steps, turned_at, turn_of, number_of, recorded}
 use Rattle.ivy_node.specs.Outboxes.{Outbox, HasNumbers, Refuses, IsRefused, posted_by, takes_none, after_none}
-use Rattle.ivy_node.specs.Sites.{Begins, AfterBegin, CannotBegin, host_of}
+use Rattle.ivy_node.specs.Sites.{HasTurn, AfterHostTurn, HasNoNumbers, host_of}
 use Rattle.ivy_node.proofs.Boxes.{as_many-wait}
 
 abbrev H : Type 0
@@ -49,40 +50,71 @@ unserved_is : (m : Memory Managed) (k : Call) (number : ℕ) → ChangesNothing 
 unfolding call_begun
 unserved_is m k number is = as-changes m k number (asked_of m.coherence.config k) is
 
+unless-changes : (m : Memory Managed) (k : Call) (b : Begun Managed) (r : Option Reply) → ChangesNothing m (again_unless m (answered k b r) r)
+unless-changes m k b None is = (refl, refl)
+unless-changes m k b (Some r) is = absurd cc
+
+again-changes : (m : Memory Managed) (k : Call) (b : Begun Managed) (d : Need) → ChangesNothing m (again m (needed (taken_out m) k b d) d)
+again-changes m k b (need.Have o) is = unless-changes m k b (reply_of o) is
+again-changes m k b need.Started is = absurd cc
+again-changes m k b need.Busy is = (refl, refl)
+
+tried-changes : (m : Memory Managed) (k : Call) (number : ℕ) (x : Asked) → ChangesNothing m (tried_as managed_ops m k number x)
+tried-changes m k number (asked.Refused code) is = (refl, refl)
+tried-changes m k number (asked.Word page w) is = let b : Begun Managed = begun managed_ops (taken_out m).coherence page w number in again-changes m k b b.need is
+tried-changes m k number asked.Heap is = (refl, refl)
+
+polled-changes : (m : Memory Managed) (k : Call) (number : ℕ) (r : Option Reply) → ChangesNothing m (polled_as managed_ops m k number r)
+polled-changes m k number None is = tried-changes m k number (asked_of m.coherence.config k) is
+polled-changes m k number (Some r) is = absurd cc
+
 -- few strings are added
-pub begun_few : (box after : Outbox) (posted : List Parcel) → length posted ≤ 8 → after ≡ posted_by box posted → length after.waiting ≤ length box.waiting + 8
-begun_few box after posted few sent =
+pub called_few : (box after : Outbox) (posted : List Parcel) → length posted ≤ 8 → after ≡ posted_by box posted → length after.waiting ≤ length box.waiting + 8
+called_few box after posted few sent =
     let grown : length after.waiting ≡ length box.waiting + length posted = ap (λ (x : Outbox). length x.waiting) sent ∙ as_many-wait box posted in
     omega (arith, grown, few)
 
+-- a turn in which a call begins, or is asked for its reply: what it comes to
+pub record IsCall (h : H) (k : Call) (a : CallBegun Managed) : Type 0 where
+  pub turn : turn_of managed_ops h ≡ begins_as h k a
+  pub nothing : ChangesNothing h.memory a
+
 -- the number of a call, as the code has it
-pub record IsNumbered (h : H) (k : Call) (number : ℕ) : Type 0 where
+pub record IsNumbered (h : H) (number : ℕ) : Type 0 where
   pub is : number ≡ length h.history + 1
   pub below : number < 2 ^ 64
 
-module _ (h : H) (k : Call) (number : ℕ) (n : IsNumbered h k number) where
-  abbrev a : CallBegun Managed
-  a = call_begun managed_ops h.memory k number
+pub begin_call : (h : H) (k : Call) (number : ℕ) → IsNumbered h number → h.memory.asked ≡ None → step_of h.process ≡ Asks k → IsCall h k (call_begun managed_ops h.memory k number)
+unfolding turn_of
+begin_call h k number n idle asks =
+    let below : length h.history + 1 < 2 ^ 64 = subst (λ m. m < 2 ^ 64) n.is n.below in
+    record {
+      turn = ap (turned_at managed_ops h) idle
+          ∙ ap (steps managed_ops h) asks
+          ∙ ap (λ b. if b then begins_as h k (call_begun managed_ops h.memory k (length h.history + 1)) else None) (lt-ltb (length h.history + 1) (2 ^ 64) below)
+          ∙ ap (λ m. begins_as h k (call_begun managed_ops h.memory k m)) (sym n.is);
+      nothing = unserved_is h.memory k number;
+    }
 
-  below : length h.history + 1 < 2 ^ 64
-  below = subst (λ m. m < 2 ^ 64) n.is n.below
+pub poll_call : (h : H) (k : Call) (number : ℕ) → IsNumbered h number → h.memory.asked ≡ Some k → IsCall h k (polled managed_ops h.memory number)
+unfolding turn_of
+poll_call h k number n asked = record {
+  turn = ap (turned_at managed_ops h) asked ∙ ap (λ m. begins_as h k (polled managed_ops h.memory m)) (sym n.is);
+  nothing = subst (ChangesNothing h.memory) (sym (polled_so managed_ops h.memory k number asked)) (polled-changes h.memory k number (reply_there h.memory.coherence.done));
+}
 
-  begins-is : begins managed_ops h k ≡ begins_as h k a
-  begins-is =
-      ap (λ b. if b then begins_as h k (call_begun managed_ops h.memory k (length h.history + 1)) else None) (lt-ltb (length h.history + 1) (2 ^ 64) below)
-      ∙ ap (λ m. begins_as h k (call_begun managed_ops h.memory k m)) (sym n.is)
+module _ (h : H) (k : Call) (a : CallBegun Managed) (calls : IsCall h k a) where
+  by_answer : (answer r : Answer) → answer ≡ a.answer → answer ≡ r → turn_of managed_ops h ≡ begins_with h k a r
+  by_answer answer r same is = calls.turn ∙ ap (begins_with h k a) (sym same ∙ is)
 
-  by_answer : (answer r : Answer) → answer ≡ a.answer → answer ≡ r → begins managed_ops h k ≡ begins_with h k a r
-  by_answer answer r same is = begins-is ∙ ap (begins_with h k a) (sym same ∙ is)
-
-  -- it has a reply at once
-  pub begun_answered : (box after : Outbox) (node : ℕ) (memory : Memory Managed) (process : Process) (history : List Record) (answer : Answer) (r : Reply)
+  -- it has a reply
+  pub called_answered : (box after : Outbox) (node : ℕ) (memory : Memory Managed) (process : Process) (history : List Record) (answer : Answer) (r : Reply)
       → node ≡ number_of h → answer ≡ a.answer → answer ≡ Given r → memory ≡ a.after → HasNumbers box a.posted → after ≡ posted_by box a.posted
       → history ≡ h.history ++ record { node = node; call = k; reply = r } ∷ [] → process ≡ answered_with h.process r
-      → Begins k h box (host_of memory process history) after
-  begun_answered box after node memory process history answer r mine same is next numbers sent kept goes = record {
+      → HasTurn h box (host_of memory process history) after
+  called_answered box after node memory process history answer r mine same is next numbers sent kept goes = record {
     outcome = record { after = recorded h a.after k r; posted = a.posted };
-    begun = by_answer answer (Given r) same is;
+    turn = by_answer answer (Given r) same is;
     host = ap (λ m. host_of m process history) next ∙ (ap (λ p. host_of a.after p history) goes
         ∙ (ap (λ rs. host_of a.after (answered_with h.process r) rs) kept
         ∙ ap (λ i. host_of a.after (answered_with h.process r) (h.history ++ record { node = i; call = k; reply = r } ∷ [])) mine));
@@ -90,22 +122,22 @@ module _ (h : H) (k : Call) (number : ℕ) (n : IsNumbered h k number) where
     sent = sent;
   }
 
-  -- it is in progress
-  pub begun_awaited : (box after : Outbox) (memory : Memory Managed) (answer : Answer) → answer ≡ a.answer → answer ≡ Awaited → memory ≡ a.after → HasNumbers box a.posted → after ≡ posted_by box a.posted
-      → Begins k h box (host_of memory h.process h.history) after
-  begun_awaited box after memory answer same is next numbers sent = record {
+  -- its word waits
+  pub called_awaited : (box after : Outbox) (memory : Memory Managed) (answer : Answer) → answer ≡ a.answer → answer ≡ Awaited → memory ≡ a.after → HasNumbers box a.posted → after ≡ posted_by box a.posted
+      → HasTurn h box (host_of memory h.process h.history) after
+  called_awaited box after memory answer same is next numbers sent = record {
     outcome = record { after = record h { memory = a.after }; posted = a.posted };
-    begun = by_answer answer Awaited same is;
+    turn = by_answer answer Awaited same is;
     host = ap (λ m. host_of m h.process h.history) next;
     numbers = numbers;
     sent = sent;
   }
 
-  -- it does not begin
-  pub not_begun : (box after : Outbox) (memory : Memory Managed) (answer : Answer) → answer ≡ a.answer → answer ≡ Unserved → memory ≡ a.after → after ≡ posted_by box a.posted
-      → AfterBegin false k h box (host_of memory h.process h.history) after
-  not_begun box after memory answer same is next sent =
-      let none = unserved_is h.memory k number (sym same ∙ is) in (
+  -- nothing changes
+  pub not_called : (box after : Outbox) (memory : Memory Managed) (answer : Answer) → answer ≡ a.answer → answer ≡ Unserved → memory ≡ a.after → after ≡ posted_by box a.posted
+      → AfterHostTurn false h box (host_of memory h.process h.history) after
+  not_called box after memory answer same is next sent =
+      let none = calls.nothing (sym same ∙ is) in (
         by_answer answer Unserved same is,
         ap (λ m. host_of m h.process h.history) (next ∙ none.0),
         sent ∙ (ap (posted_by box) none.1 ∙ after_none box),
@@ -113,12 +145,12 @@ module _ (h : H) (k : Call) (number : ℕ) (n : IsNumbered h k number) where
 
   -- numbers are at an end for what it would post
   cannot_by : (box : Outbox) → has_numbers box.link a.posted ≡ false → (r : Answer) → a.answer ≡ r
-      → (outcome : Outcome H) × (begins managed_ops h k ≡ Some outcome) × (has_numbers box.link outcome.posted ≡ false)
-  cannot_by box none (Given r) is = (record { after = recorded h a.after k r; posted = a.posted }, begins-is ∙ ap (begins_with h k a) is, none)
-  cannot_by box none Awaited is = (record { after = record h { memory = a.after }; posted = a.posted }, begins-is ∙ ap (begins_with h k a) is, none)
+      → (outcome : Outcome H) × (turn_of managed_ops h ≡ Some outcome) × (has_numbers box.link outcome.posted ≡ false)
+  cannot_by box none (Given r) is = (record { after = recorded h a.after k r; posted = a.posted }, calls.turn ∙ ap (begins_with h k a) is, none)
+  cannot_by box none Awaited is = (record { after = record h { memory = a.after }; posted = a.posted }, calls.turn ∙ ap (begins_with h k a) is, none)
   cannot_by box none Unserved is =
-      let t : has_numbers box.link a.posted ≡ true = ap (has_numbers box.link) (unserved_is h.memory k number is).1 ∙ takes_none box in
+      let t : has_numbers box.link a.posted ≡ true = ap (has_numbers box.link) (calls.nothing is).1 ∙ takes_none box in
       let f : true ≡ false = sym t ∙ none in absurd cc
 
-  pub cannot_begin : (box : Outbox) (f : Fault) → Refuses box a.posted f → CannotBegin k h box f
-  cannot_begin box f refuses spent = cannot_by box (subst (λ (x : Fault). IsRefused x box a.posted) spent refuses) a.answer refl
+  pub cannot_call : (box : Outbox) (f : Fault) → Refuses box a.posted f → HasNoNumbers h box f
+  cannot_call box f refuses spent = cannot_by box (subst (λ (x : Fault). IsRefused x box a.posted) spent refuses) a.answer refl

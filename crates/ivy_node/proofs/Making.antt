@@ -5,8 +5,6 @@ use Rattle.std.proofs.lemmas.List.{map-set, length-map}
 use Rattle.std.proofs.lemmas.Option.{same_Some, none-some, slice_get-map, slice_get_within, get_or_from_slice_get}
 use Rattle.ivy_model.specs.declared.Config.{Config}
 use Rattle.ivy_model.specs.declared.Call.{Call}
-use Rattle.ivy_model.specs.declared.Call.TheVariants as call
-use Rattle.ivy_model.specs.declared.Reply.{Reply}
 use Rattle.ivy_model.specs.declared.Fault.{Fault}
 use Rattle.ivy_model.specs.Wants.{IsWant}
 use Rattle.ivy_host.specs.Managers.{Managed, managed_ops}
@@ -28,10 +26,10 @@ use Rattle.ivy_ether.specs.Nodes.{Node, Effect, stays, posting, turned, turned_t
 use Rattle.ivy_ether.specs.Worlds as worlds
 use Rattle.ivy_node.specs.declared.turn.Turn as turn
 use Rattle.ivy_node.specs.declared.turn.Turn.TheVariants.{Idle, Moved, Ended}
-use Rattle.ivy_host.specs.Hosts.{Host, host_rules, turn_of, serving, turned_at, steps, begins, begins_as, begins_with, replied, quietly, recorded}
+use Rattle.ivy_host.specs.Hosts.{Host, host_rules, turn_of, serving, turned_at, steps, begins, begins_as, begins_with, quietly, recorded}
 use Rattle.ivy_memory.specs.declared.Answer.{Answer}
 use Rattle.ivy_memory.specs.declared.Answer.TheVariants.{Given, Awaited, Unserved}
-use Rattle.ivy_memory.specs.Memories.{CallBegun, reply_there, call_begun, taken_out}
+use Rattle.ivy_memory.specs.Memories.{CallBegun, call_begun, polled}
 use Rattle.ivy_host.specs.Holding.{AllSpell}
 use Rattle.ivy_node.specs.Runs.{IsRefusedBy}
 use Rattle.ivy_node.specs.Shown.{Shown, after_pulse_to, after_delivery}
@@ -100,10 +98,6 @@ went c sites sent i old done e step h there gone moved =
 -- a turn keeps the program
 
 module _ where
-  replied-program : (n : Host Managed) (c : Call) (r : Option Reply) (o : Outcome (Host Managed)) → replied n c r ≡ Some o → o.after.process.program ≡ n.process.program
-  replied-program n c None o e = absurd (none-some o e)
-  replied-program n c (Some r) o e = ap (λ (x : Outcome (Host Managed)). x.after.process.program) (sym (same_Some (quietly (recorded n (taken_out n.memory) c r)) o e))
-
   with-program : (n : Host Managed) (c : Call) (a : CallBegun Managed) (r : Answer) (o : Outcome (Host Managed)) → begins_with n c a r ≡ Some o → o.after.process.program ≡ n.process.program
   with-program n c a (Given r) o e = ap (λ (x : Outcome (Host Managed)). x.after.process.program) (sym (same_Some (record { after = recorded n a.after c r; posted = a.posted }) o e))
   with-program n c a Awaited o e = ap (λ (x : Outcome (Host Managed)). x.after.process.program) (sym (same_Some (record { after = record n { memory = a.after }; posted = a.posted }) o e))
@@ -120,7 +114,7 @@ module _ where
   stepped-program n Ends o e = absurd (none-some o e)
 
   asked-program : (n : Host Managed) (asked : Option Call) (o : Outcome (Host Managed)) → turned_at managed_ops n asked ≡ Some o → o.after.process.program ≡ n.process.program
-  asked-program n (Some c) o e = replied-program n c (reply_there n.memory.coherence.done) o e
+  asked-program n (Some c) o e = let a = polled managed_ops n.memory (length n.history + 1) in with-program n c a a.answer o e
   asked-program n None o e = stepped-program n (step_of n.process) o e
 
   turned-program : (n : Host Managed) (o : Outcome (Host Managed)) → turn_of managed_ops n ≡ Some o → o.after.process.program ≡ n.process.program

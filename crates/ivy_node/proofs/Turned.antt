@@ -1,22 +1,21 @@
 -- A site's turn, from what its parts did: `v` is what the fields are seen as, `n` the value.
-use Rattle.std.proofs.Common.{◌≡◌, ℕ, Bool, true, false, List, [], ◌∷◌, ◌++◌, Some, None, refl, sym, ap, ◌∙◌, subst}
+use Rattle.std.proofs.Common.{◌≡◌, Bool, true, false, List, [], ◌∷◌, ◌++◌, None, refl, sym, ap, ◌∙◌, subst}
 use Rattle.ivy_model.specs.declared.Call.{Call}
 use Rattle.ivy_model.specs.declared.Fault.{Fault}
 use Rattle.ivy_model.specs.declared.Record.{Record}
-use Rattle.ivy_model.specs.declared.Reply.{Reply}
 use Rattle.ivy_host.specs.Managers.{Managed, managed_ops}
 use Rattle.ivy_program.specs.declared.machine.Next.{Next}
 use Rattle.ivy_program.specs.declared.machine.Next.TheVariants as next
-use Rattle.ivy_program.specs.Steps.{Process, Local, Asks, Ends, HasEnded, Steps, step_of, at_state, answered_with}
+use Rattle.ivy_program.specs.Steps.{Process, Local, Ends, HasEnded, Steps, at_state}
 use Rattle.ivy_ether.specs.Marks.{Mark, Turn}
-use Rattle.ivy_memory.specs.Memories.{Memory, reply_there, taken_out}
-use Rattle.ivy_host.specs.Hosts.{Host, begins, turn_of, recorded, number_of}
+use Rattle.ivy_memory.specs.Memories.{Memory}
+use Rattle.ivy_host.specs.Hosts.{Host, turn_of}
 use Rattle.ivy_node.specs.Outboxes.{Outbox}
 use Rattle.ivy_node.specs.Shown.{Shown}
-use Rattle.ivy_node.specs.Sites.{Turns, Begins, AfterBegin, CannotBegin, IsSpentTurn, IsSite, host_of}
-use Rattle.ivy_host.proofs.Same.{begins-same}
-use Rattle.ivy_host.proofs.Tame.{IsAskingHost, begins-asking}
-use Rattle.ivy_node.proofs.Turning.{turn_waits, turn_replies, turn_steps, moved_quietly, moved_by_call, spent_call}
+use Rattle.ivy_node.specs.Sites.{Turns, HasTurn, AfterHostTurn, HasNoNumbers, IsSpentTurn, IsSite, host_of}
+use Rattle.ivy_host.proofs.Same.{turn-same}
+use Rattle.ivy_host.proofs.Tame.{IsAskingHost, turn-asking}
+use Rattle.ivy_node.proofs.Turning.{turn_steps, moved_quietly, moved_by_call, spent_call}
 
 abbrev H : Type 0
 H = Host Managed
@@ -39,26 +38,6 @@ stays_so : (v : Shown) (m : Memory Managed) (p : Process) (hs : List Record) (ev
 stays_so v m p hs events a b d e =
     ap (λ h. with_core v h events) (hosts m v.node.core.memory p v.node.core.process hs v.node.core.history a b d) ∙ ap (λ es. with_core v v.node.core es) e
 
--- a call waits
-pub idle_turn : (n v : Shown) → v ≡ n → (c : Call) (m : Memory Managed) (hs : List Record) (events : List Mark) → v.node.core.memory.asked ≡ Some c → reply_there v.node.core.memory.coherence.done ≡ None
-    → m ≡ v.node.core.memory → hs ≡ v.node.core.history → events ≡ v.events
-    → (turn_of managed_ops n.node.core ≡ None) × (with_core v (host_of m v.node.core.process hs) events ≡ n)
-idle_turn n v same c m hs events asked none memory history listed = (
-  subst (λ (x : Shown). turn_of managed_ops x.node.core ≡ None) same (turn_waits v.node.core c asked none),
-  stays_so v m v.node.core.process hs events memory refl history listed ∙ same,
-)
-
--- the reply of the call in progress is there
-pub replied_turn : (n v : Shown) → v ≡ n → (c : Call) (r : Reply) (node : ℕ) (m : Memory Managed) (p : Process) (hs : List Record) (events : List Mark)
-    → v.node.core.memory.asked ≡ Some c → reply_there v.node.core.memory.coherence.done ≡ Some r → node ≡ number_of v.node.core
-    → m ≡ taken_out v.node.core.memory → p ≡ answered_with v.node.core.process r → hs ≡ v.node.core.history ++ record { node = node; call = c; reply = r } ∷ [] → events ≡ v.events ++ Turn ∷ []
-    → Turns n (with_core v (host_of m p hs) events)
-replied_turn n v same c r node m p hs events asked there mine memory process history listed =
-    let h : H = recorded v.node.core (taken_out v.node.core.memory) c r in
-    let recording : hs ≡ h.history = history ∙ ap (λ k. v.node.core.history ++ record { node = k; call = c; reply = r } ∷ []) mine in
-    let is : host_of m p hs ≡ h = hosts m h.memory p h.process hs h.history memory process recording in
-    subst (λ x. Turns n (with_core v x events)) (sym is) (moved_quietly n v same h events (turn_replies v.node.core c r asked there) listed)
-
 -- the program has ended
 pub ended_turn : (n v : Shown) → v ≡ n → (x : Next) (p : Process) (hs : List Record) (events : List Mark) → v.node.core.memory.asked ≡ None → Steps x v.node.core.process p → x ≡ next.Ended
     → hs ≡ v.node.core.history → events ≡ v.events
@@ -80,62 +59,57 @@ local_turn n v same x p hs events idle steps is history listed =
     let so : host_of v.node.core.memory p hs ≡ h = hosts v.node.core.memory v.node.core.memory p h.process hs h.history refl s.1 history in
     subst (λ y. Turns n (with_core v y events)) (sym so) (moved_quietly n v same h events (turn_steps v.node.core (Local p.state) idle s.0) listed)
 
--- the program asks for a call, as the code has it
-pub record IsCalling (v : Shown) (c : Call) (p : Process) (hs : List Record) : Type 0 where
-  pub idle : v.node.core.memory.asked ≡ None
-  pub asks : step_of v.node.core.process ≡ Asks c
+-- the program and the history are as they were, as the code has them
+pub record IsAtRest (v : Shown) (p : Process) (hs : List Record) : Type 0 where
   pub process : p ≡ v.node.core.process
   pub history : hs ≡ v.node.core.history
 
-pub is_calling : (v : Shown) (c : Call) (x : Next) (p : Process) (hs : List Record) → v.node.core.memory.asked ≡ None → Steps x v.node.core.process p → x ≡ next.Call c → hs ≡ v.node.core.history → IsCalling v c p hs
-is_calling v c x p hs idle steps is history =
-    let s : Steps (next.Call c) v.node.core.process p = subst (λ y. Steps y v.node.core.process p) is steps in
-    record { idle = idle; asks = s.0; process = s.1; history = history }
+-- a program that makes a call does not go on yet
+pub makes_call : (q : Process) (c : Call) (x : Next) (p : Process) → Steps x q p → x ≡ next.Call c → p ≡ q
+makes_call q c x p steps is = let s : Steps (next.Call c) q p = subst (λ y. Steps y q p) is steps in s.1
 
-calling_host : (v : Shown) (c : Call) (p : Process) (hs : List Record) → IsCalling v c p hs → host_of v.node.core.memory p hs ≡ v.node.core
-calling_host v c p hs k = hosts v.node.core.memory v.node.core.memory p v.node.core.process hs v.node.core.history refl k.process k.history
+resting_host : (v : Shown) (p : Process) (hs : List Record) → IsAtRest v p hs → host_of v.node.core.memory p hs ≡ v.node.core
+resting_host v p hs k = hosts v.node.core.memory v.node.core.memory p v.node.core.process hs v.node.core.history refl k.process k.history
 
-pub spent_turn : (n v : Shown) → v ≡ n → (c : Call) (p : Process) (hs : List Record) (f : Fault) → IsCalling v c p hs → CannotBegin c (host_of v.node.core.memory p hs) (box_of v) f → IsSpentTurn n f
-spent_turn n v same c p hs f k cannot =
-    spent_call n v same c f k.idle k.asks (subst (λ h. CannotBegin c h (box_of v) f) (calling_host v c p hs k) cannot)
+pub spent_turn : (n v : Shown) → v ≡ n → (p : Process) (hs : List Record) (f : Fault) → IsAtRest v p hs → HasNoNumbers (host_of v.node.core.memory p hs) (box_of v) f → IsSpentTurn n f
+spent_turn n v same p hs f k cannot = spent_call n v same f (subst (λ h. HasNoNumbers h (box_of v) f) (resting_host v p hs k) cannot)
 
-pub called_turn : (n v : Shown) → v ≡ n → (c : Call) (p : Process) (hs : List Record) (h : H) (box : Outbox) (reserved events : List Mark) → IsCalling v c p hs → Begins c (host_of v.node.core.memory p hs) (box_of v) h box
+pub called_turn : (n v : Shown) → v ≡ n → (p : Process) (hs : List Record) (h : H) (box : Outbox) (reserved events : List Mark) → IsAtRest v p hs → HasTurn (host_of v.node.core.memory p hs) (box_of v) h box
     → reserved ≡ v.events → events ≡ reserved ++ Turn ∷ [] → Turns n (with_box h box events)
-called_turn n v same c p hs h box reserved events k b room listed =
-    moved_by_call n v same c h box events k.idle k.asks (subst (λ x. Begins c x (box_of v) h box) (calling_host v c p hs k) b) (listed ∙ ap (λ es. es ++ Turn ∷ []) room)
+called_turn n v same p hs h box reserved events k b room listed =
+    moved_by_call n v same h box events (subst (λ x. HasTurn x (box_of v) h box) (resting_host v p hs k) b) (listed ∙ ap (λ es. es ++ Turn ∷ []) room)
 
-pub called_site : (v : Shown) (c : Call) (p : Process) (hs : List Record) (h : H) (box : Outbox) (events : List Mark) → IsSite v → IsCalling v c p hs → Begins c (host_of v.node.core.memory p hs) (box_of v) h box → IsSite (with_box h box events)
-called_site v c p hs h box events s k b0 =
-    let b : Begins c v.node.core (box_of v) h box = subst (λ x. Begins c x (box_of v) h box) (calling_host v c p hs k) b0 in
-    let well = begins-same managed_ops v.node.core c b.outcome b.begun in
+pub called_site : (v : Shown) (p : Process) (hs : List Record) (h : H) (box : Outbox) (events : List Mark) → IsSite v → IsAtRest v p hs → HasTurn (host_of v.node.core.memory p hs) (box_of v) h box → IsSite (with_box h box events)
+called_site v p hs h box events s k b0 =
+    let b : HasTurn v.node.core (box_of v) h box = subst (λ x. HasTurn x (box_of v) h box) (resting_host v p hs k) b0 in
+    let well = turn-same managed_ops v.node.core b.outcome b.turn in
     record {
       config = ap (λ (x : H). x.memory.coherence.config) b.host ∙ (well.config ∙ (s.config ∙ sym (ap (λ (x : Outbox). x.config) b.sent)));
       me = ap (λ (x : H). x.memory.coherence.me) b.host ∙ (well.me ∙ (s.me ∙ sym (ap (λ (x : Outbox). x.me) b.sent)));
-      asking = subst IsAskingHost (sym b.host) (begins-asking managed_ops v.node.core c b.outcome k.idle k.asks b.begun);
+      asking = subst IsAskingHost (sym b.host) (turn-asking managed_ops v.node.core b.outcome s.asking b.turn);
     }
 
--- whether it began
-pub has_begun : (b : Bool) → b ≡ true → (c : Call) (old : H) (box : Outbox) (new : H) (after : Outbox) → AfterBegin b c old box new after → Begins c old box new after
-has_begun true is c old box new after h = h
-has_begun false is c old box new after h = absurd cc
+-- whether anything changed
+pub has_turned : (b : Bool) → b ≡ true → (old : H) (box : Outbox) (new : H) (after : Outbox) → AfterHostTurn b old box new after → HasTurn old box new after
+has_turned true is old box new after h = h
+has_turned false is old box new after h = absurd cc
 
-pub not_begun : (b : Bool) → b ≡ false → (c : Call) (old : H) (box : Outbox) (new : H) (after : Outbox) → AfterBegin b c old box new after → AfterBegin false c old box new after
-not_begun true is c old box new after h = absurd cc
-not_begun false is c old box new after h = h
+pub not_turned : (b : Bool) → b ≡ false → (old : H) (box : Outbox) (new : H) (after : Outbox) → AfterHostTurn b old box new after → AfterHostTurn false old box new after
+not_turned true is old box new after h = absurd cc
+not_turned false is old box new after h = h
 
--- the call does not begin
-pub record IsUncalled (v : Shown) (c : Call) (p : Process) (hs : List Record) (h : H) (box : Outbox) : Type 0 where
-  pub calling : IsCalling v c p hs
-  pub after : AfterBegin false c (host_of v.node.core.memory p hs) (box_of v) h box
+-- nothing changed
+pub record IsIdle (v : Shown) (p : Process) (hs : List Record) (h : H) (box : Outbox) : Type 0 where
+  pub rests : IsAtRest v p hs
+  pub after : AfterHostTurn false (host_of v.node.core.memory p hs) (box_of v) h box
 
-uncalled_same : (v : Shown) (c : Call) (p : Process) (hs : List Record) (h : H) (box : Outbox) (events : List Mark) → IsUncalled v c p hs h box → events ≡ v.events → with_box h box events ≡ v
-uncalled_same v c p hs h box events u listed =
-    ap (λ x. with_box x box events) (u.after.1 ∙ calling_host v c p hs u.calling) ∙ (ap (λ x. with_box v.node.core x events) u.after.2 ∙ ap (with_core v v.node.core) listed)
+idle_same : (v : Shown) (p : Process) (hs : List Record) (h : H) (box : Outbox) (events : List Mark) → IsIdle v p hs h box → events ≡ v.events → with_box h box events ≡ v
+idle_same v p hs h box events u listed =
+    ap (λ x. with_box x box events) (u.after.1 ∙ resting_host v p hs u.rests) ∙ (ap (λ x. with_box v.node.core x events) u.after.2 ∙ ap (with_core v v.node.core) listed)
 
-pub uncalled_turn : (n v : Shown) → v ≡ n → (c : Call) (p : Process) (hs : List Record) (h : H) (box : Outbox) (events : List Mark) → IsUncalled v c p hs h box → events ≡ v.events
+pub idle_turn : (n v : Shown) → v ≡ n → (p : Process) (hs : List Record) (h : H) (box : Outbox) (events : List Mark) → IsIdle v p hs h box → events ≡ v.events
     → (turn_of managed_ops n.node.core ≡ None) × (with_box h box events ≡ n)
-uncalled_turn n v same c p hs h box events u listed = (
-  subst (λ (y : Shown). turn_of managed_ops y.node.core ≡ None) same
-      (turn_steps v.node.core (Asks c) u.calling.idle u.calling.asks ∙ subst (λ x. begins managed_ops x c ≡ None) (calling_host v c p hs u.calling) u.after.0),
-  uncalled_same v c p hs h box events u listed ∙ same,
+idle_turn n v same p hs h box events u listed = (
+  subst (λ (y : Shown). turn_of managed_ops y.node.core ≡ None) same (subst (λ x. turn_of managed_ops x ≡ None) (resting_host v p hs u.rests) u.after.0),
+  idle_same v p hs h box events u listed ∙ same,
 )

@@ -1,37 +1,24 @@
 -- What a site's turn and its deliveries are, from what its parts did. `v` is what the fields are seen as, `n` the value.
 use Rattle.std.proofs.Common.{◌≡◌, ℕ, true, false, List, [], ◌∷◌, ◌++◌, map, Option, Some, None, refl, sym, ap, ◌∙◌, subst, append-nil}
-use Rattle.ivy_model.specs.declared.Call.{Call}
 use Rattle.ivy_model.specs.declared.Fault.{Fault}
-use Rattle.ivy_model.specs.declared.Reply.{Reply}
 use Rattle.ivy_wire.specs.Data.{Parcel}
 use Rattle.ivy_wire.specs.Spelling.{spelling}
 use Rattle.ivy_link.specs.Linked.{sends, has_numbers}
 use Rattle.ivy_host.specs.Managers.{Managed, managed_ops}
-use Rattle.ivy_program.specs.Steps.{Step, Asks, step_of}
+use Rattle.ivy_program.specs.Steps.{Step, step_of}
 use Rattle.ivy_ether.specs.Marks.{Mark, Turn}
 use Rattle.ivy_ether.specs.Cores.{Outcome}
 use Rattle.ivy_ether.specs.Nodes.{Node, Effect, posting, turned, turned_to}
-use Rattle.ivy_memory.specs.Memories.{reply_there, taken_out}
-use Rattle.ivy_host.specs.Hosts.{Host, host_rules, turn_of, turned_at, replied, steps, quietly, recorded}
+use Rattle.ivy_host.specs.Hosts.{Host, host_rules, turn_of, turned_at, steps, quietly}
 use Rattle.ivy_node.specs.Outboxes.{Outbox}
 use Rattle.ivy_node.specs.Shown.{Shown}
-use Rattle.ivy_node.specs.Sites.{Turns, Begins, CannotBegin, IsSpentTurn}
+use Rattle.ivy_node.specs.Sites.{Turns, HasTurn, HasNoNumbers, IsSpentTurn}
 
 abbrev H : Type 0
 H = Host Managed
 
 abbrev turn : H → Option (Outcome H)
 turn = turn_of managed_ops
-
--- a call waits
-pub turn_waits : (h : H) (c : Call) → h.memory.asked ≡ Some c → reply_there h.memory.coherence.done ≡ None → turn h ≡ None
-unfolding turn_of
-turn_waits h c asked none = ap (turned_at managed_ops h) asked ∙ ap (replied h c) none
-
--- the reply of the call in progress is there
-pub turn_replies : (h : H) (c : Call) (r : Reply) → h.memory.asked ≡ Some c → reply_there h.memory.coherence.done ≡ Some r → turn h ≡ Some (quietly (recorded h (taken_out h.memory) c r))
-unfolding turn_of
-turn_replies h c r asked there = ap (turned_at managed_ops h) asked ∙ ap (replied h c) there
 
 pub turn_steps : (h : H) (t : Step) → h.memory.asked ≡ None → step_of h.process ≡ t → turn h ≡ steps managed_ops h t
 unfolding turn_of
@@ -61,16 +48,16 @@ not_sent n h parcels numbers = rw numbers refl
 abbrev box_of : Shown → Outbox
 box_of v = record { config = v.config; me = v.me; link = v.node.link; waiting = v.waiting }
 
--- a turn in which a call begins
-pub moved_by_call : (n v : Shown) → v ≡ n → (c : Call) (h : H) (box : Outbox) (events : List Mark) → v.node.core.memory.asked ≡ None → step_of v.node.core.process ≡ Asks c → Begins c v.node.core (box_of v) h box
+-- a turn in which a call begins, or is asked for its reply
+pub moved_by_call : (n v : Shown) → v ≡ n → (h : H) (box : Outbox) (events : List Mark) → HasTurn v.node.core (box_of v) h box
     → events ≡ v.events ++ Turn ∷ [] → Turns n (record { config = box.config; me = box.me; node = record { core = h; link = box.link }; events = events; waiting = box.waiting })
-moved_by_call n v same c h box events idle asks b listed =
+moved_by_call n v same h box events b listed =
     let s = sends v.node.link b.outcome.posted in
     let e : Effect H = record { after = record { core = b.outcome.after; link = s.after }; sent = map spelling s.frames } in
     subst (λ x. Turns x (record { config = box.config; me = box.me; node = record { core = h; link = box.link }; events = events; waiting = box.waiting })) same
     (record {
       outcome = b.outcome;
-      turn = turn_steps v.node.core (Asks c) idle asks ∙ b.begun;
+      turn = b.turn;
       effect = e;
       sent = sent_so v.node b.outcome.after b.outcome.posted b.numbers;
       after = ap (λ (x : Outbox). record { config = x.config; me = x.me; node = record { core = h; link = x.link }; events = events; waiting = x.waiting }) b.sent
@@ -78,9 +65,9 @@ moved_by_call n v same c h box events idle asks b listed =
           ∙ ap (λ (es : List Mark). record { config = v.config; me = v.me; node = e.after; events = es; waiting = v.waiting ++ e.sent }) listed;
     })
 
-pub spent_call : (n v : Shown) → v ≡ n → (c : Call) (fault : Fault) → v.node.core.memory.asked ≡ None → step_of v.node.core.process ≡ Asks c → CannotBegin c v.node.core (box_of v) fault → IsSpentTurn n fault
+pub spent_call : (n v : Shown) → v ≡ n → (fault : Fault) → HasNoNumbers v.node.core (box_of v) fault → IsSpentTurn n fault
 unfolding turned
-spent_call n v same c fault idle asks cannot is =
+spent_call n v same fault cannot is =
     let x = cannot is in
     subst (λ (y : Shown). turned_to (host_rules managed_ops) y.node (turn y.node.core) ≡ None) same
-    (ap (turned_to (host_rules managed_ops) v.node) (turn_steps v.node.core (Asks c) idle asks ∙ x.1) ∙ not_sent v.node x.0.after x.0.posted x.2)
+    (ap (turned_to (host_rules managed_ops) v.node) x.1 ∙ not_sent v.node x.0.after x.0.posted x.2)

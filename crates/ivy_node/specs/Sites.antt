@@ -21,7 +21,7 @@ use Rattle.ivy_link.specs.Linked.{has_numbers}
 use Rattle.ivy_program.specs.Steps.{Process}
 use Rattle.ivy_memory.specs.Memories as memories
 use Rattle.ivy_node.specs.Outboxes.{Outbox, HasNumbers, posted_by}
-use Rattle.ivy_host.specs.Hosts.{Host, host_rules, turn_of, begins}
+use Rattle.ivy_host.specs.Hosts.{Host, host_rules, turn_of}
 use Rattle.ivy_host.specs.Openings.{first_node}
 use Rattle.ivy_node.specs.Shown.{Shown, after_event, after_delivery}
 
@@ -79,25 +79,25 @@ pub record IsSite (s : Shown) : Type 0 where
 abbrev pub host_of : memories.Memory Managed → Process → List Record → Host Managed
 host_of memory process history = record { memory = memory; process = process; history = history }
 
--- a call that the program makes begins, by the rules of the definitions, and what is posted is sent
-pub record Begins (call : Call) (old : Host Managed) (box : Outbox) (new : Host Managed)
+-- the node has a turn, by the rules of the definitions, and what is posted is sent
+pub record HasTurn (old : Host Managed) (box : Outbox) (new : Host Managed)
     (after : Outbox) : Type 0 where
   pub outcome : Outcome (Host Managed)
-  pub begun : begins managed_ops old call ≡ Some outcome
+  pub turn : turn_of managed_ops old ≡ Some outcome
   pub host : new ≡ outcome.after
   pub numbers : HasNumbers box outcome.posted
   pub sent : after ≡ posted_by box outcome.posted
 
--- or it does not begin, and nothing changes
-abbrev pub AfterBegin : Bool → Call → Host Managed → Outbox → Host Managed → Outbox → Type 0
-AfterBegin true call old box new after = Begins call old box new after
-AfterBegin false call old box new after =
-    (begins managed_ops old call ≡ None) × (new ≡ old) × (after ≡ box)
+-- or its turn changes nothing
+abbrev pub AfterHostTurn : Bool → Host Managed → Outbox → Host Managed → Outbox → Type 0
+AfterHostTurn true old box new after = HasTurn old box new after
+AfterHostTurn false old box new after =
+    (turn_of managed_ops old ≡ None) × (new ≡ old) × (after ≡ box)
 
 -- numbers are at an end for what it would post
-abbrev pub CannotBegin : Call → Host Managed → Outbox → Fault → Type 0
-CannotBegin call old box fault = fault ≡ NumbersSpent
-    → (outcome : Outcome (Host Managed)) × (begins managed_ops old call ≡ Some outcome)
+abbrev pub HasNoNumbers : Host Managed → Outbox → Fault → Type 0
+HasNoNumbers old box fault = fault ≡ NumbersSpent
+    → (outcome : Outcome (Host Managed)) × (turn_of managed_ops old ≡ Some outcome)
     × (has_numbers box.link outcome.posted ≡ false)
 
 -- the first string that waits is taken, if there is one, and nothing else changes

@@ -8,7 +8,7 @@ ghost use Rattle.ivy_host.specs.Managers.{managed_ops};
 ghost use Rattle.ivy_ether.specs.Nodes.{pulsing};
 ghost use Rattle.ivy_node.specs.Outboxes.{most_sent};
 ghost use Rattle.ivy_node.specs.Shown.{after_pulse_to};
-ghost use Rattle.ivy_node.specs.Sites.{first_shown, host_of, AfterBegin, CannotBegin, AfterTurn, AfterDelivery, IsSpentTurn, IsSpentDelivery, TakesFrame, IsSameNode};
+ghost use Rattle.ivy_node.specs.Sites.{first_shown, host_of, AfterHostTurn, HasNoNumbers, AfterTurn, AfterDelivery, IsSpentTurn, IsSpentDelivery, TakesFrame, IsSameNode};
 ghost use Rattle.ivy_ether.specs.Marks.{marks};
 ghost use Rattle.ivy_model.specs.Legal.{HasWidth};
 
@@ -77,10 +77,10 @@ fn begin<A: Allocator + Copy>(
     requires width { HasWidth call }
     requires config { outbox.old.config ≡ memory.old.coherence.config }
     requires me { outbox.old.me ≡ memory.old.coherence.me }
-    ensures ok { IfOk result (λ began. AfterBegin began call (host_of memory.old machine.old history.old.items) outbox.old (host_of memory.new machine.new history.new.items) outbox.new) }
+    ensures ok { IfOk result (λ began. AfterHostTurn began (host_of memory.old machine.old history.old.items) outbox.old (host_of memory.new machine.new history.new.items) outbox.new) }
     ensures err { OnErr result ((memory.new ≡ memory.old) × (outbox.new ≡ outbox.old) × (machine.new ≡ machine.old) × (history.new.items ≡ history.old.items)) }
     ensures few { OnOk result (length outbox.new.waiting ≤ length outbox.old.waiting + 8) }
-    ensures spent { IfErr result (CannotBegin call (host_of memory.old machine.old history.old.items) outbox.old) }
+    ensures spent { IfErr result (HasNoNumbers (host_of memory.old machine.old history.old.items) outbox.old) }
     ensures want { IfErr result IsWant }
 {
     let number = history.len() as u64 + 1;
@@ -88,6 +88,39 @@ fn begin<A: Allocator + Copy>(
         Answer::Given(reply) => {
             let node = outbox.me();
             keep(history, machine, Record { node, call, reply });
+            Ok(true)
+        }
+        Answer::Awaited => Ok(true),
+        Answer::Unserved => Ok(false),
+    }
+}
+
+/// The call in progress is asked for its reply [1, 17]. It says whether anything changed: the reply is recorded, or
+/// the call's word waits from now on.
+fn poll<A: Allocator + Copy>(
+    memory: &mut Memory<NodeManager<A>, A>,
+    outbox: &mut Outbox<A>,
+    machine: &mut Machine<A>,
+    history: &mut Vec<Record, A>,
+    call: Call,
+) -> Result<bool, Fault>
+    requires room { vec_len history.old < vec_capacity history.old }
+    requires asked { memory.old.asked ≡ Some call }
+    requires asks { step_of machine.old ≡ Asks call }
+    requires config { outbox.old.config ≡ memory.old.coherence.config }
+    requires me { outbox.old.me ≡ memory.old.coherence.me }
+    ensures ok { IfOk result (λ changed. AfterHostTurn changed (host_of memory.old machine.old history.old.items) outbox.old (host_of memory.new machine.new history.new.items) outbox.new) }
+    ensures err { OnErr result ((memory.new ≡ memory.old) × (outbox.new ≡ outbox.old) × (machine.new ≡ machine.old) × (history.new.items ≡ history.old.items)) }
+    ensures few { OnOk result (length outbox.new.waiting ≤ length outbox.old.waiting + 8) }
+    ensures spent { IfErr result (HasNoNumbers (host_of memory.old machine.old history.old.items) outbox.old) }
+    ensures want { IfErr result IsWant }
+{
+    let number = history.len() as u64 + 1;
+    match memory.poll_reply(number, outbox)? {
+        Answer::Given(reply) => {
+            let node = outbox.me();
+            let entry = Record { node, call, reply };
+            keep(history, machine, entry);
             Ok(true)
         }
         Answer::Awaited => Ok(true),
@@ -145,8 +178,8 @@ impl<A: Allocator + Copy> Site<A> {
         self.outbox.take()
     }
 
-    /// One turn of the program: a reply that came is recorded, or an instruction is carried out, or a call
-    /// begins [1, 17]. A refused turn changes nothing.
+    /// One turn of the program: the call in progress is asked for its reply, which is recorded, or an instruction is
+    /// carried out, or a call begins [1, 17]. A refused turn changes nothing.
     pub fn program_turn(&mut self) -> Result<Turn, Fault>
         ensures same { IsSameNode self.old self.new }
         ensures done { MatchResult result (λ turn. AfterTurn turn self.old self.new) (λ _. self.new ≡ self.old) }
@@ -158,15 +191,16 @@ impl<A: Allocator + Copy> Site<A> {
         self.history.reserve(1)?;
         self.events.reserve()?;
         if let Some(call) = self.memory.asked() {
-            let Some(reply) = self.memory.take_reply() else {
-                return Ok(Turn::Idle);
-            };
-            let node = self.outbox.me();
-            keep(
-                &mut self.history,
+            let changed = poll(
+                &mut self.memory,
+                &mut self.outbox,
                 &mut self.machine,
-                Record { node, call, reply },
-            );
+                &mut self.history,
+                call,
+            )?;
+            if !changed {
+                return Ok(Turn::Idle);
+            }
             self.events.push_turn();
             return Ok(Turn::Moved);
         }

@@ -22,12 +22,13 @@ use Rattle.ivy_ether.specs.Ordered.{Ordered, Turns, Delivers, Steps, rests, turn
 use Rattle.ivy_memory.specs.declared.Answer.{Answer}
 use Rattle.ivy_memory.specs.declared.Answer.TheVariants.{Given, Awaited, Unserved}
 use Rattle.ivy_memory.specs.declared.Asked.{Asked}
-use Rattle.ivy_memory.specs.declared.Asked.TheVariants as asked
+use Rattle.ivy_memory.specs.declared.Asked.TheVariants as kinds
 use Rattle.ivy_memory.specs.Asking.{asked_of, CanAsk}
-use Rattle.ivy_memory.specs.Memories.{Memory, CallBegun, answered, needed, begun_as, call_begun, reply_of, reply_there, taken_out}
+use Rattle.ivy_memory.specs.Memories.{Memory, CallBegun, answered, needed, again_unless, again, begun_as, call_begun, tried_as, polled_as, reply_of, reply_there, taken_out}
 use Rattle.ivy_memory.proofs.Asking.{can_ask}
 use Rattle.ivy_memory.proofs.Tame.{Begins, begun-begins, needed-posted}
-use Rattle.ivy_host.specs.Hosts.{Host, recorded, quietly, replied, begins_with, begins_as, begins, steps, turned_at, turn_of, host_rules}
+use Rattle.ivy_memory.proofs.Polling.{polled_so}
+use Rattle.ivy_host.specs.Hosts.{Host, recorded, quietly, begins_with, begins_as, begins, steps, turned_at, turn_of, host_rules}
 use Rattle.ivy_host.specs.Sound.{IsSoundHost}
 use Rattle.ivy_order.specs.Letters.{Net}
 use Rattle.ivy_order.specs.Rows.{IsKept}
@@ -46,14 +47,21 @@ asks ops h page word = begun ops h.memory.coherence page word (number_of h)
 abbrev pub asked_for : {S : Type 0} → Ops S → Host S → Call → ℕ → Word → CallBegun S
 asked_for ops h called page word = needed h.memory called (asks ops h page word) (asks ops h page word).need
 
--- The turns of a node: the reply of its call in progress is there; the program goes on by itself; its call is refused;
--- or it asks for a word.
+-- the node as if its call in progress had not begun
+abbrev pub without_call : {S : Type 0} → Host S → Host S
+without_call h = record h { memory = taken_out h.memory }
+
+-- The turns of a node: the reply of its call in progress is there; the word of that call is tried again; the program goes
+-- on by itself; its call is refused; or it asks for a word.
 pub data HostTurn {S : Type 0} (ops : Ops S) (c : Config) (h : Host S) (out : Outcome (Host S)) : Type 0 where
   answers : (called : Call) (r : Reply) → h.memory.asked ≡ Some called → reply_there h.memory.coherence.done ≡ Some r → out ≡ quietly (recorded h (taken_out h.memory) called r) → HostTurn ops c h out
+  tries_again : (called : Call) (page : ℕ) (word : Word) → h.memory.asked ≡ Some called → reply_there h.memory.coherence.done ≡ None → h.memory.coherence.locked ≡ None
+      → asked_of h.memory.coherence.config called ≡ kinds.Word page word → page < c.pages → IsWord c.page_size word
+      → begins_as (without_call h) called (asked_for ops (without_call h) called page word) ≡ Some out → HostTurn ops c h out
   goes_on : (s : State) → h.memory.asked ≡ None → step_of h.process ≡ Local s → out ≡ quietly (record h { process = at_state h.process s }) → HostTurn ops c h out
-  refuses : (called : Call) (code : ℕ) → h.memory.asked ≡ None → step_of h.process ≡ Asks called → asked_of h.memory.coherence.config called ≡ asked.Refused code
+  refuses : (called : Call) (code : ℕ) → h.memory.asked ≡ None → step_of h.process ≡ Asks called → asked_of h.memory.coherence.config called ≡ kinds.Refused code
       → out ≡ quietly (recorded h h.memory called (reply.Refused code)) → HostTurn ops c h out
-  asks_for : (called : Call) (page : ℕ) (word : Word) → h.memory.asked ≡ None → step_of h.process ≡ Asks called → asked_of h.memory.coherence.config called ≡ asked.Word page word → page < c.pages → IsWord c.page_size word
+  asks_for : (called : Call) (page : ℕ) (word : Word) → h.memory.asked ≡ None → step_of h.process ≡ Asks called → asked_of h.memory.coherence.config called ≡ kinds.Word page word → page < c.pages → IsWord c.page_size word
       → number_of h < 2 ^ 64 → begins_as h called (asked_for ops h called page word) ≡ Some out → HostTurn ops c h out
 
 begun_kind : {S : Type 0} (ops : Ops S) (m : Memory S) (called : Call) (number : ℕ) → call_begun ops m called number ≡ begun_as ops m called number (asked_of m.coherence.config called)
@@ -63,11 +71,11 @@ begun_kind ops m called number = refl
 module _ {S : Type 0} (ops : Ops S) (c : Config) (x : ℕ) (h : Host S) (good : IsSoundHost ops c x h) (out : Outcome (Host S)) where
   kind-cases : (called : Call) (kind : Asked) → h.memory.asked ≡ None → step_of h.process ≡ Asks called → asked_of h.memory.coherence.config called ≡ kind → CanAsk h.memory.coherence.config kind
       → number_of h < 2 ^ 64 → begins_as h called (begun_as ops h.memory called (number_of h) kind) ≡ Some out → HostTurn ops c h out
-  kind-cases called (asked.Refused code) idle step kind can few is =
+  kind-cases called (kinds.Refused code) idle step kind can few is =
       refuses called code idle step kind (sym (same_Some (quietly (recorded h h.memory called (reply.Refused code))) out is))
-  kind-cases called (asked.Word page word) idle step kind can few is =
+  kind-cases called (kinds.Word page word) idle step kind can few is =
       asks_for called page word idle step kind (subst (λ d. page < d.pages) good.config can.0) (subst (λ d. IsWord d.page_size word) good.config can.1) few is
-  kind-cases called asked.Heap idle step kind can few is = absurd (none-some out is)
+  kind-cases called kinds.Heap idle step kind can few is = absurd (none-some out is)
 
   begins-cases : (called : Call) → h.memory.asked ≡ None → step_of h.process ≡ Asks called → begins ops h called ≡ Some out → HostTurn ops c h out
   begins-cases called idle step is = either (nat_lt (number_of h) (2 ^ 64)) refl is
@@ -84,12 +92,34 @@ module _ {S : Type 0} (ops : Ops S) (c : Config) (x : ℕ) (h : Host S) (good : 
   steps-cases (Asks called) idle step is = begins-cases called idle step is
   steps-cases Ends idle step is = absurd (none-some out is)
 
-  replied-cases : (called : Call) (r : Option Reply) → h.memory.asked ≡ Some called → reply_there h.memory.coherence.done ≡ r → replied h called r ≡ Some out → HostTurn ops c h out
-  replied-cases called None asked there is = absurd (none-some out is)
-  replied-cases called (Some r) asked there is = answers called r asked there (sym (same_Some (quietly (recorded h (taken_out h.memory) called r)) out is))
+  module _ (called : Call) (asked : h.memory.asked ≡ Some called) where
+    unless-cases : (a : CallBegun S) (r : Option Reply) → begins_as h called (again_unless h.memory a r) ≡ Some out → begins_as h called a ≡ Some out
+    unless-cases a None is = absurd (none-some out is)
+    unless-cases a (Some r) is = is
+
+    again-cases : (a : CallBegun S) (b : Begun S) (n : Need) → Begins (taken_out h.memory).coherence b → b.need ≡ n → begins_as h called (again h.memory a n) ≡ Some out
+        → (h.memory.coherence.locked ≡ None) × (begins_as h called a ≡ Some out)
+    again-cases a b (need.Have o) bs needs is = (bs.free o needs, unless-cases a (reply_of o) is)
+    again-cases a b need.Started bs needs is = (bs.start needs, is)
+    again-cases a b need.Busy bs needs is = absurd (none-some out is)
+
+    tried-cases : (kind : Asked) → reply_there h.memory.coherence.done ≡ None → asked_of h.memory.coherence.config called ≡ kind → CanAsk h.memory.coherence.config kind
+        → begins_as h called (tried_as ops h.memory called (number_of h) kind) ≡ Some out → HostTurn ops c h out
+    tried-cases (kinds.Refused code) untold of can is = absurd (none-some out is)
+    tried-cases (kinds.Word page word) untold of can is =
+        let b : Begun S = asks ops (without_call h) page word in
+        let all = again-cases (asked_for ops (without_call h) called page word) b b.need (begun-begins ops (taken_out h.memory).coherence page word (number_of h)) refl is in
+        tries_again called page word asked untold all.0 of (subst (λ d. page < d.pages) good.config can.0) (subst (λ d. IsWord d.page_size word) good.config can.1) all.1
+    tried-cases kinds.Heap untold of can is = absurd (none-some out is)
+
+    replied-cases : (r : Option Reply) → reply_there h.memory.coherence.done ≡ r → begins_as h called (polled_as ops h.memory called (number_of h) r) ≡ Some out → HostTurn ops c h out
+    replied-cases None there is =
+        tried-cases (asked_of h.memory.coherence.config called) there refl (can_ask h.memory.coherence.config called good.memory.coherent.limits (good.memory.width called asked)) is
+    replied-cases (Some r) there is = answers called r asked there (sym (same_Some (quietly (recorded h (taken_out h.memory) called r)) out is))
 
   at-cases : (a : Option Call) → h.memory.asked ≡ a → turned_at ops h a ≡ Some out → HostTurn ops c h out
-  at-cases (Some called) asked is = replied-cases called (reply_there h.memory.coherence.done) asked refl is
+  at-cases (Some called) asked is =
+      replied-cases called asked (reply_there h.memory.coherence.done) refl (ap (begins_as h called) (sym (polled_so ops h.memory called (number_of h) asked)) ∙ is)
   at-cases None asked is = steps-cases (step_of h.process) asked refl is
 
   -- each turn of a sound node is one of these
@@ -100,6 +130,8 @@ module _ {S : Type 0} (ops : Ops S) (c : Config) (x : ℕ) (h : Host S) (good : 
 -- what a turn tells the flat memory
 abbrev pub TurnTells : {S : Type 0} {ops : Ops S} → ((ℕ → S) → Net → (ℕ → List ℕ) → Type 0) → (c : Config) → ℕ → (ℕ → List ℕ) → (h : Host S) (out : Outcome (Host S)) → HostTurn ops c h out → (ℕ → List ℕ) → Type 0
 TurnTells P c x f h out (answers called r asked there is) flat = flat ≡ f
+TurnTells {ops = ops} P c x f h out (tries_again called page word asked untold free of inside is_word is) flat =
+    Starts P c x f page word (number_of h) (taken_out h.memory).coherence (asks ops (without_call h) page word).need (asks ops (without_call h) page word).after flat
 TurnTells P c x f h out (goes_on s idle step is) flat = flat ≡ f
 TurnTells P c x f h out (refuses called code idle step refusal is) flat = flat ≡ f
 TurnTells {ops = ops} P c x f h out (asks_for called page word idle step of inside is_word few is) flat =
@@ -157,8 +189,12 @@ module _ {S : Type 0} {ops : Ops S} {P : (ℕ → S) → Net → (ℕ → List �
   kept-turns x t (refuses called code idle step refusal is) = (f, still x t _ is refl refl refl refl, refl)
   kept-turns x t (asks_for called page word idle step of inside is_word few is) =
       let after = asked_coherence ops t.core called page word t.outcome is in
-      kept-begins laws c kept spare o o' f w h x t page word (number_of t.core) inside is_word (omega arith)
+      kept-begins laws c kept spare o o' f w h x t t.core.memory.coherence.done page word (number_of t.core) inside is_word (omega arith)
       (ap (λ (z : Coherent S). z.me) after ∙ (marks ops t.core called page word).same.me) after (asked_posted ops t.core called page word t.outcome is)
+  kept-turns x t (tries_again called page word asked untold free of inside is_word is) =
+      let after = asked_coherence ops (without_call t.core) called page word t.outcome is in
+      kept-begins laws c kept spare o o' f w h x t None page word (number_of t.core) inside is_word (omega arith)
+      (ap (λ (z : Coherent S). z.me) after ∙ (marks ops (without_call t.core) called page word).same.me) after (asked_posted ops (without_call t.core) called page word t.outcome is)
 
   -- each step of a sound world keeps what each row keeps
   pub kept-steps : Steps (host_rules ops) o o' → (flat : ℕ → List ℕ) × Then flat × WorldTells ops P c f o o' flat

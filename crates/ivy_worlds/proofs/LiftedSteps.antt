@@ -1,7 +1,8 @@
 -- What each row keeps, each event of an ordered world keeps.
-use Rattle.std.proofs.Common.{◌≡◌, ◌<◌, ◌≤◌, ℕ, List, [], ◌∷◌, refl, ap, ◌∙◌, subst}
+use Rattle.std.proofs.Common.{◌≡◌, ◌<◌, ◌≤◌, ℕ, List, [], ◌∷◌, Option, refl, ap, ◌∙◌, subst}
 use Rattle.ivy_model.specs.declared.Config.{Config}
 use Rattle.ivy_link.specs.Paired.{extended}
+use Rattle.ivy_pagetable.specs.declared.Out.{Out}
 use Rattle.ivy_pagetable.specs.declared.Word.{Word}
 use Rattle.ivy_pagetable.specs.Words.{IsWord}
 use Rattle.ivy_pagetable.specs.Manager.{Ops, Laws}
@@ -9,6 +10,7 @@ use Rattle.ivy_coherence.specs.Coherent.{Coherent}
 use Rattle.ivy_coherence.specs.Steps.{handled}
 use Rattle.ivy_coherence.specs.Faults.{begun}
 use Rattle.ivy_coherence.proofs.Same.{handled-same}
+use Rattle.ivy_memory.proofs.Tame.{with_done-sound}
 use Rattle.ivy_ether.specs.Ordered.{Ordered, Turns, Delivers, one_more}
 use Rattle.ivy_host.specs.Hosts.{Host, host_rules, serving}
 use Rattle.ivy_host.specs.Sound.{IsSoundHost}
@@ -51,16 +53,19 @@ module _ {S : Type 0} {ops : Ops S} {P : (ℕ → S) → Net → (ℕ → List �
       kept-quiet c kept x (managers_of spare o) (managers_of spare o') (net_of o) (net_of o') f t.core.memory.coherence t.outcome.after.memory.coherence (node_of spare o o.delivered [] x t.core t.there good.me) refl h manager table breaches
       (leads_to spare o o' o.delivered [] x t.core t.outcome.after [] t.there t.cores (me ∙ good.me) (t.posted ∙ ap (extended o.posted) none) t.delivered)
 
-  -- a turn in which a word is asked for
-  pub kept-begins : (x : ℕ) (t : Turns (host_rules ops) o x o') (page : ℕ) (word : Word) (number : ℕ) → page < c.pages → IsWord c.page_size word → 1 ≤ number
-      → t.outcome.after.memory.coherence.me ≡ t.core.memory.coherence.me → t.outcome.after.memory.coherence ≡ (begun ops t.core.memory.coherence page word number).after
-      → t.outcome.posted ≡ (begun ops t.core.memory.coherence page word number).posted
+  -- a turn in which a word is asked for, whatever answer stands there
+  pub kept-begins : (x : ℕ) (t : Turns (host_rules ops) o x o') (d : Option Out) (page : ℕ) (word : Word) (number : ℕ) → page < c.pages → IsWord c.page_size word → 1 ≤ number
+      → t.outcome.after.memory.coherence.me ≡ t.core.memory.coherence.me → t.outcome.after.memory.coherence ≡ (begun ops (record t.core.memory.coherence { done = d }) page word number).after
+      → t.outcome.posted ≡ (begun ops (record t.core.memory.coherence { done = d }) page word number).posted
       → (flat : ℕ → List ℕ) × Then flat
-      × Starts P c x f page word number t.core.memory.coherence (begun ops t.core.memory.coherence page word number).need (begun ops t.core.memory.coherence page word number).after flat
-  kept-begins x t page word number inside is_word numbered me after posts =
-      let k : Coherent S = t.core.memory.coherence in
+      × Starts P c x f page word number (record t.core.memory.coherence { done = d }) (begun ops (record t.core.memory.coherence { done = d }) page word number).need
+      (begun ops (record t.core.memory.coherence { done = d }) page word number).after flat
+  kept-begins x t d page word number inside is_word numbered me after posts =
+      let k : Coherent S = record t.core.memory.coherence { done = d } in
       let good : IsSoundHost ops c x t.core = w.sound x t.core t.there in
-      let all = kept-begun c x (managers_of spare o) (net_of o) f k page word number good.config good.me kept good.memory.coherent (node_of spare o o.delivered [] x t.core t.there good.me) refl h inside is_word numbered in (
+      let there : IsNode (managers_of spare o) (net_of o) x t.core.memory.coherence = node_of spare o o.delivered [] x t.core t.there good.me in
+      let node : IsNode (managers_of spare o) (net_of o) x k = record { me = there.me; manager = there.manager; entries = there.entries; pages = there.pages; breaches = there.breaches } in
+      let all = kept-begun c x (managers_of spare o) (net_of o) f k page word number good.config good.me kept (with_done-sound t.core.memory.coherence d good.memory.coherent) node refl h inside is_word numbered in (
         all.0,
         all.1 (managers_of spare o') (net_of o')
             (subst (λ z. ComesTo (managers_of spare o) (net_of o) x z (begun ops k page word number).posted (managers_of spare o') (net_of o')) after

@@ -1,5 +1,5 @@
 use Rattle.std.proofs.Common.{IfErr, ◌∙◌, sym, ap, subst, arith}
-use Rattle.ivy_memory.proofs.Beginning.{can, had_memory, started_memory, busy_memory, busy_is, call_posts, few_posted, err_there, call_asks}
+use Rattle.ivy_memory.proofs.Beginning.{can, wide, had_memory, started_memory, busy_memory, busy_is, call_posts, few_posted, err_there, call_asks}
 use Rattle.ivy_memory.proofs.memory.Memory.begin.Goals as goal
 
 pub need-requires-clause-word : goal.need-requires-clause-word
@@ -9,17 +9,17 @@ need-requires-clause-word g c =
 pub invariant_of-self-in-Some : goal.invariant_of-self-in-Some
 invariant_of-self-in-Some g c =
     had_memory g.met.M.Manager.laws _ _ c.config.result c.args.call c.args.number c.in-Word.page c.in-Word.word (record { same = c.self.view_is; sound = c.self.invariant; config = c.config.ensures; idle = c.requires.idle; legal = c.requires.width; least = c.requires.number; most = omega arith; asks = sym c.asked_of.ensures.is ∙ c.in-Word.is })
-    c.need.new.self c.in_ok-out-in-Word.field-0 c.in-Have.out c.self.inside.asked c.in_ok-out-in-Word.ensures.ok c.in_ok-out-in-Word.ensures.need c.in-Have.is
+    c.need.new.self c.in_ok-out-in-Word.field-0 c.in-Have.out c.self.inside.asked c.self.invariant.width c.in_ok-out-in-Word.ensures.ok c.in_ok-out-in-Word.ensures.need c.in-Have.is
 
 pub invariant_of-self-in-None : goal.invariant_of-self-in-None
 invariant_of-self-in-None g c =
     had_memory g.met.M.Manager.laws _ _ c.config.result c.args.call c.args.number c.in-Word.page c.in-Word.word (record { same = c.self.view_is; sound = c.self.invariant; config = c.config.ensures; idle = c.requires.idle; legal = c.requires.width; least = c.requires.number; most = omega arith; asks = sym c.asked_of.ensures.is ∙ c.in-Word.is })
-    c.need.new.self c.in_ok-out-in-Word.field-0 c.in-Have.out _ c.in_ok-out-in-Word.ensures.ok c.in_ok-out-in-Word.ensures.need c.in-Have.is
+    c.need.new.self c.in_ok-out-in-Word.field-0 c.in-Have.out _ (wide g.met.M.Manager.laws _ _ c.config.result c.args.call c.args.number c.in-Word.page c.in-Word.word (record { same = c.self.view_is; sound = c.self.invariant; config = c.config.ensures; idle = c.requires.idle; legal = c.requires.width; least = c.requires.number; most = omega arith; asks = sym c.asked_of.ensures.is ∙ c.in-Word.is })) c.in_ok-out-in-Word.ensures.ok c.in_ok-out-in-Word.ensures.need c.in-Have.is
 
 pub invariant_of-self-in-Started : goal.invariant_of-self-in-Started
 invariant_of-self-in-Started g c =
     started_memory g.met.M.Manager.laws _ _ c.config.result c.args.call c.args.number c.in-Word.page c.in-Word.word (record { same = c.self.view_is; sound = c.self.invariant; config = c.config.ensures; idle = c.requires.idle; legal = c.requires.width; least = c.requires.number; most = omega arith; asks = sym c.asked_of.ensures.is ∙ c.in-Word.is })
-    c.need.new.self _ c.in_ok-out-in-Word.ensures.ok
+    c.need.new.self c.in_ok-out-in-Word.ensures.ok
 
 pub invariant_of-self-in-Busy : goal.invariant_of-self-in-Busy
 invariant_of-self-in-Busy g c =
