@@ -134,8 +134,40 @@ fn parse_operation(word: &str) -> Option<Operation> {
     }
 }
 
-/// The instruction of a line that names no label, where its words are one.
-fn parse_instruction(words: &[&str]) -> Option<Instruction>
+/// The instruction of a line that calls the memory, where its words are one.
+fn parse_call(words: &[&str]) -> Option<Instruction>
+    ensures { IfSome result (λ i. is_jump i ≡ false) }
+{
+    Some(match *words {
+        ["load", width, to, addr] => Instruction::Load {
+            width: parse_width(width)?,
+            to: parse_register(to)?,
+            addr: parse_register(addr)?,
+        },
+        ["store", width, addr, from] => Instruction::Store {
+            width: parse_width(width)?,
+            addr: parse_register(addr)?,
+            from: parse_register(from)?,
+        },
+        ["count", to, count] => Instruction::Count {
+            to: parse_register(to)?,
+            count: parse_register(count)?,
+        },
+        ["advance", count] => Instruction::Advance {
+            count: parse_register(count)?,
+        },
+        ["await", to, count, least] => Instruction::Await {
+            to: parse_register(to)?,
+            count: parse_register(count)?,
+            least: parse_register(least)?,
+        },
+        _ => return None,
+    })
+}
+
+/// The instruction of a line that neither calls the memory nor names a label, where its words are
+/// one.
+fn parse_local(words: &[&str]) -> Option<Instruction>
     ensures { IfSome result (λ i. is_jump i ≡ false) }
 {
     Some(match *words {
@@ -145,16 +177,6 @@ fn parse_instruction(words: &[&str]) -> Option<Instruction>
         },
         ["mov", to, from] => Instruction::Move {
             to: parse_register(to)?,
-            from: parse_register(from)?,
-        },
-        ["load", width, to, addr] => Instruction::Load {
-            width: parse_width(width)?,
-            to: parse_register(to)?,
-            addr: parse_register(addr)?,
-        },
-        ["store", width, addr, from] => Instruction::Store {
-            width: parse_width(width)?,
-            addr: parse_register(addr)?,
             from: parse_register(from)?,
         },
         ["status", to] => Instruction::Status {
@@ -183,7 +205,10 @@ fn parse_action(words: &[&str]) -> Option<Action>
         ["jumpz", from, label] => {
             Some(Action::JumpIfZero(parse_register(from)?, Name::new(label)?))
         }
-        _ => Some(Action::Plain(parse_instruction(words)?)),
+        ["load" | "store" | "count" | "advance" | "await", ..] => {
+            Some(Action::Plain(parse_call(words)?))
+        }
+        _ => Some(Action::Plain(parse_local(words)?)),
     }
 }
 

@@ -29,9 +29,18 @@ fn bad_program_text(rt: HostRuntime) -> Result<(), Fail> {
         ("node 0\nprint r1\r\r\n", 2),
         ("node 0\nprint\u{b}r1", 2),
         ("node 0\nstore 3 r1 r2", 2),
-        ("node 0\ncount r1 r2", 2),
-        ("node 0\nadvance r1", 2),
-        ("node 0\nawait r1 r2 r3", 2),
+        ("node 0\ncount r1", 2),
+        ("node 0\ncount r16 r2", 2),
+        ("node 0\ncount r1 16", 2),
+        ("node 0\ncount r1 r2 r3", 2),
+        ("node 0\nadvance", 2),
+        ("node 0\nadvance 1", 2),
+        ("node 0\nadvance r1 r2", 2),
+        ("node 0\nawait r1 r2", 2),
+        ("node 0\nawait r16 r2 r3", 2),
+        ("node 0\nawait r1 2 r3", 2),
+        ("node 0\nawait r1 r2 3", 2),
+        ("node 0\nawait r1 r2 r3 r4", 2),
         ("node 0\nalloc r1 r2", 2),
         ("node 0\nfree r1", 2),
         ("node 0\nstop r1", 2),
@@ -86,6 +95,32 @@ fn texts_in_order(rt: HostRuntime) -> Result<(), Fail> {
     };
     assert_eq!(rt; programs[0].instructions(), [all_ones].as_slice());
     assert_eq!(rt; programs[1].instructions().len(), 0);
+    Ok(())
+}
+
+#[test]
+fn lines_of_counts(rt: HostRuntime) -> Result<(), Fail> {
+    let mut programs = parse(
+        rt.alloc(),
+        "node 0\ncount r1 r2\nadvance r3\nawait r4 r5 r15\n",
+    )?;
+    let program = programs.pop().ok_or("no program")?;
+    let register = |number| Register::new(number).ok_or("no register");
+    let lines = [
+        Instruction::Count {
+            to: register(1)?,
+            count: register(2)?,
+        },
+        Instruction::Advance {
+            count: register(3)?,
+        },
+        Instruction::Await {
+            to: register(4)?,
+            count: register(5)?,
+            least: register(15)?,
+        },
+    ];
+    assert_eq!(rt; program.instructions(), lines.as_slice());
     Ok(())
 }
 
@@ -177,6 +212,45 @@ fn stores(rt: HostRuntime) -> Result<(), Fail> {
         addr,
         value,
     });
+    assert_eq!(rt; calls.as_slice(), named.as_slice());
+    Ok(())
+}
+
+/// Each call on a count names what its registers hold. The count goes to the first register of
+/// `count` and `await`, and a refusal leaves it there.
+#[test]
+fn counts(rt: HostRuntime) -> Result<(), Fail> {
+    let text = "node 0\nset r1 3\nset r2 5\nadvance r1\nstatus r4\nprint r4\n\
+                count r3 r1\nprint r3\nawait r3 r1 r2\nprint r3\nadvance r2\nstatus r4\n\
+                print r4\ncount r3 r2\nprint r3\nawait r3 r2 r1\nstatus r4\nprint r4\nprint r3";
+    let mut programs = parse(rt.alloc(), text)?;
+    let mut machine = Machine::new(programs.pop().ok_or("no program")?);
+    let mut calls = Vec::new(rt.alloc());
+    let mut replies = [
+        Reply::Refused(6),
+        Reply::Refused(6),
+        Reply::Refused(7),
+        Reply::Value(8),
+        Reply::Value(1),
+        Reply::Done,
+    ]
+    .to_vec(rt.alloc())?;
+    for _ in 0..32 {
+        if let Next::Call(call) = machine.next()? {
+            calls.push(call)?;
+            machine.answer(replies.pop().ok_or("no reply")?);
+        }
+    }
+    assert!(rt; machine.ended());
+    assert_eq!(rt; machine.output(), [0, 1, 8, 7, 8, 6, 8].as_slice());
+    let named = [
+        Call::Advance { k: 3 },
+        Call::Count { k: 3 },
+        Call::Await { k: 3, least: 5 },
+        Call::Advance { k: 5 },
+        Call::Count { k: 5 },
+        Call::Await { k: 5, least: 3 },
+    ];
     assert_eq!(rt; calls.as_slice(), named.as_slice());
     Ok(())
 }
