@@ -10,8 +10,10 @@
 
 mod extent;
 mod heap;
+mod law;
 
 pub use heap::Heap;
+pub use law::heap_is_flat;
 
 #[cfg(test)]
 mod tests;
