@@ -10,7 +10,7 @@ use Rattle.ivy_model.specs.declared.call.Reply.TheVariants.{Value, Done, Refused
 use Rattle.ivy_model.specs.Memory.{Memory, Blocks}
 use Rattle.ivy_model.specs.Serves.{Allocates, IsLeast, IsRoom, Serves, rounded}
 use Rattle.ivy_alloc.specs.Told.{Told, alloc_told, block_reply, ended, free_told, gives, least_room, placed}
-use Rattle.ivy_alloc.specs.Laws.{HeapIsFlat, StaysApart, TakesBack, with_blocks}
+use Rattle.ivy_alloc.specs.Laws.{HasReplies, HeapIsFlat, IsAllocReply, IsFreeReply, StaysApart, TakesBack, with_blocks}
 use Rattle.ivy_alloc.specs.Tied.{AreBlocks}
 use Rattle.ivy_alloc.proofs.Changed.{added_here, removed-added}
 use Rattle.ivy_alloc.proofs.Limits.{rounded_some}
@@ -107,6 +107,36 @@ free_answers c addr old reply new = freed_answers c old addr reply new (get old.
 
 pub heap_is_flat : HeapIsFlat
 heap_is_flat c n = (alloc_answers c n, free_answers c n)
+
+-- one call of the flat memory that has the blocks
+pub alloc_served : (c : Config) (m : Memory) (n : ℕ) → Serves c m (Alloc n) (alloc_told c m.blocks n).reply (with_blocks m (alloc_told c m.blocks n).blocks)
+alloc_served c m n = (alloc_answers c n m (alloc_told c m.blocks n).reply (with_blocks m (alloc_told c m.blocks n).blocks)).1 (refl, refl)
+
+pub free_served : (c : Config) (m : Memory) (addr : ℕ) → Serves c m (Free addr) (free_told m.blocks addr).reply (with_blocks m (free_told m.blocks addr).blocks)
+free_served c m addr = (free_answers c addr m (free_told m.blocks addr).reply (with_blocks m (free_told m.blocks addr).blocks)).1 (refl, refl)
+
+-- what is answered
+placed_reply : (c : Config) (blocks : Blocks) (size : ℕ) (o : Option ℕ) → 0 < size → IsLeastOf c blocks size o → IsAllocReply c (placed blocks size o).reply
+placed_reply c blocks size None some is = inr refl
+placed_reply c blocks size (Some addr) some is = let below = is.holds.below in (is.holds.above, omega arith)
+
+alloc_reply_is : (c : Config) (blocks : Blocks) (n : ℕ) → IsAllocReply c (alloc_told c blocks n).reply
+alloc_reply_is c blocks n =
+    elim (cases_eq n 0) [
+      | inl none ↦ rw (told_empty c blocks n none) (inl refl)
+      | inr some ↦ rw (told_placed c blocks n some) (placed_reply c blocks (rounded n) (least_room c blocks (rounded n)) (rounded_some n some) (room_for c blocks n some))
+    ]
+
+ended_reply_is : (blocks : Blocks) (addr : ℕ) (o : Option ℕ) → IsFreeReply (ended blocks addr o).reply
+ended_reply_is blocks addr None = refl
+ended_reply_is blocks addr (Some size) = tt
+
+free_reply_is : (blocks : Blocks) (addr : ℕ) → IsFreeReply (free_told blocks addr).reply
+unfolding free_told
+free_reply_is blocks addr = ended_reply_is blocks addr (get blocks addr)
+
+pub has_replies : HasReplies
+has_replies c blocks n = (alloc_reply_is c blocks n, free_reply_is blocks n)
 
 -- live blocks after a call
 placed_apart : (c : Config) (blocks : Blocks) (size : ℕ) (o : Option ℕ) → AreBlocks c blocks → 0 < size → IsLeastOf c blocks size o → AreBlocks c (placed blocks size o).blocks

@@ -13,6 +13,10 @@ use std::marker::Model;
 
 /// The live blocks of the shared memory's heap.
 ///
+/// What a call answers, and the blocks after it, are functions of the configuration and the live
+/// blocks: `alloc_told` and `free_told` in `specs/Told`. They are the flat memory's answers
+/// ([`crate::heap_is_flat`]).
+///
 /// A call takes time at most linear in the number of free extents, and logarithmic in that of live
 /// blocks. Memory is linear in the greatest number of live blocks that there were at a time.
 #[derive(Drop)]
@@ -102,6 +106,9 @@ impl<A: Allocator + Copy> Heap<A> {
 
     /// Ends the live block that starts at `addr`. Refused with 10 exactly where none does, and then
     /// the heap is as it was. It takes no memory [10].
+    ///
+    /// So a block whose address could not be handed on is taken back by this call: the heap is then
+    /// the one before [`Heap::alloc`] gave it.
     pub fn free(&mut self, addr: u64) -> Result<(), Fault>
         ensures told { free_told self.old.blocks addr ≡ gives (free_reply result) self.new.blocks }
 
@@ -111,7 +118,7 @@ impl<A: Allocator + Copy> Heap<A> {
         ensures fault { IsOkUnless result Fault.NotABlock }
         ensures err { OnErr result (self.new ≡ self.old) }
 
-        // A block that was just given leaves the very heap that there was before.
+        // The block that was just given: the heap is the one before it.
         ensures taken_back { (before : HeapState) (size : ℕ) → AddsBlock before addr size self.old → IsOk result × (self.new ≡ before) }
     {
         let Some(len) = self.blocks.remove(&addr) else {
@@ -121,7 +128,8 @@ impl<A: Allocator + Copy> Heap<A> {
         Ok(())
     }
 
-    /// Whether a live block starts at `addr`. It takes no memory.
+    /// Whether a live block starts at `addr`: whether [`Heap::free`] of it would be done. It takes no
+    /// memory.
     pub fn is_block(&self, addr: u64) -> bool
         ensures live { IsTrue result ↔ IsSome (map.get self.now.blocks addr) }
         ensures told { (free_told self.now.blocks addr).reply ≡ block_reply result }
