@@ -1,6 +1,6 @@
 -- What an access of this node's program comes to (Li and Hudak 1989): what the program is told, the state after, and
 -- what is posted, in order.
-use Rattle.std.specs.Prelude.{◌≡◌, ℕ, Bool, true, false, List, [], ◌∷◌, Option, Some, None, if◌then◌else◌}
+use Rattle.std.specs.Prelude.{◌≡◌, ℕ, Bool, false, List, [], ◌∷◌, Option, Some, None, if◌then◌else◌}
 use Rattle.ivy_wire.specs.declared.Content.TheVariants as content
 use Rattle.ivy_wire.specs.Data.{Parcel}
 use Rattle.ivy_pagetable.specs.declared.Access.{Access}

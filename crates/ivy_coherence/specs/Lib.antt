@@ -2,6 +2,7 @@ pub mod Coherent
 pub mod Limits
 pub mod Serving
 pub mod Steps
+pub mod Outcomes
 pub mod Faults
 pub mod Sound
 pub use Rattle.ivy_model.specs.Config

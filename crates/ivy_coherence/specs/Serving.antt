@@ -7,7 +7,7 @@ use Rattle.ivy_wire.specs.Data.{Content, Parcel}
 use Rattle.ivy_pagetable.specs.declared.PutOff.{PutOff}
 use Rattle.ivy_pagetable.specs.declared.Request.{Request}
 use Rattle.ivy_pagetable.specs.declared.Request.TheVariants as request
-use Rattle.ivy_pagetable.specs.NodeSets.{Nodes, bits_of}
+use Rattle.ivy_pagetable.specs.NodeSets.{bits_of}
 use Rattle.ivy_pagetable.specs.States.{IdleState}
 use Rattle.ivy_pagetable.specs.Entries.{without, sharing}
 use Rattle.ivy_pagetable.specs.Manager.{Ops}

@@ -8,6 +8,7 @@ ghost use Rattle.ivy_pagetable.specs.NodeSets.{IsBelow, nodes_of};
 ghost use Rattle.ivy_pagetable.specs.Manager.{brought_back};
 ghost use Rattle.ivy_coherence.specs.Serving.{serving, settled, counted, parcel_to, served_by_owner, served_by_other, served, all_served};
 ghost use Rattle.ivy_coherence.specs.Limits.{most_posted};
+ghost use Rattle.ivy_coherence.specs.Outcomes.{HasPosted, IsSettled};
 ghost use Rattle.ivy_coherence.specs.Steps.{invalidations};
 
 use arrayvec::ArrayVec;
@@ -62,12 +63,10 @@ pub(crate) fn post_one<P: Post>(
     call: u64,
     content: Content<&[u8]>,
 ) -> Result<(), Fault>
-    requires fits { FitsParcel (P.config post.old) (P.node post.old) (parcel_to source dest origin call (owned_content content)) }
-    ensures ok { OnOk result (post.new ≡ P.after post.old (parcel_to source dest origin call (owned_content content.entry) ∷ [])) }
-    ensures took { OnOk result (P.takes post.old (parcel_to source dest origin call (owned_content content.entry) ∷ [])) }
-    ensures err { OnErr result (post.new ≡ post.old) }
-    ensures fault { IfErr result (P.refuses post.old (parcel_to source dest origin call (owned_content content.entry) ∷ [])) }
-    ensures want { IfErr result IsWant }
+    requires fits { FitsParcel (P.config post.old) (P.node post.old)
+        (parcel_to source dest origin call (owned_content content)) }
+    ensures { HasPosted P.takes P.after P.refuses post.old post.new result
+        (parcel_to source dest origin call (owned_content content.entry) ∷ []) }
 {
     post.post(&[Parcel {
         source,
@@ -93,7 +92,10 @@ fn serve_as_owner<'a, M: Manager>(
     requires owner { idle.old.owner ≡ true }
     requires below { IsBelow most_nodes_in_a_byte idle.old.copies }
     requires origin { message.origin < most_nodes_in_a_byte }
-    ensures after { serving idle.new manager.new breaches.new (map owned_parcel out.new.items) ≡ served_by_owner M.ops at.entry.me at.entry.page at.entry.bytes.now (serving idle.old manager.old breaches.old (map owned_parcel out.old.items)) message.origin message.call message.kind }
+    ensures after { let before = serving idle.old manager.old breaches.old (map owned_parcel out.old.items) in
+        let after = serving idle.new manager.new breaches.new (map owned_parcel out.new.items) in
+        after ≡ served_by_owner M.ops at.entry.me at.entry.page at.entry.bytes.now
+        before message.origin message.call message.kind }
     ensures below { IsBelow most_nodes_in_a_byte idle.new.copies }
     ensures room { length out.new.items ≤ length out.old.items + 1 }
 {
@@ -141,7 +143,11 @@ fn serve_as_other<'a, M: Manager>(
 )
     requires room { length out.old.items < most_posted }
     requires below { IsBelow most_nodes_in_a_byte idle.old.copies }
-    ensures after { (breaches : ℕ) → serving idle.new manager.new breaches (map owned_parcel out.new.items) ≡ served_by_other M.ops at.entry.me at.entry.page at.entry.bytes.now (serving idle.old manager.old breaches (map owned_parcel out.old.items)) message.origin message.call message.kind }
+    ensures after { (breaches : ℕ) →
+        let before = serving idle.old manager.old breaches (map owned_parcel out.old.items) in
+        let after = serving idle.new manager.new breaches (map owned_parcel out.new.items) in
+        after ≡ served_by_other M.ops at.entry.me at.entry.page at.entry.bytes.now
+        before message.origin message.call message.kind }
     ensures below { IsBelow most_nodes_in_a_byte idle.new.copies }
     ensures room { length out.new.items ≤ length out.old.items + 1 }
 {
@@ -178,7 +184,9 @@ fn serve<'a, M: Manager>(
     requires room { length out.old.items < most_posted }
     requires below { IsBelow most_nodes_in_a_byte idle.old.copies }
     requires origin { message.origin < most_nodes_in_a_byte }
-    ensures after { serving idle.new manager.new breaches.new (map owned_parcel out.new.items) ≡ served M.ops at.entry.me at.entry.page at.entry.bytes.now (serving idle.old manager.old breaches.old (map owned_parcel out.old.items)) message }
+    ensures after { let before = serving idle.old manager.old breaches.old (map owned_parcel out.old.items) in
+        let after = serving idle.new manager.new breaches.new (map owned_parcel out.new.items) in
+        after ≡ served M.ops at.entry.me at.entry.page at.entry.bytes.now before message }
     ensures below { IsBelow most_nodes_in_a_byte idle.new.copies }
     ensures room { length out.new.items ≤ length out.old.items + 1 }
 {
@@ -202,7 +210,9 @@ fn serve_all<'a, M: Manager>(
     requires empty { out.old.items ≡ [] }
     requires below { IsBelow most_nodes_in_a_byte idle.old.copies }
     requires origins { All (λ q. q.origin < most_nodes_in_a_byte) messages.now }
-    ensures after { serving idle.new manager.new breaches.new (map owned_parcel out.new.items) ≡ all_served M.ops at.entry.me at.entry.page at.entry.bytes.now (serving idle.old manager.old breaches.old []) messages.now }
+    ensures after { let before = serving idle.old manager.old breaches.old [] in
+        let after = serving idle.new manager.new breaches.new (map owned_parcel out.new.items) in
+        after ≡ all_served M.ops at.entry.me at.entry.page at.entry.bytes.now before messages.now }
 {
     for message in messages {
         serve(at, idle, manager, breaches, *message, out);
@@ -236,15 +246,13 @@ pub(crate) fn settle<M: Manager, P: Post>(
     requires few { length messages.now ≤ most_posted }
     requires below { IsBelow most_nodes_in_a_byte idle.copies }
     requires origins { All (λ q. q.origin < most_nodes_in_a_byte) messages.now }
-    requires fits { All (FitsParcel (P.config post.old) (P.node post.old)) (settled M.ops at.me at.from at.page at.bytes.now idle manager.old breaches.old reply messages.now).posted }
-    ensures idle { IfOk result (λ after. after ≡ (settled M.ops at.entry.me at.entry.from at.entry.page at.entry.bytes.now idle manager.old breaches.old reply messages.now).idle) }
-    ensures manager { OnOk result (manager.new ≡ (settled M.ops at.entry.me at.entry.from at.entry.page at.entry.bytes.now idle manager.old breaches.old reply messages.now).manager) }
-    ensures breaches { OnOk result (breaches.new ≡ (settled M.ops at.entry.me at.entry.from at.entry.page at.entry.bytes.now idle manager.old breaches.old reply messages.now).breaches) }
-    ensures posted { OnOk result (post.new ≡ P.after post.old (settled M.ops at.entry.me at.entry.from at.entry.page at.entry.bytes.now idle manager.old breaches.old reply messages.now).posted) }
-    ensures took { OnOk result (P.takes post.old (settled M.ops at.entry.me at.entry.from at.entry.page at.entry.bytes.now idle manager.old breaches.old reply messages.now).posted) }
-    ensures err { OnErr result ((manager.new ≡ manager.old) × (breaches.new ≡ breaches.old) × (post.new ≡ post.old)) }
-    ensures fault { IfErr result (P.refuses post.old (settled M.ops at.entry.me at.entry.from at.entry.page at.entry.bytes.now idle manager.old breaches.old reply messages.now).posted) }
-    ensures want { IfErr result IsWant }
+    requires fits { All (FitsParcel (P.config post.old) (P.node post.old))
+        (settled M.ops at.me at.from at.page at.bytes.now
+        idle manager.old breaches.old reply messages.now).posted }
+    ensures { IsSettled P.takes P.after P.refuses post.old post.new result
+        manager.old manager.new breaches.old breaches.new
+        (settled M.ops at.entry.me at.entry.from at.entry.page at.entry.bytes.now
+        idle manager.old breaches.old reply messages.now) }
 {
     let hop = manager.next_hop(at.page);
     if let Some(write) = reply {
@@ -278,12 +286,10 @@ pub(crate) fn invalidate<P: Post>(
     post: &mut P,
 ) -> Result<(), Fault>
     requires few { length (nodes_of nodes.now) ≤ most_posted }
-    requires fits { All (FitsParcel (P.config post.old) (P.node post.old)) (invalidations me page call nodes.now) }
-    ensures ok { OnOk result (post.new ≡ P.after post.old (invalidations me page call nodes.now)) }
-    ensures took { OnOk result (P.takes post.old (invalidations me page call nodes.now)) }
-    ensures err { OnErr result (post.new ≡ post.old) }
-    ensures fault { IfErr result (P.refuses post.old (invalidations me page call nodes.now)) }
-    ensures want { IfErr result IsWant }
+    requires fits { All (FitsParcel (P.config post.old) (P.node post.old))
+        (invalidations me page call nodes.now) }
+    ensures { HasPosted P.takes P.after P.refuses post.old post.new result
+        (invalidations me page call nodes.now) }
 {
     let mut parcels: Parcels = ArrayVec::new();
     for node in nodes.nodes().as_slice() {
