@@ -24,8 +24,8 @@ use Rattle.ivy_pagetable.specs.Tables.{entry_at, page_at, with_entry}
 use Rattle.ivy_pagetable.specs.Words.{needs_write}
 use Rattle.ivy_pagetable.specs.Manager.{Ops}
 use Rattle.ivy_coherence.specs.Coherent.{Coherent}
-use Rattle.ivy_coherence.specs.Serving.{serving, settled, counted, parcel_to, served_by_owner, served_by_other}
-use Rattle.ivy_coherence.specs.Steps.{Effect, collected, still_collecting, is_none, is_order, invalidations, breach, after_serving, unlocked, put_aside, put_by, given_up, asked, copy_came, page_came, acknowledged, handled, handled_as}
+use Rattle.ivy_serving.specs.Serving.{serving, settled, counted, parcel_to, served_by_owner, served_by_other, invalidations}
+use Rattle.ivy_coherence.specs.Steps.{Effect, collected, still_collecting, is_none, is_order, breach, after_serving, unlocked, put_aside, put_by, given_up, asked, copy_came, page_came, acknowledged, handled, handled_as}
 use Rattle.ivy_coherence.specs.Faults.{Begun, busy, hit, started, waiting_from, faulted, accessed, begun, begun_at, suffices}
 
 -- a request for a copy or for the page, or the order to give a copy up

@@ -16,8 +16,7 @@ use Rattle.ivy_pagetable.specs.Manager.{Ops}
 use Rattle.ivy_coherence.specs.declared.need.Need.{Need}
 use Rattle.ivy_coherence.specs.declared.need.Need.TheVariants.{Have, Started, Busy}
 use Rattle.ivy_coherence.specs.Coherent.{Coherent}
-use Rattle.ivy_coherence.specs.Serving.{parcel_to}
-use Rattle.ivy_coherence.specs.Steps.{invalidations}
+use Rattle.ivy_serving.specs.Serving.{parcel_to, invalidations}
 
 pub record Begun (S : Type 0) : Type 0 where
   pub need : Need

@@ -15,7 +15,7 @@ use Rattle.ivy_pagetable.specs.Tables.{entry_at, page_at, with_entry, with_page}
 use Rattle.ivy_pagetable.specs.Words.{carried_out}
 use Rattle.ivy_pagetable.specs.Manager.{Ops}
 use Rattle.ivy_coherence.specs.Coherent.{Coherent}
-use Rattle.ivy_coherence.specs.Serving.{Serving, counted, parcel_to, settled}
+use Rattle.ivy_serving.specs.Serving.{Serving, counted, parcel_to, settled, invalidations}
 
 pub record Effect (S : Type 0) : Type 0 where
   pub after : Coherent S
@@ -44,11 +44,6 @@ is_none nodes = set.len nodes == 0
 abbrev pub is_order : Request → Bool
 is_order request.Invalidate = true
 is_order kind = false
-
--- each of these nodes is told to give its copy up
-abbrev pub invalidations : ℕ → ℕ → ℕ → Nodes → List Parcel
-invalidations me page call nodes =
-    map (λ node. parcel_to me node me call (content.Inval page)) (nodes_of nodes)
 
 module _ {S : Type 0} (ops : Ops S) where
   -- a message that fits no rule is counted, and changes nothing else

@@ -6,15 +6,15 @@ ghost use Rattle.ivy_wire.specs.Spelling.{FitsMessage};
 ghost use Rattle.ivy_pagetable.specs.Tables.{entry_at, page_at};
 ghost use Rattle.ivy_pagetable.specs.Words.{IsWord, needs_write};
 ghost use Rattle.ivy_coherence.specs.Faults.{suffices, IsIdleAt, HasToAsk, fault_entry, fault_posted, begun};
-ghost use Rattle.ivy_coherence.specs.Outcomes.{HasPosted};
+ghost use Rattle.ivy_serving.specs.Outcomes.{HasPosted};
 ghost use Rattle.ivy_coherence.specs.Sound.{first_coherent, IsSound};
 
 use crate::need::Need;
-use crate::serving::{invalidate, post_one};
 use ivy_model::{Config, Fault};
 use ivy_pagetable::{
     Access, AwaitAcks, AwaitWrite, Entry, Idle, Manager, Out, Page, PageTable, Waiting, Word,
 };
+use ivy_serving::{invalidate, post_one};
 use ivy_wire::{Content, Post};
 use std::alloc::Allocator;
 use std::marker::Model;

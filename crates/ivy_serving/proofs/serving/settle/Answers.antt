@@ -3,9 +3,9 @@ use Rattle.ivy_wire.specs.Lent.{owned_parcel}
 use Rattle.ivy_pagetable.specs.declared.PutOff.{PutOff}
 use Rattle.ivy_pagetable.specs.States.{IdleState}
 use Rattle.ivy_pagetable.specs.Manager.{Ops}
-use Rattle.ivy_coherence.specs.Serving.{Serving, serving, all_served, told, settled}
-use Rattle.ivy_coherence.proofs.Undoing.{IsMadeBy, settled-follows, me-follows, undone}
-use Rattle.ivy_coherence.proofs.serving.settle.Goals as goal
+use Rattle.ivy_serving.specs.Serving.{Serving, serving, all_served, told, settled}
+use Rattle.ivy_serving.proofs.Undoing.{IsMadeBy, settled-follows, me-follows, undone}
+use Rattle.ivy_serving.proofs.serving.settle.Goals as goal
 
 -- the manager learns of the reply first, then all messages are served
 settled_then : {S : Type 0} (ops : Ops S) (me from page : ℕ) (bytes : List ℕ) (idle : IdleState) (m : S) (breaches : ℕ) (reply : Option Bool) (qs : List PutOff) (n : S) (v : Serving S)

@@ -19,9 +19,9 @@ use Rattle.ivy_pagetable.specs.NodeSets.{Nodes, bits_of}
 use Rattle.ivy_pagetable.specs.Manager.{Ops, Laws, Keeps}
 use Rattle.ivy_pagetable.proofs.Bits.{empty_below, insert_below, remove_below, bits_of_below}
 use Rattle.ivy_pagetable.proofs.NodeSets.{tied, untied}
-use Rattle.ivy_coherence.specs.Serving.{Serving, parcel_to, served, served_by_owner, served_by_other, all_served}
-use Rattle.ivy_coherence.specs.Sound.{CanBeServed, AreOthers, IsSoundIdle}
-use Rattle.ivy_coherence.proofs.NextHop.{IsManaged, forwarded-node, given-node, invalidated-node, forwarded-away, given-away, invalidated-away}
+use Rattle.ivy_serving.specs.Serving.{Serving, parcel_to, served, served_by_owner, served_by_other, all_served}
+use Rattle.ivy_serving.specs.Sound.{CanBeServed, AreOthers, IsSoundIdle}
+use Rattle.ivy_serving.proofs.NextHop.{IsManaged, forwarded-node, given-node, invalidated-node, forwarded-away, given-away, invalidated-away}
 
 pub all_none : {X : Type 0} (P : X → Type 0) → All P []
 all_none P = All-from_recursion P [] tt

@@ -6,10 +6,9 @@ ghost use Rattle.ivy_wire.specs.Spelling.{FitsParcel};
 ghost use Rattle.ivy_pagetable.specs.Limits.{most_nodes_in_a_byte};
 ghost use Rattle.ivy_pagetable.specs.NodeSets.{IsBelow, nodes_of};
 ghost use Rattle.ivy_pagetable.specs.Manager.{brought_back};
-ghost use Rattle.ivy_coherence.specs.Serving.{serving, settled, counted, parcel_to, served_by_owner, served_by_other, served, all_served};
-ghost use Rattle.ivy_coherence.specs.Limits.{most_posted};
-ghost use Rattle.ivy_coherence.specs.Outcomes.{HasPosted, IsSettled};
-ghost use Rattle.ivy_coherence.specs.Steps.{invalidations};
+ghost use Rattle.ivy_serving.specs.Serving.{serving, settled, counted, parcel_to, served_by_owner, served_by_other, served, all_served, invalidations};
+ghost use Rattle.ivy_serving.specs.Limits.{most_posted};
+ghost use Rattle.ivy_serving.specs.Outcomes.{HasPosted, IsSettled};
 
 use arrayvec::ArrayVec;
 use ivy_model::Fault;
@@ -24,15 +23,15 @@ type Parcels<'a> = ArrayVec<Parcel<&'a [u8]>, MOST_POSTED>;
 
 /// Where messages are served: this node, the one whose message brings that about, and the page with its bytes.
 #[derive(Clone, Copy)]
-pub(crate) struct Place<'a> {
-    pub(crate) me: u8,
-    pub(crate) from: u8,
-    pub(crate) page: u32,
-    pub(crate) bytes: &'a [u8],
+pub struct Place<'a> {
+    pub me: u8,
+    pub from: u8,
+    pub page: u32,
+    pub bytes: &'a [u8],
 }
 
 /// Counts a message that fits no rule.
-pub(crate) fn count(breaches: &mut u64)
+pub fn count(breaches: &mut u64)
     ensures { breaches.new ≡ counted breaches.old }
 {
     if *breaches < u64::MAX {
@@ -55,7 +54,7 @@ fn parcel_to(source: u8, dest: u8, origin: u8, call: u64, content: Content<&[u8]
 }
 
 /// Posts one message.
-pub(crate) fn post_one<P: Post>(
+pub fn post_one<P: Post>(
     post: &mut P,
     source: u8,
     dest: u8,
@@ -233,7 +232,7 @@ fn take_back<M: Manager>(at: Place, hop: u8, manager: &mut M)
 
 /// Serves messages at an idle entry and posts what comes of it; or nothing changes. First the manager learns
 /// that `from` replied, where that was it. What the entry is then.
-pub(crate) fn settle<M: Manager, P: Post>(
+pub fn settle<M: Manager, P: Post>(
     at: Place,
     reply: Option<bool>,
     idle: Idle,
@@ -278,7 +277,7 @@ pub(crate) fn settle<M: Manager, P: Post>(
 }
 
 /// Tells each of these nodes to give its copy up.
-pub(crate) fn invalidate<P: Post>(
+pub fn invalidate<P: Post>(
     me: u8,
     page: u32,
     call: u64,
