@@ -10,7 +10,7 @@ use Rattle.ivy_model.specs.Legal.{HasWidth}
 use Rattle.ivy_wire.specs.Data.{Message}
 use Rattle.ivy_wire.specs.Spelling.{FitsMessage, FitsParcel}
 use Rattle.ivy_pagetable.specs.Manager.{Ops, Laws}
-use Rattle.ivy_coherence.proofs.IdleServing.{all_none}
+use Rattle.ivy_serving.proofs.IdleServing.{all_none}
 use Rattle.ivy_program.specs.declared.Instruction.{Instruction}
 use Rattle.ivy_program.specs.Steps.{Step, Local, Asks, Ends, step_of, at_state}
 use Rattle.ivy_program.proofs.Running.{only_accesses}

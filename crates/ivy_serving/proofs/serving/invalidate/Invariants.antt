@@ -1,8 +1,8 @@
 use Rattle.std.proofs.Common.{◌≡◌, length, map, take}
 use Rattle.ivy_wire.specs.declared.Content.TheVariants as content
 use Rattle.ivy_wire.specs.Lent.{owned_parcel}
-use Rattle.ivy_coherence.specs.Serving.{parcel_to}
-use Rattle.ivy_coherence.proofs.serving.invalidate.Given as goal
+use Rattle.ivy_serving.specs.Serving.{parcel_to}
+use Rattle.ivy_serving.proofs.serving.invalidate.Given as goal
 
 -- the nodes so far are told
 abbrev pub invariant-loop-node : goal.invariant-loop-node

@@ -1,5 +1,5 @@
 use Rattle.ivy_pagetable.proofs.Bits.{empty_below, insert_below, remove_below}
-use Rattle.ivy_coherence.proofs.serving.serve_as_owner.Goals as goal
+use Rattle.ivy_serving.proofs.serving.serve_as_owner.Goals as goal
 
 pub bits-copies-requires : goal.bits-copies-requires
 bits-copies-requires g c =

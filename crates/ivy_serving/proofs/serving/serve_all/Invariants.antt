@@ -2,8 +2,8 @@ use Rattle.std.proofs.Common.{◌≡◌, ◌≤◌, [], length, map, drop}
 use Rattle.ivy_wire.specs.Lent.{owned_parcel}
 use Rattle.ivy_pagetable.specs.Limits.{most_nodes_in_a_byte}
 use Rattle.ivy_pagetable.specs.NodeSets.{IsBelow}
-use Rattle.ivy_coherence.specs.Serving.{serving, all_served}
-use Rattle.ivy_coherence.proofs.serving.serve_all.Given as goal
+use Rattle.ivy_serving.specs.Serving.{serving, all_served}
+use Rattle.ivy_serving.proofs.serving.serve_all.Given as goal
 
 -- what is left to serve, from here, gives what all messages give from the beginning
 abbrev pub invariant-loop-message : goal.invariant-loop-message

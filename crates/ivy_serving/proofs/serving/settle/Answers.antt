@@ -3,9 +3,9 @@ use Rattle.ivy_wire.specs.Lent.{owned_parcel}
 use Rattle.ivy_pagetable.specs.declared.PutOff.{PutOff}
 use Rattle.ivy_pagetable.specs.States.{IdleState}
 use Rattle.ivy_pagetable.specs.Manager.{Ops}
-use Rattle.ivy_coherence.specs.Serving.{Serving, serving, all_served, told, settled}
-use Rattle.ivy_coherence.proofs.Undoing.{IsMadeBy, settled-follows, me-follows, undone}
-use Rattle.ivy_coherence.proofs.serving.settle.Goals as goal
+use Rattle.ivy_serving.specs.Serving.{Serving, serving, all_served, told, settled}
+use Rattle.ivy_serving.proofs.Undoing.{IsMadeBy, settled-follows, me-follows, undone}
+use Rattle.ivy_serving.proofs.serving.settle.Goals as goal
 
 -- the manager learns of the reply first, then all messages are served
 settled_then : {S : Type 0} (ops : Ops S) (me from page : ℕ) (bytes : List ℕ) (idle : IdleState) (m : S) (breaches : ℕ) (reply : Option Bool) (qs : List PutOff) (n : S) (v : Serving S)
@@ -37,14 +37,21 @@ take_back-requires g c =
     let follows = follows_then ops at.me at.from at.page at.bytes.now c.args.idle c.args.manager.now c.args.breaches.now c.args.reply c.args.messages.now c.match-reply.manager v replied c.serve_all.ensures.after in
     c.requires.mine ∙ sym (me-follows g.met.M.Manager.laws at.page c.args.manager.now c.serve_all.new.manager follows)
 
-pub returns-in-Err-clause-err : goal.returns-in-Err-clause-err
-returns-in-Err-clause-err g c =
+pub returns-in-Err : goal.returns-in-Err
+returns-in-Err g c =
     let ops = g.M.Manager.ops in
     let at = c.args.at in
     let v = serving c.serve_all.new.idle c.serve_all.new.manager c.serve_all.new.breaches (map owned_parcel c.serve_all.new.out.items) in
     let replied : c.match-reply.manager ≡ told ops at.from at.page c.args.manager.now c.args.reply = search rules in
-    let follows = follows_then ops at.me at.from at.page at.bytes.now c.args.idle c.args.manager.now c.args.breaches.now c.args.reply c.args.messages.now c.match-reply.manager v replied c.serve_all.ensures.after in (
-      rw (c.take_back.ensures, c.next_hop-hop.ensures) (undone g.met.M.Manager.laws at.page c.args.manager.now c.serve_all.new.manager at.from follows),
-      search rules,
-      search rules,
-    )
+    let follows = follows_then ops at.me at.from at.page at.bytes.now c.args.idle c.args.manager.now c.args.breaches.now c.args.reply c.args.messages.now c.match-reply.manager v replied c.serve_all.ensures.after in
+    let back : c.take_back.new.manager ≡ c.args.manager.now = rw (c.take_back.ensures, c.next_hop-hop.ensures) (undone g.met.M.Manager.laws at.page c.args.manager.now c.serve_all.new.manager at.from follows) in
+    record {
+      idle = search rules;
+      manager = search rules;
+      breaches = search rules;
+      posted = search rules;
+      took = search rules;
+      err = (back, search rules, search rules);
+      fault = search rules;
+      want = search rules;
+    }

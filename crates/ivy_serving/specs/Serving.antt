@@ -1,13 +1,13 @@
 -- Messages that are served at an idle entry, one after another (Li and Hudak 1989, the owner keeps the copy set). The
 -- bytes of the page stay as they are meanwhile.
-use Rattle.std.specs.Prelude.{ℕ, ◌+◌, ◌-◌, ◌^◌, Bool, true, false, List, [], ◌∷◌, ◌++◌, Option, Some, None, if◌then◌else◌, nat_lt}
+use Rattle.std.specs.Prelude.{ℕ, ◌+◌, ◌-◌, ◌^◌, Bool, true, false, List, [], ◌∷◌, ◌++◌, Option, Some, None, if◌then◌else◌, nat_lt, map}
 use Rattle.std.specs.FinSet as set
 use Rattle.ivy_wire.specs.declared.Content.TheVariants as content
 use Rattle.ivy_wire.specs.Data.{Content, Parcel}
 use Rattle.ivy_pagetable.specs.declared.PutOff.{PutOff}
 use Rattle.ivy_pagetable.specs.declared.Request.{Request}
 use Rattle.ivy_pagetable.specs.declared.Request.TheVariants as request
-use Rattle.ivy_pagetable.specs.NodeSets.{Nodes, bits_of}
+use Rattle.ivy_pagetable.specs.NodeSets.{Nodes, bits_of, nodes_of}
 use Rattle.ivy_pagetable.specs.States.{IdleState}
 use Rattle.ivy_pagetable.specs.Entries.{without, sharing}
 use Rattle.ivy_pagetable.specs.Manager.{Ops}
@@ -33,6 +33,11 @@ parcel_to me dest origin call body = record {
   dest = dest;
   message = record { origin = origin; call = call; content = body };
 }
+
+-- each of these nodes is told to give its copy up
+abbrev pub invalidations : ℕ → ℕ → ℕ → Nodes → List Parcel
+invalidations me page call nodes =
+    map (λ node. parcel_to me node me call (content.Inval page)) (nodes_of nodes)
 
 module _ {S : Type 0} (ops : Ops S) (me page : ℕ) (bytes : List ℕ) where
   -- at the owner: a copy is given, and both read from now on; the page itself is given, with the set of those that

@@ -1,8 +1,8 @@
 use Rattle.std.proofs.Common.{◌≡◌, map, arith}
 use Rattle.std.proofs.lemmas.Grind.{common_steps}
 use Rattle.ivy_wire.specs.Lent.{owned_parcel}
-use Rattle.ivy_coherence.specs.Steps.{invalidations}
-use Rattle.ivy_coherence.proofs.serving.invalidate.Goals as goal
+use Rattle.ivy_serving.specs.Serving.{invalidations}
+use Rattle.ivy_serving.proofs.serving.invalidate.Goals as goal
 
 pub post-requires : goal.post-requires
 post-requires g c =

@@ -1,30 +1,27 @@
 -- What is served at an idle entry keeps what holds of it, for every manager that keeps the laws, and posts only what can be
 -- sent.
-use Rattle.std.proofs.Common.{◌≡◌, ◌≢◌, ℕ, zero, suc, ◌+◌, ◌<◌, ◌≤◌, ◌^◌, ◌⊎◌, inl, inr, eqb, Bool, true, false, not, ◌&&◌, ◌||◌, List, [], ◌∷◌, ◌++◌, length, refl, sym, ap, ◌∙◌, subst, arith, if◌then◌else◌}
+use Rattle.std.proofs.Common.{◌≡◌, ◌≢◌, ℕ, suc, ◌<◌, ◌≤◌, ◌^◌, inl, inr, eqb, Bool, true, false, not, ◌&&◌, ◌||◌, List, [], ◌∷◌, length, refl, sym, ap, ◌∙◌, subst, arith, if◌then◌else◌}
 use Rattle.std.specs.Prelude.{All}
-use Rattle.std.specs.List.{filter, range_with_len}
 use Rattle.std.specs.FinSet as set
 use Rattle.std.proofs.lemmas.Bool.Decides.{eqb_tells}
 use Rattle.std.proofs.lemmas.Bool.{cases_Bool}
-use Rattle.std.proofs.lemmas.List.Elements.{All-from_recursion, All-cons, All-push}
+use Rattle.std.proofs.lemmas.List.Elements.{All-from_recursion, All-push}
 use Rattle.ivy_model.specs.declared.Config.{Config}
 use Rattle.ivy_model.specs.Config.{IsConfig}
 use Rattle.ivy_wire.specs.declared.Content.TheVariants as content
-use Rattle.ivy_wire.specs.Data.{Content, Parcel}
+use Rattle.ivy_wire.specs.Data.{Content}
 use Rattle.ivy_wire.specs.Spelling.{FitsContent, FitsParcel}
-use Rattle.ivy_pagetable.specs.Entries.{without, copying, owning, sharing}
+use Rattle.ivy_pagetable.specs.Entries.{without, copying, owning}
 use Rattle.ivy_pagetable.specs.declared.PutOff.{PutOff}
 use Rattle.ivy_pagetable.specs.declared.Request.{Request}
 use Rattle.ivy_pagetable.specs.declared.Request.TheVariants as request
-use Rattle.ivy_pagetable.specs.NodeSets.{Nodes, nodes_of, bits_of}
-use Rattle.ivy_pagetable.specs.States.{IdleState}
+use Rattle.ivy_pagetable.specs.NodeSets.{Nodes, bits_of}
 use Rattle.ivy_pagetable.specs.Manager.{Ops, Laws, Keeps}
 use Rattle.ivy_pagetable.proofs.Bits.{empty_below, insert_below, remove_below, bits_of_below}
 use Rattle.ivy_pagetable.proofs.NodeSets.{tied, untied}
-use Rattle.ivy_coherence.specs.Serving.{Serving, counted, parcel_to, served, served_by_owner, served_by_other, all_served, told, settled, serving}
-use Rattle.ivy_coherence.specs.Steps.{invalidations}
-use Rattle.ivy_coherence.specs.Sound.{CanBeServed, AreOthers, IsSoundIdle}
-use Rattle.ivy_coherence.proofs.NextHop.{IsManaged, forwarded-node, given-node, invalidated-node, forwarded-away, given-away, invalidated-away}
+use Rattle.ivy_serving.specs.Serving.{Serving, parcel_to, served, served_by_owner, served_by_other, all_served}
+use Rattle.ivy_serving.specs.Sound.{CanBeServed, AreOthers, IsSoundIdle}
+use Rattle.ivy_serving.proofs.NextHop.{IsManaged, forwarded-node, given-node, invalidated-node, forwarded-away, given-away, invalidated-away}
 
 pub all_none : {X : Type 0} (P : X → Type 0) → All P []
 all_none P = All-from_recursion P [] tt

@@ -6,7 +6,7 @@ use Rattle.ivy_pagetable.specs.declared.Request.{Request}
 use Rattle.ivy_pagetable.specs.declared.Request.TheVariants as request
 use Rattle.ivy_pagetable.specs.States.{IdleState}
 use Rattle.ivy_pagetable.specs.Manager.{Ops, Laws, Change, Forward, Given, Replied, Invalidated, changed, all_changed, brought_back}
-use Rattle.ivy_coherence.specs.Serving.{Serving, serving, served_by_owner, served_by_other, served, all_served, told, settled}
+use Rattle.ivy_serving.specs.Serving.{Serving, serving, served_by_owner, served_by_other, served, all_served, told, settled}
 
 -- a state of the manager that calls for one page made of another
 pub record IsMadeBy {S : Type 0} (ops : Ops S) (page : ℕ) (m new : S) : Type 0 where

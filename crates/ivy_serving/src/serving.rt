@@ -6,9 +6,9 @@ ghost use Rattle.ivy_wire.specs.Spelling.{FitsParcel};
 ghost use Rattle.ivy_pagetable.specs.Limits.{most_nodes_in_a_byte};
 ghost use Rattle.ivy_pagetable.specs.NodeSets.{IsBelow, nodes_of};
 ghost use Rattle.ivy_pagetable.specs.Manager.{brought_back};
-ghost use Rattle.ivy_coherence.specs.Serving.{serving, settled, counted, parcel_to, served_by_owner, served_by_other, served, all_served};
-ghost use Rattle.ivy_coherence.specs.Limits.{most_posted};
-ghost use Rattle.ivy_coherence.specs.Steps.{invalidations};
+ghost use Rattle.ivy_serving.specs.Serving.{serving, settled, counted, parcel_to, served_by_owner, served_by_other, served, all_served, invalidations};
+ghost use Rattle.ivy_serving.specs.Limits.{most_posted};
+ghost use Rattle.ivy_serving.specs.Outcomes.{HasPosted, IsSettled};
 
 use arrayvec::ArrayVec;
 use ivy_model::Fault;
@@ -23,15 +23,15 @@ type Parcels<'a> = ArrayVec<Parcel<&'a [u8]>, MOST_POSTED>;
 
 /// Where messages are served: this node, the one whose message brings that about, and the page with its bytes.
 #[derive(Clone, Copy)]
-pub(crate) struct Place<'a> {
-    pub(crate) me: u8,
-    pub(crate) from: u8,
-    pub(crate) page: u32,
-    pub(crate) bytes: &'a [u8],
+pub struct Place<'a> {
+    pub me: u8,
+    pub from: u8,
+    pub page: u32,
+    pub bytes: &'a [u8],
 }
 
 /// Counts a message that fits no rule.
-pub(crate) fn count(breaches: &mut u64)
+pub fn count(breaches: &mut u64)
     ensures { breaches.new ≡ counted breaches.old }
 {
     if *breaches < u64::MAX {
@@ -54,7 +54,7 @@ fn parcel_to(source: u8, dest: u8, origin: u8, call: u64, content: Content<&[u8]
 }
 
 /// Posts one message.
-pub(crate) fn post_one<P: Post>(
+pub fn post_one<P: Post>(
     post: &mut P,
     source: u8,
     dest: u8,
@@ -62,12 +62,10 @@ pub(crate) fn post_one<P: Post>(
     call: u64,
     content: Content<&[u8]>,
 ) -> Result<(), Fault>
-    requires fits { FitsParcel (P.config post.old) (P.node post.old) (parcel_to source dest origin call (owned_content content)) }
-    ensures ok { OnOk result (post.new ≡ P.after post.old (parcel_to source dest origin call (owned_content content.entry) ∷ [])) }
-    ensures took { OnOk result (P.takes post.old (parcel_to source dest origin call (owned_content content.entry) ∷ [])) }
-    ensures err { OnErr result (post.new ≡ post.old) }
-    ensures fault { IfErr result (P.refuses post.old (parcel_to source dest origin call (owned_content content.entry) ∷ [])) }
-    ensures want { IfErr result IsWant }
+    requires fits { FitsParcel (P.config post.old) (P.node post.old)
+        (parcel_to source dest origin call (owned_content content)) }
+    ensures { HasPosted P.takes P.after P.refuses post.old post.new result
+        (parcel_to source dest origin call (owned_content content.entry) ∷ []) }
 {
     post.post(&[Parcel {
         source,
@@ -93,7 +91,10 @@ fn serve_as_owner<'a, M: Manager>(
     requires owner { idle.old.owner ≡ true }
     requires below { IsBelow most_nodes_in_a_byte idle.old.copies }
     requires origin { message.origin < most_nodes_in_a_byte }
-    ensures after { serving idle.new manager.new breaches.new (map owned_parcel out.new.items) ≡ served_by_owner M.ops at.entry.me at.entry.page at.entry.bytes.now (serving idle.old manager.old breaches.old (map owned_parcel out.old.items)) message.origin message.call message.kind }
+    ensures after { let before = serving idle.old manager.old breaches.old (map owned_parcel out.old.items) in
+        let after = serving idle.new manager.new breaches.new (map owned_parcel out.new.items) in
+        after ≡ served_by_owner M.ops at.entry.me at.entry.page at.entry.bytes.now
+        before message.origin message.call message.kind }
     ensures below { IsBelow most_nodes_in_a_byte idle.new.copies }
     ensures room { length out.new.items ≤ length out.old.items + 1 }
 {
@@ -141,7 +142,11 @@ fn serve_as_other<'a, M: Manager>(
 )
     requires room { length out.old.items < most_posted }
     requires below { IsBelow most_nodes_in_a_byte idle.old.copies }
-    ensures after { (breaches : ℕ) → serving idle.new manager.new breaches (map owned_parcel out.new.items) ≡ served_by_other M.ops at.entry.me at.entry.page at.entry.bytes.now (serving idle.old manager.old breaches (map owned_parcel out.old.items)) message.origin message.call message.kind }
+    ensures after { (breaches : ℕ) →
+        let before = serving idle.old manager.old breaches (map owned_parcel out.old.items) in
+        let after = serving idle.new manager.new breaches (map owned_parcel out.new.items) in
+        after ≡ served_by_other M.ops at.entry.me at.entry.page at.entry.bytes.now
+        before message.origin message.call message.kind }
     ensures below { IsBelow most_nodes_in_a_byte idle.new.copies }
     ensures room { length out.new.items ≤ length out.old.items + 1 }
 {
@@ -178,7 +183,9 @@ fn serve<'a, M: Manager>(
     requires room { length out.old.items < most_posted }
     requires below { IsBelow most_nodes_in_a_byte idle.old.copies }
     requires origin { message.origin < most_nodes_in_a_byte }
-    ensures after { serving idle.new manager.new breaches.new (map owned_parcel out.new.items) ≡ served M.ops at.entry.me at.entry.page at.entry.bytes.now (serving idle.old manager.old breaches.old (map owned_parcel out.old.items)) message }
+    ensures after { let before = serving idle.old manager.old breaches.old (map owned_parcel out.old.items) in
+        let after = serving idle.new manager.new breaches.new (map owned_parcel out.new.items) in
+        after ≡ served M.ops at.entry.me at.entry.page at.entry.bytes.now before message }
     ensures below { IsBelow most_nodes_in_a_byte idle.new.copies }
     ensures room { length out.new.items ≤ length out.old.items + 1 }
 {
@@ -202,7 +209,9 @@ fn serve_all<'a, M: Manager>(
     requires empty { out.old.items ≡ [] }
     requires below { IsBelow most_nodes_in_a_byte idle.old.copies }
     requires origins { All (λ q. q.origin < most_nodes_in_a_byte) messages.now }
-    ensures after { serving idle.new manager.new breaches.new (map owned_parcel out.new.items) ≡ all_served M.ops at.entry.me at.entry.page at.entry.bytes.now (serving idle.old manager.old breaches.old []) messages.now }
+    ensures after { let before = serving idle.old manager.old breaches.old [] in
+        let after = serving idle.new manager.new breaches.new (map owned_parcel out.new.items) in
+        after ≡ all_served M.ops at.entry.me at.entry.page at.entry.bytes.now before messages.now }
 {
     for message in messages {
         serve(at, idle, manager, breaches, *message, out);
@@ -223,7 +232,7 @@ fn take_back<M: Manager>(at: Place, hop: u8, manager: &mut M)
 
 /// Serves messages at an idle entry and posts what comes of it; or nothing changes. First the manager learns
 /// that `from` replied, where that was it. What the entry is then.
-pub(crate) fn settle<M: Manager, P: Post>(
+pub fn settle<M: Manager, P: Post>(
     at: Place,
     reply: Option<bool>,
     idle: Idle,
@@ -236,15 +245,13 @@ pub(crate) fn settle<M: Manager, P: Post>(
     requires few { length messages.now ≤ most_posted }
     requires below { IsBelow most_nodes_in_a_byte idle.copies }
     requires origins { All (λ q. q.origin < most_nodes_in_a_byte) messages.now }
-    requires fits { All (FitsParcel (P.config post.old) (P.node post.old)) (settled M.ops at.me at.from at.page at.bytes.now idle manager.old breaches.old reply messages.now).posted }
-    ensures idle { IfOk result (λ after. after ≡ (settled M.ops at.entry.me at.entry.from at.entry.page at.entry.bytes.now idle manager.old breaches.old reply messages.now).idle) }
-    ensures manager { OnOk result (manager.new ≡ (settled M.ops at.entry.me at.entry.from at.entry.page at.entry.bytes.now idle manager.old breaches.old reply messages.now).manager) }
-    ensures breaches { OnOk result (breaches.new ≡ (settled M.ops at.entry.me at.entry.from at.entry.page at.entry.bytes.now idle manager.old breaches.old reply messages.now).breaches) }
-    ensures posted { OnOk result (post.new ≡ P.after post.old (settled M.ops at.entry.me at.entry.from at.entry.page at.entry.bytes.now idle manager.old breaches.old reply messages.now).posted) }
-    ensures took { OnOk result (P.takes post.old (settled M.ops at.entry.me at.entry.from at.entry.page at.entry.bytes.now idle manager.old breaches.old reply messages.now).posted) }
-    ensures err { OnErr result ((manager.new ≡ manager.old) × (breaches.new ≡ breaches.old) × (post.new ≡ post.old)) }
-    ensures fault { IfErr result (P.refuses post.old (settled M.ops at.entry.me at.entry.from at.entry.page at.entry.bytes.now idle manager.old breaches.old reply messages.now).posted) }
-    ensures want { IfErr result IsWant }
+    requires fits { All (FitsParcel (P.config post.old) (P.node post.old))
+        (settled M.ops at.me at.from at.page at.bytes.now
+        idle manager.old breaches.old reply messages.now).posted }
+    ensures { IsSettled P.takes P.after P.refuses post.old post.new result
+        manager.old manager.new breaches.old breaches.new
+        (settled M.ops at.entry.me at.entry.from at.entry.page at.entry.bytes.now
+        idle manager.old breaches.old reply messages.now) }
 {
     let hop = manager.next_hop(at.page);
     if let Some(write) = reply {
@@ -270,7 +277,7 @@ pub(crate) fn settle<M: Manager, P: Post>(
 }
 
 /// Tells each of these nodes to give its copy up.
-pub(crate) fn invalidate<P: Post>(
+pub fn invalidate<P: Post>(
     me: u8,
     page: u32,
     call: u64,
@@ -278,12 +285,10 @@ pub(crate) fn invalidate<P: Post>(
     post: &mut P,
 ) -> Result<(), Fault>
     requires few { length (nodes_of nodes.now) ≤ most_posted }
-    requires fits { All (FitsParcel (P.config post.old) (P.node post.old)) (invalidations me page call nodes.now) }
-    ensures ok { OnOk result (post.new ≡ P.after post.old (invalidations me page call nodes.now)) }
-    ensures took { OnOk result (P.takes post.old (invalidations me page call nodes.now)) }
-    ensures err { OnErr result (post.new ≡ post.old) }
-    ensures fault { IfErr result (P.refuses post.old (invalidations me page call nodes.now)) }
-    ensures want { IfErr result IsWant }
+    requires fits { All (FitsParcel (P.config post.old) (P.node post.old))
+        (invalidations me page call nodes.now) }
+    ensures { HasPosted P.takes P.after P.refuses post.old post.new result
+        (invalidations me page call nodes.now) }
 {
     let mut parcels: Parcels = ArrayVec::new();
     for node in nodes.nodes().as_slice() {
