@@ -1,7 +1,10 @@
-ghost use Rattle.std.specs.Prelude.{◌≡◌, ◌≤◌, ◌<◌, ◌+◌, ◌^◌, ℕ, [], length, All, IfOk, IfErr, OnErr, IfSome, IsOkUnless, false};
+ghost use Rattle.std.specs.Prelude.{◌≡◌, ◌≢◌, ◌≤◌, ◌<◌, ◌+◌, ◌^◌, ℕ, [], length, All, IfOk, IfErr, OnErr, IfSome, IfNone, IsOkUnless, false};
 ghost use Rattle.ivy_model.specs.declared.Fault.TheVariants.{Memory};
 ghost use Rattle.ivy_program.specs.Drafts.{AreInside, is_jump, has_place};
 ghost use Rattle.ivy_program.specs.Instructions.{IsProgram, NamesRegisters, JumpsWithin};
+ghost use Rattle.ivy_program.specs.Operands.{register_word, operation_word, IsWidthWord};
+ghost use Rattle.ivy_program.specs.declared.instruction.Operation.{Operation};
+ghost use Rattle.ivy_program.specs.declared.instruction.Width.{Width};
 ghost use Rattle.ivy_program.specs.Texts.{ArePrograms, IsRefusal};
 
 use crate::instruction::{Instruction, Operation, Register, Width};
@@ -16,11 +19,6 @@ const MOST_PROGRAMS: usize = 32;
 
 /// The most letters and digits that the name of a label has.
 const MOST_LETTERS: usize = 16;
-
-const REGISTER_NAMES: [&str; 16] = [
-    "r0", "r1", "r2", "r3", "r4", "r5", "r6", "r7", "r8", "r9", "r10", "r11", "r12", "r13", "r14",
-    "r15",
-];
 
 /// The number of a line, counted from 1.
 #[derive(Clone, Copy, PartialEq, Eq)]
@@ -110,12 +108,23 @@ struct Label {
     place: usize,
 }
 
-fn parse_register(word: &str) -> Option<Register> {
-    let number = REGISTER_NAMES.iter().position(|name| *name == word)?;
-    Register::new(number as u8)
+/// The register that a word names.
+fn parse_register(word: &str) -> Option<Register>
+    ensures found { IfSome result (λ r. word.now ≡ register_word r) }
+    ensures none { IfNone result ((r : ℕ) → r < 16 → word.now ≢ register_word r) }
+{
+    match *word.as_bytes() {
+        [b'r', digit @ b'0'..=b'9'] => Register::new(digit - b'0'),
+        [b'r', b'1', digit @ b'0'..=b'5'] => Register::new(10 + (digit - b'0')),
+        _ => None,
+    }
 }
 
-fn parse_width(word: &str) -> Option<Width> {
+/// The width that a word is the number of.
+fn parse_width(word: &str) -> Option<Width>
+    ensures found { IfSome result (λ w. IsWidthWord word.now w) }
+    ensures none { IfNone result ((w : Width) → ¬ IsWidthWord word.now w) }
+{
     match parse_number(word)? {
         1 => Some(Width::One),
         2 => Some(Width::Two),
@@ -125,7 +134,10 @@ fn parse_width(word: &str) -> Option<Width> {
     }
 }
 
-fn parse_operation(word: &str) -> Option<Operation> {
+fn parse_operation(word: &str) -> Option<Operation>
+    ensures found { IfSome result (λ o. word.now ≡ operation_word o) }
+    ensures none { IfNone result ((o : Operation) → word.now ≢ operation_word o) }
+{
     match word {
         "add" => Some(Operation::Add),
         "sub" => Some(Operation::Sub),
