@@ -2,7 +2,7 @@ ghost use Rattle.std.specs.Prelude.{◌≡◌, ◌≢◌, ◌≤◌, ◌<◌, �
 ghost use Rattle.ivy_model.specs.declared.Fault.TheVariants.{Memory};
 ghost use Rattle.ivy_program.specs.Drafts.{AreInside, is_jump, has_place};
 ghost use Rattle.ivy_program.specs.Instructions.{IsProgram, NamesRegisters, JumpsWithin};
-ghost use Rattle.ivy_program.specs.Operands.{register_word, operation_word, IsWidthWord};
+ghost use Rattle.ivy_program.specs.Operands.{register_word, operation_word, IsWidthWord, IsName, padded};
 ghost use Rattle.ivy_program.specs.declared.instruction.Operation.{Operation};
 ghost use Rattle.ivy_program.specs.declared.instruction.Width.{Width};
 ghost use Rattle.ivy_program.specs.Texts.{ArePrograms, IsRefusal};
@@ -71,16 +71,22 @@ struct Name {
 
 impl Name {
     /// The name that a word is, if it is one.
-    fn new(word: &str) -> Option<Name> {
-        let named = word.starts_with(|c: char| c.is_ascii_lowercase())
-            && word
-                .bytes()
-                .all(|b| b.is_ascii_lowercase() || b.is_ascii_digit());
-        if !named || word.len() > MOST_LETTERS {
+    fn new(word: &str) -> Option<Name>
+        ensures found { IfSome result (λ name. IsName word.now × (name.letters ≡ padded word.now)) }
+        ensures none { IfNone result (¬ IsName word.now) }
+    {
+        let bytes = word.as_bytes();
+        let [first, ..] = *bytes else {
+            return None;
+        };
+        let named = bytes
+            .iter()
+            .all(|b| b.is_ascii_lowercase() || b.is_ascii_digit());
+        if !first.is_ascii_lowercase() || !named || bytes.len() > MOST_LETTERS {
             return None;
         }
         let mut letters = [0; MOST_LETTERS];
-        letters[..word.len()].copy_from_slice(word.as_bytes());
+        letters[..bytes.len()].copy_from_slice(bytes);
         Some(Name { letters })
     }
 }
