@@ -116,15 +116,15 @@ pub free_served : (c : Config) (m : Memory) (addr : ℕ) → Serves c m (Free ad
 free_served c m addr = (free_answers c addr m (free_told m.blocks addr).reply (with_blocks m (free_told m.blocks addr).blocks)).1 (refl, refl)
 
 -- what is answered
-placed_reply : (c : Config) (blocks : Blocks) (size : ℕ) (o : Option ℕ) → 0 < size → IsLeastOf c blocks size o → IsAllocReply c (placed blocks size o).reply
-placed_reply c blocks size None some is = inr refl
-placed_reply c blocks size (Some addr) some is = let below = is.holds.below in (is.holds.above, omega arith)
+placed_reply : (c : Config) (blocks : Blocks) (n : ℕ) (o : Option ℕ) → 0 < n → IsLeastOf c blocks (rounded n) o → IsAllocReply c n (placed blocks (rounded n) o).reply
+placed_reply c blocks n None some is = inr (some, refl)
+placed_reply c blocks n (Some addr) some is = (some, is.holds.above, is.holds.below)
 
-alloc_reply_is : (c : Config) (blocks : Blocks) (n : ℕ) → IsAllocReply c (alloc_told c blocks n).reply
+alloc_reply_is : (c : Config) (blocks : Blocks) (n : ℕ) → IsAllocReply c n (alloc_told c blocks n).reply
 alloc_reply_is c blocks n =
     elim (cases_eq n 0) [
-      | inl none ↦ rw (told_empty c blocks n none) (inl refl)
-      | inr some ↦ rw (told_placed c blocks n some) (placed_reply c blocks (rounded n) (least_room c blocks (rounded n)) (rounded_some n some) (room_for c blocks n some))
+      | inl none ↦ rw (told_empty c blocks n none) (inl (none, refl))
+      | inr some ↦ rw (told_placed c blocks n some) (placed_reply c blocks n (least_room c blocks (rounded n)) (omega arith) (room_for c blocks n some))
     ]
 
 ended_reply_is : (blocks : Blocks) (addr : ℕ) (o : Option ℕ) → IsFreeReply (ended blocks addr o).reply

@@ -1,5 +1,5 @@
 -- What the allocator's answers have to do with the flat memory, and with one another.
-use Rattle.std.specs.Prelude.{◌≡◌, ℕ, ◌<◌, ◌≤◌, ◌↔◌, ◌⊎◌}
+use Rattle.std.specs.Prelude.{◌≡◌, ℕ, ◌+◌, ◌<◌, ◌≤◌, ◌↔◌, ◌⊎◌}
 use Rattle.ivy_model.specs.declared.config.Config.{Config}
 use Rattle.ivy_model.specs.declared.call.Call.{Call}
 use Rattle.ivy_model.specs.declared.call.Call.TheVariants.{Alloc, Free}
@@ -9,7 +9,7 @@ use Rattle.ivy_model.specs.declared.fault.Fault.TheVariants.{ZeroSize, NoRoom, N
 use Rattle.ivy_model.specs.Config.{heap_end}
 use Rattle.ivy_model.specs.Memory.{Memory, Blocks}
 use Rattle.ivy_model.specs.Numbers.{fault_number}
-use Rattle.ivy_model.specs.Serves.{Serves}
+use Rattle.ivy_model.specs.Serves.{Serves, rounded}
 use Rattle.ivy_alloc.specs.Tied.{AreBlocks}
 use Rattle.ivy_alloc.specs.Told.{Told, alloc_told, free_told, gives}
 
@@ -27,11 +27,13 @@ abbrev pub HeapIsFlat : Type 0
 HeapIsFlat = (c : Config) (n : ℕ) → IsFlat c (Alloc n) (λ blocks. alloc_told c blocks n)
     × IsFlat c (Free n) (λ blocks. free_told blocks n)
 
--- an address of the heap, or the refusal 8 or 9
-abbrev pub IsAllocReply : Config → Reply → Type 0
-IsAllocReply c (Value addr) = (c.page_size ≤ addr) × (addr < heap_end c)
-IsAllocReply c Done = ⊥
-IsAllocReply c (Refused code) = (code ≡ fault_number ZeroSize) ⊎ (code ≡ fault_number NoRoom)
+-- an address at which so many bytes lie in the heap; or the refusal 8 of no bytes, or 9 of some
+abbrev pub IsAllocReply : Config → ℕ → Reply → Type 0
+IsAllocReply c size (Value addr) =
+    (0 < size) × (c.page_size ≤ addr) × (addr + rounded size ≤ heap_end c)
+IsAllocReply c size Done = ⊥
+IsAllocReply c size (Refused code) =
+    ((size ≡ 0) × (code ≡ fault_number ZeroSize)) ⊎ ((0 < size) × (code ≡ fault_number NoRoom))
 
 -- done, or the refusal 10
 abbrev pub IsFreeReply : Reply → Type 0
@@ -41,7 +43,7 @@ IsFreeReply (Refused code) = code ≡ fault_number NotABlock
 
 abbrev pub HasReplies : Type 0
 HasReplies = (c : Config) (blocks : Blocks) (n : ℕ)
-    → IsAllocReply c (alloc_told c blocks n).reply × IsFreeReply (free_told blocks n).reply
+    → IsAllocReply c n (alloc_told c blocks n).reply × IsFreeReply (free_told blocks n).reply
 
 -- live blocks stay in the heap, and none meets another
 abbrev pub StaysApart : Type 0

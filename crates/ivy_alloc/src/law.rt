@@ -5,9 +5,9 @@ ghost use Rattle.ivy_alloc.specs.Laws.{HasReplies, HeapIsFlat, StaysApart, Takes
 /// the call does nothing.
 ///
 /// The flat memory with these blocks answers a call of the allocator with what `alloc_told` and
-/// `free_told` say, and with nothing else. Such an answer is an address of the heap, or 8 or 9; or
-/// done, or 10. Live blocks stay in the heap and never meet. To end the block that was just given
-/// brings back the blocks that there were before.
+/// `free_told` say, and with nothing else. Such an answer is an address at which the block lies in
+/// the heap, or 8 for no bytes, or 9; or done, or 10. Live blocks stay in the heap and never meet.
+/// To end the block that was just given brings back the blocks that there were before.
 pub fn heap_is_flat()
     ensures flat { HeapIsFlat }
     ensures replies { HasReplies }
