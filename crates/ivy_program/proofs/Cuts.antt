@@ -1,5 +1,5 @@
 -- The parts of a text that is cut at each character of a few, all of them ASCII.
-use Rattle.std.proofs.Common.{◌≡◌, ◌⊎◌, inl, inr, ⊎_elim, ◌∙◌, ℕ, ◌+◌, ◌<◌, Bool, true, false, cond, List, [], ◌∷◌, ◌++◌, Option, Some, None, All, length, take, drop, get_or, refl, sym, ap, subst, take-append-drop, arith}
+use Rattle.std.proofs.Common.{◌≡◌, ◌⊎◌, inl, inr, ⊎_elim, ◌∙◌, ℕ, ◌<◌, Bool, true, false, cond, List, [], ◌∷◌, ◌++◌, Option, Some, None, All, length, take, drop, get_or, refl, sym, ap, subst, take-append-drop, arith}
 use Rattle.std.specs.Option.{MatchOption}
 use Rattle.std.specs.List.{slice_split}
 use Rattle.std.specs.Char.{char_set_contains}

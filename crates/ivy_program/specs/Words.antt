@@ -1,8 +1,7 @@
 -- The words of a line of text.
-use Rattle.std.specs.Prelude.{ℕ, ◌==◌, ◌-◌, ◌||◌, Bool, List, length, map, filter, nat_lt, take, slice_index, if◌then◌else◌}
+use Rattle.std.specs.Prelude.{ℕ, ◌==◌, ◌-◌, ◌||◌, Bool, List, length, filter, nat_lt, take, slice_index, if◌then◌else◌}
 use Rattle.std.specs.List.{slice_split, before_first}
 use Rattle.std.specs.Str.Lines.{strip_carriage_return}
-use denote.Ref.{Bor}
 
 -- a space or a tab
 abbrev pub is_blank : ℕ → Bool

@@ -1,5 +1,5 @@
 -- The parts between spaces and tabs that the filter keeps are the words.
-use Rattle.std.proofs.Common.{◌≡◌, ◌∙◌, ℕ, List, [], ◌∷◌, ap, length, rules, nat_lt, tests}
+use Rattle.std.proofs.Common.{◌≡◌, ◌∙◌, ℕ, [], ◌∷◌, ap, length, rules, nat_lt, tests}
 use Rattle.std.specs.Char.{char_set_contains}
 use Rattle.std.specs.Str.Iter.{split_pattern}
 use Rattle.std.proofs.lemmas.Iterator.Consumers.{map_from_collect, YieldsList-from_filter}
