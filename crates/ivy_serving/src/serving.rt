@@ -30,7 +30,7 @@ pub struct Place<'a> {
     pub bytes: &'a [u8],
 }
 
-/// Counts a message that fits no rule.
+/// Counts a message that fits no rule, up to the greatest number. It takes no memory.
 pub fn count(breaches: &mut u64)
     ensures { breaches.new ≡ counted breaches.old }
 {
@@ -53,7 +53,7 @@ fn parcel_to(source: u8, dest: u8, origin: u8, call: u64, content: Content<&[u8]
     }
 }
 
-/// Posts one message.
+/// Posts one message, or changes nothing [1, 17].
 pub fn post_one<P: Post>(
     post: &mut P,
     source: u8,
@@ -230,8 +230,9 @@ fn take_back<M: Manager>(at: Place, hop: u8, manager: &mut M)
     }
 }
 
-/// Serves messages at an idle entry and posts what comes of it; or nothing changes. First the manager learns
-/// that `from` replied, where that was it. What the entry is then.
+/// Serves messages at an idle entry and posts what comes of it, or changes nothing [1, 17]. First the manager
+/// learns that `from` replied, to a request to write or to read, where that brings it about. What the entry is
+/// then.
 pub fn settle<M: Manager, P: Post>(
     at: Place,
     reply: Option<bool>,
@@ -276,7 +277,7 @@ pub fn settle<M: Manager, P: Post>(
     Ok(after)
 }
 
-/// Tells each of these nodes to give its copy up.
+/// Tells each of these nodes to give its copy up, or changes nothing [1, 17].
 pub fn invalidate<P: Post>(
     me: u8,
     page: u32,
