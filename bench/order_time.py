@@ -7,10 +7,10 @@ Usage: bench/order_time.py [K], where K is at least 100000, which is also the de
 `words`: eight nodes load, store, count and advance, one after the other. No block is live. The ratio is about
 2, since a record takes the same time wherever it stands.
 
-`blocks`: so many blocks of 8 bytes lie apart, with 8 bytes between them, and then a block of 16 bytes is
-placed and freed so many times, behind all of them. To find its place the flat memory tries each address of 8
-bytes from the first on, and looks at the blocks up to the first that it meets. So it is for smaller sizes: the
-time grows with the cube of the number of blocks.
+`blocks`: so many blocks of 8 bytes lie apart, with 8 bytes between them. Then a block of 16 bytes is placed
+behind all of them and freed, as many times. To find its place the flat memory tries each address of 8 bytes
+from the first on, and looks at the blocks up to the first that it meets. So the time grows with the cube of the
+number of blocks, the ratio is about 8, and the sizes are smaller.
 """
 
 import random
@@ -24,16 +24,18 @@ NODES = 8
 PAGES = 16
 PAGE_SIZE = 256
 WIDTHS = (1, 2, 4, 8)
-BLOCKS = (128, 256)
-BLOCK_PAGES = 64
+BLOCKS = (512, 1024)
+BLOCK_PAGES = 128
 
 
 def words_order(records):
-    """The lines of an order of loads, stores, counts and advances, with the replies of a flat memory."""
+    """The lines of an order of loads, stores, counts and advances, with the replies of a flat memory. They are
+    made one by one, so that this script stays smaller than what it measures.
+    """
     draw = random.Random(1)
     heap = bytearray(PAGES * PAGE_SIZE)
     counts = [0] * (PAGE_SIZE // 8)
-    lines = [f"ivy order {NODES} {PAGES} {PAGE_SIZE}"]
+    yield f"ivy order {NODES} {PAGES} {PAGE_SIZE}"
     for place in range(records):
         node, kind = place % NODES, draw.randrange(4)
         if kind < 2:
@@ -41,34 +43,32 @@ def words_order(records):
             addr = draw.randrange(PAGE_SIZE // width, PAGES * PAGE_SIZE // width) * width
             if kind == 0:
                 value = int.from_bytes(heap[addr : addr + width], "big")
-                lines.append(f"{node} load {width} {addr} = value {value}")
+                yield f"{node} load {width} {addr} = value {value}"
             else:
                 value = draw.getrandbits(8 * width)
                 heap[addr : addr + width] = value.to_bytes(width, "big")
-                lines.append(f"{node} store {width} {addr} {value} = done")
+                yield f"{node} store {width} {addr} {value} = done"
         else:
             k = draw.randrange(len(counts))
             if kind == 2:
-                lines.append(f"{node} count {k} = value {counts[k]}")
+                yield f"{node} count {k} = value {counts[k]}"
             else:
                 counts[k] += 1
-                lines.append(f"{node} advance {k} = done")
-    return lines
+                yield f"{node} advance {k} = done"
 
 
 def blocks_order(blocks):
     """The lines of an order whose live blocks lie 8 bytes apart. The last one is placed behind all of them."""
-    lines = [f"ivy order {NODES} {BLOCK_PAGES} {PAGE_SIZE}"]
+    yield f"ivy order {NODES} {BLOCK_PAGES} {PAGE_SIZE}"
     first = PAGE_SIZE
     for block in range(2 * blocks):
-        lines.append(f"{block % NODES} alloc 8 = value {first + 8 * block}")
+        yield f"{block % NODES} alloc 8 = value {first + 8 * block}"
     for block in range(0, 2 * blocks, 2):
-        lines.append(f"{block % NODES} free {first + 8 * block} = done")
+        yield f"{block % NODES} free {first + 8 * block} = done"
     last = first + 16 * blocks
     for turn in range(blocks):
-        lines.append(f"{turn % NODES} alloc 16 = value {last}")
-        lines.append(f"{turn % NODES} free {last} = done")
-    return lines
+        yield f"{turn % NODES} alloc 16 = value {last}"
+        yield f"{turn % NODES} free {last} = done"
 
 
 def time_check(name, order, counts, unit):
@@ -76,7 +76,8 @@ def time_check(name, order, counts, unit):
     with tempfile.TemporaryDirectory() as room:
         folder = Path(room)
         for count in counts:
-            (folder / str(count)).write_text("\n".join(order(count)) + "\n")
+            with (folder / str(count)).open("w") as text:
+                text.writelines(f"{line}\n" for line in order(count))
         compare(name, lambda count: ["check", folder / str(count)], counts, unit)
 
 
