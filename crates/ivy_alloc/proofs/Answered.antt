@@ -1,5 +1,5 @@
 -- What the allocator tells is what the flat memory answers, and nothing else is.
-use Rattle.std.proofs.Common.{◌≡◌, ℕ, ◌<◌, ◌↔◌, inl, inr, Option, Some, None, refl, sym, ap, subst, ◌∙◌, arith}
+use Rattle.std.proofs.Common.{◌≡◌, ℕ, ◌<◌, ◌↔◌, inl, inr, Bool, true, false, Option, Some, None, refl, sym, ap, subst, ◌∙◌, arith}
 use Rattle.std.specs.FinMap.{get, insert, remove}
 use Rattle.std.specs.Option.{is_some}
 use Rattle.std.proofs.lemmas.Bool.{cases_eq, eq-eqb, ne_eqb}
@@ -9,7 +9,7 @@ use Rattle.ivy_model.specs.declared.call.Reply.{Reply}
 use Rattle.ivy_model.specs.declared.call.Reply.TheVariants.{Value, Done, Refused}
 use Rattle.ivy_model.specs.Memory.{Memory, Blocks}
 use Rattle.ivy_model.specs.Serves.{Allocates, IsLeast, IsRoom, Serves, rounded}
-use Rattle.ivy_alloc.specs.Told.{Told, alloc_told, block_reply, ended, free_told, gives, least_room, placed}
+use Rattle.ivy_alloc.specs.Told.{Told, alloc_told, ended, free_told, gives, least_room, placed}
 use Rattle.ivy_alloc.specs.Laws.{HasReplies, HeapIsFlat, IsAllocReply, IsFreeReply, StaysApart, TakesBack, with_blocks}
 use Rattle.ivy_alloc.specs.Tied.{AreBlocks}
 use Rattle.ivy_alloc.proofs.Changed.{added_here, removed-added}
@@ -72,19 +72,15 @@ told_found c blocks size addr some least =
 
 pub told_freed : (blocks : Blocks) (addr size : ℕ) → get blocks addr ≡ Some size → free_told blocks addr ≡ gives Done (remove blocks addr)
 unfolding free_told
-told_freed blocks addr size live = ap (ended blocks addr) live
+told_freed blocks addr size live = ap (λ o. ended blocks addr (is_some o)) live
 
 pub told_not_freed : (blocks : Blocks) (addr : ℕ) → get blocks addr ≡ None → free_told blocks addr ≡ gives (Refused 10) blocks
 unfolding free_told
-told_not_freed blocks addr none = ap (ended blocks addr) none
+told_not_freed blocks addr none = ap (λ o. ended blocks addr (is_some o)) none
 
-ended_reply : (blocks : Blocks) (addr : ℕ) (o : Option ℕ) → (ended blocks addr o).reply ≡ block_reply (is_some o)
-ended_reply blocks addr None = refl
-ended_reply blocks addr (Some size) = refl
-
-pub told_reply : (blocks : Blocks) (addr : ℕ) → (free_told blocks addr).reply ≡ block_reply (is_some (get blocks addr))
+pub told_ended : (blocks : Blocks) (addr : ℕ) → free_told blocks addr ≡ ended blocks addr (is_some (get blocks addr))
 unfolding free_told
-told_reply blocks addr = ended_reply blocks addr (get blocks addr)
+told_ended blocks addr = refl
 
 alloc_answers : (c : Config) (n : ℕ) (old : Memory) (reply : Reply) (new : Memory) → Serves c old (Alloc n) reply new ↔ Answers old (alloc_told c old.blocks n) reply new
 alloc_answers c n old reply new =
@@ -97,7 +93,7 @@ alloc_answers c n old reply new =
     ]
 
 freed_answers : (c : Config) (old : Memory) (addr : ℕ) (reply : Reply) (new : Memory) (o : Option ℕ) → get old.blocks addr ≡ o
-    → Serves c old (Free addr) reply new ↔ Answers old (ended old.blocks addr o) reply new
+    → Serves c old (Free addr) reply new ↔ Answers old (ended old.blocks addr (is_some o)) reply new
 freed_answers c old addr reply new None e = rw e (λ served. served, λ a. a)
 freed_answers c old addr reply new (Some size) e = rw e (λ served. served, λ a. a)
 
@@ -127,13 +123,13 @@ alloc_reply_is c blocks n =
       | inr some ↦ rw (told_placed c blocks n some) (placed_reply c blocks n (least_room c blocks (rounded n)) (omega arith) (room_for c blocks n some))
     ]
 
-ended_reply_is : (blocks : Blocks) (addr : ℕ) (o : Option ℕ) → IsFreeReply (ended blocks addr o).reply
-ended_reply_is blocks addr None = refl
-ended_reply_is blocks addr (Some size) = tt
+ended_reply_is : (blocks : Blocks) (addr : ℕ) (live : Bool) → IsFreeReply (ended blocks addr live).reply
+ended_reply_is blocks addr true = tt
+ended_reply_is blocks addr false = refl
 
 free_reply_is : (blocks : Blocks) (addr : ℕ) → IsFreeReply (free_told blocks addr).reply
 unfolding free_told
-free_reply_is blocks addr = ended_reply_is blocks addr (get blocks addr)
+free_reply_is blocks addr = ended_reply_is blocks addr (is_some (get blocks addr))
 
 pub has_replies : HasReplies
 has_replies c blocks n = (alloc_reply_is c blocks n, free_reply_is blocks n)
@@ -150,13 +146,13 @@ alloc_apart c blocks n apart =
       | inr some ↦ rw (told_placed c blocks n some) (placed_apart c blocks (rounded n) (least_room c blocks (rounded n)) apart (rounded_some n some) (room_for c blocks n some))
     ]
 
-ended_apart : (c : Config) (blocks : Blocks) (addr : ℕ) (o : Option ℕ) → AreBlocks c blocks → AreBlocks c (ended blocks addr o).blocks
-ended_apart c blocks addr None apart = apart
-ended_apart c blocks addr (Some size) apart = removed_blocks c blocks addr apart
+ended_apart : (c : Config) (blocks : Blocks) (addr : ℕ) (live : Bool) → AreBlocks c blocks → AreBlocks c (ended blocks addr live).blocks
+ended_apart c blocks addr true apart = removed_blocks c blocks addr apart
+ended_apart c blocks addr false apart = apart
 
 free_apart : (c : Config) (blocks : Blocks) (addr : ℕ) → AreBlocks c blocks → AreBlocks c (free_told blocks addr).blocks
 unfolding free_told
-free_apart c blocks addr apart = ended_apart c blocks addr (get blocks addr) apart
+free_apart c blocks addr apart = ended_apart c blocks addr (is_some (get blocks addr)) apart
 
 pub stays_apart : StaysApart
 stays_apart c blocks n apart = (alloc_apart c blocks n apart, free_apart c blocks n apart)

@@ -44,13 +44,13 @@ alloc_told c blocks size =
     if size == 0 then gives (Refused (fault_number ZeroSize)) blocks
     else placed blocks (rounded size) (least_room c blocks (rounded size))
 
--- the block is no longer live
-abbrev pub ended : Blocks → ℕ → Option ℕ → Told
-ended blocks addr None = gives (Refused (fault_number NotABlock)) blocks
-ended blocks addr (Some size) = gives Done (map.remove blocks addr)
+-- the block is no longer live, if one starts there
+abbrev pub ended : Blocks → ℕ → Bool → Told
+ended blocks addr true = gives Done (map.remove blocks addr)
+ended blocks addr false = gives (Refused (fault_number NotABlock)) blocks
 
 unfoldable pub free_told : Blocks → ℕ → Told
-free_told blocks addr = ended blocks addr (map.get blocks addr)
+free_told blocks addr = ended blocks addr (map.contains_key blocks addr)
 
 -- the reply that a result of the heap is to its caller
 abbrev pub alloc_reply : Result ℕ Fault → Reply
@@ -60,8 +60,3 @@ alloc_reply (Err fault) = Refused (fault_number fault)
 abbrev pub free_reply : Result (Unit {0}) Fault → Reply
 free_reply (Ok done) = Done
 free_reply (Err fault) = Refused (fault_number fault)
-
--- the reply that a call to end a block has, by whether one starts there
-abbrev pub block_reply : Bool → Reply
-block_reply true = Done
-block_reply false = Refused (fault_number NotABlock)

@@ -3,7 +3,7 @@ ghost use Rattle.std.specs.FinMap as map;
 ghost use Rattle.ivy_model.specs.Config.{IsConfig, heap_end};
 ghost use Rattle.ivy_model.specs.Serves.{rounded};
 ghost use Rattle.ivy_alloc.specs.Heap.{AddsBlock, HasNoRoom, HeapState, IsLeastRoom, first_heap, without_block};
-ghost use Rattle.ivy_alloc.specs.Told.{alloc_reply, alloc_told, block_reply, free_reply, free_told, gives};
+ghost use Rattle.ivy_alloc.specs.Told.{alloc_reply, alloc_told, ended, free_reply, free_told, gives};
 
 use crate::extent::{Extent, first_fit, give_back, take_front};
 use ivy_model::{Config, Fault};
@@ -128,11 +128,11 @@ impl<A: Allocator + Copy> Heap<A> {
         Ok(())
     }
 
-    /// Whether a live block starts at `addr`: whether [`Heap::free`] of it would be done. It takes no
+    /// Whether a live block starts at `addr`, so that [`Heap::free`] of it will be done. It takes no
     /// memory.
     pub fn is_block(&self, addr: u64) -> bool
         ensures live { IsTrue result ↔ IsSome (map.get self.now.blocks addr) }
-        ensures told { (free_told self.now.blocks addr).reply ≡ block_reply result }
+        ensures told { free_told self.now.blocks addr ≡ ended self.now.blocks addr result }
     {
         self.blocks.contains_key(&addr)
     }
