@@ -12,6 +12,3 @@ mod extent;
 mod heap;
 
 pub use heap::Heap;
-
-#[cfg(test)]
-mod tests;

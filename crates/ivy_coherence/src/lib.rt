@@ -12,6 +12,3 @@ mod serving;
 
 pub use coherence::Coherence;
 pub use need::Need;
-
-#[cfg(test)]
-mod tests;
