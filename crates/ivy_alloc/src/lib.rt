@@ -15,6 +15,3 @@ mod law;
 
 pub use heap::Heap;
 pub use law::heap_is_flat;
-
-#[cfg(test)]
-mod tests;

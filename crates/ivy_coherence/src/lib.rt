@@ -11,6 +11,3 @@ mod need;
 
 pub use coherence::Coherence;
 pub use need::Need;
-
-#[cfg(test)]
-mod tests;

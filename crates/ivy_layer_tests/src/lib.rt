@@ -1,0 +1,30 @@
+//! Tests of each layer below the nodes, by its public calls alone.
+//!
+//! What the contracts say is proved, so these tests hold what no contract says: values of the worked
+//! examples, that a call can succeed, and that a refused growth leaves all as it was.
+#![tactic(auto)]
+
+#[cfg(test)]
+mod alloc;
+#[cfg(test)]
+mod coherence;
+#[cfg(test)]
+mod dynamic;
+#[cfg(test)]
+mod ether;
+#[cfg(test)]
+mod event;
+#[cfg(test)]
+mod fixed;
+#[cfg(test)]
+mod host;
+#[cfg(test)]
+mod link;
+#[cfg(test)]
+mod model;
+#[cfg(test)]
+mod pagetable;
+#[cfg(test)]
+mod program;
+#[cfg(test)]
+mod wire;
