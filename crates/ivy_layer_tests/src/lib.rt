@@ -1,4 +1,4 @@
-//! Tests of each layer below the nodes, by its public calls alone.
+//! Tests of calls, bytes, tables, the heap and the program language, by their public calls alone.
 //!
 //! What the contracts say is proved, so these tests hold what no contract says: values of the worked
 //! examples, that a call can succeed, and that a refused growth leaves all as it was.
@@ -7,19 +7,7 @@
 #[cfg(test)]
 mod alloc;
 #[cfg(test)]
-mod coherence;
-#[cfg(test)]
-mod dynamic;
-#[cfg(test)]
-mod ether;
-#[cfg(test)]
 mod event;
-#[cfg(test)]
-mod fixed;
-#[cfg(test)]
-mod host;
-#[cfg(test)]
-mod link;
 #[cfg(test)]
 mod model;
 #[cfg(test)]

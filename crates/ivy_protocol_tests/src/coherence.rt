@@ -114,7 +114,7 @@ impl Model for Node {
     ghost use Rattle.ivy_wire.specs.Data as wire;
     ghost use Rattle.ivy_fixed.specs.Fixed.{Owners};
     ghost use Rattle.ivy_coherence.specs.Coherent.{Coherent};
-    ghost use Rattle.ivy_layer_tests.specs.declared.coherence.TheConstants.{TRIO};
+    ghost use Rattle.ivy_protocol_tests.specs.declared.coherence.TheConstants.{TRIO};
     ghost use Rattle.std.specs.Coded.{codes};
     ghost use Rattle.ivy_pagetable.specs.NodeSets.{nodes_code};
 

@@ -2,7 +2,7 @@ use Rattle.std.proofs.Common.{ap, sym, ◌∙◌}
 use Rattle.ivy_wire.specs.Lent.{owned_message}
 use Rattle.ivy_fixed.specs.Fixed.{fixed_ops}
 use Rattle.ivy_coherence.proofs.Same.{handled-same}
-use Rattle.ivy_layer_tests.proofs.coherence.Node.deliver.Goals as goal
+use Rattle.ivy_protocol_tests.proofs.coherence.Node.deliver.Goals as goal
 
 pub invariant_of-self-2 : goal.invariant_of-self-2
 invariant_of-self-2 c =

@@ -2,8 +2,8 @@ use Rattle.std.proofs.Common.{ap, sym, ◌∙◌}
 use Rattle.ivy_wire.specs.Lent.{owned_message}
 use Rattle.ivy_fixed.specs.Fixed.{fixed_ops}
 use Rattle.ivy_coherence.proofs.Same.{handled-same}
-use Rattle.ivy_layer_tests.proofs.coherence.Node.refuses.Goals as goal
-use Rattle.ivy_layer_tests.proofs.coherence.Node.refuses.Goals.{in-Ok, in-Err}
+use Rattle.ivy_protocol_tests.proofs.coherence.Node.refuses.Goals as goal
+use Rattle.ivy_protocol_tests.proofs.coherence.Node.refuses.Goals.{in-Ok, in-Err}
 
 pub invariant_of-self : goal.invariant_of-self
 invariant_of-self c =
