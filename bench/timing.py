@@ -26,13 +26,15 @@ def best(words):
     return min(run[0] for run in runs), max(run[1] for run in runs)
 
 
-def compare(name, words_of, counts):
-    """Times the command of each number of moves. Prints the time a move of each, and the ratio of the times."""
+def compare(name, words_of, counts, unit="move"):
+    """Times the command of each number of moves, or of another unit. Prints the time of one, and the ratio of
+    the times.
+    """
     # Without words it is a bad command line, before which the program is built where it has to be.
     subprocess.run([IVY], stderr=subprocess.DEVNULL)
     times = []
     for count in counts:
         seconds, memory = best(words_of(count))
         times.append(seconds)
-        print(f"{name}, {count} moves: {seconds / count * 1e6:.3f} us a move, {memory:.0f} MiB")
+        print(f"{name}, {count} {unit}s: {seconds / count * 1e6:.3f} us a {unit}, {memory:.0f} MiB")
     print(f"{name}, ratio: {times[1] / times[0]:.3f}")

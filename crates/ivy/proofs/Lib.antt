@@ -1,4 +1,2 @@
 pub mod Printing
-pub mod Drawing
-pub mod Moving
 pub mod Simulating

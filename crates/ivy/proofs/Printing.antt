@@ -1,29 +1,10 @@
--- What is printed one after another.
-use Rattle.std.proofs.Common.{◌≡◌, ℕ, ◌+◌, ◌<◌, ◌≤◌, ◌↔◌, Bool, true, false, IsTrue, IfSome, inl, inr, List, [], ◌∷◌, ◌++◌, length, take, slice_get, flat_map, Option, Some, None, ap, sym, subst, ◌∙◌, refl, arith, append-nil, add-zero, zero-add, append_assoc}
-use Rattle.std.proofs.lemmas.Grind.{flat_map-append}
-use Rattle.std.proofs.lemmas.List.{take_more, length-take-le}
-use Rattle.std.proofs.lemmas.Option.{slice_get_within, get_or_from_slice_get, slice_get_cases}
-use Rattle.std.specs.Io.KnownBytes.{Appends}
+-- What is printed of one node after another.
+use Rattle.std.proofs.Common.{◌≡◌, ℕ, ◌+◌, ◌<◌, ◌≤◌, ◌↔◌, Bool, true, false, IsTrue, IfSome, inl, inr, List, [], ◌∷◌, ◌++◌, length, take, slice_get, Option, Some, ap, sym, subst, ◌∙◌, refl, arith, append-nil, add-zero, zero-add, append_assoc}
+use Rattle.std.proofs.lemmas.List.{length-take-le}
+use Rattle.std.proofs.lemmas.Option.{slice_get_within, slice_get_cases}
 use Rattle.ivy_program.specs.Steps.{Step, Local, Asks, Ends}
+use Rattle.ivy_texts.proofs.Printing.{taken-more}
 use Rattle.ivy.specs.Nodes.{numbered, is_end}
-
-pub appends-nothing : (o : Option (List ℕ)) → Appends o o []
-appends-nothing None = tt
-appends-nothing (Some xs) = sym (append-nil xs)
-
-pub appends-more : (a b c : Option (List ℕ)) (xs ys : List ℕ) → Appends a b xs → Appends b c ys → Appends a c (xs ++ ys)
-appends-more None b c xs ys h k = tt
-appends-more (Some us) None c xs ys h k = absurd h
-appends-more (Some us) (Some vs) None xs ys h k = absurd k
-appends-more (Some us) (Some vs) (Some ws) xs ys h k = k ∙ ap (λ (zs : List ℕ). zs ++ ys) h ∙ append_assoc us xs ys
-
-pub taken-more : {X : Type 0} (xs : List X) (i : ℕ) (x : X) → slice_get xs i ≡ Some x → take (i + 1) xs ≡ take i xs ++ x ∷ []
-taken-more xs i x there =
-    take_more xs i x (slice_get_within xs i x there) ∙ ap (λ y. take i xs ++ y ∷ []) (get_or_from_slice_get xs i x x there)
-
-pub flat_map-more : {X : Type 0} (f : X → List ℕ) (xs : List X) (i : ℕ) (x : X) → slice_get xs i ≡ Some x → flat_map f (take (i + 1) xs) ≡ flat_map f (take i xs) ++ f x
-flat_map-more f xs i x there =
-    ap (flat_map f) (taken-more xs i x there) ∙ flat_map-append f (take i xs) (x ∷ []) ∙ ap (λ (t : List ℕ). flat_map f (take i xs) ++ t) (append-nil (f x))
 
 numbered-snoc : {X : Type 0} (text : ℕ → X → List ℕ) (from : ℕ) (xs : List X) (x : X) → numbered text from (xs ++ x ∷ []) ≡ numbered text from xs ++ text (from + length xs) x
 numbered-snoc text from [] x = append-nil (text from x) ∙ ap (λ k. text k x) (sym (add-zero from))

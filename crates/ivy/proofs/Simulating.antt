@@ -7,7 +7,7 @@ use Rattle.ivy_ether.specs.Worlds.{World}
 use Rattle.ivy_host.specs.Hosts.{Host}
 use Rattle.ivy_host.specs.Managers.{Managed}
 use Rattle.ivy_node.specs.Runs.{IsLedTo}
-use Rattle.ivy.specs.Drawn.{drawn}
+use Rattle.ivy_texts.specs.Drawn.{drawn}
 use Rattle.ivy.specs.Simulated.{DrawnTo}
 
 -- whatever is drawn from here on, it was drawn from the start, with so many moves before it

@@ -1,6 +1,2 @@
-pub mod Printed
 pub mod Nodes
-pub mod Drawn
 pub mod Simulated
-pub mod UnderWay
-pub mod Orders

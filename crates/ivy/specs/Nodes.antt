@@ -1,18 +1,14 @@
 -- What is printed of the nodes of a world: what their programs printed, and which of them have ended.
-use Rattle.std.specs.Prelude.{ℕ, ◌+◌, Bool, true, false, List, [], ◌∷◌, ◌++◌, codes, decimal, flat_map, if◌then◌else◌}
+use Rattle.std.specs.Prelude.{ℕ, ◌+◌, Bool, true, false, List, [], ◌∷◌, ◌++◌, flat_map}
 use Rattle.ivy_program.specs.Steps.{Process, Step, Local, Asks, Ends, step_of}
 use Rattle.ivy_ether.specs.Nodes.{Node}
 use Rattle.ivy_host.specs.Hosts.{Host}
-use Rattle.ivy.specs.Printed.{then_number}
+use Rattle.ivy_texts.specs.Lines.{value_line, end_line}
 
 -- the text of each item, numbered from this number on, one after another
 abbrev pub numbered : {X : Type 0} → (ℕ → X → List ℕ) → ℕ → List X → List ℕ
 numbered text from [] = []
 numbered text from (x ∷ xs) = text from x ++ numbered text (from + 1) xs
-
--- the line of a value that the program of a node printed
-abbrev pub value_line : ℕ → ℕ → List ℕ
-value_line node value = codes "node" ++ then_number node ++ codes ": " ++ decimal value ++ 10 ∷ []
 
 abbrev pub output_text : {S : Type 0} → ℕ → Node (Host S) → List ℕ
 output_text node n = flat_map (value_line node) n.core.process.state.output
@@ -27,12 +23,6 @@ is_end Ends = true
 
 abbrev pub has_ended : Process → Bool
 has_ended p = is_end (step_of p)
-
--- the line that says whether the program of a node has ended
-abbrev pub end_line : ℕ → Bool → List ℕ
-end_line node ended =
-    codes "node" ++ then_number node ++ codes " "
-    ++ (if ended then codes "ended" else codes "open") ++ 10 ∷ []
 
 abbrev pub end_text : {S : Type 0} → ℕ → Node (Host S) → List ℕ
 end_text node n = end_line node (has_ended n.core.process)

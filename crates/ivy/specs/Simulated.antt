@@ -8,7 +8,7 @@ use Rattle.ivy_ether.specs.Worlds.{World}
 use Rattle.ivy_host.specs.Hosts.{Host}
 use Rattle.ivy_host.specs.Managers.{Managed}
 use Rattle.ivy_node.specs.Runs.{IsLedTo}
-use Rattle.ivy.specs.Drawn.{drawn}
+use Rattle.ivy_texts.specs.Drawn.{drawn}
 
 -- the generator of a seed, whose sixteen bytes are made of the number as Rust's `seed_from_u64` does
 abbrev pub seeded : ℕ → Lcg

@@ -3,19 +3,18 @@ ghost use Rattle.std.specs.Prelude.{◌≤◌, ◌↔◌, IsTrue, IfOk, MatchRes
 ghost use Rattle.std.specs.Io.KnownBytes.{Appends};
 ghost use Rattle.ivy_model.specs.Config.{IsConfig};
 ghost use Rattle.ivy_model.specs.Legal.{Legal};
-ghost use Rattle.ivy.specs.Orders.{verdict_line};
+ghost use Rattle.ivy_texts.specs.Lines.{verdict_line};
 
-use crate::arguments::{Request, Settings};
 use crate::failure::Failure;
-use crate::order::parse_order;
-use crate::print::{print_ends, print_outputs, print_verdict};
+use crate::print::{print_ends, print_outputs};
 use crate::rounds::run_in_rounds;
-use crate::schedule::parse_schedule;
 use crate::simulation::run_drawn;
 use crate::texts::Texts;
 use crate::trace::trace_moves;
+use ivy_arguments::{Request, Settings};
 use ivy_model::{Config, Kind, Record, check_order};
-use ivy_node::{World, parse};
+use ivy_node::{Move, Program, World, parse};
+use ivy_texts::{parse_order, parse_schedule, print_verdict};
 use std::alloc::Global;
 use std::io::Write;
 
@@ -26,6 +25,24 @@ fn text_of<'a, T: Texts>(files: &T, name: &'a str) -> Result<String, Failure<'a>
     files.text(name)?.ok_or(Failure::CannotRead(name))
 }
 
+/// The programs of a file.
+fn programs_of<'a, T: Texts>(
+    alloc: Global,
+    files: &T,
+    name: &'a str,
+) -> Result<Vec<Program<Global>>, Failure<'a>> {
+    Ok(parse(alloc, text_of(files, name)?.as_str())?)
+}
+
+/// The moves of a file.
+fn moves_of<'a, T: Texts>(
+    alloc: Global,
+    files: &T,
+    name: &'a str,
+) -> Result<Vec<Move>, Failure<'a>> {
+    Ok(parse_schedule(alloc, text_of(files, name)?.as_str())?)
+}
+
 /// Runs the programs of a file in rounds, and prints what they printed.
 fn run<'a, T: Texts, W: Write>(
     alloc: Global,
@@ -33,7 +50,7 @@ fn run<'a, T: Texts, W: Write>(
     files: &T,
     out: &mut W,
 ) -> Result<(), Failure<'a>> {
-    let programs = parse(alloc, text_of(files, file)?.as_str())?;
+    let programs = programs_of(alloc, files, file)?;
     let config = settings.config(programs.len())?;
     let mut world = World::new(alloc, config, programs)?;
     run_in_rounds(&config, &mut world, turns)?;
@@ -48,8 +65,8 @@ fn step<'a, T: Texts, W: Write>(
     files: &T,
     out: &mut W,
 ) -> Result<(), Failure<'a>> {
-    let programs = parse(alloc, text_of(files, file)?.as_str())?;
-    let moves = parse_schedule(alloc, text_of(files, schedule)?.as_str())?;
+    let programs = programs_of(alloc, files, file)?;
+    let moves = moves_of(alloc, files, schedule)?;
     let config = settings.config(programs.len())?;
     let mut world = World::new(alloc, config, programs)?;
     trace_moves(&config, &mut world, &moves, out)?;
@@ -65,7 +82,7 @@ fn sim<'a, T: Texts, W: Write>(
     files: &T,
     out: &mut W,
 ) -> Result<(), Failure<'a>> {
-    let programs = parse(alloc, text_of(files, file)?.as_str())?;
+    let programs = programs_of(alloc, files, file)?;
     let config = settings.config(programs.len())?;
     let mut world = World::new(alloc, config, programs)?;
     run_drawn(&config, &mut world, seed, moves)?;
@@ -75,12 +92,12 @@ fn sim<'a, T: Texts, W: Write>(
 }
 
 /// Prints whether one flat memory answers so, and says it.
-fn judge<W: Write>(
+fn judge<'a, W: Write>(
     alloc: Global,
     config: &Config,
     records: &[Record],
     out: &mut W,
-) -> Result<bool, Failure<'static>>
+) -> Result<bool, Failure<'a>>
     requires { IsConfig config.now }
     ensures legal { IfOk result (λ yes. IsTrue yes ↔ Legal config.now records.now) }
     ensures printed { MatchResult result (λ yes. Appends (W.contents out.old) (W.contents out.new) (verdict_line yes)) (λ _. Unit {0}) }
@@ -105,7 +122,7 @@ fn check<'a, T: Texts, W: Write>(
         manager: Kind::Fixed,
     };
     let config = settings.config(order.sizes.nodes as usize)?;
-    Ok(judge(alloc, &config, &order.records, out)?)
+    judge(alloc, &config, &order.records, out)
 }
 
 /// Carries out what the words ask for, and gives the exit status.

@@ -1,8 +1,7 @@
 //! Why a command was not carried out.
 ghost use Rattle.std.specs.Prelude.{◌≤◌};
 
-use clap::Error;
-use clap::error::ErrorKind;
+use ivy_arguments::CommandLineError;
 use ivy_model::Fault;
 use std::alloc::AllocError;
 use std::fmt;
@@ -78,12 +77,11 @@ impl From<io::Error> for Failure<'_> {
     }
 }
 
-/// Words that give no matches are no command, a request for help among them.
-impl From<Error> for Failure<'_> {
-    fn from(error: Error) -> Self {
-        match error.kind() {
-            ErrorKind::OutOfMemory => Failure::Refused(Fault::Memory),
-            _ => Failure::BadCommandLine,
+impl From<CommandLineError> for Failure<'_> {
+    fn from(error: CommandLineError) -> Self {
+        match error {
+            CommandLineError::Memory => Failure::Refused(Fault::Memory),
+            CommandLineError::BadCommandLine => Failure::BadCommandLine,
         }
     }
 }

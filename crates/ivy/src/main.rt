@@ -5,21 +5,15 @@
 //! ORDER` says whether one flat memory answers so.
 #![tactic(auto)]
 
-mod arguments;
 mod command;
-mod draw;
-#[cfg(test)]
-mod draws;
 #[cfg(test)]
 mod examples;
 mod failure;
 mod moves;
-mod order;
 #[cfg(test)]
 mod orders;
 mod print;
 mod rounds;
-mod schedule;
 mod simulation;
 #[cfg(test)]
 mod tests;

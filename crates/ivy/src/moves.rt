@@ -1,8 +1,7 @@
 //! One move of a world that a command runs.
 ghost use Rattle.std.specs.Prelude.{◌≡◌, [], ◌∷◌, OnOk};
-ghost use Rattle.ivy.specs.UnderWay.{IsUnderWay};
 ghost use Rattle.ivy_host.specs.Holding.{AllSpell};
-ghost use Rattle.ivy_node.specs.Runs.{IsLedTo};
+ghost use Rattle.ivy_node.specs.Runs.{IsLedTo, IsReached};
 
 use ivy_model::Fault;
 use ivy_node::{Move, World};
@@ -10,11 +9,10 @@ use std::alloc::Allocator;
 
 /// Makes a move, or changes nothing [1, 17, 19].
 pub fn make<A: Allocator + Copy>(world: &mut World<A>, step: Move) -> Result<(), Fault>
-    requires under_way { IsUnderWay world.old }
     ensures made { OnOk result (IsLedTo world.old.config world.old.world (step ∷ []) world.new.world) }
-    ensures under_way { OnOk result (IsUnderWay world.new) }
     ensures config { world.new.config ≡ world.old.config }
     ensures spelled { AllSpell world.new.config world.new.world }
+    ensures reached { IsReached world.new }
 {
     match world.run(&[step]) {
         Ok(()) => Ok(()),

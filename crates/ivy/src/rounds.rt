@@ -1,7 +1,6 @@
 //! Worlds that run in rounds, with no schedule.
-ghost use Rattle.std.specs.Prelude.{OnOk};
 ghost use Rattle.ivy_model.specs.Config.{IsConfig};
-ghost use Rattle.ivy.specs.UnderWay.{IsUnderWay};
+ghost use Rattle.ivy_node.specs.Runs.{IsReached};
 
 use crate::moves::make;
 use ivy_model::{Config, Fault};
@@ -13,10 +12,7 @@ fn all_ended<A: Allocator + Copy>(world: &World<A>) -> bool {
     (0..world.nodes()).all(|node| world.ended(node))
 }
 
-fn turn_each<A: Allocator + Copy>(world: &mut World<A>) -> Result<(), Fault>
-    requires { IsUnderWay world.old }
-    ensures { OnOk result (IsUnderWay world.new) }
-{
+fn turn_each<A: Allocator + Copy>(world: &mut World<A>) -> Result<(), Fault> {
     for node in 0..world.nodes() {
         make(world, Move::Turn(node))?;
     }
@@ -43,9 +39,7 @@ fn deliver_each<A: Allocator + Copy>(
     from: usize,
     to: usize,
 ) -> Result<(), Fault>
-    requires limits { IsConfig config.now }
-    requires under_way { IsUnderWay world.old }
-    ensures { OnOk result (IsUnderWay world.new) }
+    requires { IsConfig config.now }
 {
     for index in from..to {
         let dest = destination(config, world, index)?;
@@ -58,18 +52,13 @@ fn deliver_each<A: Allocator + Copy>(
     Ok(())
 }
 
-/// Runs the programs in rounds until all have ended. In a round each node makes one turn, and then
-/// each string that was sent by now and not delivered yet is delivered once, in the order sent.
-///
-/// 1 and 17 as the world's moves, and 21 where not all have ended after so many rounds.
-pub fn run_in_rounds<A: Allocator + Copy>(
+/// Plays so many rounds, or fewer where all programs have ended before.
+fn play<A: Allocator + Copy>(
     config: &Config,
     world: &mut World<A>,
     rounds: u64,
 ) -> Result<(), Fault>
-    requires limits { IsConfig config.now }
-    requires under_way { IsUnderWay world.old }
-    ensures { OnOk result (IsUnderWay world.new) }
+    requires { IsConfig config.now }
 {
     let mut delivered = 0;
     for _ in 0..rounds {
@@ -86,4 +75,21 @@ pub fn run_in_rounds<A: Allocator + Copy>(
     } else {
         Err(Fault::TurnLimit)
     }
+}
+
+/// Runs the programs in rounds until all have ended. In a round each node makes one turn, and then
+/// each string that was sent by now and not delivered yet is delivered once, in the order sent.
+///
+/// 1 and 17 as the world's moves, and 21 where not all have ended after so many rounds.
+pub fn run_in_rounds<A: Allocator + Copy>(
+    config: &Config,
+    world: &mut World<A>,
+    rounds: u64,
+) -> Result<(), Fault>
+    requires { IsConfig config.now }
+    ensures { IsReached world.new }
+{
+    let played = play(config, world, rounds);
+    world.keeps();
+    played
 }

@@ -1,14 +1,13 @@
 //! Worlds that run by drawn moves.
 ghost use Rattle.std.specs.Prelude.{◌≡◌, OnOk};
 ghost use Rattle.ivy_model.specs.Config.{IsConfig};
-ghost use Rattle.ivy_host.specs.Holding.{AllSpell};
+ghost use Rattle.ivy_node.specs.Runs.{IsReached};
 ghost use Rattle.ivy.specs.Simulated.{DrawnTo, seeded};
-ghost use Rattle.ivy.specs.UnderWay.{IsUnderWay};
 
-use crate::draw::draw;
 use crate::moves::make;
 use ivy_model::{Config, Fault};
 use ivy_node::World;
+use ivy_texts::draw;
 use rand_core::SeedableRng;
 use rand_pcg::Lcg64Xsh32;
 use std::alloc::Allocator;
@@ -22,15 +21,16 @@ pub fn run_drawn<A: Allocator + Copy>(
 ) -> Result<(), Fault>
     requires limits { IsConfig config.now }
     requires config { world.old.config ≡ config.now }
-    requires spelled { AllSpell world.old.config world.old.world }
-    requires under_way { IsUnderWay world.old }
     ensures drawn { OnOk result (DrawnTo config.now (seeded seed) moves world.old.world world.new.world) }
-    ensures under_way { OnOk result (IsUnderWay world.new) }
+    ensures reached { OnOk result (IsReached world.new) }
 {
+    // The strings that were sent already are long enough to be read.
+    world.keeps();
     let mut generator = Lcg64Xsh32::seed_from_u64(seed);
     for _made in 0..moves {
         let step = draw(&mut generator, config.nodes, world.sent());
         make(world, step)?;
     }
+    world.keeps();
     Ok(())
 }

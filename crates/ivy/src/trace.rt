@@ -2,9 +2,9 @@
 ghost use Rattle.ivy_model.specs.Config.{IsConfig};
 
 use crate::failure::Failure;
-use crate::print::{Decimal, MoveText, RecordText, kind_name};
 use ivy_model::{Config, Fault, Record};
 use ivy_node::{Move, World};
+use ivy_texts::{Decimal, MoveText, RecordText, kind_name};
 use ivy_wire::{Bytes, read};
 use std::alloc::Allocator;
 use std::io::{self, Write};

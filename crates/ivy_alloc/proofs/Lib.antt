@@ -5,3 +5,5 @@ pub mod Changed
 pub mod Room
 pub mod Tied
 pub mod Limits
+pub mod Least
+pub mod Answered

@@ -31,10 +31,10 @@ no_size : (o : Option ℕ) → ((l : ℕ) → o ≡ Some l → ⊥) → o ≡ No
 no_size None h = refl
 no_size (Some l) h = absurd (h l refl)
 
-pub room_fresh : (c : Config) (es : List Extent) (m : Blocks) (n a : ℕ) → IsTied c es m → 0 < n → IsRoom c m n a → get m a ≡ None
-room_fresh c es m n a tied some room = no_size (get m a) (no_block_at c m n a tied.apart some room)
+pub fresh_room : (c : Config) (m : Blocks) (n a : ℕ) → AreBlocks c m → 0 < n → IsRoom c m n a → get m a ≡ None
+fresh_room c m n a blocks some room = no_size (get m a) (no_block_at c m n a blocks some room)
 
-added_blocks : (c : Config) (m : Blocks) (n a : ℕ) → AreBlocks c m → 0 < n → IsRoom c m n a → AreBlocks c (insert m a n)
+pub added_blocks : (c : Config) (m : Blocks) (n a : ℕ) → AreBlocks c m → 0 < n → IsRoom c m n a → AreBlocks c (insert m a n)
 added_blocks c m n a blocks some room = record {
   each = λ s l. at_added (IsBlock c) m a n s l (record { aligned = room.aligned; not_empty = some; above = room.above; below = room.below }) (λ _ e. blocks.each s l e);
   apart = λ s x t y e f lt.
@@ -90,7 +90,7 @@ was_live m k s l e =
       | inr apart ↦ (apart, sym (removed_other m k s apart) ∙ e)
     ]
 
-removed_blocks : (c : Config) (m : Blocks) (a : ℕ) → AreBlocks c m → AreBlocks c (remove m a)
+pub removed_blocks : (c : Config) (m : Blocks) (a : ℕ) → AreBlocks c m → AreBlocks c (remove m a)
 removed_blocks c m a blocks = record {
   each = λ s l e. blocks.each s l (was_live m a s l e).1;
   apart = λ s x t y e f lt. blocks.apart s x t y (was_live m a s x e).1 (was_live m a t y f).1 lt;

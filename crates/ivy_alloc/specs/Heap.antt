@@ -1,5 +1,5 @@
 -- What contracts see of a heap.
-use Rattle.std.specs.Prelude.{ℕ, refl}
+use Rattle.std.specs.Prelude.{◌≡◌, ℕ, refl, None}
 use Rattle.std.specs.Coded.{Coded, code_by, coded×, coded_ℕ}
 use Rattle.std.specs.FinMap as map
 use Rattle.std.specs.Ordering.{nat_cmp}
@@ -34,6 +34,11 @@ HasNoRoom h size = (addr : ℕ) → IsRoom h.config h.blocks (rounded size) addr
 -- the heap with a block more
 abbrev pub with_block : HeapState → ℕ → ℕ → HeapState
 with_block h addr size = record { config = h.config; blocks = map.insert h.blocks addr size }
+
+-- one block more, at an address where none started
+pub record AddsBlock (old : HeapState) (addr size : ℕ) (new : HeapState) : Type 0 where
+  pub fresh : map.get old.blocks addr ≡ None
+  pub added : new ≡ with_block old addr size
 
 -- the heap without the block that starts here
 abbrev pub without_block : HeapState → ℕ → HeapState

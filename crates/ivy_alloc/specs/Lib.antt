@@ -1,3 +1,5 @@
 pub mod Extents
 pub mod Heap
 pub mod Tied
+pub mod Told
+pub mod Laws

@@ -1,8 +1,9 @@
-ghost use Rattle.std.specs.Prelude.{◌≡◌, ℕ, ◌+◌, ◌<◌, ◌≤◌, ◌*◌, ◌↔◌, ◌⊎◌, IsTrue, IsSome, IfOk, IfErr, OnErr, OnOk, IsOkUnless};
+ghost use Rattle.std.specs.Prelude.{◌≡◌, ℕ, ◌+◌, ◌<◌, ◌≤◌, ◌*◌, ◌↔◌, ◌⊎◌, IsTrue, IsSome, IsOk, IfOk, IfErr, OnErr, OnOk, IsOkUnless};
 ghost use Rattle.std.specs.FinMap as map;
 ghost use Rattle.ivy_model.specs.Config.{IsConfig, heap_end};
 ghost use Rattle.ivy_model.specs.Serves.{rounded};
-ghost use Rattle.ivy_alloc.specs.Heap.{HasNoRoom, IsLeastRoom, first_heap, with_block, without_block};
+ghost use Rattle.ivy_alloc.specs.Heap.{AddsBlock, HasNoRoom, HeapState, IsLeastRoom, first_heap, without_block};
+ghost use Rattle.ivy_alloc.specs.Told.{alloc_reply, alloc_told, ended, free_reply, free_told, gives};
 
 use crate::extent::{Extent, first_fit, give_back, take_front};
 use ivy_model::{Config, Fault};
@@ -11,6 +12,10 @@ use std::collections::BTreeMap;
 use std::marker::Model;
 
 /// The live blocks of the shared memory's heap.
+///
+/// What a call answers, and the blocks after it, are functions of the configuration and the live
+/// blocks: `alloc_told` and `free_told` in `specs/Told`. They are the flat memory's answers
+/// ([`crate::heap_is_flat`]).
 ///
 /// A call takes time at most linear in the number of free extents, and logarithmic in that of live
 /// blocks. Memory is linear in the greatest number of live blocks that there were at a time.
@@ -73,9 +78,10 @@ impl<A: Allocator + Copy> Heap<A> {
     /// address. After a fault the heap is as it was. It makes the room in memory that [`Heap::free`]
     /// of this block may want [1, 8, 9].
     pub fn alloc(&mut self, size: u64) -> Result<u64, Fault>
+        ensures told { (result ≡ Err Fault.Memory) ⊎ (alloc_told self.old.config self.old.blocks size ≡ gives (alloc_reply result) self.new.blocks) }
+
         ensures found { IfOk result (λ addr. IsLeastRoom self.old size addr) }
-        ensures taken { IfOk result (λ addr. self.new ≡ with_block self.old addr (rounded size)) }
-        ensures fresh { IfOk result (λ addr. map.get self.old.blocks addr ≡ None) }
+        ensures added { IfOk result (λ addr. AddsBlock self.old addr (rounded size) self.new) }
         ensures empty { (result ≡ Err Fault.ZeroSize) ↔ (size ≡ 0) }
         ensures full { (result ≡ Err Fault.NoRoom) ↔ ((0 < size) × HasNoRoom self.old size) }
         ensures faults { IfErr result (λ fault. (fault ≡ Fault.Memory) ⊎ ((fault ≡ Fault.ZeroSize) ⊎ (fault ≡ Fault.NoRoom))) }
@@ -100,12 +106,20 @@ impl<A: Allocator + Copy> Heap<A> {
 
     /// Ends the live block that starts at `addr`. Refused with 10 exactly where none does, and then
     /// the heap is as it was. It takes no memory [10].
+    ///
+    /// So a block whose address could not be handed on is taken back by this call: the heap is then
+    /// the one before [`Heap::alloc`] gave it.
     pub fn free(&mut self, addr: u64) -> Result<(), Fault>
+        ensures told { free_told self.old.blocks addr ≡ gives (free_reply result) self.new.blocks }
+
         ensures live { OnOk result (IsSome (map.get self.old.blocks addr)) }
         ensures ended { OnOk result (self.new ≡ without_block self.old addr) }
         ensures refused { OnErr result (map.get self.old.blocks addr ≡ None) }
         ensures fault { IsOkUnless result Fault.NotABlock }
         ensures err { OnErr result (self.new ≡ self.old) }
+
+        // The block that was just given: the heap is the one before it.
+        ensures taken_back { (before : HeapState) (size : ℕ) → AddsBlock before addr size self.old → IsOk result × (self.new ≡ before) }
     {
         let Some(len) = self.blocks.remove(&addr) else {
             return Err(Fault::NotABlock);
@@ -114,9 +128,11 @@ impl<A: Allocator + Copy> Heap<A> {
         Ok(())
     }
 
-    /// Whether a live block starts at `addr`. It takes no memory.
+    /// Whether a live block starts at `addr`, so that [`Heap::free`] of it will be done. It takes no
+    /// memory.
     pub fn is_block(&self, addr: u64) -> bool
-        ensures { IsTrue result ↔ IsSome (map.get self.now.blocks addr) }
+        ensures live { IsTrue result ↔ IsSome (map.get self.now.blocks addr) }
+        ensures told { free_told self.now.blocks addr ≡ ended self.now.blocks addr result }
     {
         self.blocks.contains_key(&addr)
     }

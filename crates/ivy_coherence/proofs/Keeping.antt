@@ -1,16 +1,15 @@
 -- Each event keeps what holds of a node's coherence, and posts only what can be sent. For every manager that keeps the laws.
-use Rattle.std.proofs.Common.{◌≡◌, ◌≢◌, ℕ, zero, suc, ◌+◌, ◌-◌, ◌<◌, ◌≤◌, ◌^◌, ◌⊎◌, inl, inr, eq-eqb, replicate, Bool, true, false, not, ◌&&◌, List, [], ◌∷◌, ◌++◌, length, length-append, map, cond, ltb, get_or, set, Option, Some, None, refl, sym, ap, ◌∙◌, subst, arith, if◌then◌else◌, ◌==◌}
+use Rattle.std.proofs.Common.{◌≡◌, ◌≢◌, ℕ, zero, suc, ◌<◌, ◌≤◌, ◌^◌, ◌⊎◌, inl, inr, eq-eqb, replicate, Bool, true, false, List, [], ◌∷◌, ◌++◌, length, length-append, map, cond, ltb, get_or, set, Option, Some, None, refl, sym, ap, ◌∙◌, subst, arith, if◌then◌else◌, ◌==◌}
 use Rattle.std.specs.Prelude.{All}
 use Rattle.std.specs.List.{filter, range_with_len}
 use Rattle.std.specs.FinSet as nodes
-use Rattle.std.proofs.lemmas.Bool.Decides.{eqb_tells}
-use Rattle.std.proofs.lemmas.Bool.{cases_Bool, and_parts, ltb-true}
+use Rattle.std.proofs.lemmas.Bool.{cases_Bool, ltb-true}
 use Rattle.std.proofs.lemmas.List.{length-replicate, get_or-replicate}
 use Rattle.std.proofs.lemmas.List.Elements.{All-cons, All-push}
 use Rattle.ivy_model.specs.declared.Config.{Config}
 use Rattle.ivy_model.specs.Config.{IsConfig}
 use Rattle.ivy_wire.specs.declared.Content.TheVariants as content
-use Rattle.ivy_wire.specs.Data.{Content, Message, Parcel}
+use Rattle.ivy_wire.specs.Data.{Message, Parcel}
 use Rattle.ivy_wire.specs.Spelling.{FitsContent, FitsMessage, FitsParcel}
 use Rattle.ivy_pagetable.specs.declared.Entry.{Entry}
 use Rattle.ivy_pagetable.specs.declared.Entry.TheVariants as entry
@@ -22,21 +21,22 @@ use Rattle.ivy_pagetable.specs.Accesses.{reads}
 use Rattle.ivy_pagetable.specs.Limits.{most_put_off}
 use Rattle.ivy_pagetable.specs.NodeSets.{Nodes, nodes_of, nodes_with}
 use Rattle.ivy_pagetable.specs.States.{IdleState, WaitingState, AwaitWriteState, AwaitAcksState}
-use Rattle.ivy_pagetable.specs.Entries.{nothing, owned, is_owner, is_locked, put_offs, with_put_off, can_put_off, without, copying, owning}
+use Rattle.ivy_pagetable.specs.Entries.{nothing, owned, is_owner, is_locked, with_put_off, can_put_off, without, copying, owning}
 use Rattle.ivy_pagetable.specs.Tables.{entry_at, page_at, first_entry}
 use Rattle.ivy_pagetable.specs.Words.{IsWord, needs_write, carried_out}
 use Rattle.ivy_pagetable.specs.Manager.{Ops, Laws}
 use Rattle.ivy_pagetable.proofs.Bits.{with_below}
 use Rattle.ivy_pagetable.proofs.Words.{length-carried_out}
 use Rattle.ivy_coherence.specs.Coherent.{Coherent}
-use Rattle.ivy_coherence.specs.Serving.{Serving, serving, told, settled, all_served, parcel_to}
-use Rattle.ivy_coherence.specs.Steps.{Effect, collected, still_collecting, IsWaiting, IsCollecting, unlocked_as, invalidations, breach, after_serving, unlocked, put_by, given_up, asked, handled}
+use Rattle.ivy_serving.specs.Serving.{Serving, serving, told, settled, parcel_to, invalidations}
+use Rattle.ivy_coherence.specs.Steps.{Effect, collected, still_collecting, IsWaiting, IsCollecting, unlocked_as, breach, unlocked, put_by, given_up, asked, handled}
 use Rattle.ivy_coherence.specs.Faults.{Begun, hit, faulted, waiting_from, begun, suffices}
-use Rattle.ivy_coherence.specs.Sound.{CanBeServed, AreOthers, IsSoundIdle, IsSoundEntry, IsSound, first_coherent}
-use Rattle.ivy_coherence.proofs.IdleServing.{IsServing, IsPlace, all_none, all_one, parcel_fits, no_others, fewer_others, without-sound, copying-sound, owning-sound, keeps_all, all_served-keeps}
+use Rattle.ivy_serving.specs.Sound.{CanBeServed, AreOthers, IsSoundIdle}
+use Rattle.ivy_coherence.specs.Sound.{IsSoundEntry, IsSound, first_coherent}
+use Rattle.ivy_serving.proofs.IdleServing.{IsServing, all_none, all_one, parcel_fits, fewer_others, without-sound, copying-sound, owning-sound, keeps_all, all_served-keeps}
 use Rattle.ivy_coherence.proofs.Rows.{Rows, AccessRows, MayAsk, asking-fits, asker_foreign, handled-by_rows, fault-by_rows, begun-by_rows}
 use Rattle.ivy_coherence.proofs.Changing.{IsChange, AreLocks, change-sound, same_pages, other_page, same_locks, unlocks, locks, place, managed}
-use Rattle.ivy_coherence.proofs.NextHop.{IsManaged, replied-node, invalidated-node, read-away, invalidated-away}
+use Rattle.ivy_serving.proofs.NextHop.{IsManaged, replied-node, invalidated-node, read-away, invalidated-away}
 
 -- what an event has to keep
 abbrev pub Keeps : {S : Type 0} → Ops S → Coherent S → Effect S → Type 0

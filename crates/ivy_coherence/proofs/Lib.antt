@@ -1,9 +1,6 @@
-pub mod NextHop
-pub mod IdleServing
 pub mod Changing
 pub mod Rows
 pub mod Keeping
 pub mod Few
 pub mod Same
-pub mod Undoing
 pub mod Opened

@@ -11,7 +11,6 @@ use Rattle.ivy_wire.specs.Data.{Content, Message}
 use Rattle.ivy_wire.specs.Spelling.{FitsContent}
 use Rattle.ivy_pagetable.specs.declared.Entry.{Entry}
 use Rattle.ivy_pagetable.specs.declared.Entry.TheVariants as entry
-use Rattle.ivy_pagetable.specs.declared.PutOff.{PutOff}
 use Rattle.ivy_pagetable.specs.declared.Request.{Request}
 use Rattle.ivy_pagetable.specs.declared.Request.TheVariants as request
 use Rattle.ivy_pagetable.specs.declared.Word.{Word}
@@ -25,8 +24,8 @@ use Rattle.ivy_pagetable.specs.Tables.{entry_at, page_at, with_entry}
 use Rattle.ivy_pagetable.specs.Words.{needs_write}
 use Rattle.ivy_pagetable.specs.Manager.{Ops}
 use Rattle.ivy_coherence.specs.Coherent.{Coherent}
-use Rattle.ivy_coherence.specs.Serving.{serving, settled, counted, parcel_to, served_by_owner, served_by_other}
-use Rattle.ivy_coherence.specs.Steps.{Effect, collected, still_collecting, is_none, is_order, invalidations, breach, after_serving, unlocked, put_aside, put_by, given_up, asked, copy_came, owned_with, page_came, left_with, acknowledged, handled, handled_as}
+use Rattle.ivy_serving.specs.Serving.{serving, settled, counted, parcel_to, served_by_owner, served_by_other, invalidations}
+use Rattle.ivy_coherence.specs.Steps.{Effect, collected, still_collecting, is_none, is_order, breach, after_serving, unlocked, put_aside, put_by, given_up, asked, copy_came, page_came, acknowledged, handled, handled_as}
 use Rattle.ivy_coherence.specs.Faults.{Begun, busy, hit, started, waiting_from, faulted, accessed, begun, begun_at, suffices}
 
 -- a request for a copy or for the page, or the order to give a copy up

@@ -1,6 +1,6 @@
 -- What an access of this node's program comes to (Li and Hudak 1989): what the program is told, the state after, and
 -- what is posted, in order.
-use Rattle.std.specs.Prelude.{◌≡◌, ℕ, Bool, true, false, List, [], ◌∷◌, Option, Some, None, if◌then◌else◌}
+use Rattle.std.specs.Prelude.{◌≡◌, ℕ, Bool, false, List, [], ◌∷◌, Option, Some, None, if◌then◌else◌}
 use Rattle.ivy_wire.specs.declared.Content.TheVariants as content
 use Rattle.ivy_wire.specs.Data.{Parcel}
 use Rattle.ivy_pagetable.specs.declared.Access.{Access}
@@ -16,8 +16,7 @@ use Rattle.ivy_pagetable.specs.Manager.{Ops}
 use Rattle.ivy_coherence.specs.declared.need.Need.{Need}
 use Rattle.ivy_coherence.specs.declared.need.Need.TheVariants.{Have, Started, Busy}
 use Rattle.ivy_coherence.specs.Coherent.{Coherent}
-use Rattle.ivy_coherence.specs.Serving.{parcel_to}
-use Rattle.ivy_coherence.specs.Steps.{invalidations}
+use Rattle.ivy_serving.specs.Serving.{parcel_to, invalidations}
 
 pub record Begun (S : Type 0) : Type 0 where
   pub need : Need

@@ -1,7 +1,6 @@
 pub mod Coherent
-pub mod Limits
-pub mod Serving
 pub mod Steps
+pub mod Outcomes
 pub mod Faults
 pub mod Sound
 pub use Rattle.ivy_model.specs.Config
@@ -11,3 +10,5 @@ pub use Rattle.ivy_wire.specs.Spelling
 pub use Rattle.ivy_pagetable.specs.Entries
 pub use Rattle.ivy_pagetable.specs.Tables
 pub use Rattle.ivy_pagetable.specs.Manager
+pub use Rattle.ivy_serving.specs.Limits
+pub use Rattle.ivy_serving.specs.Serving

@@ -15,24 +15,8 @@ use Rattle.ivy_pagetable.specs.Entries.{is_owner, is_locked, put_offs}
 use Rattle.ivy_pagetable.specs.Tables.{entry_at, page_at, first_table}
 use Rattle.ivy_pagetable.specs.Words.{IsWord, needs_write}
 use Rattle.ivy_pagetable.specs.Manager.{Ops}
+use Rattle.ivy_serving.specs.Sound.{CanBeServed, AreOthers, IsSoundIdle}
 use Rattle.ivy_coherence.specs.Coherent.{Coherent}
-
--- a message of another node that can be served
-pub record CanBeServed (c : Config) (me : ℕ) (q : PutOff) : Type 0 where
-  pub origin : q.origin < c.nodes
-  pub foreign : q.origin ≢ me
-  pub call_from : 1 ≤ q.call
-  pub call_to : q.call < 2 ^ 64
-
--- other nodes of the configuration
-pub record AreOthers (c : Config) (me : ℕ) (nodes : Nodes) : Type 0 where
-  pub below : IsBelow c.nodes nodes
-  pub apart : set.contains nodes me ≡ false
-
--- an owner may read its page, and other nodes have copies of it
-pub record IsSoundIdle (c : Config) (me : ℕ) (s : IdleState) : Type 0 where
-  pub owned : s.owner ≡ true → reads s.access ≡ true
-  pub copies : AreOthers c me s.copies
 
 -- a word that waits lies in the page, and reads or writes
 abbrev pub Waits : Config → Bool → Word → Type 0

@@ -15,7 +15,7 @@ use Rattle.ivy_pagetable.specs.Tables.{entry_at, page_at, with_entry, with_page}
 use Rattle.ivy_pagetable.specs.Words.{carried_out}
 use Rattle.ivy_pagetable.specs.Manager.{Ops}
 use Rattle.ivy_coherence.specs.Coherent.{Coherent}
-use Rattle.ivy_coherence.specs.Serving.{Serving, counted, parcel_to, settled}
+use Rattle.ivy_serving.specs.Serving.{Serving, counted, parcel_to, settled, invalidations}
 
 pub record Effect (S : Type 0) : Type 0 where
   pub after : Coherent S
@@ -45,11 +45,6 @@ abbrev pub is_order : Request → Bool
 is_order request.Invalidate = true
 is_order kind = false
 
--- each of these nodes is told to give its copy up
-abbrev pub invalidations : ℕ → ℕ → ℕ → Nodes → List Parcel
-invalidations me page call nodes =
-    map (λ node. parcel_to me node me call (content.Inval page)) (nodes_of nodes)
-
 module _ {S : Type 0} (ops : Ops S) where
   -- a message that fits no rule is counted, and changes nothing else
   abbrev pub breach : Coherent S → Effect S
@@ -75,6 +70,16 @@ module _ {S : Type 0} (ops : Ops S) where
       (record c { table = with_page c.table page now.bytes; locked = None; done = Some now.out }) page
       (settled ops c.me from page now.bytes idle c.manager c.breaches reply s.put_off)
 
+  -- with the copy, or the page, that was asked for
+  abbrev pub unlocked_by_reply : Coherent S → ℕ → ℕ → Bool → List ℕ → WaitingState → Effect S
+  unlocked_by_reply c from page write bytes s =
+      unlocked c from page (unlocked_as write) (Some write) bytes s
+
+  -- with the last acknowledgement, on the page that is here already
+  abbrev pub unlocked_by_last : Coherent S → ℕ → ℕ → WaitingState → Effect S
+  unlocked_by_last c from page s =
+      unlocked c from page owning None (page_at c.table page) s
+
   -- at a locked entry a message waits until it is unlocked
   abbrev pub put_by : Coherent S → ℕ → Entry → PutOff → Effect S
   put_by c page e q = record {
@@ -84,6 +89,9 @@ module _ {S : Type 0} (ops : Ops S) where
 
   abbrev pub put_aside : Coherent S → ℕ → Entry → PutOff → Effect S
   put_aside c page e q = if can_put_off e then put_by c page e q else breach c
+
+  abbrev pub put_aside_at : Coherent S → ℕ → PutOff → Effect S
+  put_aside_at c page q = put_aside c page (entry_at c.table page) q
 
   -- a node that waits to write gives up at once the copy that it had
   abbrev pub given_up : Coherent S → ℕ → WaitingState → PutOff → Effect S
@@ -105,11 +113,17 @@ module _ {S : Type 0} (ops : Ops S) where
       if is_order q.kind then breach c else put_aside c page (entry.AwaitAcks s) q
   asked c page q e = put_aside c page e q
 
+  abbrev pub asked_at : Coherent S → ℕ → PutOff → Effect S
+  asked_at c page q = asked c page q (entry_at c.table page)
+
   -- a copy comes for the word that waits to read
   abbrev pub copy_came : Coherent S → ℕ → ℕ → ℕ → List ℕ → Entry → Effect S
   copy_came c from call page bytes (entry.AwaitRead s) =
       if s.call == call then unlocked c from page copying (Some false) bytes s else breach c
   copy_came c from call page bytes e = breach c
+
+  abbrev pub copy_came_at : Coherent S → ℕ → ℕ → ℕ → List ℕ → Effect S
+  copy_came_at c from call page bytes = copy_came c from call page bytes (entry_at c.table page)
 
   -- the page came, and these other nodes have a copy of it: the word waits until they gave it up
   abbrev pub collected : Coherent S → ℕ → ℕ → Nodes → List ℕ → WaitingState → Coherent S
@@ -136,6 +150,10 @@ module _ {S : Type 0} (ops : Ops S) where
       then owned_with c from call page copies bytes s.waiting else breach c
   page_came c from call page copies bytes e = breach c
 
+  abbrev pub page_came_at : Coherent S → ℕ → ℕ → ℕ → Nodes → List ℕ → Effect S
+  page_came_at c from call page copies bytes =
+      page_came c from call page copies bytes (entry_at c.table page)
+
   -- these nodes have not given their copy up yet
   abbrev pub still_collecting : Coherent S → ℕ → Nodes → WaitingState → Coherent S
   still_collecting c page left s =
@@ -157,29 +175,29 @@ module _ {S : Type 0} (ops : Ops S) where
       then left_with c from page (set.remove s.left from) s.waiting else breach c
   acknowledged c from call page e = breach c
 
+  abbrev pub acknowledged_at : Coherent S → ℕ → ℕ → ℕ → Effect S
+  acknowledged_at c from call page = acknowledged c from call page (entry_at c.table page)
+
   -- What a message is about. No node asks itself; an order to give a copy up comes from the node that is to write; a
   -- reply comes to the node that asked. The kinds of the allocator fit no rule yet.
   abbrev pub handled_as : Coherent S → ℕ → ℕ → ℕ → Content → Effect S
   handled_as c from origin call (content.ReadReq page) =
       if origin == c.me then breach c
-      else asked c page (record { kind = request.Read; origin = origin; call = call })
-      (entry_at c.table page)
+      else asked_at c page (record { kind = request.Read; origin = origin; call = call })
   handled_as c from origin call (content.WriteReq page) =
       if origin == c.me then breach c
-      else asked c page (record { kind = request.Write; origin = origin; call = call })
-      (entry_at c.table page)
+      else asked_at c page (record { kind = request.Write; origin = origin; call = call })
   handled_as c from origin call (content.Inval page) =
       if origin == from
-      then asked c page (record { kind = request.Invalidate; origin = origin; call = call })
-      (entry_at c.table page) else breach c
+      then asked_at c page (record { kind = request.Invalidate; origin = origin; call = call })
+      else breach c
   handled_as c from origin call (content.ReadRep page bytes) =
-      if origin == c.me then copy_came c from call page bytes (entry_at c.table page) else breach c
+      if origin == c.me then copy_came_at c from call page bytes else breach c
   handled_as c from origin call (content.WriteRep page copies bytes) =
       if origin == c.me
-      then page_came c from call page (nodes_with copies) bytes (entry_at c.table page)
-      else breach c
+      then page_came_at c from call page (nodes_with copies) bytes else breach c
   handled_as c from origin call (content.InvalAck page) =
-      if origin == c.me then acknowledged c from call page (entry_at c.table page) else breach c
+      if origin == c.me then acknowledged_at c from call page else breach c
   handled_as c from origin call m = breach c
 
   unfoldable pub handled : Coherent S → ℕ → Message → Effect S

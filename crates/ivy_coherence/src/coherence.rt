@@ -6,14 +6,15 @@ ghost use Rattle.ivy_wire.specs.Spelling.{FitsMessage};
 ghost use Rattle.ivy_pagetable.specs.Tables.{entry_at, page_at};
 ghost use Rattle.ivy_pagetable.specs.Words.{IsWord, needs_write};
 ghost use Rattle.ivy_coherence.specs.Faults.{suffices, IsIdleAt, HasToAsk, fault_entry, fault_posted, begun};
+ghost use Rattle.ivy_serving.specs.Outcomes.{HasPosted};
 ghost use Rattle.ivy_coherence.specs.Sound.{first_coherent, IsSound};
 
 use crate::need::Need;
-use crate::serving::{invalidate, post_one};
 use ivy_model::{Config, Fault};
 use ivy_pagetable::{
     Access, AwaitAcks, AwaitWrite, Entry, Idle, Manager, Out, Page, PageTable, Waiting, Word,
 };
+use ivy_serving::{invalidate, post_one};
 use ivy_wire::{Content, Post};
 use std::alloc::Allocator;
 use std::marker::Model;
@@ -142,11 +143,8 @@ impl<M: Manager, A: Allocator> Coherence<M, A> {
         requires config { P.config post.old ≡ self.now.config }
         requires node { P.node post.old ≡ self.now.me }
         ensures entry { IfOk result (λ e. e ≡ fault_entry word call idle.now) }
-        ensures posted { OnOk result (post.new ≡ P.after post.old (fault_posted M.ops self.now page word call idle.now)) }
-        ensures err { OnErr result (post.new ≡ post.old) }
-        ensures took { OnOk result (P.takes post.old (fault_posted M.ops self.now page word call idle.now)) }
-        ensures fault { IfErr result (P.refuses post.old (fault_posted M.ops self.now page word call idle.now)) }
-        ensures want { IfErr result IsWant }
+        ensures posted { HasPosted P.takes P.after P.refuses post.old post.new result
+            (fault_posted M.ops self.now page word call idle.now) }
     {
         let waiting = Waiting::new(word, call);
         let hop = self.manager.next_hop(page);
@@ -192,10 +190,12 @@ impl<M: Manager, A: Allocator> Coherence<M, A> {
         ensures sure { OnErr result (HasToAsk self.old page word) }
         ensures need { IfOk result (λ need. need ≡ (begun M.ops self.old page word call).need) }
         ensures ok { OnOk result (self.new ≡ (begun M.ops self.old page word call).after) }
-        ensures posted { OnOk result (post.new ≡ P.after post.old (begun M.ops self.old page word call).posted) }
+        ensures posted { OnOk result
+            (post.new ≡ P.after post.old (begun M.ops self.old page word call).posted) }
         ensures err { OnErr result ((self.new ≡ self.old) × (post.new ≡ post.old)) }
         ensures took { OnOk result (P.takes post.old (begun M.ops self.old page word call).posted) }
-        ensures fault { IfErr result (P.refuses post.old (begun M.ops self.old page word call).posted) }
+        ensures fault { IfErr result
+            (P.refuses post.old (begun M.ops self.old page word call).posted) }
         ensures want { IfErr result IsWant }
     {
         if self.locked.is_some() {

@@ -7,16 +7,17 @@ ghost use Rattle.ivy_wire.specs.Spelling.{FitsMessage};
 ghost use Rattle.ivy_pagetable.specs.Entries.{owning};
 ghost use Rattle.ivy_pagetable.specs.Tables.{entry_at, page_at};
 ghost use Rattle.ivy_pagetable.specs.NodeSets.{IsBelow};
-ghost use Rattle.ivy_coherence.specs.Sound.{CanBeServed, AreOthers};
-ghost use Rattle.ivy_coherence.specs.Limits.{most_posted};
-ghost use Rattle.ivy_coherence.specs.Steps.{IsWaiting, IsCollecting, is_none, unlocked_as, unlocked, put_aside, given_up, asked, copy_came, owned_with, page_came, left_with, acknowledged, handled};
+ghost use Rattle.ivy_serving.specs.Sound.{CanBeServed, AreOthers};
+ghost use Rattle.ivy_serving.specs.Limits.{most_posted};
+ghost use Rattle.ivy_coherence.specs.Outcomes.{IsStep};
+ghost use Rattle.ivy_coherence.specs.Steps.{IsWaiting, IsCollecting, is_none, unlocked_as, unlocked_by_reply, unlocked_by_last, put_aside_at, given_up, asked_at, copy_came_at, owned_with, page_came_at, left_with, acknowledged_at, handled};
 
 use crate::coherence::Coherence;
-use crate::serving::{Place, count, invalidate, post_one, settle};
 use ivy_model::Fault;
 use ivy_pagetable::{
     Access, AwaitAcks, AwaitWrite, Entry, Idle, Manager, NodeSet, PutOff, Request, Waiting, Word,
 };
+use ivy_serving::{Place, count, invalidate, post_one, settle};
 use ivy_wire::{Content, Message, Post};
 use std::alloc::Allocator;
 
@@ -46,12 +47,8 @@ impl<M: Manager, A: Allocator> Coherence<M, A> {
         requires message { CanBeServed self.old.config self.old.me message }
         requires config { P.config post.old ≡ self.old.config }
         requires node { P.node post.old ≡ self.old.me }
-        ensures ok { OnOk result (self.new ≡ (asked M.ops self.old page message (entry_at self.old.table page)).after) }
-        ensures posted { OnOk result (post.new ≡ P.after post.old (asked M.ops self.old page message (entry_at self.old.table page)).posted) }
-        ensures err { OnErr result ((self.new ≡ self.old) × (post.new ≡ post.old)) }
-        ensures took { OnOk result (P.takes post.old (asked M.ops self.old page message (entry_at self.old.table page)).posted) }
-        ensures fault { IfErr result (P.refuses post.old (asked M.ops self.old page message (entry_at self.old.table page)).posted) }
-        ensures want { IfErr result IsWant }
+        ensures { IsStep P.takes P.after P.refuses post.old post.new result self.old self.new
+            (asked_at M.ops self.old page message) }
     {
         match self.table.entry(page) {
             Entry::Idle(idle) => {
@@ -98,7 +95,7 @@ impl<M: Manager, A: Allocator> Coherence<M, A> {
     fn put_aside(&mut self, page: u32, message: PutOff)
         requires page { page < self.old.config.pages }
         requires message { CanBeServed self.old.config self.old.me message }
-        ensures { self.new ≡ (put_aside M.ops self.old page (entry_at self.old.table page) message).after }
+        ensures { self.new ≡ (put_aside_at M.ops self.old page message).after }
     {
         if !self.table.put_off(page, message) {
             count(&mut self.breaches);
@@ -118,12 +115,8 @@ impl<M: Manager, A: Allocator> Coherence<M, A> {
         requires waits { IsWaiting (entry_at self.old.table page) true waiting }
         requires config { P.config post.old ≡ self.old.config }
         requires node { P.node post.old ≡ self.old.me }
-        ensures ok { OnOk result (self.new ≡ (given_up M.ops self.old page waiting message).after) }
-        ensures posted { OnOk result (post.new ≡ P.after post.old (given_up M.ops self.old page waiting message).posted) }
-        ensures err { OnErr result ((self.new ≡ self.old) × (post.new ≡ post.old)) }
-        ensures took { OnOk result (P.takes post.old (given_up M.ops self.old page waiting message).posted) }
-        ensures fault { IfErr result (P.refuses post.old (given_up M.ops self.old page waiting message).posted) }
-        ensures want { IfErr result IsWant }
+        ensures { IsStep P.takes P.after P.refuses post.old post.new result self.old self.new
+            (given_up M.ops self.old page waiting message) }
     {
         let PutOff { origin, call, .. } = message;
         post_one(
@@ -158,12 +151,8 @@ impl<M: Manager, A: Allocator> Coherence<M, A> {
         requires waits { IsWaiting (entry_at self.old.table page) write waiting.now }
         requires config { P.config post.old ≡ self.old.config }
         requires node { P.node post.old ≡ self.old.me }
-        ensures ok { OnOk result (self.new ≡ (unlocked M.ops self.old from page (unlocked_as write) (Some write) bytes.now waiting.now).after) }
-        ensures posted { OnOk result (post.new ≡ P.after post.old (unlocked M.ops self.old from page (unlocked_as write) (Some write) bytes.now waiting.now).posted) }
-        ensures err { OnErr result ((self.new ≡ self.old) × (post.new ≡ post.old)) }
-        ensures took { OnOk result (P.takes post.old (unlocked M.ops self.old from page (unlocked_as write) (Some write) bytes.now waiting.now).posted) }
-        ensures fault { IfErr result (P.refuses post.old (unlocked M.ops self.old from page (unlocked_as write) (Some write) bytes.now waiting.now).posted) }
-        ensures want { IfErr result IsWant }
+        ensures { IsStep P.takes P.after P.refuses post.old post.new result self.old self.new
+            (unlocked_by_reply M.ops self.old from page write bytes.now waiting.now) }
     {
         self.spare.copy_from(bytes);
         let out = self.spare.carry_out(waiting.word());
@@ -200,12 +189,8 @@ impl<M: Manager, A: Allocator> Coherence<M, A> {
         requires sized { length bytes.now ≡ self.old.config.page_size }
         requires config { P.config post.old ≡ self.old.config }
         requires node { P.node post.old ≡ self.old.me }
-        ensures ok { OnOk result (self.new ≡ (copy_came M.ops self.old from call page bytes.now (entry_at self.old.table page)).after) }
-        ensures posted { OnOk result (post.new ≡ P.after post.old (copy_came M.ops self.old from call page bytes.now (entry_at self.old.table page)).posted) }
-        ensures err { OnErr result ((self.new ≡ self.old) × (post.new ≡ post.old)) }
-        ensures took { OnOk result (P.takes post.old (copy_came M.ops self.old from call page bytes.now (entry_at self.old.table page)).posted) }
-        ensures fault { IfErr result (P.refuses post.old (copy_came M.ops self.old from call page bytes.now (entry_at self.old.table page)).posted) }
-        ensures want { IfErr result IsWant }
+        ensures { IsStep P.takes P.after P.refuses post.old post.new result self.old self.new
+            (copy_came_at M.ops self.old from call page bytes.now) }
     {
         match self.table.entry(page) {
             Entry::AwaitRead(waiting) if waiting.call() == call => {
@@ -235,12 +220,8 @@ impl<M: Manager, A: Allocator> Coherence<M, A> {
         requires copies { IsBelow self.old.config.nodes copies }
         requires config { P.config post.old ≡ self.old.config }
         requires node { P.node post.old ≡ self.old.me }
-        ensures ok { OnOk result (self.new ≡ (page_came M.ops self.old from call page copies bytes.now (entry_at self.old.table page)).after) }
-        ensures posted { OnOk result (post.new ≡ P.after post.old (page_came M.ops self.old from call page copies bytes.now (entry_at self.old.table page)).posted) }
-        ensures err { OnErr result ((self.new ≡ self.old) × (post.new ≡ post.old)) }
-        ensures took { OnOk result (P.takes post.old (page_came M.ops self.old from call page copies bytes.now (entry_at self.old.table page)).posted) }
-        ensures fault { IfErr result (P.refuses post.old (page_came M.ops self.old from call page copies bytes.now (entry_at self.old.table page)).posted) }
-        ensures want { IfErr result IsWant }
+        ensures { IsStep P.takes P.after P.refuses post.old post.new result self.old self.new
+            (page_came_at M.ops self.old from call page copies bytes.now) }
     {
         match self.table.entry(page) {
             Entry::AwaitWrite(state)
@@ -274,12 +255,8 @@ impl<M: Manager, A: Allocator> Coherence<M, A> {
         requires waits { IsWaiting (entry_at self.old.table page) true waiting }
         requires config { P.config post.old ≡ self.old.config }
         requires node { P.node post.old ≡ self.old.me }
-        ensures ok { OnOk result (self.new ≡ (owned_with M.ops self.old from call page copies bytes.now waiting).after) }
-        ensures posted { OnOk result (post.new ≡ P.after post.old (owned_with M.ops self.old from call page copies bytes.now waiting).posted) }
-        ensures err { OnErr result ((self.new ≡ self.old) × (post.new ≡ post.old)) }
-        ensures took { OnOk result (P.takes post.old (owned_with M.ops self.old from call page copies bytes.now waiting).posted) }
-        ensures fault { IfErr result (P.refuses post.old (owned_with M.ops self.old from call page copies bytes.now waiting).posted) }
-        ensures want { IfErr result IsWant }
+        ensures { IsStep P.takes P.after P.refuses post.old post.new result self.old self.new
+            (owned_with M.ops self.old from call page copies bytes.now waiting) }
     {
         if is_none(&copies) {
             self.unlock(from, page, true, &waiting, bytes, post)?;
@@ -306,12 +283,8 @@ impl<M: Manager, A: Allocator> Coherence<M, A> {
         requires page { page < self.old.config.pages }
         requires config { P.config post.old ≡ self.old.config }
         requires node { P.node post.old ≡ self.old.me }
-        ensures ok { OnOk result (self.new ≡ (acknowledged M.ops self.old from call page (entry_at self.old.table page)).after) }
-        ensures posted { OnOk result (post.new ≡ P.after post.old (acknowledged M.ops self.old from call page (entry_at self.old.table page)).posted) }
-        ensures err { OnErr result ((self.new ≡ self.old) × (post.new ≡ post.old)) }
-        ensures took { OnOk result (P.takes post.old (acknowledged M.ops self.old from call page (entry_at self.old.table page)).posted) }
-        ensures fault { IfErr result (P.refuses post.old (acknowledged M.ops self.old from call page (entry_at self.old.table page)).posted) }
-        ensures want { IfErr result IsWant }
+        ensures { IsStep P.takes P.after P.refuses post.old post.new result self.old self.new
+            (acknowledged_at M.ops self.old from call page) }
     {
         match self.table.entry(page) {
             Entry::AwaitAcks(state)
@@ -342,12 +315,8 @@ impl<M: Manager, A: Allocator> Coherence<M, A> {
         requires waits { IsCollecting (entry_at self.old.table page) waiting }
         requires config { P.config post.old ≡ self.old.config }
         requires node { P.node post.old ≡ self.old.me }
-        ensures ok { OnOk result (self.new ≡ (left_with M.ops self.old from page left waiting).after) }
-        ensures posted { OnOk result (post.new ≡ P.after post.old (left_with M.ops self.old from page left waiting).posted) }
-        ensures err { OnErr result ((self.new ≡ self.old) × (post.new ≡ post.old)) }
-        ensures took { OnOk result (P.takes post.old (left_with M.ops self.old from page left waiting).posted) }
-        ensures fault { IfErr result (P.refuses post.old (left_with M.ops self.old from page left waiting).posted) }
-        ensures want { IfErr result IsWant }
+        ensures { IsStep P.takes P.after P.refuses post.old post.new result self.old self.new
+            (left_with M.ops self.old from page left waiting) }
     {
         if is_none(&left) {
             self.write(from, page, &waiting, post)?;
@@ -373,12 +342,8 @@ impl<M: Manager, A: Allocator> Coherence<M, A> {
         requires waits { IsCollecting (entry_at self.old.table page) waiting.now }
         requires config { P.config post.old ≡ self.old.config }
         requires node { P.node post.old ≡ self.old.me }
-        ensures ok { OnOk result (self.new ≡ (unlocked M.ops self.old from page owning None (page_at self.old.table page) waiting.now).after) }
-        ensures posted { OnOk result (post.new ≡ P.after post.old (unlocked M.ops self.old from page owning None (page_at self.old.table page) waiting.now).posted) }
-        ensures err { OnErr result ((self.new ≡ self.old) × (post.new ≡ post.old)) }
-        ensures took { OnOk result (P.takes post.old (unlocked M.ops self.old from page owning None (page_at self.old.table page) waiting.now).posted) }
-        ensures fault { IfErr result (P.refuses post.old (unlocked M.ops self.old from page owning None (page_at self.old.table page) waiting.now).posted) }
-        ensures want { IfErr result IsWant }
+        ensures { IsStep P.takes P.after P.refuses post.old post.new result self.old self.new
+            (unlocked_by_last M.ops self.old from page waiting.now) }
     {
         let word = waiting.word();
         let before = Word::Store {
@@ -432,12 +397,17 @@ impl<M: Manager, A: Allocator> Coherence<M, A> {
         requires fits { FitsMessage self.old.config (owned_message message) }
         requires config { P.config post.old ≡ self.old.config }
         requires node { P.node post.old ≡ self.old.me }
-        ensures ok { OnOk result (self.new ≡ (handled M.ops self.old from (owned_message message.entry)).after) }
-        ensures few { length (handled M.ops self.old from (owned_message message.entry)).posted ≤ most_posted }
-        ensures posted { OnOk result (post.new ≡ P.after post.old (handled M.ops self.old from (owned_message message.entry)).posted) }
+        ensures ok { OnOk result
+            (self.new ≡ (handled M.ops self.old from (owned_message message.entry)).after) }
+        ensures few { length (handled M.ops self.old from (owned_message message.entry)).posted
+            ≤ most_posted }
+        ensures posted { OnOk result
+            (post.new ≡ P.after post.old (handled M.ops self.old from (owned_message message.entry)).posted) }
         ensures err { OnErr result ((self.new ≡ self.old) × (post.new ≡ post.old)) }
-        ensures took { OnOk result (P.takes post.old (handled M.ops self.old from (owned_message message.entry)).posted) }
-        ensures fault { IfErr result (P.refuses post.old (handled M.ops self.old from (owned_message message.entry)).posted) }
+        ensures took { OnOk result
+            (P.takes post.old (handled M.ops self.old from (owned_message message.entry)).posted) }
+        ensures fault { IfErr result
+            (P.refuses post.old (handled M.ops self.old from (owned_message message.entry)).posted) }
         ensures want { IfErr result IsWant }
     {
         self.sound();

@@ -8,10 +8,6 @@
 mod coherence;
 mod handle;
 mod need;
-mod serving;
 
 pub use coherence::Coherence;
 pub use need::Need;
-
-#[cfg(test)]
-mod tests;

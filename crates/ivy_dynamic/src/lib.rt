@@ -8,6 +8,3 @@
 mod dynamic;
 
 pub use dynamic::DynamicManager;
-
-#[cfg(test)]
-mod tests;

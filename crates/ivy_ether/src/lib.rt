@@ -10,6 +10,3 @@ mod note;
 
 pub use event::{Event, Events};
 pub use moves::Move;
-
-#[cfg(test)]
-mod tests;

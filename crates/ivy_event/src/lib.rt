@@ -8,6 +8,3 @@
 mod count;
 
 pub use count::{advance, await_at_least, read};
-
-#[cfg(test)]
-mod tests;

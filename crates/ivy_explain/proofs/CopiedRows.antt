@@ -16,8 +16,7 @@ use Rattle.ivy_pagetable.specs.States.{IdleState}
 use Rattle.ivy_pagetable.specs.Accesses.{reads as can_read}
 use Rattle.ivy_pagetable.specs.Entries.{put_offs, readable, is_owner, with_put_off, without, copying, owning, sharing}
 use Rattle.ivy_pagetable.specs.Manager.{Ops}
-use Rattle.ivy_coherence.specs.Serving.{parcel_to}
-use Rattle.ivy_coherence.specs.Steps.{invalidations}
+use Rattle.ivy_serving.specs.Serving.{parcel_to, invalidations}
 use Rattle.ivy_coherence.specs.Faults.{waiting_from}
 use Rattle.ivy_order.specs.Letters.{Letter, Net, Place, Underway, Loose, letter_of, IsAt, goes_on, installs}
 use Rattle.ivy_order.specs.Orderly.{IsOrderly}

@@ -26,7 +26,7 @@ use Rattle.ivy_coherence.specs.Faults.{Begun}
 use Rattle.ivy_coherence.proofs.Same.{handled-same}
 use Rattle.ivy_program.specs.States.{State, first_state}
 use Rattle.ivy_program.specs.Steps.{Local, Asks, step_of, at_state}
-use Rattle.ivy_program.proofs.Running.{runs_on, runs_answered, only_accesses}
+use Rattle.ivy_program.proofs.Running.{runs_on, runs_answered, only_words}
 use Rattle.ivy_ether.specs.Cores.{Outcome}
 use Rattle.ivy_memory.specs.declared.Asked.TheVariants as kinds
 use Rattle.ivy_memory.specs.Asking.{asked_of}
@@ -51,7 +51,7 @@ Copies c m n f = IsOrderly c n × IsCopied c n f
 
 -- a program's calls are legal
 asked_width : {S : Type 0} (n : Host S) (called : Call) → step_of n.process ≡ Asks called → HasWidth called
-asked_width n called step = (only_accesses n.process.program n.process.state called step).1
+asked_width n called step = (only_words n.process.program n.process.state called step).1
 
 -- one word waits at an entry
 one_word : (e : Entry) (w v : Word) (j k : ℕ) → WaitsAt e w j → WaitsAt e v k → w ≡ v

@@ -7,6 +7,3 @@
 mod fixed;
 
 pub use fixed::FixedManager;
-
-#[cfg(test)]
-mod tests;

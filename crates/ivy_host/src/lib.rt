@@ -7,6 +7,3 @@
 mod manager;
 
 pub use manager::NodeManager;
-
-#[cfg(test)]
-mod tests;

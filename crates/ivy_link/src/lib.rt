@@ -18,6 +18,3 @@ mod verdict;
 pub use link::{Link, MOST_AGAIN};
 pub use order::delivers_in_order;
 pub use verdict::Verdict;
-
-#[cfg(test)]
-mod tests;

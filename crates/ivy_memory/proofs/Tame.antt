@@ -29,7 +29,7 @@ use Rattle.ivy_coherence.specs.Steps.{unlocked, handled}
 use Rattle.ivy_coherence.specs.Faults.{Begun, started, hit, begun}
 use Rattle.ivy_coherence.specs.Sound.{IsSound, first_coherent}
 use Rattle.ivy_coherence.proofs.Keeping.{handled-keeps, begun-keeps, first-sound}
-use Rattle.ivy_coherence.proofs.IdleServing.{all_none}
+use Rattle.ivy_serving.proofs.IdleServing.{all_none}
 use Rattle.ivy_coherence.proofs.Rows.{Rows, AccessRows, handled-by_rows, begun-by_rows}
 use Rattle.ivy_coherence.proofs.Few.{begun-few}
 use Rattle.ivy_memory.specs.declared.answer.Answer.{Answer}

@@ -10,6 +10,3 @@ mod memory;
 pub use answer::Answer;
 pub use asked::{Asked, asked_of};
 pub use memory::Memory;
-
-#[cfg(test)]
-mod tests;

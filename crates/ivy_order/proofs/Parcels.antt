@@ -11,8 +11,7 @@ use Rattle.ivy_pagetable.specs.declared.Entry.{Entry}
 use Rattle.ivy_pagetable.specs.declared.PutOff.{PutOff}
 use Rattle.ivy_pagetable.specs.NodeSets.{Nodes, nodes_of}
 use Rattle.ivy_pagetable.specs.Entries.{put_offs}
-use Rattle.ivy_coherence.specs.Serving.{parcel_to}
-use Rattle.ivy_coherence.specs.Steps.{invalidations}
+use Rattle.ivy_serving.specs.Serving.{parcel_to, invalidations}
 use Rattle.ivy_order.specs.Letters.{Letter, Net, Place, Underway, Aside, Loose, letter_of, goes_on}
 use Rattle.ivy_order.specs.Rows.{letter}
 use Rattle.ivy_order.proofs.Places.{get_map, written-here, written-other, same_or_other, served, freed, IsOld, AreTold, told_letters}

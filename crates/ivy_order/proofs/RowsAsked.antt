@@ -12,7 +12,7 @@ use Rattle.ivy_pagetable.specs.declared.Request.{Request}
 use Rattle.ivy_pagetable.specs.declared.Request.TheVariants as request
 use Rattle.ivy_pagetable.specs.States.{IdleState, WaitingState, AwaitWriteState}
 use Rattle.ivy_pagetable.specs.Entries.{put_offs, readable, writable, is_owner, copies_of, can_put_off, with_put_off, without}
-use Rattle.ivy_coherence.specs.Serving.{parcel_to}
+use Rattle.ivy_serving.specs.Serving.{parcel_to}
 use Rattle.ivy_order.specs.Letters.{Letter, Net, Place, Underway, Aside, content_of, letter_of, goes_on}
 use Rattle.ivy_order.specs.Orderly.{AwaitsCopy, AwaitsPage, Collects, CanWait, key_of, IsExpected, IsExpectedAs, IsOrderly}
 use Rattle.ivy_order.specs.Rows.{letter, Serves}

@@ -12,7 +12,7 @@ use Rattle.ivy_pagetable.specs.declared.Entry.TheVariants as entry
 use Rattle.ivy_pagetable.specs.NodeSets.{nodes_with}
 use Rattle.ivy_pagetable.specs.States.{IdleState, WaitingState, AwaitWriteState, AwaitAcksState}
 use Rattle.ivy_pagetable.specs.Entries.{readable, writable, is_owner, copies_of, copying, owning}
-use Rattle.ivy_coherence.specs.Steps.{invalidations}
+use Rattle.ivy_serving.specs.Serving.{invalidations}
 use Rattle.ivy_order.specs.Letters.{Letter, Net, Place, Loose, IsAt, letter_of, goes_on}
 use Rattle.ivy_order.specs.Orderly.{Collects, HasCopy, reads, comes, At, In, Own, Order, key_of, IsExpectedAs, IsOrderly}
 use Rattle.ivy_order.specs.Rows.{letter, Serves}

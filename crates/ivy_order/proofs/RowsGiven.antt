@@ -12,7 +12,7 @@ use Rattle.ivy_pagetable.specs.NodeSets.{Nodes, IsBelow, bits_of, nodes_with}
 use Rattle.ivy_pagetable.specs.States.{IdleState}
 use Rattle.ivy_pagetable.specs.Entries.{is_owner, copies_of, without, sharing}
 use Rattle.ivy_pagetable.proofs.Bits.{with_bits_of, remove_below}
-use Rattle.ivy_coherence.specs.Serving.{parcel_to}
+use Rattle.ivy_serving.specs.Serving.{parcel_to}
 use Rattle.ivy_order.specs.Letters.{Letter, Net, Place, Underway, IsAt, goes_on}
 use Rattle.ivy_order.specs.Orderly.{AwaitsCopy, AwaitsPage, Collects, HasCopy, At, In, IsExpectedAs, IsOrderly}
 use Rattle.ivy_order.specs.Rows.{letter, Serves}

@@ -18,8 +18,7 @@ use Rattle.ivy_pagetable.specs.Accesses.{reads}
 use Rattle.ivy_pagetable.specs.Entries.{is_locked, is_owner, can_put_off, with_put_off, without, copying, owning, sharing}
 use Rattle.ivy_pagetable.specs.Words.{IsWord, carried_out}
 use Rattle.ivy_pagetable.specs.Manager.{Ops}
-use Rattle.ivy_coherence.specs.Serving.{parcel_to, counted}
-use Rattle.ivy_coherence.specs.Steps.{invalidations}
+use Rattle.ivy_serving.specs.Serving.{parcel_to, counted, invalidations}
 use Rattle.ivy_coherence.specs.Faults.{suffices, waiting_from}
 use Rattle.ivy_ether.specs.Ordered.{one_more}
 use Rattle.ivy_order.specs.Letters.{Letter, Net, content_of, letter_of, goes_on, installs}

@@ -29,6 +29,3 @@ pub use put_off::{PutOff, Request};
 pub use table::PageTable;
 pub use waiting::Waiting;
 pub use word::{Out, Word};
-
-#[cfg(test)]
-mod tests;

@@ -15,17 +15,17 @@ NamesWidth (next.Call call) = HasWidth call
 NamesWidth next.Local = Unit {0}
 NamesWidth next.Ended = Unit {0}
 
--- a load or a store
-abbrev pub IsAccess : Call → Type 0
-IsAccess (Load width addr) = Unit {0}
-IsAccess (Store width addr value) = Unit {0}
-IsAccess (Count k) = ⊥
-IsAccess (Advance k) = ⊥
-IsAccess (Await k least) = ⊥
-IsAccess (Alloc size) = ⊥
-IsAccess (Free addr) = ⊥
+-- a call of a word: each but the calls of the allocator
+abbrev pub IsWordCall : Call → Type 0
+IsWordCall (Load width addr) = Unit {0}
+IsWordCall (Store width addr value) = Unit {0}
+IsWordCall (Count k) = Unit {0}
+IsWordCall (Advance k) = Unit {0}
+IsWordCall (Await k least) = Unit {0}
+IsWordCall (Alloc size) = ⊥
+IsWordCall (Free addr) = ⊥
 
--- whatever its state, the program makes no call but loads and stores of 1, 2, 4 or 8 bytes
-abbrev pub OnlyAccesses : List Instruction → Type 0
-OnlyAccesses program =
-    (s : State) (call : Call) → step program s ≡ Asks call → IsAccess call × HasWidth call
+-- whatever its state, the program makes calls of words alone, those of 1, 2, 4 or 8 bytes
+abbrev pub OnlyWords : List Instruction → Type 0
+OnlyWords program =
+    (s : State) (call : Call) → step program s ≡ Asks call → IsWordCall call × HasWidth call

@@ -4,5 +4,7 @@ pub mod Steps
 pub mod Calls
 pub mod Runs
 pub mod Numbers
+pub mod Words
+pub mod Operands
 pub mod Texts
 pub mod Drafts

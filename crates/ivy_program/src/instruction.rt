@@ -124,6 +124,22 @@ pub enum Instruction {
         addr: Register,
         from: Register,
     },
+    /// `count rD rK`: the value of the eventcount that one register names, to another.
+    Count {
+        to: Register,
+        count: Register,
+    },
+    /// `advance rK`: adds one to the eventcount that the register names.
+    Advance {
+        count: Register,
+    },
+    /// `await rD rK rV`: waits until the eventcount that one register names is at least the number in
+    /// another; its value then goes to a third.
+    Await {
+        to: Register,
+        count: Register,
+        least: Register,
+    },
     /// `status rD`: the register takes the number of the last call's refusal, or 0.
     Status {
         to: Register,
@@ -154,6 +170,8 @@ impl Instruction {
     {
         match self {
             Instruction::Load { to, .. } => Some(to),
+            Instruction::Count { to, .. } => Some(to),
+            Instruction::Await { to, .. } => Some(to),
             _ => None,
         }
     }

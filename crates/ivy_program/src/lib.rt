@@ -14,6 +14,3 @@ pub use machine::{Machine, Next};
 pub use parser::parse;
 pub use program::Program;
 pub use words::{parse_number, words_of};
-
-#[cfg(test)]
-mod tests;

@@ -1,7 +1,10 @@
-ghost use Rattle.std.specs.Prelude.{◌≡◌, ◌≤◌, ◌<◌, ◌+◌, ◌^◌, ℕ, [], length, All, IfOk, IfErr, OnErr, IfSome, IsOkUnless, false};
+ghost use Rattle.std.specs.Prelude.{◌≡◌, ◌≢◌, ◌≤◌, ◌<◌, ◌+◌, ◌^◌, ℕ, [], length, All, IfOk, IfErr, OnErr, IfSome, IfNone, IsOkUnless, false};
 ghost use Rattle.ivy_model.specs.declared.Fault.TheVariants.{Memory};
 ghost use Rattle.ivy_program.specs.Drafts.{AreInside, is_jump, has_place};
 ghost use Rattle.ivy_program.specs.Instructions.{IsProgram, NamesRegisters, JumpsWithin};
+ghost use Rattle.ivy_program.specs.Operands.{register_word, operation_word, IsWidthWord, IsName, padded};
+ghost use Rattle.ivy_program.specs.declared.instruction.Operation.{Operation};
+ghost use Rattle.ivy_program.specs.declared.instruction.Width.{Width};
 ghost use Rattle.ivy_program.specs.Texts.{ArePrograms, IsRefusal};
 
 use crate::instruction::{Instruction, Operation, Register, Width};
@@ -16,11 +19,6 @@ const MOST_PROGRAMS: usize = 32;
 
 /// The most letters and digits that the name of a label has.
 const MOST_LETTERS: usize = 16;
-
-const REGISTER_NAMES: [&str; 16] = [
-    "r0", "r1", "r2", "r3", "r4", "r5", "r6", "r7", "r8", "r9", "r10", "r11", "r12", "r13", "r14",
-    "r15",
-];
 
 /// The number of a line, counted from 1.
 #[derive(Clone, Copy, PartialEq, Eq)]
@@ -73,16 +71,22 @@ struct Name {
 
 impl Name {
     /// The name that a word is, if it is one.
-    fn new(word: &str) -> Option<Name> {
-        let named = word.starts_with(|c: char| c.is_ascii_lowercase())
-            && word
-                .bytes()
-                .all(|b| b.is_ascii_lowercase() || b.is_ascii_digit());
-        if !named || word.len() > MOST_LETTERS {
+    fn new(word: &str) -> Option<Name>
+        ensures found { IfSome result (λ name. IsName word.now × (name.letters ≡ padded word.now)) }
+        ensures none { IfNone result (¬ IsName word.now) }
+    {
+        let bytes = word.as_bytes();
+        let [first, ..] = *bytes else {
+            return None;
+        };
+        let named = bytes
+            .iter()
+            .all(|b| b.is_ascii_lowercase() || b.is_ascii_digit());
+        if !first.is_ascii_lowercase() || !named || bytes.len() > MOST_LETTERS {
             return None;
         }
         let mut letters = [0; MOST_LETTERS];
-        letters[..word.len()].copy_from_slice(word.as_bytes());
+        letters[..bytes.len()].copy_from_slice(bytes);
         Some(Name { letters })
     }
 }
@@ -110,12 +114,23 @@ struct Label {
     place: usize,
 }
 
-fn parse_register(word: &str) -> Option<Register> {
-    let number = REGISTER_NAMES.iter().position(|name| *name == word)?;
-    Register::new(number as u8)
+/// The register that a word names.
+fn parse_register(word: &str) -> Option<Register>
+    ensures found { IfSome result (λ r. word.now ≡ register_word r) }
+    ensures none { IfNone result ((r : ℕ) → r < 16 → word.now ≢ register_word r) }
+{
+    match *word.as_bytes() {
+        [b'r', digit @ b'0'..=b'9'] => Register::new(digit - b'0'),
+        [b'r', b'1', digit @ b'0'..=b'5'] => Register::new(10 + (digit - b'0')),
+        _ => None,
+    }
 }
 
-fn parse_width(word: &str) -> Option<Width> {
+/// The width that a word is the number of.
+fn parse_width(word: &str) -> Option<Width>
+    ensures found { IfSome result (λ w. IsWidthWord word.now w) }
+    ensures none { IfNone result ((w : Width) → ¬ IsWidthWord word.now w) }
+{
     match parse_number(word)? {
         1 => Some(Width::One),
         2 => Some(Width::Two),
@@ -125,7 +140,10 @@ fn parse_width(word: &str) -> Option<Width> {
     }
 }
 
-fn parse_operation(word: &str) -> Option<Operation> {
+fn parse_operation(word: &str) -> Option<Operation>
+    ensures found { IfSome result (λ o. word.now ≡ operation_word o) }
+    ensures none { IfNone result ((o : Operation) → word.now ≢ operation_word o) }
+{
     match word {
         "add" => Some(Operation::Add),
         "sub" => Some(Operation::Sub),
@@ -134,8 +152,40 @@ fn parse_operation(word: &str) -> Option<Operation> {
     }
 }
 
-/// The instruction of a line that names no label, where its words are one.
-fn parse_instruction(words: &[&str]) -> Option<Instruction>
+/// The instruction of a line that calls the memory, where its words are one.
+fn parse_call(words: &[&str]) -> Option<Instruction>
+    ensures { IfSome result (λ i. is_jump i ≡ false) }
+{
+    Some(match *words {
+        ["load", width, to, addr] => Instruction::Load {
+            width: parse_width(width)?,
+            to: parse_register(to)?,
+            addr: parse_register(addr)?,
+        },
+        ["store", width, addr, from] => Instruction::Store {
+            width: parse_width(width)?,
+            addr: parse_register(addr)?,
+            from: parse_register(from)?,
+        },
+        ["count", to, count] => Instruction::Count {
+            to: parse_register(to)?,
+            count: parse_register(count)?,
+        },
+        ["advance", count] => Instruction::Advance {
+            count: parse_register(count)?,
+        },
+        ["await", to, count, least] => Instruction::Await {
+            to: parse_register(to)?,
+            count: parse_register(count)?,
+            least: parse_register(least)?,
+        },
+        _ => return None,
+    })
+}
+
+/// The instruction of a line that neither calls the memory nor names a label, where its words are
+/// one.
+fn parse_local(words: &[&str]) -> Option<Instruction>
     ensures { IfSome result (λ i. is_jump i ≡ false) }
 {
     Some(match *words {
@@ -145,16 +195,6 @@ fn parse_instruction(words: &[&str]) -> Option<Instruction>
         },
         ["mov", to, from] => Instruction::Move {
             to: parse_register(to)?,
-            from: parse_register(from)?,
-        },
-        ["load", width, to, addr] => Instruction::Load {
-            width: parse_width(width)?,
-            to: parse_register(to)?,
-            addr: parse_register(addr)?,
-        },
-        ["store", width, addr, from] => Instruction::Store {
-            width: parse_width(width)?,
-            addr: parse_register(addr)?,
             from: parse_register(from)?,
         },
         ["status", to] => Instruction::Status {
@@ -183,7 +223,10 @@ fn parse_action(words: &[&str]) -> Option<Action>
         ["jumpz", from, label] => {
             Some(Action::JumpIfZero(parse_register(from)?, Name::new(label)?))
         }
-        _ => Some(Action::Plain(parse_instruction(words)?)),
+        ["load" | "store" | "count" | "advance" | "await", ..] => {
+            Some(Action::Plain(parse_call(words)?))
+        }
+        _ => Some(Action::Plain(parse_local(words)?)),
     }
 }
 

@@ -1,7 +1,8 @@
 //! The words of a line of text, and the numbers among them.
-ghost use Rattle.std.specs.Prelude.{◌≡◌, ◌<◌, length, All, IfOk, IfSome, IfNone};
+ghost use Rattle.std.specs.Prelude.{◌≡◌, IfOk, IfSome, IfNone, map};
 ghost use Rattle.std.specs.Str.Parse.{digits_value};
 ghost use Rattle.ivy_program.specs.Numbers.{IsNumber};
+ghost use Rattle.ivy_program.specs.Words.{words_of, without_comment, without_end};
 
 use std::alloc::{AllocError, Allocator};
 
@@ -20,7 +21,9 @@ pub fn parse_number(word: &str) -> Option<u64>
 }
 
 /// A line without its end: an LF, and one CR before it.
-fn without_end(line: &str) -> &str {
+fn without_end(line: &str) -> &str
+    ensures { result.now ≡ without_end line.now }
+{
     match line.strip_suffix('\n') {
         Some(line) => line.strip_suffix('\r').unwrap_or(line),
         None => line,
@@ -28,7 +31,9 @@ fn without_end(line: &str) -> &str {
 }
 
 /// A line without its comment.
-fn without_comment(line: &str) -> &str {
+fn without_comment(line: &str) -> &str
+    ensures { result.now ≡ without_comment line.now }
+{
     match line.split_once('#') {
         Some((before, _comment)) => before,
         None => line,
@@ -40,7 +45,7 @@ fn without_comment(line: &str) -> &str {
 /// The line's end, an LF and one CR before it, is no part of a word, and a `#` starts a comment to the
 /// end of the line. Err only where the allocator has no memory.
 pub fn words_of<A: Allocator>(alloc: A, line: &str) -> Result<Vec<&str, A>, AllocError>
-    ensures not_empty { IfOk result (λ words. All (λ word. 0 < length word.now) words.items) }
+    ensures { IfOk result (λ words. map (λ word. word.now) words.items ≡ words_of line.now) }
 {
     without_comment(without_end(line))
         .split([' ', '\t'])

@@ -5,7 +5,7 @@ use Rattle.ivy_wire.specs.declared.Content.TheVariants as content
 use Rattle.ivy_pagetable.specs.declared.Entry.TheVariants as entry
 use Rattle.ivy_pagetable.specs.Manager.{Ops}
 use Rattle.ivy_pagetable.specs.Accesses.{reads}
-use Rattle.ivy_coherence.specs.Serving.{parcel_to}
+use Rattle.ivy_serving.specs.Serving.{parcel_to}
 use Rattle.ivy_coherence.specs.Faults.{waiting_from}
 use Rattle.ivy_order.specs.Letters.{Net, goes_on}
 use Rattle.ivy_order.specs.Rows.{IsHop, IsKept, told}

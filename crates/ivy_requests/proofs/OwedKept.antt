@@ -17,8 +17,7 @@ use Rattle.ivy_pagetable.specs.States.{IdleState, WaitingState, AwaitAcksState}
 use Rattle.ivy_pagetable.specs.Accesses.{reads}
 use Rattle.ivy_pagetable.specs.Entries.{put_offs, can_put_off, with_put_off, without, copying, owning, sharing}
 use Rattle.ivy_pagetable.specs.Manager.{Ops}
-use Rattle.ivy_coherence.specs.Serving.{parcel_to}
-use Rattle.ivy_coherence.specs.Steps.{invalidations}
+use Rattle.ivy_serving.specs.Serving.{parcel_to, invalidations}
 use Rattle.ivy_coherence.specs.Faults.{waiting_from}
 use Rattle.ivy_order.specs.Letters.{Letter, Net, content_of, letter_of, goes_on}
 use Rattle.ivy_order.specs.Orderly.{Key, Order, key_of, IsOrderly}

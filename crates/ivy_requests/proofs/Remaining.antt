@@ -12,8 +12,7 @@ use Rattle.ivy_pagetable.specs.declared.Entry.{Entry}
 use Rattle.ivy_pagetable.specs.declared.PutOff.{PutOff}
 use Rattle.ivy_pagetable.specs.NodeSets.{Nodes, nodes_of}
 use Rattle.ivy_pagetable.specs.Entries.{put_offs}
-use Rattle.ivy_coherence.specs.Serving.{parcel_to}
-use Rattle.ivy_coherence.specs.Steps.{invalidations}
+use Rattle.ivy_serving.specs.Serving.{parcel_to, invalidations}
 use Rattle.ivy_order.specs.Letters.{Letter, Net, Place, Underway, Aside, Loose, letter_of, IsAt, goes_on, installs}
 use Rattle.ivy_order.specs.Orderly.{Key, Order, key_of}
 use Rattle.ivy_order.specs.Rows.{letter, AreAlike, taken}

@@ -17,8 +17,7 @@ use Rattle.ivy_pagetable.specs.NodeSets.{Nodes, bits_of, nodes_with}
 use Rattle.ivy_pagetable.specs.States.{IdleState, WaitingState}
 use Rattle.ivy_pagetable.specs.Accesses.{reads}
 use Rattle.ivy_pagetable.specs.Entries.{put_offs, is_owner, can_put_off, with_put_off, without, copying, owning, sharing}
-use Rattle.ivy_coherence.specs.Serving.{parcel_to}
-use Rattle.ivy_coherence.specs.Steps.{invalidations}
+use Rattle.ivy_serving.specs.Serving.{parcel_to, invalidations}
 use Rattle.ivy_coherence.specs.Faults.{waiting_from}
 use Rattle.ivy_coherence.proofs.Keeping.{owner_put}
 use Rattle.ivy_dynamic.specs.Dynamic.{Hints, hint_of, hinted, dynamic_ops}

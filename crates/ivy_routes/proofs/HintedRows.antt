@@ -8,7 +8,7 @@ use Rattle.ivy_pagetable.specs.declared.Entry.{Entry}
 use Rattle.ivy_pagetable.specs.declared.Entry.TheVariants as entry
 use Rattle.ivy_pagetable.specs.States.{IdleState}
 use Rattle.ivy_pagetable.specs.Entries.{is_owner, without}
-use Rattle.ivy_coherence.specs.Serving.{parcel_to}
+use Rattle.ivy_serving.specs.Serving.{parcel_to}
 use Rattle.ivy_dynamic.specs.Dynamic.{Hints, hint_of, hinted, dynamic_ops}
 use Rattle.ivy_order.specs.Letters.{Letter, Net, Place, Underway, Loose, IsAt, goes_on}
 use Rattle.ivy_order.specs.Orderly.{AwaitsPage, Own, key_as, IsExpectedAs, IsOrderly}

@@ -12,7 +12,7 @@ use Rattle.ivy_pagetable.specs.declared.Entry.TheVariants as entry
 use Rattle.ivy_pagetable.specs.declared.PutOff.{PutOff}
 use Rattle.ivy_pagetable.specs.NodeSets.{Nodes, bits_of, nodes_with}
 use Rattle.ivy_pagetable.specs.Entries.{put_offs, without, copying, owning, sharing, can_put_off, with_put_off}
-use Rattle.ivy_coherence.specs.Steps.{invalidations}
+use Rattle.ivy_serving.specs.Serving.{invalidations, parcel_to}
 use Rattle.ivy_pagetable.specs.States.{AwaitWriteState, AwaitAcksState}
 use Rattle.ivy_coherence.specs.Faults.{waiting_from}
 use Rattle.ivy_fixed.specs.Fixed.{Owners, owner_kept, hop_of, fixed_ops}
@@ -33,7 +33,6 @@ use Rattle.ivy_requests.proofs.NoBreach.{no_breach}
 use Rattle.ivy_routes.proofs.Managed.{calm_managed}
 use Rattle.ivy_routes.proofs.Sent.{sent_on_read, sent_on_write, given, began_to_read, began_to_write}
 use Rattle.ivy_wire.specs.Data.{Content}
-use Rattle.ivy_coherence.specs.Serving.{parcel_to}
 use Rattle.ivy_requests.specs.Descending.{IsAsked}
 use Rattle.ivy_requests.proofs.Asked.{AreStill, asked_remains, only_still, none_gone, part_readers}
 use Rattle.ivy_requests.proofs.Remaining.{IsThere, IsOnly, StaysPutOff, still_counted, served_remain, begun_remain, freed_remain, alike_counted, alike_remain, installed_remain, taken_counted, taken_remain}

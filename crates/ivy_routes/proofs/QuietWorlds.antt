@@ -1,5 +1,5 @@
--- In each world that moves lead to from an opening, no node has met a message that fits no rule: under managing nodes,
--- and under hints. For programs that read and write.
+-- In each world that moves lead to from an opening, no node has met a message that fits no rule, where requests are
+-- routed so that each row keeps it. For programs that read and write.
 use Rattle.std.proofs.Common.{◌≡◌, ◌<◌, ℕ, List, [], length, slice_get, Some, sym, ap, ◌∙◌, inl, inr, arith}
 use Rattle.std.proofs.lemmas.List.{get_or-replicate}
 use Rattle.std.proofs.lemmas.Option.{slice_get_cases}
@@ -8,10 +8,6 @@ use Rattle.ivy_model.specs.Config.{IsConfig}
 use Rattle.ivy_pagetable.specs.Entries.{nothing, owned}
 use Rattle.ivy_pagetable.specs.Tables.{entry_at, first_entry}
 use Rattle.ivy_pagetable.specs.Manager.{Ops, Laws}
-use Rattle.ivy_fixed.specs.Fixed.{Owners, fixed_ops}
-use Rattle.ivy_fixed.specs.FixedLaws.{fixed_laws}
-use Rattle.ivy_dynamic.specs.Dynamic.{Hints, dynamic_ops}
-use Rattle.ivy_dynamic.specs.DynamicLaws.{dynamic_laws}
 use Rattle.ivy_program.specs.declared.Instruction.{Instruction}
 use Rattle.ivy_ether.specs.declared.moves.Move.{Move}
 use Rattle.ivy_ether.specs.Ordered.{Ordered}
@@ -28,12 +24,6 @@ use Rattle.ivy_worlds.proofs.LiftedWorlds.{entry_of, breaches_of, manager_of, ne
 use Rattle.ivy_worlds.proofs.LiftedRuns.{Holds}
 use Rattle.ivy_order.proofs.Opening.{IsFirst, orderly_opening}
 use Rattle.ivy_worlds.proofs.Worlds.{first_net, opening-led}
-use Rattle.ivy_requests.specs.Managing.{IsManaged}
-use Rattle.ivy_requests.specs.Hinting.{IsHinted}
-use Rattle.ivy_routes.proofs.FirstManaged.{managed_opening}
-use Rattle.ivy_routes.proofs.FirstHinted.{first_hinted}
-use Rattle.ivy_routes.proofs.Kept.{quiet-kept}
-use Rattle.ivy_routes.proofs.HintedKept.{hinted-kept}
 
 -- orderly, with the managers' requests where they look for them, and no message was a breach
 abbrev pub IsQuiet : {S : Type 0} → ((ℕ → S) → Net → Type 0) → Config → (ℕ → S) → Net → (ℕ → List ℕ) → Type 0
@@ -89,12 +79,3 @@ module _ {S : Type 0} {ops : Ops S} (laws : Laws ops) (c : Config) (limits : IsC
   quiet_no_breach moves w led i n there =
       let h = quiet-led moves w led in
       ap breaches_of (sym (core_there w.nodes i n there)) ∙ h.holds.1.1.2 i
-
-module _ (c : Config) (limits : IsConfig c) where
-  pub no_breach_led : (spare : Owners) (programs : List (List Instruction)) → length programs ≡ c.nodes
-      → (moves : List Move) (w : World (Host Owners)) → Leads (host_rules fixed_ops) c (opening fixed_ops c programs) moves w → HasNoBreach w
-  no_breach_led = quiet_no_breach fixed_laws c limits (IsManaged c) (quiet-kept c limits) (λ m n first owner managers. managed_opening c limits m n first owner managers)
-
-  pub hinted_no_breach_led : (spare : Hints) (programs : List (List Instruction)) → length programs ≡ c.nodes
-      → (moves : List Move) (w : World (Host Hints)) → Leads (host_rules dynamic_ops) c (opening dynamic_ops c programs) moves w → HasNoBreach w
-  hinted_no_breach_led = quiet_no_breach dynamic_laws c limits (IsHinted c) (hinted-kept c limits) (λ m n first owner managers. first_hinted c m n first owner managers)

@@ -10,7 +10,7 @@ use Rattle.ivy_pagetable.specs.declared.Word.{Word}
 use Rattle.ivy_pagetable.specs.States.{IdleState}
 use Rattle.ivy_pagetable.specs.Entries.{without}
 use Rattle.ivy_pagetable.specs.Accesses.{reads}
-use Rattle.ivy_coherence.specs.Serving.{parcel_to}
+use Rattle.ivy_serving.specs.Serving.{parcel_to}
 use Rattle.ivy_coherence.specs.Faults.{waiting_from}
 use Rattle.ivy_fixed.specs.Fixed.{Owners, owner_kept, hop_of, fixed_ops}
 use Rattle.ivy_fixed.specs.FixedLaws.{fixed_laws}

@@ -23,6 +23,3 @@ pub use page::Page;
 pub use parcel::{Parcel, Post};
 pub use reading::{decode, read};
 pub use writing::encode;
-
-#[cfg(test)]
-mod tests;

@@ -16,7 +16,7 @@ use Rattle.ivy_coherence.specs.Steps.{handled}
 use Rattle.ivy_coherence.specs.Faults.{Begun, begun}
 use Rattle.ivy_program.specs.States.{State}
 use Rattle.ivy_program.specs.Steps.{Step, Local, Asks, Ends, step_of, at_state}
-use Rattle.ivy_program.proofs.Running.{only_accesses}
+use Rattle.ivy_program.proofs.Running.{only_words}
 use Rattle.ivy_ether.specs.Cores.{Outcome}
 use Rattle.ivy_ether.specs.Ordered.{Ordered, Turns, Delivers, Steps, rests, turns, delivers}
 use Rattle.ivy_memory.specs.declared.Answer.{Answer}
@@ -84,7 +84,7 @@ module _ {S : Type 0} (ops : Ops S) (c : Config) (x : ℕ) (h : Host S) (good : 
       either false few is = absurd (none-some out is)
       either true few is =
           kind-cases called (asked_of h.memory.coherence.config called) idle step refl
-          (can_ask h.memory.coherence.config called good.memory.coherent.limits (only_accesses h.process.program h.process.state called step).1)
+          (can_ask h.memory.coherence.config called good.memory.coherent.limits (only_words h.process.program h.process.state called step).1)
           (ltb-true (number_of h) (2 ^ 64) few) (ap (begins_as h called) (sym (begun_kind ops h.memory called (number_of h))) ∙ is)
 
   steps-cases : (s : Step) → h.memory.asked ≡ None → step_of h.process ≡ s → steps ops h s ≡ Some out → HostTurn ops c h out

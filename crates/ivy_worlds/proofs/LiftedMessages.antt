@@ -24,12 +24,13 @@ use Rattle.ivy_pagetable.specs.Manager.{Ops, Laws}
 use Rattle.ivy_pagetable.proofs.Bits.{with_below}
 use Rattle.ivy_pagetable.proofs.Words.{length-carried_out}
 use Rattle.ivy_coherence.specs.Coherent.{Coherent}
-use Rattle.ivy_coherence.specs.Serving.{Serving, serving, settled}
+use Rattle.ivy_serving.specs.Serving.{Serving, serving, settled}
 use Rattle.ivy_coherence.specs.Serving as served
 use Rattle.ivy_coherence.specs.Steps.{Effect, is_none, breach, unlocked, put_aside, asked, copy_came, owned_with, page_came, left_with, acknowledged, handled, handled_as}
 use Rattle.ivy_coherence.specs.Faults.{suffices}
-use Rattle.ivy_coherence.specs.Sound.{CanBeServed, IsSoundEntry, IsSound}
-use Rattle.ivy_coherence.proofs.IdleServing.{IsServing}
+use Rattle.ivy_serving.specs.Sound.{CanBeServed}
+use Rattle.ivy_coherence.specs.Sound.{IsSoundEntry, IsSound}
+use Rattle.ivy_serving.proofs.IdleServing.{IsServing}
 use Rattle.ivy_coherence.proofs.Changing.{entry_with, page_with, place}
 use Rattle.ivy_coherence.proofs.Keeping.{entry_is, idle-start, copy-start, page-start, last-start}
 use Rattle.ivy_order.specs.Letters.{Letter, Net, content_of, letter_of}

@@ -6,7 +6,7 @@ use Rattle.std.proofs.lemmas.List.{append-nil}
 use Rattle.ivy_wire.specs.Data.{Message, Parcel}
 use Rattle.ivy_link.specs.Paired.{posted, extended}
 use Rattle.ivy_pagetable.specs.declared.Entry.{Entry}
-use Rattle.ivy_coherence.specs.Serving.{counted}
+use Rattle.ivy_serving.specs.Serving.{counted}
 use Rattle.ivy_order.specs.Letters.{Letter, Net, written, goes_on, installs}
 use Rattle.ivy_order.specs.Rows.{told, dropped, AreAlike}
 

@@ -9,9 +9,9 @@ use Rattle.ivy_pagetable.specs.declared.Request.{Request}
 use Rattle.ivy_pagetable.specs.declared.Request.TheVariants as request
 use Rattle.ivy_pagetable.specs.Entries.{is_owner}
 use Rattle.ivy_pagetable.specs.Manager.{Ops, Laws}
-use Rattle.ivy_coherence.specs.Serving.{Serving, served, served_by_owner, served_by_other, all_served}
-use Rattle.ivy_coherence.specs.Sound.{CanBeServed}
-use Rattle.ivy_coherence.proofs.IdleServing.{IsServing, IsPlace, all_one, all_head, all_tail, all_served-keeps}
+use Rattle.ivy_serving.specs.Serving.{Serving, served, served_by_owner, served_by_other, all_served}
+use Rattle.ivy_serving.specs.Sound.{CanBeServed}
+use Rattle.ivy_serving.proofs.IdleServing.{IsServing, IsPlace, all_one, all_head, all_tail, all_served-keeps}
 use Rattle.ivy_order.specs.Letters.{Letter, Net, content_of, letter_of}
 use Rattle.ivy_order.specs.Rows.{letter, IsKept}
 use Rattle.ivy_worlds.proofs.LiftedNets.{Stands, written-here}

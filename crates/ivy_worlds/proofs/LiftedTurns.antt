@@ -16,7 +16,8 @@ use Rattle.ivy_pagetable.specs.Words.{IsWord, needs_write, carried_out}
 use Rattle.ivy_pagetable.specs.Manager.{Ops}
 use Rattle.ivy_coherence.specs.Coherent.{Coherent}
 use Rattle.ivy_coherence.specs.Faults.{Begun, hit, faulted, busy, accessed, begun_at, begun, suffices}
-use Rattle.ivy_coherence.specs.Sound.{IsSoundIdle, IsSound}
+use Rattle.ivy_serving.specs.Sound.{IsSoundIdle}
+use Rattle.ivy_coherence.specs.Sound.{IsSound}
 use Rattle.ivy_coherence.proofs.Changing.{entry_with, page_with}
 use Rattle.ivy_coherence.proofs.Keeping.{entry_is}
 use Rattle.ivy_order.specs.Letters.{Net, written}

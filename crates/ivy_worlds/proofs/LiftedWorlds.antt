@@ -8,7 +8,7 @@ use Rattle.ivy_wire.specs.Data.{Message, Parcel}
 use Rattle.ivy_wire.specs.Spelling.{FitsMessage, FitsParcel}
 use Rattle.ivy_link.specs.Paired.{posted, extended}
 use Rattle.ivy_pagetable.specs.Manager.{Ops}
-use Rattle.ivy_coherence.proofs.IdleServing.{all_head, all_tail}
+use Rattle.ivy_serving.proofs.IdleServing.{all_head, all_tail}
 use Rattle.ivy_ether.specs.Ordered.{Ordered, Steps, rests, turns, delivers}
 use Rattle.ivy_ether.specs.Following.{IsTame}
 use Rattle.ivy_host.specs.Hosts.{Host, host_rules}

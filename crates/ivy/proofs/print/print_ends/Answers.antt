@@ -1,7 +1,9 @@
 use Rattle.std.proofs.Common.{arith}
 use Rattle.ivy_program.specs.Steps.{step_of}
-use Rattle.ivy.specs.Nodes.{end_line, has_ended}
-use Rattle.ivy.proofs.Printing.{numbered-next, told-end, appends-more}
+use Rattle.ivy_texts.specs.Lines.{end_line}
+use Rattle.ivy.specs.Nodes.{has_ended}
+use Rattle.ivy_texts.proofs.Printing.{appends-more}
+use Rattle.ivy.proofs.Printing.{numbered-next, told-end}
 use Rattle.ivy.proofs.print.print_ends.Goals as goal
 
 pub loop-node-preserved : goal.loop-node-preserved

@@ -1,6 +1,7 @@
 use Rattle.std.proofs.Common.{flat_map, arith}
-use Rattle.ivy.specs.Nodes.{value_line}
-use Rattle.ivy.proofs.Printing.{numbered-next, appends-more}
+use Rattle.ivy_texts.specs.Lines.{value_line}
+use Rattle.ivy_texts.proofs.Printing.{appends-more}
+use Rattle.ivy.proofs.Printing.{numbered-next}
 use Rattle.ivy.proofs.print.print_outputs.Goals as goal
 
 pub loop-node-preserved : goal.loop-node-preserved

@@ -1,9 +1,9 @@
 use Rattle.std.proofs.Common.{◌≡◌, ◌+◌, ◌≤◌, All, List, ℕ, [], ◌∷◌, length, subst, sym, ◌∙◌, refl, arith}
 use Rattle.ivy_host.specs.Holding.{AllSpell}
 use Rattle.ivy_node.specs.Runs.{IsLedTo}
-use Rattle.ivy.specs.Drawn.{drawn}
+use Rattle.ivy_texts.specs.Drawn.{drawn}
 use Rattle.ivy.specs.Simulated.{DrawnTo, seeded}
-use Rattle.ivy.proofs.Drawing.{long_strings}
+use Rattle.ivy_texts.proofs.Drawing.{long_strings}
 use Rattle.ivy.proofs.Simulating.{drawn-on}
 use Rattle.ivy.proofs.simulation.run_drawn.Goals as goal
 
@@ -19,7 +19,6 @@ loop-made-preserved g c =
     let led : IsLedTo c.args.config.now c.loop-made.world.world (c.draw-step.result ∷ []) c.make.new.world.world =
     subst (λ k. IsLedTo k c.loop-made.world.world (c.draw-step.result ∷ []) c.make.new.world.world) c.loop-made.invariant.config c.in_ok-make.ensures.made in
     record {
-      under_way = c.in_ok-make.ensures.under_way;
       config = c.make.ensures.config ∙ c.loop-made.invariant.config;
       spelled = c.make.ensures.spelled;
       drawn = drawn-on c.args.config.now (seeded c.args.seed) c.loop-made.generator c.draw-step.new.generator c.args.world.now.world c.loop-made.world.world c.make.new.world.world c.loop-made._made c.draw-step.result c.loop-made.invariant.drawn draws led;

@@ -1,13 +1,11 @@
 use Rattle.std.proofs.Common.{◌≡◌}
 use Rattle.ivy_host.specs.Holding.{AllSpell}
 use Rattle.ivy.specs.Simulated.{seeded}
-use Rattle.ivy.specs.UnderWay.{IsUnderWay}
 use Rattle.ivy.proofs.Simulating.{IsDrawnSince}
 use Rattle.ivy.proofs.simulation.run_drawn.Given as goal
 
 abbrev pub invariant-loop-made : goal.invariant-loop-made
 invariant-loop-made g l = record {
-  under_way : IsUnderWay l.world;
   config : l.world.config ≡ l.config;
   spelled : AllSpell l.world.config l.world.world;
   drawn : IsDrawnSince l.config (seeded l.seed) l.initial.world.world l._made l.generator l.world.world;

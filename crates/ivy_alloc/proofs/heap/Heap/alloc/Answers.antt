@@ -1,10 +1,14 @@
-use Rattle.std.proofs.Common.{ap, refl, arith}
+use Rattle.std.proofs.Common.{ap, refl, sym, inr, ◌∙◌, arith}
 use Rattle.std.proofs.lemmas.Result.{err_from_is_err_and}
 use Rattle.ivy_model.specs.Serves.{rounded}
 use Rattle.ivy_model.proofs.Blocks.{block_added}
+use Rattle.std.specs.FinMap.{insert, from_entries}
+use Rattle.ivy_model.specs.declared.call.Reply.TheVariants.{Value}
+use Rattle.ivy_alloc.specs.Told.{gives}
+use Rattle.ivy_alloc.proofs.Answered.{told_empty, told_full, told_found}
 use Rattle.ivy_alloc.proofs.Limits.{grown, rounded_some}
 use Rattle.ivy_alloc.proofs.Room.{least_room, no_room}
-use Rattle.ivy_alloc.proofs.Tied.{room_fresh, tied_taken}
+use Rattle.ivy_alloc.proofs.Tied.{fresh_room, tied_taken}
 use Rattle.ivy_alloc.proofs.heap.Heap.alloc.Goals as goal
 
 pub returns-in_default-clause-full : goal.returns-in_default-clause-full
@@ -56,11 +60,6 @@ returns-clause-found g c =
     let found = least_room s.config s.extents.items _ n c.in-Some.place x c.self.invariant.0 some (rw c.deref.ensures.value at c.in-Some.ensures.found) in
     rw (← c.self.view_is, ap (λ z. z.start) c.index.ensures) found
 
-pub returns-clause-taken : goal.returns-clause-taken
-returns-clause-taken g c =
-    let s = c.self.inside in
-    rw (← c.self.view_is) (ap (λ b. record { config = s.config; blocks = b }) (block_added s.blocks.entries c.insert.new.self.entries c.index.result.now.start (rounded c.args.size) c.in_ok-insert.ensures.updates.0))
-
 pub returns-clause-full : goal.returns-clause-full
 returns-clause-full g c =
     let s = c.self.inside in
@@ -69,11 +68,44 @@ returns-clause-full g c =
     let found = least_room s.config s.extents.items _ (rounded c.args.size) c.in-Some.place x c.self.invariant.0 some (rw c.deref.ensures.value at c.in-Some.ensures.found) in
     rw (← c.self.view_is) (λ e. absurd (cc e), λ none. absurd (none.1 _ found.holds))
 
-pub returns-clause-fresh : goal.returns-clause-fresh
-returns-clause-fresh g c =
+pub returns-clause-added : goal.returns-clause-added
+returns-clause-added g c =
     let s = c.self.inside in
     let x = c.index.result.now in
     let n = rounded c.args.size in
     let some = rounded_some c.args.size c.if-size-eq0.false in
     let found = least_room s.config s.extents.items _ n c.in-Some.place x c.self.invariant.0 some (rw c.deref.ensures.value at c.in-Some.ensures.found) in
-    rw (← c.self.view_is, ap (λ z. z.start) c.index.ensures) (room_fresh s.config s.extents.items _ n _ c.self.invariant.0 some found.holds)
+    let after = block_added s.blocks.entries c.insert.new.self.entries x.start n c.in_ok-insert.ensures.updates.0 in
+    let fresh = fresh_room s.config _ n _ c.self.invariant.0.apart some found.holds in
+    rw (← c.self.view_is) (record {
+      fresh = rw (ap (λ z. z.start) c.index.ensures) fresh;
+      added = ap (λ b. record { config = s.config; blocks = b }) after;
+    })
+
+pub returns-then-size-eq0-clause-told : goal.returns-then-size-eq0-clause-told
+returns-then-size-eq0-clause-told g c = inr (told_empty c.args.self.now.config c.args.self.now.blocks c.args.size c.if-size-eq0.true)
+
+pub returns-then-size-heap_end-clause-told : goal.returns-then-size-heap_end-clause-told
+returns-then-size-heap_end-clause-told g c =
+    rw (← c.self.view_is) (inr (told_full c.self.inside.config _ c.args.size c.if-size-eq0.false
+    (λ addr room. let below = room.below in omega (arith, c.heap_end.ensures, c.if-size-heap_end.true))))
+
+pub returns-in_default-clause-told : goal.returns-in_default-clause-told
+returns-in_default-clause-told g c =
+    let s = c.self.inside in
+    let some = rounded_some c.args.size c.if-size-eq0.false in
+    let none = no_room s.config s.extents.items _ (rounded c.args.size) (record { start = 0; len = 0 }) c.self.invariant.0 some (rw c.deref.ensures.value at c.in_default.ensures.none) in
+    rw (← c.self.view_is) (inr (told_full s.config _ c.args.size c.if-size-eq0.false none))
+
+pub returns-clause-told : goal.returns-clause-told
+returns-clause-told g c =
+    let s = c.self.inside in
+    let x = c.index.result.now in
+    let n = rounded c.args.size in
+    let some = rounded_some c.args.size c.if-size-eq0.false in
+    let found = least_room s.config s.extents.items _ n c.in-Some.place x c.self.invariant.0 some (rw c.deref.ensures.value at c.in-Some.ensures.found) in
+    let after = block_added s.blocks.entries c.insert.new.self.entries x.start n c.in_ok-insert.ensures.updates.0 in
+    let told = told_found s.config _ c.args.size _ c.if-size-eq0.false found in
+    rw (← c.self.view_is) (inr (told
+    ∙ ap (λ a. gives (Value a) (insert (from_entries s.blocks.entries) a n)) (ap (λ z. z.start) (sym c.index.ensures))
+    ∙ ap (gives (Value x.start)) (sym after)))

@@ -1,5 +1,10 @@
 use Rattle.std.proofs.Common.{ap, sym, refl, ◌∙◌, arith}
 use Rattle.ivy_model.proofs.Blocks.{get_block, block_removed}
+use Rattle.ivy_model.specs.declared.call.Reply.TheVariants.{Done, Refused}
+use Rattle.std.specs.FinMap.{from_entries}
+use Rattle.ivy_alloc.specs.Told.{gives}
+use Rattle.ivy_alloc.proofs.Answered.{told_freed, told_not_freed}
+use Rattle.ivy_alloc.proofs.Changed.{not_added, added_back}
 use Rattle.ivy_alloc.proofs.Limits.{heap_small}
 use Rattle.ivy_alloc.proofs.Tied.{block_extent, block_not_free, tied_given}
 use Rattle.ivy_alloc.proofs.heap.Heap.free.Goals as goal
@@ -36,3 +41,30 @@ pub returns-clause-ended : goal.returns-clause-ended
 returns-clause-ended g c =
     let s = c.self.inside in
     rw (← c.self.view_is) (ap (λ b. record { config = s.config; blocks = b }) (block_removed s.blocks.entries c.remove.new.self.entries c.args.addr c.remove.ensures.updates.0))
+
+pub returns-in_default-clause-told : goal.returns-in_default-clause-told
+returns-in_default-clause-told g c =
+    let s = c.self.inside in
+    let none = get_block s.blocks.entries c.args.addr ∙ sym c.in_default.ensures.value in
+    let same = sym c.in_default.ensures.unchanged in
+    rw (← c.self.view_is) (told_not_freed _ c.args.addr none ∙ ap (λ es. gives (Refused 10) (from_entries es)) same)
+
+pub returns-in_default-clause-taken_back : goal.returns-in_default-clause-taken_back
+returns-in_default-clause-taken_back g c =
+    let s = c.self.inside in
+    let none = get_block s.blocks.entries c.args.addr ∙ sym c.in_default.ensures.value in
+    rw (← c.self.view_is) (λ before size adds. absurd (not_added before _ c.args.addr size none adds))
+
+pub returns-clause-told : goal.returns-clause-told
+returns-clause-told g c =
+    let s = c.self.inside in
+    let live = get_block s.blocks.entries c.args.addr ∙ sym c.in-Some.ensures.value in
+    let after = block_removed s.blocks.entries c.remove.new.self.entries c.args.addr c.remove.ensures.updates.0 in
+    rw (← c.self.view_is) (told_freed _ c.args.addr _ live ∙ ap (gives Done) (sym after))
+
+pub returns-clause-taken_back : goal.returns-clause-taken_back
+returns-clause-taken_back g c =
+    let s = c.self.inside in
+    let after = block_removed s.blocks.entries c.remove.new.self.entries c.args.addr c.remove.ensures.updates.0 in
+    let ended = ap (λ b. record { config = s.config; blocks = b }) after in
+    rw (← c.self.view_is) (λ before size adds. (refl, added_back before _ _ c.args.addr size ended adds))

@@ -1,4 +1,4 @@
-use Rattle.std.proofs.Common.{◌≡◌, List, ℕ, length, sym, ◌∙◌, ap}
+use Rattle.std.proofs.Common.{◌≡◌, length, ◌∙◌, ap}
 use Rattle.ivy_pagetable.specs.Words.{carried_out}
 use Rattle.ivy_coherence.proofs.Opened.{fits_spare, unlocked_below, unlock_word, unlock_fits, unlock_sound}
 use Rattle.ivy_coherence.proofs.coherence.Coherence.unlock.Goals as goal

@@ -1,4 +1,4 @@
-use Rattle.std.proofs.Common.{◌≡◌, ◌∙◌, sym, ap, ◌<◌, length, List, ℕ}
+use Rattle.std.proofs.Common.{rules, ◌≡◌, ◌∙◌, sym, ap, length}
 use Rattle.ivy_pagetable.specs.Words.{IsWord, carried_out}
 use Rattle.ivy_pagetable.specs.declared.Entry.TheVariants as entry
 use Rattle.ivy_pagetable.specs.Tables.{page_at, with_entry, with_page}
@@ -23,13 +23,20 @@ invariant_of-self g c =
     = restored c.self.inside.table c.carry_out-out.new.self c.carry_out.new.self c.args.page c.number.result c.word-word.result word c.number.ensures.fact inside c.number.ensures.number c.carry_out-out.ensures.bytes (rw (c.width.ensures, c.offset.ensures) at c.carry_out.ensures.bytes) in
     (rw (back, c.in-Err.ensures.err.0, c.in-Err.ensures.err.1) c.self.invariant.0, c.self.invariant.1)
 
-pub returns-in-Err-clause-err : goal.returns-in-Err-clause-err
-returns-in-Err-clause-err g c =
+pub returns-in-Err : goal.returns-in-Err
+returns-in-Err g c =
     let inside = pages_inside _ _ c.self.view_is c.self.invariant.0 c.args.page c.requires.page in
     let word : IsWord (length (page_at c.self.inside.table c.args.page)) c.word-word.result = rw c.word-word.ensures (last_word_at g.met.M.Manager.laws _ _ c.self.view_is c.self.invariant.0 c.args.page c.args.waiting.now c.requires.page c.requires.waits) in
     let back : c.carry_out.new.self ≡ c.self.inside.table
     = restored c.self.inside.table c.carry_out-out.new.self c.carry_out.new.self c.args.page c.number.result c.word-word.result word c.number.ensures.fact inside c.number.ensures.number c.carry_out-out.ensures.bytes (rw (c.width.ensures, c.offset.ensures) at c.carry_out.ensures.bytes) in
-    (rw (back, c.in-Err.ensures.err.0, c.in-Err.ensures.err.1) c.self.view_is, c.in-Err.ensures.err.2)
+    record {
+      ok = search rules;
+      posted = search rules;
+      took = search rules;
+      err = (rw (back, c.in-Err.ensures.err.0, c.in-Err.ensures.err.1) c.self.view_is, c.in-Err.ensures.err.2);
+      fault = search rules;
+      want = search rules;
+    }
 
 pub invariant_of-self-2 : goal.invariant_of-self-2
 invariant_of-self-2 g c =

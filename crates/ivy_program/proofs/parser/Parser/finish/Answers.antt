@@ -1,5 +1,5 @@
 -- A program that is read joins the others; a line at fault leaves them.
-use Rattle.std.proofs.Common.{◌≡◌, ◌∷◌, ◌++◌, [], ◌∙◌, ap}
+use Rattle.std.proofs.Common.{◌∙◌, ap}
 use Rattle.ivy_program.specs.Instructions.{IsProgram}
 use Rattle.ivy_program.proofs.Drafts.{one_more, no_more}
 use Rattle.ivy_program.proofs.parser.Parser.finish.Goals as goal

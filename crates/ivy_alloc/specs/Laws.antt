@@ -1,0 +1,57 @@
+-- What the allocator's answers have to do with the flat memory, and with one another.
+use Rattle.std.specs.Prelude.{◌≡◌, ℕ, ◌+◌, ◌<◌, ◌≤◌, ◌↔◌, ◌⊎◌}
+use Rattle.ivy_model.specs.declared.config.Config.{Config}
+use Rattle.ivy_model.specs.declared.call.Call.{Call}
+use Rattle.ivy_model.specs.declared.call.Call.TheVariants.{Alloc, Free}
+use Rattle.ivy_model.specs.declared.call.Reply.{Reply}
+use Rattle.ivy_model.specs.declared.call.Reply.TheVariants.{Value, Done, Refused}
+use Rattle.ivy_model.specs.declared.fault.Fault.TheVariants.{ZeroSize, NoRoom, NotABlock}
+use Rattle.ivy_model.specs.Config.{heap_end}
+use Rattle.ivy_model.specs.Memory.{Memory, Blocks}
+use Rattle.ivy_model.specs.Numbers.{fault_number}
+use Rattle.ivy_model.specs.Serves.{Serves, rounded}
+use Rattle.ivy_alloc.specs.Tied.{AreBlocks}
+use Rattle.ivy_alloc.specs.Told.{Told, alloc_told, free_told, gives}
+
+-- the flat memory with these live blocks
+abbrev pub with_blocks : Memory → Blocks → Memory
+with_blocks m blocks = record { bytes = m.bytes; counts = m.counts; blocks = blocks }
+
+-- the flat memory answers the call with what is told, and with nothing else
+abbrev pub IsFlat : Config → Call → (Blocks → Told) → Type 0
+IsFlat c call told = (old : Memory) (reply : Reply) (new : Memory)
+    → Serves c old call reply new
+    ↔ ((reply ≡ (told old.blocks).reply) × (new ≡ with_blocks old (told old.blocks).blocks))
+
+abbrev pub HeapIsFlat : Type 0
+HeapIsFlat = (c : Config) (n : ℕ) → IsFlat c (Alloc n) (λ blocks. alloc_told c blocks n)
+    × IsFlat c (Free n) (λ blocks. free_told blocks n)
+
+-- an address at which so many bytes lie in the heap; or the refusal 8 of no bytes, or 9 of some
+abbrev pub IsAllocReply : Config → ℕ → Reply → Type 0
+IsAllocReply c size (Value addr) =
+    (0 < size) × (c.page_size ≤ addr) × (addr + rounded size ≤ heap_end c)
+IsAllocReply c size Done = ⊥
+IsAllocReply c size (Refused code) =
+    ((size ≡ 0) × (code ≡ fault_number ZeroSize)) ⊎ ((0 < size) × (code ≡ fault_number NoRoom))
+
+-- done, or the refusal 10
+abbrev pub IsFreeReply : Reply → Type 0
+IsFreeReply (Value value) = ⊥
+IsFreeReply Done = Unit {0}
+IsFreeReply (Refused code) = code ≡ fault_number NotABlock
+
+abbrev pub HasReplies : Type 0
+HasReplies = (c : Config) (blocks : Blocks) (n : ℕ)
+    → IsAllocReply c n (alloc_told c blocks n).reply × IsFreeReply (free_told blocks n).reply
+
+-- live blocks stay in the heap, and none meets another
+abbrev pub StaysApart : Type 0
+StaysApart = (c : Config) (blocks : Blocks) (n : ℕ) → AreBlocks c blocks
+    → AreBlocks c (alloc_told c blocks n).blocks × AreBlocks c (free_told blocks n).blocks
+
+-- to end the block that was just given brings back the blocks that there were before
+abbrev pub TakesBack : Type 0
+TakesBack = (c : Config) (blocks : Blocks) (size addr : ℕ) → AreBlocks c blocks
+    → (alloc_told c blocks size).reply ≡ Value addr
+    → free_told (alloc_told c blocks size).blocks addr ≡ gives Done blocks

@@ -1,0 +1,18 @@
+//! Tests of calls, bytes, tables, the heap and the program language, by their public calls alone.
+//!
+//! What the contracts say is proved, so these tests hold what no contract says: values of the worked
+//! examples, that a call can succeed, and that a refused growth leaves all as it was.
+#![tactic(auto)]
+
+#[cfg(test)]
+mod alloc;
+#[cfg(test)]
+mod event;
+#[cfg(test)]
+mod model;
+#[cfg(test)]
+mod pagetable;
+#[cfg(test)]
+mod program;
+#[cfg(test)]
+mod wire;

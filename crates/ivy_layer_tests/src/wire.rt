@@ -1,0 +1,406 @@
+//! Frames as strings of bytes: the worked examples, and each fault of a string that spells no frame.
+use ivy_model::{Config, Fault, Kind};
+use ivy_wire::{
+    Bytes, Content, Frame, FrameKind, Message, Page, decode, encode, grammar_is_prefix_free, read,
+};
+use std::alloc::{Allocator, Global};
+use std::process::Abort;
+use std::test::Fail;
+
+/// Two nodes, and two pages of 64 bytes.
+const PAIR: Config = Config {
+    nodes: 2,
+    pages: 2,
+    page_size: 64,
+    manager: Kind::Fixed,
+};
+
+/// A third node.
+const THREE: Config = Config { nodes: 3, ..PAIR };
+
+/// A page of zeros, and one of bytes that are all ones.
+const ZEROS: &[u8] = &[0; 64];
+
+const ONES: &[u8] = &[255; 64];
+
+/// The string that is written as hexadecimal words, and then a page.
+fn string<A: Allocator + Copy>(alloc: A, words: &str, page: &[u8]) -> Result<Vec<u8, A>, Fail> {
+    let mut string = Vec::new(alloc);
+    for word in words.split(' ') {
+        string.extend_from_slice(&hex::decode(alloc, word)?)?;
+    }
+    string.extend_from_slice(page)?;
+    Ok(string)
+}
+
+/// That the words, with the page after them, are read as this frame, and that the frame is spelled so.
+fn spells<A: Allocator + Copy>(
+    rt: &impl Abort,
+    config: &Config,
+    words: &str,
+    page: &[u8],
+    frame: Frame<&[u8]>,
+    alloc: A,
+) -> Result<(), Fail> {
+    let string = string(alloc, words, page)?;
+    config.check()?;
+    assert!(rt; frame.fits(config));
+    assert!(rt; read(config, &string)? == frame);
+    assert!(rt; decode(alloc, config, &string)?.lent() == frame);
+    assert!(rt; encode(alloc, config, &frame)?.as_slice() == string.as_slice());
+    Ok(())
+}
+
+/// A frame with a message: the node it comes from and the one it goes to, its number and
+/// acknowledgement, and the node and the number of the call.
+fn frame<'a>(
+    ends: (u8, u8),
+    numbers: (u64, u64),
+    call: (u8, u64),
+    content: Content<&'a [u8]>,
+) -> Frame<&'a [u8]> {
+    Frame {
+        source: ends.0,
+        dest: ends.1,
+        number: numbers.0,
+        ack: numbers.1,
+        body: Some(Message {
+            origin: call.0,
+            call: call.1,
+            content,
+        }),
+    }
+}
+
+#[test]
+fn first_load(rt: HostRuntime) -> Result<(), Fail> {
+    let alloc = rt.alloc();
+    let words = "495601010100000d 0000000000000001 0000000000000000 01 0000000000000001 00000001";
+    let asks = frame((1, 0), (1, 0), (1, 1), Content::ReadReq { page: 1 });
+    spells(&rt, &PAIR, words, &[], asks, alloc)?;
+    let words = "495601030001004d 0000000000000001 0000000000000000 01 0000000000000001 00000001";
+    let content = Content::ReadRep {
+        page: 1,
+        bytes: ZEROS,
+    };
+    let brings = frame((0, 1), (1, 0), (1, 1), content);
+    spells(&rt, &PAIR, words, ZEROS, brings, alloc)?;
+    let words = "495601010100000d 0000000000000001 0000000000000001 01 0000000000000001 00000001";
+    let asks_again = frame((1, 0), (1, 1), (1, 1), Content::ReadReq { page: 1 });
+    spells(&rt, &PAIR, words, &[], asks_again, alloc)?;
+    let words = "4956010000010000 0000000000000000 0000000000000001";
+    let ack = Frame {
+        source: 0,
+        dest: 1,
+        number: 0,
+        ack: 1,
+        body: None,
+    };
+    spells(&rt, &PAIR, words, &[], ack, alloc)
+}
+
+#[test]
+fn page_to_write(rt: HostRuntime) -> Result<(), Fail> {
+    let alloc = rt.alloc();
+    let words =
+        "495601040002004e 0000000000000001 0000000000000000 02 0000000000000001 00000001 02";
+    let content = Content::WriteRep {
+        page: 1,
+        copies: 2,
+        bytes: ZEROS,
+    };
+    let given = frame((0, 2), (1, 0), (2, 1), content);
+    spells(&rt, &THREE, words, ZEROS, given, alloc)?;
+    let words =
+        "495601040001004e 0000000000000001 0000000000000003 01 0000000000000001 00000001 00";
+    let content = Content::WriteRep {
+        page: 1,
+        copies: 0,
+        bytes: ZEROS,
+    };
+    let given = frame((0, 1), (1, 3), (1, 1), content);
+    spells(&rt, &PAIR, words, ZEROS, given, alloc)
+}
+
+#[test]
+fn copies_ended(rt: HostRuntime) -> Result<(), Fail> {
+    let alloc = rt.alloc();
+    let words = "495601060102000d 0000000000000001 0000000000000001 02 0000000000000001 00000001";
+    let ended = frame((1, 2), (1, 1), (2, 1), Content::InvalAck { page: 1 });
+    spells(&rt, &THREE, words, &[], ended, alloc)?;
+    let words = "495601060201000d 0000000000000002 0000000000000001 01 0000000000000001 00000001";
+    let ended = frame((2, 1), (2, 1), (1, 1), Content::InvalAck { page: 1 });
+    spells(&rt, &THREE, words, &[], ended, alloc)?;
+    let words = "495601060100000d 0000000000000002 0000000000000001 00 0000000000000001 00000001";
+    let ended = frame((1, 0), (2, 1), (0, 1), Content::InvalAck { page: 1 });
+    spells(&rt, &PAIR, words, &[], ended, alloc)
+}
+
+#[test]
+fn forged(rt: HostRuntime) -> Result<(), Fail> {
+    let alloc = rt.alloc();
+    let words =
+        "495601040100004e 0000000000000001 0000000000000000 00 0000000000000001 00000001 00";
+    let content = Content::WriteRep {
+        page: 1,
+        copies: 0,
+        bytes: ONES,
+    };
+    let unasked = frame((1, 0), (1, 0), (0, 1), content);
+    spells(&rt, &PAIR, words, ONES, unasked, alloc)?;
+    let words = "495601050100000d 0000000000000002 0000000000000000 01 0000000000000001 00000001";
+    let ends = frame((1, 0), (2, 0), (1, 1), Content::Inval { page: 1 });
+    spells(&rt, &PAIR, words, &[], ends, alloc)?;
+    let words = "495601010100000d 0000000000000003 0000000000000000 00 0000000000000001 00000001";
+    let own = frame((1, 0), (3, 0), (0, 1), Content::ReadReq { page: 1 });
+    spells(&rt, &PAIR, words, &[], own, alloc)?;
+    let words = "495601020100000d 0000000000000004 0000000000000009 01 0000000000000001 00000001";
+    let asks = frame((1, 0), (4, 9), (1, 1), Content::WriteReq { page: 1 });
+    spells(&rt, &PAIR, words, &[], asks, alloc)
+}
+
+#[test]
+fn forged_count(rt: HostRuntime) -> Result<(), Fail> {
+    let mut page = [0; 64];
+    for i in 0..8 {
+        page[i] = 255;
+    }
+    let words =
+        "495601040001004e 0000000000000001 0000000000000000 01 0000000000000001 00000000 00";
+    let content = Content::WriteRep {
+        page: 0,
+        copies: 0,
+        bytes: &page[..],
+    };
+    let brings = frame((0, 1), (1, 0), (1, 1), content);
+    spells(&rt, &PAIR, words, &page, brings, rt.alloc())
+}
+
+#[test]
+fn blocks(rt: HostRuntime) -> Result<(), Fail> {
+    let alloc = rt.alloc();
+    let words =
+        "4956010701000011 0000000000000001 0000000000000000 01 0000000000000001 0000000000000008";
+    let asks = frame((1, 0), (1, 0), (1, 1), Content::AllocReq { size: 8 });
+    spells(&rt, &PAIR, words, &[], asks, alloc)?;
+    let words =
+        "4956010800010012 0000000000000001 0000000000000000 01 0000000000000001 00 0000000000000040";
+    let content = Content::AllocRep { code: 0, addr: 64 };
+    let brings = frame((0, 1), (1, 0), (1, 1), content);
+    spells(&rt, &PAIR, words, &[], brings, alloc)?;
+    let words =
+        "4956010901000011 0000000000000002 0000000000000001 01 0000000000000002 0000000000000040";
+    let gives_back = frame((1, 0), (2, 1), (1, 2), Content::FreeReq { addr: 64 });
+    spells(&rt, &PAIR, words, &[], gives_back, alloc)?;
+    let words = "4956010a0001000a 0000000000000002 0000000000000002 01 0000000000000002 00";
+    let ended = frame((0, 1), (2, 2), (1, 2), Content::FreeRep { code: 0 });
+    spells(&rt, &PAIR, words, &[], ended, alloc)
+}
+
+#[test]
+fn refused_blocks(rt: HostRuntime) -> Result<(), Fail> {
+    let alloc = rt.alloc();
+    let words =
+        "4956010800010012 0000000000000001 0000000000000000 01 0000000000000001 08 0000000000000000";
+    let content = Content::AllocRep { code: 8, addr: 0 };
+    let of_no_bytes = frame((0, 1), (1, 0), (1, 1), content);
+    spells(&rt, &PAIR, words, &[], of_no_bytes, alloc)?;
+    let words =
+        "4956010800010012 0000000000000001 0000000000000000 01 0000000000000001 09 0000000000000000";
+    let content = Content::AllocRep { code: 9, addr: 0 };
+    let without_room = frame((0, 1), (1, 0), (1, 1), content);
+    spells(&rt, &PAIR, words, &[], without_room, alloc)?;
+    let words = "4956010a0001000a 0000000000000002 0000000000000002 01 0000000000000002 0a";
+    let no_block = frame((0, 1), (2, 2), (1, 2), Content::FreeRep { code: 10 });
+    spells(&rt, &PAIR, words, &[], no_block, alloc)
+}
+
+/// That the words, with the page after them, are refused so.
+fn refuses<A: Allocator + Copy>(
+    rt: &impl Abort,
+    words: &str,
+    page: &[u8],
+    fault: Fault,
+    alloc: A,
+) -> Result<(), Fail> {
+    let string = string(alloc, words, page)?;
+    PAIR.check()?;
+    assert_eq!(rt; decode(alloc, &PAIR, &string).err(), Some(fault), "{words}");
+    Ok(())
+}
+
+#[test]
+fn refused_frames(rt: HostRuntime) -> Result<(), Fail> {
+    let alloc = rt.alloc();
+    let words = "495601010100000d 0000000000000001 0000000000000000 01 0000000000000001 000000";
+    refuses(&rt, words, &[], Fault::ShortFrame, alloc)?;
+    let words =
+        "495601010100000d 0000000000000001 0000000000000000 01 0000000000000001 00000001 00";
+    refuses(&rt, words, &[], Fault::BadBody, alloc)?;
+    refuses(&rt, "", &[], Fault::ShortFrame, alloc)?;
+    let words = "485601010100000d 0000000000000001 0000000000000000 01 0000000000000001 00000001";
+    refuses(&rt, words, &[], Fault::BadMagic, alloc)?;
+    let words = "495602010100000d 0000000000000001 0000000000000000 01 0000000000000001 00000001";
+    refuses(&rt, words, &[], Fault::BadVersion, alloc)?;
+    let words = "4956010b0100000d 0000000000000001 0000000000000000 01 0000000000000001 00000001";
+    refuses(&rt, words, &[], Fault::BadKind, alloc)?;
+    let words = "495601010200000d 0000000000000001 0000000000000000 01 0000000000000001 00000001";
+    refuses(&rt, words, &[], Fault::BadNode, alloc)?;
+    let words = "495601010000000d 0000000000000001 0000000000000000 01 0000000000000001 00000001";
+    refuses(&rt, words, &[], Fault::BadNode, alloc)?;
+    let words = "495601010100000d 0000000000000001 0000000000000000 01 0000000000000001 00000002";
+    refuses(&rt, words, &[], Fault::BadBody, alloc)?;
+    let words = "495601010100000d 0000000000000001 0000000000000000 02 0000000000000001 00000001";
+    refuses(&rt, words, &[], Fault::BadBody, alloc)
+}
+
+#[test]
+fn refused_headers(rt: HostRuntime) -> Result<(), Fail> {
+    let alloc = rt.alloc();
+    // a header without its last byte, and a request without its last byte
+    let words = "4956010000010000 0000000000000000 00000000000000";
+    refuses(&rt, words, &[], Fault::ShortFrame, alloc)?;
+    let words = "495601020100000d 0000000000000004 0000000000000009 01 0000000000000001 000000";
+    refuses(&rt, words, &[], Fault::ShortFrame, alloc)?;
+    // the second magic byte, and a version before the first
+    let words = "495701010100000d 0000000000000001 0000000000000000 01 0000000000000001 00000001";
+    refuses(&rt, words, &[], Fault::BadMagic, alloc)?;
+    let words = "495600010100000d 0000000000000001 0000000000000000 01 0000000000000001 00000001";
+    refuses(&rt, words, &[], Fault::BadVersion, alloc)?;
+    // a destination that is not there
+    let words = "495601010102000d 0000000000000001 0000000000000000 01 0000000000000001 00000001";
+    refuses(&rt, words, &[], Fault::BadNode, alloc)
+}
+
+#[test]
+fn first_of_two_faults(rt: HostRuntime) -> Result<(), Fail> {
+    let alloc = rt.alloc();
+    let words = "485601010100000d 0000000000000001 0000000000000000 01 0000000000000001 000000";
+    refuses(&rt, words, &[], Fault::ShortFrame, alloc)?;
+    let words = "485602010100000d 0000000000000001 0000000000000000 01 0000000000000001 00000001";
+    refuses(&rt, words, &[], Fault::BadMagic, alloc)?;
+    let words = "4956020b0100000d 0000000000000001 0000000000000000 01 0000000000000001 00000001";
+    refuses(&rt, words, &[], Fault::BadVersion, alloc)?;
+    let words = "4956010b0200000d 0000000000000001 0000000000000000 01 0000000000000001 00000001";
+    refuses(&rt, words, &[], Fault::BadKind, alloc)?;
+    let words = "495601010200000d 0000000000000001 0000000000000000 02 0000000000000001 00000001";
+    refuses(&rt, words, &[], Fault::BadNode, alloc)?;
+    let words =
+        "495601010200000d 0000000000000001 0000000000000000 01 0000000000000001 00000001 00";
+    refuses(&rt, words, &[], Fault::BadNode, alloc)
+}
+
+#[test]
+fn wrong_numbers(rt: HostRuntime) -> Result<(), Fail> {
+    let alloc = rt.alloc();
+    // an Ack with a number, and a message without one
+    let words = "4956010000010000 0000000000000001 0000000000000001";
+    refuses(&rt, words, &[], Fault::BadBody, alloc)?;
+    let words = "495601010100000d 0000000000000000 0000000000000000 01 0000000000000001 00000001";
+    refuses(&rt, words, &[], Fault::BadBody, alloc)?;
+    // call 0, and the length of another kind
+    let words = "495601010100000d 0000000000000001 0000000000000000 01 0000000000000000 00000001";
+    refuses(&rt, words, &[], Fault::BadBody, alloc)?;
+    let words = "495601070100000d 0000000000000001 0000000000000000 01 0000000000000001 00000001";
+    refuses(&rt, words, &[], Fault::BadBody, alloc)
+}
+
+#[test]
+fn wrong_codes(rt: HostRuntime) -> Result<(), Fail> {
+    let alloc = rt.alloc();
+    // codes that are none
+    let words =
+        "4956010800010012 0000000000000001 0000000000000000 01 0000000000000001 0a 0000000000000000";
+    refuses(&rt, words, &[], Fault::BadBody, alloc)?;
+    let words = "4956010a0001000a 0000000000000002 0000000000000002 01 0000000000000002 09";
+    refuses(&rt, words, &[], Fault::BadBody, alloc)?;
+    // an address beside a refusal
+    let words =
+        "4956010800010012 0000000000000001 0000000000000000 01 0000000000000001 08 0000000000000040";
+    refuses(&rt, words, &[], Fault::BadBody, alloc)?;
+    let words =
+        "4956010800010012 0000000000000001 0000000000000000 01 0000000000000001 09 0000000000000040";
+    refuses(&rt, words, &[], Fault::BadBody, alloc)
+}
+
+#[test]
+fn wrong_pages(rt: HostRuntime) -> Result<(), Fail> {
+    let alloc = rt.alloc();
+    // a copy set with node 2
+    let words =
+        "495601040001004e 0000000000000001 0000000000000000 01 0000000000000001 00000001 04";
+    refuses(&rt, words, ZEROS, Fault::BadBody, alloc)?;
+    // a page of 48 bytes, and one of 65
+    let words =
+        "495601040001003e 0000000000000001 0000000000000000 01 0000000000000001 00000001 02";
+    refuses(&rt, words, &[0; 48], Fault::BadBody, alloc)?;
+    let words = "495601030001004e 0000000000000001 0000000000000000 01 0000000000000001 00000001";
+    refuses(&rt, words, &[0; 65], Fault::BadBody, alloc)?;
+    // the page after the last one
+    let words = "495601030001004d 0000000000000001 0000000000000000 01 0000000000000001 00000002";
+    refuses(&rt, words, ZEROS, Fault::BadBody, alloc)
+}
+
+/// All kinds with their numbers, and the lengths of their bodies where a page has 64 bytes.
+const KINDS_AND_LENGTHS: [(FrameKind, u8, u16); 11] = [
+    (FrameKind::Ack, 0, 0),
+    (FrameKind::ReadReq, 1, 13),
+    (FrameKind::WriteReq, 2, 13),
+    (FrameKind::ReadRep, 3, 77),
+    (FrameKind::WriteRep, 4, 78),
+    (FrameKind::Inval, 5, 13),
+    (FrameKind::InvalAck, 6, 13),
+    (FrameKind::AllocReq, 7, 17),
+    (FrameKind::AllocRep, 8, 18),
+    (FrameKind::FreeReq, 9, 17),
+    (FrameKind::FreeRep, 10, 10),
+];
+
+#[test]
+fn kinds(rt: HostRuntime) -> Result<(), Fail> {
+    PAIR.check()?;
+    for (kind, code, len) in KINDS_AND_LENGTHS {
+        assert_eq!(rt; (kind.code(), kind.text_len(&PAIR)), (code, len));
+    }
+    let content = Content::FreeReq { addr: 64 };
+    assert_eq!(rt; content.kind(), FrameKind::FreeReq);
+    let asks = frame((1, 0), (1, 0), (1, 1), content);
+    assert_eq!(rt; asks.kind(), FrameKind::FreeReq);
+    grammar_is_prefix_free();
+    Ok(())
+}
+
+#[test]
+fn lent_and_owned(rt: HostRuntime) -> Result<(), Fail> {
+    let alloc = rt.alloc();
+    let lent: Message<&[u8]> = Message {
+        origin: 1,
+        call: 3,
+        content: Content::ReadRep {
+            page: 1,
+            bytes: &[5; 64],
+        },
+    };
+    let owned = lent.owned(alloc)?;
+    assert_eq!(rt; owned.lent(), lent);
+    assert!(rt; owned.clone()? == owned);
+    Ok(())
+}
+
+#[test]
+fn pages(rt: HostRuntime) -> Result<(), Fail> {
+    let page = Page::new(rt.alloc(), ONES)?;
+    assert_eq!(rt; page.bytes(), ONES);
+    assert!(rt; page.clone()? == page);
+    assert!(rt; page != Page::new(rt.alloc(), ZEROS)?);
+    Ok(())
+}
+
+#[test]
+fn kept_strings(rt: HostRuntime) -> Result<(), Fail> {
+    let copied = Bytes::new(rt.alloc(), &[1, 2])?;
+    assert_eq!(rt; copied.bytes(), [1, 2].as_slice());
+    let moved = Bytes::from_vec(vec![in rt.alloc(); 1, 2]?);
+    assert_eq!(rt; moved.bytes(), [1, 2].as_slice());
+    Ok(())
+}

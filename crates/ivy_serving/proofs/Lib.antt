@@ -1,0 +1,4 @@
+pub mod NextHop
+pub mod IdleServing
+pub mod Few
+pub mod Undoing

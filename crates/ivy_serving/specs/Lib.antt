@@ -1,0 +1,10 @@
+pub mod Limits
+pub mod Serving
+pub mod Sound
+pub mod Outcomes
+pub use Rattle.ivy_model.specs.Config
+pub use Rattle.ivy_model.specs.Wants
+pub use Rattle.ivy_wire.specs.Data
+pub use Rattle.ivy_wire.specs.Spelling
+pub use Rattle.ivy_pagetable.specs.Entries
+pub use Rattle.ivy_pagetable.specs.Manager

@@ -1,0 +1,18 @@
+//! The texts of schedules and of orders, read and written line by line, and moves that a generator draws.
+//!
+//! A schedule has a world's moves, one a line, and an order the records of all nodes. Numbers in brackets, as
+//! `[1, 20]`, are those of the faults that a call may answer.
+#![tactic(auto)]
+
+mod drawn;
+mod order;
+mod print;
+mod schedule;
+
+pub use drawn::draw;
+pub use order::{Order, Sizes, parse_order};
+pub use print::{
+    CallText, Decimal, MoveText, RecordText, ReplyText, kind_name, print_end, print_output,
+    print_verdict,
+};
+pub use schedule::parse_schedule;

@@ -1,0 +1,44 @@
+//! Schedules: the moves of a world, one a line.
+ghost use Rattle.std.specs.Prelude.{IfErr};
+ghost use Rattle.ivy_program.specs.Texts.{IsRefusal};
+
+use ivy_ether::Move;
+use ivy_model::Fault;
+use ivy_program::{parse_number, words_of};
+use std::alloc::Allocator;
+
+/// The move of a line, where its words are one.
+fn parse_move(words: &[&str]) -> Option<Move> {
+    match *words {
+        ["turn", node] => Some(Move::Turn(parse_number(node)?)),
+        ["deliver", index, to] => Some(Move::Deliver {
+            index: parse_number(index)?,
+            to: parse_number(to)?,
+        }),
+        ["pulse", from, to] => Some(Move::Pulse {
+            from: parse_number(from)?,
+            to: parse_number(to)?,
+        }),
+        _ => None,
+    }
+}
+
+/// The moves of a text, in order: lines `turn I`, `deliver K I` and `pulse I J`.
+///
+/// 1 where a growth was refused, and 20 with the first line that is none of these, counted from 1.
+pub fn parse_schedule<A: Allocator + Copy>(alloc: A, text: &str) -> Result<Vec<Move, A>, Fault>
+    ensures { IfErr result IsRefusal }
+{
+    let mut moves = Vec::new(alloc);
+    for (before, line) in text.split_inclusive('\n').enumerate() {
+        let words = words_of(alloc, line)?;
+        if words.is_empty() {
+            continue;
+        }
+        let Some(step) = parse_move(&words) else {
+            return Err(Fault::ProgramFault(before as u64 + 1));
+        };
+        moves.push(step)?;
+    }
+    Ok(moves)
+}

@@ -1,0 +1,99 @@
+//! The first moves of three seeds. The expected ones were computed from the definition of the generator, by
+//! another program.
+ghost use Rattle.std.specs.Prelude.{◌≤◌, All, IfOk, length};
+
+use ivy_ether::Move;
+use ivy_texts::draw;
+use ivy_wire::Bytes;
+use rand_core::SeedableRng;
+use rand_pcg::Lcg64Xsh32;
+use std::alloc::Global;
+use std::process::Abort;
+use std::test::Fail;
+
+/// A string of 24 bytes to a node.
+fn string_to(alloc: Global, dest: u8) -> Result<Bytes<Global>, Fail>
+    ensures { IfOk result (λ string. 24 ≤ length string) }
+{
+    let mut text = [0; 24];
+    text[5] = dest;
+    Ok(Bytes::new(alloc, &text)?)
+}
+
+fn check<R: Abort>(rt: &R, seed: u64, nodes: u8, sent: &[Bytes<Global>], moves: &[Move])
+    requires nodes { 2 ≤ nodes }
+    requires strings { All (λ string. 24 ≤ length string) sent.now }
+{
+    let mut generator = Lcg64Xsh32::seed_from_u64(seed);
+    for step in moves {
+        assert_eq!(rt; draw(&mut generator, nodes, sent), *step);
+    }
+}
+
+#[test]
+fn two_nodes(rt: HostRuntime) -> Result<(), Fail> {
+    let alloc = rt.alloc();
+    let sent = [
+        string_to(alloc, 1)?,
+        string_to(alloc, 0)?,
+        string_to(alloc, 1)?,
+    ];
+    let moves = [
+        Move::Deliver { index: 0, to: 1 },
+        Move::Turn(0),
+        Move::Turn(0),
+        Move::Turn(0),
+        Move::Deliver { index: 1, to: 0 },
+        Move::Turn(0),
+        Move::Pulse { from: 0, to: 1 },
+        Move::Deliver { index: 2, to: 1 },
+        Move::Turn(1),
+        Move::Deliver { index: 2, to: 1 },
+        Move::Pulse { from: 1, to: 0 },
+        Move::Pulse { from: 1, to: 0 },
+    ];
+    check(&rt, 1, 2, &sent, &moves);
+    Ok(())
+}
+
+#[test]
+fn eight_nodes(rt: HostRuntime) -> Result<(), Fail> {
+    let alloc = rt.alloc();
+    let sent = [
+        string_to(alloc, 7)?,
+        string_to(alloc, 3)?,
+        string_to(alloc, 0)?,
+    ];
+    let moves = [
+        Move::Deliver { index: 1, to: 3 },
+        Move::Deliver { index: 1, to: 3 },
+        Move::Turn(0),
+        Move::Deliver { index: 1, to: 3 },
+        Move::Turn(0),
+        Move::Pulse { from: 1, to: 3 },
+        Move::Turn(6),
+        Move::Turn(1),
+        Move::Turn(6),
+        Move::Turn(7),
+        Move::Turn(2),
+        Move::Deliver { index: 0, to: 7 },
+    ];
+    check(&rt, u64::MAX, 8, &sent, &moves);
+    Ok(())
+}
+
+/// Where no string was sent a turn stands for a delivery.
+#[test]
+fn none_sent(rt: HostRuntime) {
+    let moves = [
+        Move::Turn(2),
+        Move::Turn(0),
+        Move::Turn(0),
+        Move::Turn(1),
+        Move::Turn(0),
+        Move::Turn(1),
+        Move::Turn(1),
+        Move::Turn(0),
+    ];
+    check(&rt, 7, 3, &[], &moves);
+}
