@@ -1,9 +1,8 @@
--- A world of strings follows the ordered world: each of its moves is a move of the ordered world, or none.
+-- A world of strings follows the ordered world: each turn, delivery and pulse is a move of the ordered world, or none.
 use Rattle.std.proofs.Common.{◌≡◌, ◌≢◌, ℕ, ◌+◌, ◌^◌, ◌<◌, ◌≤◌, List, [], ◌∷◌, ◌++◌, length, map, get_or, set, slice_get, All, Contains, Bool, true, false, not, nat_lt, Option, Some, None, MatchOption, Ok, if◌then◌else◌, ◌&&◌, ◌==◌, refl, sym, ap, subst, ◌∙◌, inl, inr, arith, length-set, append-nil}
 use Rattle.std.proofs.lemmas.Bool.{cases_eq, cases_lt, and_parts, ltb-true, eq-eqb, true≢false}
-use Rattle.std.proofs.lemmas.Grind.{get_or-set_at}
 use Rattle.std.proofs.lemmas.List.{map-set, set-set, length-map, get_or_past}
-use Rattle.std.proofs.lemmas.List.Elements.{All-nil, All-append, All-map, All-contains, All-weaker}
+use Rattle.std.proofs.lemmas.List.Elements.{All-nil, All-append, All-push, All-map, All-contains, All-weaker, Contains-append_left}
 use Rattle.std.proofs.lemmas.Option.{same_Some, none-some, slice_get_within, get_or_from_slice_get, slice_get-get_or}
 use Rattle.std.proofs.Math.Seq.{map-set_same}
 use Rattle.ivy_model.specs.Config.{IsConfig}
@@ -23,11 +22,11 @@ use Rattle.ivy_link.specs.Paired.{IsPaired, IsMade, IsBody, IsParcelOf, link_at,
 use Rattle.ivy_ether.specs.declared.moves.Move.{Move}
 use Rattle.ivy_ether.specs.declared.moves.Move.TheVariants.{Turn, Deliver, Pulse}
 use Rattle.ivy_ether.specs.Cores.{Core, Outcome}
-use Rattle.ivy_ether.specs.Nodes.{Node, Effect, stays, accepting, turned, turned_to, served, received, received_as, delivered, delivered_as, pulsing}
-use Rattle.ivy_ether.specs.Worlds.{World, gone_on, goes_on, is_named, turn_of, delivery_of, pulse_of, made_by, moved, Leads}
+use Rattle.ivy_ether.specs.Nodes.{Node, Effect, stays, accepting, turned, turned_to, served, received, received_as, verdict_of, delivered, delivered_as, pulsing}
+use Rattle.ivy_ether.specs.Worlds.{World, gone_on, goes_on, remembered, remembering, is_named, turn_of, delivery_of, pulse_of, made_by, moved}
 use Rattle.ivy_ether.specs.Ordered.{rests, turns, delivers, one_more}
 use Rattle.ivy_ether.specs.Following.{links_of, ordered_of, IsString, Follows, IsTame, StepsTo}
-use Rattle.ivy_ether.proofs.Places.{guarded, set-cases, set-same, link-of, core-of, more-here, more-other_source, more-other_dest}
+use Rattle.ivy_ether.proofs.Places.{guarded, set-cases, set-same, set-there, link-of, core-of, more-here, more-other_source, more-other_dest}
 use Rattle.ivy_ether.proofs.Sent.{sends-delivered, sends-peers, sends-numbers, sends-acks, accepted-sent, repeat-delivered, ahead-delivered, next-delivered, next-others, sends-offered, next-means, pulse-delivered, pulse-sent, pulse-acks, made-fits, made-message, extended-fits}
 use Rattle.ivy_link.proofs.Pairs.{link_at-with, sends-paired, accepted-paired, pulsed-paired, made-longer}
 use Rattle.ivy_link.proofs.Making.{sends-made, pulsed-made}
@@ -40,8 +39,8 @@ module _ {C : Type 0} where
   abbrev links : Node C → Linked → List Frame → Effect C
   links n link fs = record { after = record { core = n.core; link = link }; sent = map spelling fs }
 
-  nodes-same : (w : World C) (nodes : List (Node C)) (sent : List (List ℕ)) → nodes ≡ w.nodes → sent ≡ w.sent → ◌≡◌ {A = World C} (record { nodes = nodes; sent = sent }) w
-  nodes-same w nodes sent p q = λ k. record { nodes = p k; sent = q k }
+  nodes-same : (w : World C) (nodes : List (Node C)) (sent : List (List ℕ)) → nodes ≡ w.nodes → sent ≡ w.sent → ◌≡◌ {A = World C} (record { nodes = nodes; sent = sent; early = w.early }) w
+  nodes-same w nodes sent p q = λ k. record { nodes = p k; sent = q k; early = w.early }
 
   stays-same : (w : World C) (i : ℕ) (n : Node C) → slice_get w.nodes i ≡ Some n → gone_on w i (stays n) ≡ w
   stays-same w i n there = nodes-same w (set w.nodes i n) (w.sent ++ []) (set-same w.nodes i n there) (append-nil w.sent)
@@ -103,6 +102,29 @@ module _ {C : Type 0} (c : Config) (Sound : ℕ → C → Type 0) where
     numbers = λ a b. rw (links-set w i e) (link_at-with (λ l. (peer_at l b).sent < 2 ^ 64) (links_of w) i a e.after.link lt (λ _. numbers b) (λ _. h.numbers a b));
     fits = fits;
     strings = All-append (IsString c posted') w.sent e.sent (All-weaker (IsString c posted) (IsString c posted') (λ bytes s. (s.0, s.1, more s.0 s.2)) w.sent h.strings) strings;
+    early = λ j. All-weaker (IsString c posted) (IsString c posted') (λ bytes s. (s.0, s.1, more s.0 s.2)) (w.early j) (h.early j);
+  }
+
+  -- what came to a node too early was a string of the world
+  remembered-fits : (posted : ℕ → ℕ → List Message) (v : Verdict) (early : ℕ → List (List ℕ)) (i : ℕ) (bytes : List ℕ) → ((j : ℕ) → All (IsString c posted) (early j)) → IsString c posted bytes → (j : ℕ) → All (IsString c posted) (remembered v early i bytes j)
+  remembered-fits posted verdict.Next early i bytes old new j = old j
+  remembered-fits posted verdict.Repeat early i bytes old new j = old j
+  remembered-fits posted verdict.NotMine early i bytes old new j = old j
+  remembered-fits posted verdict.Ahead early i bytes old new j = either (j == i)
+    where
+      either : (b : Bool) → All (IsString c posted) (if b then early j ++ bytes ∷ [] else early j)
+      either true = All-push (IsString c posted) (early j) bytes (old j) new
+      either false = old j
+
+  remembered-on : (w : World C) (posted : ℕ → ℕ → List Message) (v : Verdict) (i : ℕ) (bytes : List ℕ) → Follows c Sound w posted → IsString c posted bytes → Follows c Sound (record w { early = remembered v w.early i bytes }) posted
+  remembered-on w posted v i bytes h string = record {
+    nodes = h.nodes;
+    sound = h.sound;
+    paired = h.paired;
+    numbers = h.numbers;
+    fits = h.fits;
+    strings = h.strings;
+    early = remembered-fits posted v w.early i bytes h.early string;
   }
 
   -- so few messages were posted and delivered that their numbers can be written
@@ -200,18 +222,18 @@ module _ {C : Type 0} where
   abbrev answers : Node C → Frame → C → List Parcel → Effect C
   answers n f core ps = record { after = record { core = core; link = accepted (after_sends n.link ps) f }; sent = map spelling (frames_of n.link ps) }
 
-  went : (w : World C) (i : ℕ) (o : Option (Effect C)) (w' : World C) → goes_on w i o ≡ Some w' → (e : Effect C) × (o ≡ Some e) × (gone_on w i e ≡ w')
+  pub went : (w : World C) (i : ℕ) (o : Option (Effect C)) (w' : World C) → goes_on w i o ≡ Some w' → (e : Effect C) × (o ≡ Some e) × (gone_on w i e ≡ w')
   went w i None w' eq = absurd (none-some w' eq)
   went w i (Some e) w' eq = (e, refl, same_Some (gone_on w i e) w' eq)
+
+  pub remembered-went : (w : World C) (i : ℕ) (v : Verdict) (bytes : List ℕ) (o : Option (Effect C)) (w' : World C) → remembering v i bytes (goes_on w i o) ≡ Some w'
+      → (e : Effect C) × (o ≡ Some e) × (record (gone_on w i e) { early = remembered v w.early i bytes } ≡ w')
+  remembered-went w i v bytes None w' eq = absurd (none-some w' eq)
+  remembered-went w i v bytes (Some e) w' eq = (e, refl, same_Some (record (gone_on w i e) { early = remembered v w.early i bytes }) w' eq)
 
   accepted-posting : (f : Frame) (has : Bool) (x e : Effect C) → accepting f (if has then Some x else None) ≡ Some e → (has ≡ true) × (record { after = record { core = x.after.core; link = accepted x.after.link f }; sent = x.sent } ≡ e)
   accepted-posting f true x e eq = (refl, same_Some _ e eq)
   accepted-posting f false x e eq = absurd (none-some e eq)
-
-  written-there : (w : World C) (i : ℕ) (n : Node C) (x : Node C) → slice_get w.nodes i ≡ Some n → slice_get (set w.nodes i x) i ≡ Some x
-  written-there w i n x there =
-      let lt : i < length w.nodes = slice_get_within w.nodes i n there in
-      slice_get-get_or (set w.nodes i x) i x (rw (length-set w.nodes i x) lt) ∙ ap Some (get_or-set_at w.nodes i i x x refl lt)
 
 module _ {C : Type 0} (rules : Core C) (c : Config) (Sound : ℕ → C → Type 0) (tame : IsTame rules c Sound) where
   rested : (w w' : World C) (posted : ℕ → ℕ → List Message) → Follows c Sound w' posted → ordered_of w' posted ≡ ordered_of w posted → StepsTo rules c Sound w posted w'
@@ -287,7 +309,7 @@ module _ {C : Type 0} (rules : Core C) (c : Config) (Sound : ℕ → C → Type 
   answered-on w posted i n f core ps h there sound fit has made =
       subst (λ v. Follows c Sound v (extended posted ps)) (twice-same w i (posts n core ps) (links (posts n core ps).after (accepted (after_sends n.link ps) f) []) refl)
       (accepted-on c Sound (gone_on w i (posts n core ps)) (extended posted ps) i (posts n core ps).after f (posted-on c Sound w posted i n core ps h there sound fit has)
-      (written-there w i n (posts n core ps).after there) (made-longer c.nodes posted ps f made))
+      (set-there w.nodes i (posts n core ps).after n there) (made-longer c.nodes posted ps f made))
 
   next-steps : (w : World C) (posted : ℕ → ℕ → List Message) (i : ℕ) (n : Node C) (f : Frame) (m : Message) → Follows c Sound w posted → slice_get w.nodes i ≡ Some n → Fits c f → IsMade c.nodes posted f → offered n.link f ≡ verdict.Next → f.body ≡ Some m
       → has_numbers n.link (rules.serve n.core f.source m).posted ≡ true → StepsTo rules c Sound w posted (gone_on w i (answers n f (rules.serve n.core f.source m).after (rules.serve n.core f.source m).posted))
@@ -356,14 +378,40 @@ module _ {C : Type 0} (rules : Core C) (c : Config) (Sound : ℕ → C → Type 
   delivery-steps config w posted i n bytes e h there string eq =
       received-cases w posted i n string.0 e h there string.1.fits string.2 (offered n.link string.0) refl (sym (delivered-is config n string.0 bytes string.1) ∙ eq)
 
-  delivery-follows : IsConfig c → (w w' : World C) (posted : ℕ → ℕ → List Message) (index i : ℕ) → Follows c Sound w posted → (o : Option (Node C)) → slice_get w.nodes i ≡ o → (s : Option (List ℕ)) → slice_get w.sent index ≡ s
-      → delivery_of rules c w i o s ≡ Some w' → StepsTo rules c Sound w posted w'
-  delivery-follows config w w' posted index i h None there s sent eq = absurd (none-some w' eq)
-  delivery-follows config w w' posted index i h (Some n) there None sent eq = absurd (none-some w' eq)
-  delivery-follows config w w' posted index i h (Some n) there (Some bytes) sent eq =
-      let e : (e : Effect C) × (delivered rules c n bytes ≡ Some e) × (gone_on w i e ≡ w') = went w i (delivered rules c n bytes) w' eq in
-      let string : IsString c posted bytes = subst (IsString c posted) (get_or_from_slice_get w.sent index bytes bytes sent) (h.strings index bytes (slice_get_within w.sent index bytes sent)) in
-      subst (λ v. StepsTo rules c Sound w posted v) e.2 (delivery-steps config w posted i n bytes e.0 h there string e.1)
+  -- it is a string of the world still after it came
+  abbrev StaysString : World C → ℕ → List ℕ → Type 0
+  StaysString w i bytes = (e : Effect C) (posted : ℕ → ℕ → List Message) → Follows c Sound (gone_on w i e) posted → IsString c posted bytes
+
+  pub delivery-follows : IsConfig c → (w w' : World C) (posted : ℕ → ℕ → List Message) (i : ℕ) (bytes : List ℕ) → Follows c Sound w posted → IsString c posted bytes → StaysString w i bytes
+      → (o : Option (Node C)) → slice_get w.nodes i ≡ o → delivery_of rules c w i o (Some bytes) ≡ Some w' → StepsTo rules c Sound w posted w'
+  delivery-follows config w w' posted i bytes h string stays None there eq = absurd (none-some w' eq)
+  delivery-follows config w w' posted i bytes h string stays (Some n) there eq =
+      let v = verdict_of c n bytes in
+      let e : (e : Effect C) × (delivered rules c n bytes ≡ Some e) × (record (gone_on w i e) { early = remembered v w.early i bytes } ≡ w') = remembered-went w i v bytes (delivered rules c n bytes) w' eq in
+      let next : StepsTo rules c Sound w posted (gone_on w i e.0) = delivery-steps config w posted i n bytes e.0 h there string e.1 in
+      subst (λ v. StepsTo rules c Sound w posted v) e.2
+      (next.0, remembered-on c Sound (gone_on w i e.0) next.0 v i bytes next.1 (stays e.0 next.0 next.1), next.2)
+
+  -- a string that was sent, and one that came too early
+  sent-follows : IsConfig c → (w w' : World C) (posted : ℕ → ℕ → List Message) (index i : ℕ) → Follows c Sound w posted → (s : Option (List ℕ)) → slice_get w.sent index ≡ s
+      → delivery_of rules c w i (slice_get w.nodes i) s ≡ Some w' → StepsTo rules c Sound w posted w'
+  sent-follows config w w' posted index i h None sent eq = absurd (none-some w' (sym (no-string (slice_get w.nodes i)) ∙ eq))
+    where
+      no-string : (o : Option (Node C)) → delivery_of rules c w i o None ≡ None
+      no-string None = refl
+      no-string (Some n) = refl
+  sent-follows config w w' posted index i h (Some bytes) sent eq =
+      let there : Contains w.sent bytes = (index, slice_get_within w.sent index bytes sent, get_or_from_slice_get w.sent index bytes bytes sent) in
+      delivery-follows config w w' posted i bytes h (All-contains (IsString c posted) w.sent bytes h.strings there)
+      (λ e posted' f. All-contains (IsString c posted') (w.sent ++ e.sent) bytes f.strings (Contains-append_left w.sent e.sent bytes there))
+      (slice_get w.nodes i) refl eq
+
+  pub early-follows : IsConfig c → (w w' : World C) (posted : ℕ → ℕ → List Message) (i : ℕ) (bytes : List ℕ) → Follows c Sound w posted → Contains (w.early i) bytes
+      → delivery_of rules c w i (slice_get w.nodes i) (Some bytes) ≡ Some w' → StepsTo rules c Sound w posted w'
+  early-follows config w w' posted i bytes h there eq =
+      delivery-follows config w w' posted i bytes h (All-contains (IsString c posted) (w.early i) bytes (h.early i) there)
+      (λ e posted' f. All-contains (IsString c posted') (w.early i) bytes (f.early i) there)
+      (slice_get w.nodes i) refl eq
 
   -- pulses
 
@@ -400,25 +448,18 @@ module _ {C : Type 0} (rules : Core C) (c : Config) (Sound : ℕ → C → Type 
 apart-of : (i j : ℕ) → not (i == j) ≡ true → i ≢ j
 apart-of i j e same = absurd (true≢false (sym e ∙ ap not (eq-eqb i j same)))
 
--- each move of the world is a move of the ordered world, or none
+-- each move of the world whose node does not go on is a move of the ordered world, or none
 pub follows : {C : Type 0} (rules : Core C) (c : Config) (Sound : ℕ → C → Type 0) → IsConfig c → IsTame rules c Sound → (w w' : World C) (posted : ℕ → ℕ → List Message) (move : Move) → Follows c Sound w posted → moved rules c w move ≡ Some w' → StepsTo rules c Sound w posted w'
 unfolding moved
 follows rules c Sound config tame w w' posted (Turn i) h eq =
     turn-follows rules c Sound tame w w' posted i h (slice_get w.nodes i) refl (guarded (is_named w (Turn i)) (made_by rules c w (Turn i)) w' eq).1
 follows rules c Sound config tame w w' posted (Deliver index to) h eq =
-    delivery-follows rules c Sound tame config w w' posted index to h (slice_get w.nodes to) refl (slice_get w.sent index) refl (guarded (is_named w (Deliver index to)) (made_by rules c w (Deliver index to)) w' eq).1
+    sent-follows rules c Sound tame config w w' posted index to h (slice_get w.sent index) refl (guarded (is_named w (Deliver index to)) (made_by rules c w (Deliver index to)) w' eq).1
 follows rules c Sound config tame w w' posted (Pulse from to) h eq =
     let parts : (is_named w (Pulse from to) ≡ true) × (made_by rules c w (Pulse from to) ≡ Some w') = guarded (is_named w (Pulse from to)) (made_by rules c w (Pulse from to)) w' eq in
     let more : (nat_lt to (length w.nodes) && not (from == to)) ≡ true = (and_parts (nat_lt from (length w.nodes)) (nat_lt to (length w.nodes) && not (from == to)) parts.0).1 in
     let both : (nat_lt to (length w.nodes) ≡ true) × (not (from == to) ≡ true) = and_parts (nat_lt to (length w.nodes)) (not (from == to)) more in
     pulse-follows rules c Sound tame w w' posted from to h (ltb-true to (length w.nodes) both.0) (apart-of from to both.1) (slice_get w.nodes from) refl parts.1
-
--- after all moves the world still follows
-pub led : {C : Type 0} (rules : Core C) (c : Config) (Sound : ℕ → C → Type 0) → IsConfig c → IsTame rules c Sound → (w w' : World C) (posted : ℕ → ℕ → List Message) (moves : List Move) → Follows c Sound w posted → Leads rules c w moves w' → (posted' : ℕ → ℕ → List Message) × Follows c Sound w' posted'
-led rules c Sound config tame w w' posted [] h done = (posted, subst (λ v. Follows c Sound v posted) (sym done) h)
-led rules c Sound config tame w w' posted (move ∷ moves) h lead =
-    let next : StepsTo rules c Sound w posted lead.0 = follows rules c Sound config tame w lead.0 posted move h lead.1 in
-    led rules c Sound config tame lead.0 w' next.0 moves next.1 lead.2
 
 -- each string ever sent is a frame
 pub none_refused : {C : Type 0} (c : Config) (Sound : ℕ → C → Type 0) → IsConfig c → (w : World C) (posted : ℕ → ℕ → List Message) → Follows c Sound w posted → (bytes : List ℕ) → Contains w.sent bytes → (kind : FrameKind) × (checked c bytes ≡ Ok kind)

@@ -1,38 +1,60 @@
--- What each move of the ordered world keeps, each move of a world of strings keeps.
-use Rattle.std.proofs.Common.{ℕ, List, [], ◌∷◌, ◌++◌, map, sym, subst}
-use Rattle.std.proofs.lemmas.Simd.{map-map}
+-- What each turn, delivery and pulse keeps, each move keeps, whatever strings its node goes on with; and so all moves.
+use Rattle.std.proofs.Common.{◌≡◌, ℕ, List, [], ◌∷◌, Some, None, refl, sym, subst, ◌∙◌}
+use Rattle.std.proofs.lemmas.Option.{none-some}
 use Rattle.ivy_model.specs.Config.{IsConfig}
 use Rattle.ivy_model.specs.declared.Config.{Config}
-use Rattle.ivy_model.specs.declared.Record.{Record}
-use Rattle.ivy_model.specs.Explains.{Answered, IsExplained}
 use Rattle.ivy_wire.specs.Data.{Message}
 use Rattle.ivy_ether.specs.declared.moves.Move.{Move}
+use Rattle.ivy_ether.specs.declared.moves.Move.TheVariants.{Turn, Deliver, Pulse}
 use Rattle.ivy_ether.specs.Cores.{Core}
-use Rattle.ivy_ether.specs.Nodes.{Node}
-use Rattle.ivy_ether.specs.Worlds.{World, Leads}
-use Rattle.ivy_ether.specs.Explained.{GoesOn}
-use Rattle.ivy_ether.specs.Ordered.{Ordered, Steps}
-use Rattle.ivy_ether.specs.Following.{ordered_of, Follows, IsTame, StepsTo}
-use Rattle.ivy_ether.proofs.Following.{follows}
+use Rattle.ivy_ether.specs.Worlds.{World, moved, Moves, HasNoneAfter, MayGoOn, GoesOnWith, Leads}
+use Rattle.ivy_ether.specs.Following.{Follows, IsTame, StepsTo}
+use Rattle.ivy_ether.proofs.Following.{follows, early-follows}
+
+-- a move whose node goes on with nothing
+pub stays-there : {C : Type 0} (rules : Core C) (c : Config) (w w' : World C) (move : Move) → moved rules c w move ≡ Some w' → Moves rules c w move w'
+stays-there rules c w w' (Turn i) made = record { mid = w'; made = made; more = []; goes_on = (refl, refl) }
+stays-there rules c w w' (Deliver index to) made = record { mid = w'; made = made; more = []; goes_on = refl }
+stays-there rules c w w' (Pulse from to) made = record { mid = w'; made = made; more = []; goes_on = (refl, refl) }
+
+-- there is no world after a move that can't be made
+pub none-after : {C : Type 0} (rules : Core C) (c : Config) (w : World C) (move : Move) → moved rules c w move ≡ None → HasNoneAfter rules c w move
+none-after rules c w move none w' moves = none-some moves.mid (sym none ∙ moves.made)
 
 module _ {C : Type 0} (rules : Core C) (c : Config) (Sound : ℕ → C → Type 0) (config : IsConfig c) (tame : IsTame rules c Sound) where
-  pub kept : (Keeps : Ordered C → Type 0) → ((o o' : Ordered C) → Keeps o → Steps rules o o' → Keeps o')
-      → (w w' : World C) (posted : ℕ → ℕ → List Message) (moves : List Move) → Follows c Sound w posted → Keeps (ordered_of w posted) → Leads rules c w moves w'
-      → (posted' : ℕ → ℕ → List Message) × Follows c Sound w' posted' × Keeps (ordered_of w' posted')
-  kept Keeps step w w' posted [] h keeps done = subst (λ v. (posted' : ℕ → ℕ → List Message) × Follows c Sound v posted' × Keeps (ordered_of v posted')) (sym done) (posted, h, keeps)
-  kept Keeps step w w' posted (move ∷ moves) h keeps lead =
-      let next : StepsTo rules c Sound w posted lead.0 = follows rules c Sound config tame w lead.0 posted move h lead.1 in
-      kept Keeps step lead.0 w' next.0 moves next.1 (step (ordered_of w posted) (ordered_of lead.0 next.0) keeps next.2) lead.2
+  -- it holds after each step of a world that follows the ordered one
+  abbrev pub IsKeptBySteps : (World C → (ℕ → ℕ → List Message) → Type 0) → Type 0
+  IsKeptBySteps Keeps = (w w' : World C) (posted : ℕ → ℕ → List Message) → Follows c Sound w posted → Keeps w posted
+      → (next : StepsTo rules c Sound w posted w') → Keeps w' next.0
 
-  -- one order of all records that explains the ordered world and only grows explains the world of strings, at every moment
-  pub goes_on : (answered : C → Answered) (Explains : Ordered C → List Record → Type 0) → ((o : Ordered C) (order : List Record) → Explains o order → IsExplained c order (map answered o.cores))
-      → ((o o' : Ordered C) (order : List Record) → Explains o order → Steps rules o o' → (more : List Record) × Explains o' (order ++ more))
-      → (w : World C) (posted : ℕ → ℕ → List Message) (order : List Record) (moves : List Move) → Follows c Sound w posted → Explains (ordered_of w posted) order → GoesOn rules c answered w order moves
-  goes_on answered Explains explains step w posted order [] h now = subst (IsExplained c order) (map-map answered (λ (n : Node C). n.core) w.nodes) (explains (ordered_of w posted) order now)
-  goes_on answered Explains explains step w posted order (move ∷ moves) h now = (
-    subst (IsExplained c order) (map-map answered (λ (n : Node C). n.core) w.nodes) (explains (ordered_of w posted) order now),
-    λ mid made.
-        let next : StepsTo rules c Sound w posted mid = follows rules c Sound config tame w mid posted move h made in
-        let grown : (more : List Record) × Explains (ordered_of mid next.0) (order ++ more) = step (ordered_of w posted) (ordered_of mid next.0) order now next.2 in
-        (grown.0, goes_on answered Explains explains step mid next.0 (order ++ grown.0) moves next.1 grown.1),
-  )
+  -- the world follows the ordered one in which these messages were posted, and this holds of both
+  abbrev pub FollowsWith : (World C → (ℕ → ℕ → List Message) → Type 0) → World C → Type 0
+  FollowsWith Keeps w = (posted : ℕ → ℕ → List Message) × Follows c Sound w posted × Keeps w posted
+
+  module _ (Keeps : World C → (ℕ → ℕ → List Message) → Type 0) (steps : IsKeptBySteps Keeps) where
+    stepped : (w w' : World C) (f : FollowsWith Keeps w) → StepsTo rules c Sound w f.0 w' → FollowsWith Keeps w'
+    stepped w w' f next = (next.0, next.1, steps w w' f.0 f.1 f.2 next)
+
+    gone-on : (w w' : World C) (i : ℕ) (more : List (List ℕ)) → FollowsWith Keeps w → GoesOnWith rules c w i more w' → FollowsWith Keeps w'
+    gone-on w w' i [] f done = subst (FollowsWith Keeps) (sym done) f
+    gone-on w w' i (bytes ∷ more) f on =
+        gone-on on.1.0 w' i more (stepped w on.1.0 f (early-follows rules c Sound tame config w on.1.0 f.0 i bytes f.1 on.0 on.1.1)) on.1.2
+
+    may-go-on : (w w' : World C) (move : Move) (more : List (List ℕ)) → FollowsWith Keeps w → MayGoOn rules c w move more w' → FollowsWith Keeps w'
+    may-go-on w w' (Turn i) more f on = subst (FollowsWith Keeps) (sym on.1) f
+    may-go-on w w' (Deliver index to) more f on = gone-on w w' to more f on
+    may-go-on w w' (Pulse from to) more f on = subst (FollowsWith Keeps) (sym on.1) f
+
+    pub move-keeps : (w w' : World C) (move : Move) → FollowsWith Keeps w → Moves rules c w move w' → FollowsWith Keeps w'
+    move-keeps w w' move f moves =
+        may-go-on moves.mid w' move moves.more (stepped w moves.mid f (follows rules c Sound config tame w moves.mid f.0 move f.1 moves.made)) moves.goes_on
+
+    pub moves-keep : (w w' : World C) (moves : List Move) → FollowsWith Keeps w → Leads rules c w moves w' → FollowsWith Keeps w'
+    moves-keep w w' [] f done = subst (FollowsWith Keeps) (sym done) f
+    moves-keep w w' (move ∷ moves) f lead = moves-keep lead.0 w' moves (move-keeps w lead.0 move f lead.1) lead.2
+
+  -- after all moves the world still follows
+  pub led : (w w' : World C) (posted : ℕ → ℕ → List Message) (moves : List Move) → Follows c Sound w posted → Leads rules c w moves w' → (posted' : ℕ → ℕ → List Message) × Follows c Sound w' posted'
+  led w w' posted moves h lead =
+      let f = moves-keep (λ v p. Unit {0}) (λ v v' p g k next. tt) w w' moves (posted, h, tt) lead in
+      (f.0, f.1)

@@ -4,3 +4,6 @@ mod Sent
 pub mod Following
 pub mod Opening
 pub mod Kept
+pub mod Parts
+pub mod Early
+pub mod GoingOn

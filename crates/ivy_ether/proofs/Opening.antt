@@ -55,6 +55,7 @@ module _ {C : Type 0} (c : Config) (Sound : ℕ → C → Type 0) (w : World C) 
     numbers = λ i j. subst (λ (p : Peer). p.sent < 2 ^ 64) (sym (peers-new i j)) (omega arith);
     fits = λ i j. All-nil (FitsMessage c);
     strings = subst (All (IsString c (λ i j. []))) (sym open_so.sent) (All-nil (IsString c (λ i j. [])));
+    early = λ i. subst (All (IsString c (λ a b. []))) (sym (open_so.early i)) (All-nil (IsString c (λ a b. [])));
   }
 
   -- nothing was posted or delivered in its ordered world

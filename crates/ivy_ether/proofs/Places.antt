@@ -27,6 +27,19 @@ set-same [] i x e = refl
 set-same (y ∷ xs) zero x e = ap (λ z. z ∷ xs) (sym (same_Some y x e))
 set-same (y ∷ xs) (suc i) x e = ap (λ l. y ∷ l) (set-same xs i x e)
 
+-- what is read where it was written, and elsewhere
+pub set-there : {X : Type 0} (xs : List X) (i : ℕ) (y x : X) → slice_get xs i ≡ Some x → slice_get (set xs i y) i ≡ Some y
+set-there [] i y x e = absurd (none-some x e)
+set-there (z ∷ xs) zero y x e = refl
+set-there (z ∷ xs) (suc i) y x e = set-there xs i y x e
+
+pub set-elsewhere : {X : Type 0} (xs : List X) (i j : ℕ) (y : X) → i ≢ j → slice_get (set xs i y) j ≡ slice_get xs j
+set-elsewhere [] i j y ne = refl
+set-elsewhere (z ∷ xs) zero zero y ne = absurd (ne refl)
+set-elsewhere (z ∷ xs) zero (suc j) y ne = refl
+set-elsewhere (z ∷ xs) (suc i) zero y ne = refl
+set-elsewhere (z ∷ xs) (suc i) (suc j) y ne = set-elsewhere xs i j y (λ e. ne (ap suc e))
+
 read-either : {X : Type 0} (P : X → Type 0) (xs : List X) (i j : ℕ) (y d : X) → (j ≡ i → P y) → P (get_or xs j d) → P (get_or (set xs i y) j d)
 read-either P [] i j y d new old = old
 read-either P (x ∷ xs) zero zero y d new old = new refl

@@ -1,16 +1,18 @@
 -- What sending, accepting and pulsing leave of a link's counts, and that the frames made fit.
-use Rattle.std.proofs.Common.{◌≡◌, ◌≢◌, ℕ, ◌+◌, ◌-◌, ◌^◌, ◌<◌, ◌≤◌, List, [], ◌∷◌, length, take, slice_get, All, Bool, true, false, Option, Some, None, MatchOption, if◌then◌else◌, ◌&&◌, ◌==◌, nat_lt, refl, sym, ap, subst, ◌∙◌, arith, length-set}
+use Rattle.std.proofs.Common.{◌≡◌, ◌≢◌, ℕ, ◌+◌, ◌-◌, ◌^◌, ◌<◌, ◌≤◌, List, [], ◌∷◌, length, map, set, take, slice_get, All, Bool, true, false, Option, Some, None, MatchOption, if◌then◌else◌, ◌&&◌, ◌==◌, nat_lt, refl, sym, ap, subst, ◌∙◌, arith, length-set}
 use Rattle.std.proofs.lemmas.Bool.{and_parts, ltb-true, eqb-true}
+use Rattle.std.proofs.lemmas.List.{set-get_or}
 use Rattle.std.proofs.lemmas.List.Elements.{All-nil, All-cons, All-head, All-tail, All-append}
 use Rattle.std.proofs.lemmas.Option.{slice_get_within, get_or_from_slice_get}
 use Rattle.ivy_model.specs.declared.Config.{Config}
 use Rattle.ivy_wire.specs.Data.{Message, Frame, Parcel}
-use Rattle.ivy_wire.specs.Spelling.{FitsMessage, FitsParcel, Fits}
+use Rattle.ivy_wire.specs.Spelling.{FitsMessage, FitsParcel, Fits, spelling}
 use Rattle.ivy_link.specs.declared.Verdict.{Verdict}
 use Rattle.ivy_link.specs.declared.Verdict.TheVariants.{Next, Repeat, Ahead, NotMine}
-use Rattle.ivy_link.specs.Linked.{Peer, Linked, peer_at, with_peer, with_message, sent_one, after_sends, frame_of, frames_of, has_numbers}
+use Rattle.ivy_link.specs.Linked.{Peer, Linked, fresh, peer_at, with_peer, with_message, sent_one, after_sends, frame_of, frames_of, has_numbers}
 use Rattle.ivy_link.specs.Accepted.{verdict_on, offered, heard, accepted}
-use Rattle.ivy_link.specs.Pulsed.{numbered, pulse_of, frames_again, settled, after_pulse}
+use Rattle.ivy_link.specs.Limits.{most_again}
+use Rattle.ivy_link.specs.Pulsed.{numbered, ack_alone, pulse_of, frames_again, settled, after_pulse}
 use Rattle.ivy_link.specs.Paired.{posted, extended, IsBody, IsMade}
 use Rattle.ivy_ether.proofs.Places.{peer-either, peer-there, peer-other}
 
@@ -156,3 +158,22 @@ posted-fits c me (p ∷ ps) i j all = one-fits c (p.source == i && p.dest == j) 
 
 pub extended-fits : (c : Config) (me : ℕ) (sent : ℕ → ℕ → List Message) (ps : List Parcel) → ((i j : ℕ) → All (FitsMessage c) (sent i j)) → All (FitsParcel c me) ps → (i j : ℕ) → All (FitsMessage c) (extended sent ps i j)
 extended-fits c me sent ps old all i j = All-append (FitsMessage c) (sent i j) (posted i j ps) (old i j) (posted-fits c me ps i j all)
+
+-- a pulse that gives no frame changes nothing
+settled-silent : (p : Peer) (me to : ℕ) (kept : List Message) (owed : Bool) → p.kept ≡ kept → p.owed ≡ owed → pulse_of kept me to p ≡ [] → settled p ≡ p
+settled-silent p me to [] true kept owed none =
+    let some : ack_alone me to p.delivered ∷ [] ≡ [] = sym (ap (λ b. if b then ack_alone me to p.delivered ∷ [] else []) owed) ∙ none in
+    absurd cc
+settled-silent p me to [] false kept owed none = λ k. record { sent = p.sent; kept = p.kept; delivered = p.delivered; owed = sym owed k }
+settled-silent p me to (m ∷ ms) owed kept is none =
+    let some : numbered me to p.delivered (p.sent - length p.kept + 1) (take most_again (m ∷ ms)) ≡ [] = sym (ap (λ l. numbered me to p.delivered (p.sent - length p.kept + 1) (take most_again l)) kept) ∙ none in
+    absurd cc
+
+none-mapped : {X Y : Type 0} (f : X → Y) (xs : List X) → map f xs ≡ [] → xs ≡ []
+none-mapped f [] none = refl
+none-mapped f (x ∷ xs) none = absurd cc
+
+pub silent-pulse : (l : Linked) (to : ℕ) → map spelling (frames_again l to) ≡ [] → after_pulse l to ≡ l
+silent-pulse l to none =
+    let same : settled (peer_at l to) ≡ peer_at l to = settled-silent (peer_at l to) l.me to (peer_at l to).kept (peer_at l to).owed refl refl (none-mapped spelling (frames_again l to) none) in
+    λ k. record { me = l.me; peers = (ap (λ p. set l.peers to p) same ∙ set-get_or l.peers to fresh) k }

@@ -1,12 +1,12 @@
 -- One order of all records that explains what the nodes were answered, at every moment, and that only grows.
-use Rattle.std.specs.Prelude.{◌≡◌, List, [], ◌∷◌, ◌++◌, map, Some}
+use Rattle.std.specs.Prelude.{List, [], ◌∷◌, ◌++◌, map}
 use Rattle.ivy_model.specs.declared.Config.{Config}
 use Rattle.ivy_model.specs.declared.Record.{Record}
 use Rattle.ivy_model.specs.Explains.{Answered, IsExplained}
 use Rattle.ivy_ether.specs.declared.moves.Move.{Move}
 use Rattle.ivy_ether.specs.Cores.{Core}
 use Rattle.ivy_ether.specs.Nodes.{Node}
-use Rattle.ivy_ether.specs.Worlds.{World, moved}
+use Rattle.ivy_ether.specs.Worlds.{World, Moves}
 
 module _ {C : Type 0} (rules : Core C) (c : Config) (answered : C → Answered) where
   -- the order explains what the nodes of this world were answered
@@ -18,5 +18,5 @@ module _ {C : Type 0} (rules : Core C) (c : Config) (answered : C → Answered) 
   GoesOn w order [] = IsExplainedBy w order
   GoesOn w order (move ∷ moves) =
       IsExplainedBy w order
-      × ((mid : World C) → moved rules c w move ≡ Some mid
+      × ((mid : World C) → Moves rules c w move mid
       → (more : List Record) × GoesOn mid (order ++ more) moves)

@@ -4,6 +4,8 @@ pub mod Listed
 pub mod Cores
 pub mod Nodes
 pub mod Worlds
+pub mod Parts
+pub mod Early
 pub mod Explained
 pub mod Ordered
 pub mod Following

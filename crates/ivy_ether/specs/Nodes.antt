@@ -79,6 +79,14 @@ module _ {C : Type 0} (rules : Core C) where
   delivered c n bytes = delivered_as (checked c bytes) n bytes
 
 module _ {C : Type 0} where
+  -- what a string is to the node: a string that is no frame is not for it
+  abbrev pub verdict_as : Result FrameKind Fault → Node C → List ℕ → Verdict
+  verdict_as (Err fault) n bytes = verdict.NotMine
+  verdict_as (Ok kind) n bytes = offered n.link (frame_at kind bytes)
+
+  abbrev pub verdict_of : Config → Node C → List ℕ → Verdict
+  verdict_of c n bytes = verdict_as (checked c bytes) n bytes
+
   unfoldable pub pulsing : Node C → ℕ → Effect C
   pulsing n to = record {
     after = record { core = n.core; link = (pulsed n.link to).after };

@@ -5,8 +5,10 @@
 #![tactic(auto)]
 
 mod event;
+mod laws;
 mod moves;
 mod note;
 
 pub use event::{Event, Events};
+pub use laws::{parts_go_on, runs_are_their_parts};
 pub use moves::Move;

@@ -1,6 +1,6 @@
 -- The order explains each world of strings that is reached, and goes on from move to move, as programs load and store.
 -- For every manager that keeps the laws.
-use Rattle.std.proofs.Common.{◌≡◌, ◌+◌, ℕ, zero, suc, List, [], ◌∷◌, ◌++◌, length, map, slice_get, Some, refl, ap, sym, subst, ◌∙◌, arith}
+use Rattle.std.proofs.Common.{◌≡◌, ◌+◌, ℕ, zero, suc, List, [], ◌∷◌, ◌++◌, length, map, slice_get, Some, refl, ap, sym, subst, ◌∙◌, arith, append-nil, append_assoc}
 use Rattle.std.proofs.lemmas.Simd.{map-map}
 use Rattle.std.proofs.lemmas.Option.{same_Some, none-some}
 use Rattle.ivy_model.specs.declared.Config.{Config}
@@ -15,8 +15,8 @@ use Rattle.ivy_ether.specs.Nodes.{Node}
 use Rattle.ivy_ether.specs.Worlds.{World, Leads}
 use Rattle.ivy_ether.specs.Explained.{IsExplainedBy}
 use Rattle.ivy_ether.specs.Explained as explained
-use Rattle.ivy_ether.specs.Following.{ordered_of, Follows, StepsTo}
-use Rattle.ivy_ether.proofs.Following.{follows}
+use Rattle.ivy_ether.specs.Following.{ordered_of, Follows}
+use Rattle.ivy_ether.proofs.Kept.{IsKeptBySteps, move-keeps, moves-keep}
 use Rattle.ivy_host.specs.Hosts.{Host, answered_by, host_rules, first_host}
 use Rattle.ivy_host.specs.Sound.{IsSoundHost}
 use Rattle.ivy_host.specs.Openings.{first_node, first_nodes, opening}
@@ -36,15 +36,24 @@ module _ {S : Type 0} (ops : Ops S) (laws : Laws ops) (c : Config) (config : IsC
   explains w posted order f =
       subst (IsExplained c order) (map-map (λ (n : Host S). answered_by n) (λ (n : Node (Host S)). n.core) w.nodes) (faithful_explained ops c (ordered_of w posted) order f)
 
+  -- after each step an order that goes on from this one is faithful, and the nodes have these programs
+  abbrev GoesOnFrom : List (List Instruction) → List Record → World (Host S) → (ℕ → ℕ → List Message) → Type 0
+  GoesOnFrom programs order w posted = (more : List Record) × IsFaithful ops c (ordered_of w posted) (order ++ more) × HasPrograms programs (ordered_of w posted)
+
+  steps_go_on : (programs : List (List Instruction)) (order : List Record) → IsKeptBySteps (host_rules ops) c (IsSoundHost ops c) config (tame laws c) (GoesOnFrom programs order)
+  steps_go_on programs order w w' posted h f next =
+      let on : GoesOn ops c (ordered_of w posted) (ordered_of w' next.0) (order ++ f.0) = faithful_next ops laws c config (ordered_of w posted) (ordered_of w' next.0) (order ++ f.0) f.1 next.2 in
+      (f.0 ++ on.more, subst (IsFaithful ops c (ordered_of w' next.0)) (append_assoc order f.0 on.more) on.faithful, on.programs programs f.2)
+
   -- the order explains the world, and goes on to explain each world after it
-  pub goes_on : (w : World (Host S)) (posted : ℕ → ℕ → List Message) (order : List Record) (moves : List Move) → Follows c (IsSoundHost ops c) w posted → IsFaithful ops c (ordered_of w posted) order
-      → explained.GoesOn (host_rules ops) c answered_by w order moves
-  goes_on w posted order [] h f = explains w posted order f
-  goes_on w posted order (move ∷ moves) h f = (
+  pub goes_on : (programs : List (List Instruction)) (w : World (Host S)) (posted : ℕ → ℕ → List Message) (order : List Record) (moves : List Move) → Follows c (IsSoundHost ops c) w posted → IsFaithful ops c (ordered_of w posted) order
+      → HasPrograms programs (ordered_of w posted) → explained.GoesOn (host_rules ops) c answered_by w order moves
+  goes_on programs w posted order [] h f has = explains w posted order f
+  goes_on programs w posted order (move ∷ moves) h f has = (
     explains w posted order f,
-    λ mid eq. (let next : StepsTo (host_rules ops) c (IsSoundHost ops c) w posted mid = follows (host_rules ops) c (IsSoundHost ops c) config (tame laws c) w mid posted move h eq in
-        let on : GoesOn ops c (ordered_of w posted) (ordered_of mid next.0) order = faithful_next ops laws c config (ordered_of w posted) (ordered_of mid next.0) order f next.2 in
-        (on.more, goes_on mid next.0 (order ++ on.more) moves next.1 on.faithful)),
+    λ mid made. (let now : GoesOnFrom programs order w posted = ([], subst (IsFaithful ops c (ordered_of w posted)) (sym (append-nil order)) f, has) in
+        let next = move-keeps (host_rules ops) c (IsSoundHost ops c) config (tame laws c) (GoesOnFrom programs order) (steps_go_on programs order) w mid move (posted, h, now) made in
+        (next.2.0, goes_on programs mid next.0 (order ++ next.2.0) moves next.1 next.2.1 next.2.2)),
   )
 
   runs : (programs : List (List Instruction)) (w : World (Host S)) (posted : ℕ → ℕ → List Message) (order : List Record) → IsFaithful ops c (ordered_of w posted) order → HasPrograms programs (ordered_of w posted) → AreRuns programs w
@@ -55,11 +64,10 @@ module _ {S : Type 0} (ops : Ops S) (laws : Laws ops) (c : Config) (config : IsC
   -- in each world that is led to, the histories are runs of the programs
   pub runs_led : (programs : List (List Instruction)) (w w' : World (Host S)) (posted : ℕ → ℕ → List Message) (order : List Record) (moves : List Move) → Follows c (IsSoundHost ops c) w posted
       → IsFaithful ops c (ordered_of w posted) order → HasPrograms programs (ordered_of w posted) → Leads (host_rules ops) c w moves w' → AreRuns programs w'
-  runs_led programs w w' posted order [] h f has done = subst (λ v. AreRuns programs v) (sym done) (runs programs w posted order f has)
-  runs_led programs w w' posted order (move ∷ moves) h f has lead =
-      let next : StepsTo (host_rules ops) c (IsSoundHost ops c) w posted lead.0 = follows (host_rules ops) c (IsSoundHost ops c) config (tame laws c) w lead.0 posted move h lead.1 in
-      let on : GoesOn ops c (ordered_of w posted) (ordered_of lead.0 next.0) order = faithful_next ops laws c config (ordered_of w posted) (ordered_of lead.0 next.0) order f next.2 in
-      runs_led programs lead.0 w' next.0 (order ++ on.more) moves next.1 on.faithful (on.programs programs has) lead.2
+  runs_led programs w w' posted order moves h f has lead =
+      let now : GoesOnFrom programs order w posted = ([], subst (IsFaithful ops c (ordered_of w posted)) (sym (append-nil order)) f, has) in
+      let end = moves-keep (host_rules ops) c (IsSoundHost ops c) config (tame laws c) (GoesOnFrom programs order) (steps_go_on programs order) w w' moves (posted, h, now) lead in
+      runs programs w' end.0 (order ++ end.2.0) end.2.1 end.2.2
 
 module _ {S : Type 0} (ops : Ops S) (c : Config) where
   -- the nodes of the opening world
@@ -81,7 +89,7 @@ module _ {S : Type 0} (ops : Ops S) (laws : Laws ops) (c : Config) (config : IsC
     (follow : Follows c (IsSoundHost ops c) (opening ops c programs) (λ i j. [])) where
   -- an order explains the opening world, and goes on to explain each world that is led to
   pub opening_explained : (moves : List Move) → explained.GoesOn (host_rules ops) c answered_by (opening ops c programs) [] moves
-  opening_explained moves = goes_on ops laws c config (opening ops c programs) (λ i j. []) [] moves follow (opening_faithful ops laws c config programs many)
+  opening_explained moves = goes_on ops laws c config programs (opening ops c programs) (λ i j. []) [] moves follow (opening_faithful ops laws c config programs many) (opening_programs ops c programs)
 
   -- in each world that is led to from there, the histories are runs of the programs
   pub opening_runs : (w : World (Host S)) (moves : List Move) → Leads (host_rules ops) c (opening ops c programs) moves w → AreRuns programs w

@@ -164,4 +164,5 @@ opening_is {S} {ops} laws c programs limits many = record {
       (record { memory = first_sound-memory laws c i limits (let below = x.2 in omega (arith, below, many)); config = refl; me = refl; numbered = λ k asked. absurd (none-some k asked) }));
   links = λ i n is. (let x = first_at ops c 0 i programs i n (omega arith) is in ap (λ (m : Node (Host S)). m.link) x.1);
   sent = refl;
+  early = λ i. refl;
 }

@@ -19,4 +19,4 @@ module _ {S : Type 0} (ops : Ops S) where
   first_nodes c me (p ∷ ps) = first_node c me p ∷ first_nodes c (me + 1) ps
 
   abbrev pub opening : Config → List (List Instruction) → World (Host S)
-  opening c programs = record { nodes = first_nodes c 0 programs; sent = [] }
+  opening c programs = record { nodes = first_nodes c 0 programs; sent = []; early = λ i. [] }

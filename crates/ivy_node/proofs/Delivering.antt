@@ -26,6 +26,7 @@ use Rattle.ivy_node.specs.Outboxes.{Outbox, HasNumbers, IsRefused, with_link, po
 use Rattle.ivy_node.specs.Shown.{Shown, after_event, after_delivery}
 use Rattle.ivy_node.specs.Sites.{AfterDelivery, IsSpentDelivery, IsSite}
 use Rattle.ivy_node.proofs.Boxes.{as_many}
+use Rattle.ivy_node.proofs.Made.{delivery_made}
 use Rattle.ivy_memory.proofs.Same.{handled-same}
 use Rattle.ivy_host.proofs.Tame.{IsAskingHost}
 
@@ -190,10 +191,16 @@ heard_delivers n v same k f bytes w r ne h box new events x is listed =
           ∙ (ap (λ (es : List Mark). shown_of h (heard_box v x.link x.sent f) es) listed ∙ is_event v bytes w e ne);
     })
 
-pub heard_site : (v : Shown) (f : Frame) (w : Verdict) (h : H) (box new : Outbox) (events : List Mark) → IsSite v → IsHeard v f w h box → new ≡ with_link box (accepted box.link f) → IsSite (shown_of h new events)
-heard_site v f w h box new events site x is =
-    subst (λ (b : Outbox). IsSite (shown_of h b events)) (sym (after_heard v f w h box new x is))
-    (record { config = x.config ∙ site.config; me = x.me ∙ site.me; asking = x.asking site.asking })
+pub heard_site : (v : Shown) (k : Config) (f : Frame) (bytes : List ℕ) (w : Verdict) → IsRead v k f bytes w → (w ≡ verdict.NotMine → ⊥) → (h : H) (box new : Outbox) (events : List Mark) → IsSite v → IsHeard v f w h box → new ≡ with_link box (accepted box.link f)
+    → events ≡ v.events ++ Delivery bytes ∷ [] → IsSite (shown_of h new events)
+heard_site v k f bytes w r ne h box new events site x is listed =
+    let same = after_heard v f w h box new x is in
+    record {
+      config = x.config ∙ site.config ∙ sym (ap (λ (b : Outbox). b.config) same);
+      me = x.me ∙ site.me ∙ sym (ap (λ (b : Outbox). b.me) same);
+      asking = x.asking site.asking;
+      made = delivery_made bytes w v (shown_of h new events) (subst IsConfig r.config r.limits) site.made (heard_delivers v v refl k f bytes w r ne h box new events x is listed);
+    }
 
 pub heard_few : (n v : Shown) → v ≡ n → (f : Frame) (w : Verdict) (h : H) (box new : Outbox) → IsHeard v f w h box → new ≡ with_link box (accepted box.link f) → length new.waiting ≤ length n.waiting + 32
 heard_few n v same f w h box new x is =

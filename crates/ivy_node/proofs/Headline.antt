@@ -11,7 +11,7 @@ use Rattle.ivy_ether.specs.declared.Move.{Move}
 use Rattle.ivy_ether.specs.Worlds.{World, Leads}
 use Rattle.ivy_ether.specs.Explained.{GoesOn}
 use Rattle.ivy_ether.specs.Following.{Follows, IsTame, IsString}
-use Rattle.ivy_ether.proofs.Following.{led}
+use Rattle.ivy_ether.proofs.Kept.{led}
 use Rattle.ivy_ether.proofs.Opening.{opening_follows}
 use Rattle.ivy_host.specs.Hosts.{Host, host_rules, answered_by}
 use Rattle.ivy_host.specs.Sound.{IsSoundHost}

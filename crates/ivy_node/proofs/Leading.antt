@@ -4,6 +4,7 @@ use Rattle.ivy_model.specs.declared.Config.{Config}
 use Rattle.ivy_ether.specs.declared.Move.{Move}
 use Rattle.ivy_ether.specs.Cores.{Core}
 use Rattle.ivy_ether.specs.Worlds.{World, Leads, moved}
+use Rattle.ivy_ether.proofs.Kept.{stays-there}
 
 module _ {C : Type 0} (rules : Core C) (c : Config) where
   -- first these, then those
@@ -13,4 +14,4 @@ module _ {C : Type 0} (rules : Core C) (c : Config) where
 
   -- one move more
   pub leads_one : (u v w : World C) (xs : List Move) (m : Move) → Leads rules c u xs v → moved rules c v m ≡ Some w → Leads rules c u (xs ++ m ∷ []) w
-  leads_one u v w xs m h e = leads_on u v w xs (m ∷ []) h (w, e, refl)
+  leads_one u v w xs m h e = leads_on u v w xs (m ∷ []) h (w, stays-there rules c v w m e, refl)

@@ -8,3 +8,5 @@ pub mod Headline
 pub mod Leading
 pub mod Worlds
 pub mod Making
+pub mod Made
+pub mod Programs

@@ -1,6 +1,6 @@
 -- One move over the sites of a world changes one site.
 use Rattle.std.proofs.Common.{◌≡◌, ◌⊎◌, ℕ, Bool, false, inl, inr, zero, suc, ◌+◌, ◌^◌, ◌<◌, List, [], ◌∷◌, ◌++◌, length, map, set, slice_get, Option, Some, None, Ok, MatchResult, Contains, option_map, true, false, nat_lt, if◌then◌else◌, ◌&&◌, ◌==◌, ◌≢◌, not, refl, sym, ap, subst, ◌∙◌, append-nil, ⊎_elim}
-use Rattle.std.proofs.lemmas.Bool.{lt-ltb, ne_eqb}
+use Rattle.std.proofs.lemmas.Bool.{cases_eq, lt-ltb, eq-eqb, ne_eqb}
 use Rattle.std.proofs.lemmas.List.{map-set, length-map}
 use Rattle.std.proofs.lemmas.Option.{same_Some, none-some, slice_get-map, slice_get_within, get_or_from_slice_get}
 use Rattle.ivy_model.specs.declared.Config.{Config}
@@ -22,7 +22,7 @@ use Rattle.ivy_wire.specs.Spelling.{spelling, Spells, frame_kind}
 use Rattle.ivy_ether.specs.declared.Move.{Move}
 use Rattle.ivy_ether.specs.declared.Move.TheVariants as move
 use Rattle.ivy_ether.specs.Cores.{Outcome}
-use Rattle.ivy_ether.specs.Nodes.{Node, Effect, stays, posting, turned, turned_to, pulsing, accepting, served, received_as, received, delivered_as, delivered}
+use Rattle.ivy_ether.specs.Nodes.{Node, Effect, stays, posting, turned, turned_to, pulsing, accepting, served, received_as, received, verdict_of, delivered_as, delivered}
 use Rattle.ivy_ether.specs.Worlds as worlds
 use Rattle.ivy_node.specs.declared.turn.Turn as turn
 use Rattle.ivy_node.specs.declared.turn.Turn.TheVariants.{Idle, Moved, Ended}
@@ -33,8 +33,13 @@ use Rattle.ivy_memory.specs.Memories.{CallBegun, call_begun, polled}
 use Rattle.ivy_host.specs.Holding.{AllSpell}
 use Rattle.ivy_node.specs.Runs.{IsRefusedBy}
 use Rattle.ivy_node.specs.Shown.{Shown, after_pulse_to, after_delivery}
-use Rattle.ivy_node.specs.Sites.{AfterTurn, IsSpentTurn, AfterDelivery, IsSpentDelivery}
-use Rattle.ivy_node.specs.WorldSites.{programs_of, world_of, AreSites}
+use Rattle.ivy_node.specs.Sites.{IsMadeByEvents, AfterTurn, IsSpentTurn, AfterDelivery, IsSpentDelivery}
+use Rattle.ivy_node.specs.WorldSites.{programs_of, early_at, world_of, AreSites}
+use Rattle.ivy_ether.specs.Early.{early_as}
+use Rattle.ivy_ether.proofs.Places.{set-there, set-elsewhere}
+use Rattle.ivy_ether.proofs.Kept.{none-after}
+use Rattle.ivy_node.proofs.Made.{turn_made, turn_early, pulse_made-on, pulse_early, delivery_made, delivery_early, all_taken}
+use Rattle.ivy_node.proofs.Programs.{turned-program, posting-core, received-program, delivered-is}
 
 -- what a test guards
 guarded : {X : Type 0} (b : Bool) (o : Option X) (x : X) → (if b then o else None) ≡ Some x → (b ≡ true) × (o ≡ Some x)
@@ -69,61 +74,61 @@ same_map f [] i old new there same = refl
 same_map f (x ∷ xs) zero old new there same = ap (λ y. y ∷ map f xs) (same ∙ ap f (sym (same_Some x old there)))
 same_map f (x ∷ xs) (suc i) old new there same = ap (λ l. f x ∷ l) (same_map f xs i old new there same)
 
-changed_are : (c : Config) (sites : List Shown) (i : ℕ) (old new : Shown) → AreSites c sites → slice_get sites i ≡ Some old → new.config ≡ old.config → new.me ≡ old.me → new.waiting ≡ [] → AreSites c (set sites i new)
-changed_are c sites i old new h there config me none = record {
+changed_are : (c : Config) (sites : List Shown) (i : ℕ) (old new : Shown) → AreSites c sites → slice_get sites i ≡ Some old → new.config ≡ old.config → new.me ≡ old.me → new.waiting ≡ [] → IsMadeByEvents new → AreSites c (set sites i new)
+changed_are c sites i old new h there config me none made = record {
   config = λ j s e. ⊎_elim (λ p. ap (λ (x : Shown). x.config) p.1 ∙ config ∙ h.config i old there) (λ q. h.config j s q) (set-cases sites i j new s e);
   me = λ j s e. ⊎_elim (λ p. ap (λ (x : Shown). x.me) p.1 ∙ me ∙ h.me i old there ∙ sym p.0) (λ q. h.me j s q) (set-cases sites i j new s e);
   none_waits = λ j s e. ⊎_elim (λ p. ap (λ (x : Shown). x.waiting) p.1 ∙ none) (λ q. h.none_waits j s q) (set-cases sites i j new s e);
+  made = λ j s e. ⊎_elim (λ p. subst IsMadeByEvents (sym p.1) made) (λ q. h.made j s q) (set-cases sites i j new s e);
 }
 
-changed_world : (sites : List Shown) (sent : List (List ℕ)) (i : ℕ) (new : Shown) (more : List (List ℕ)) (e : Effect (Host Managed)) → new.node ≡ e.after → more ≡ e.sent
-    → worlds.gone_on (world_of sites sent) i e ≡ world_of (set sites i new) (sent ++ more)
-changed_world sites sent i new more e node is =
+-- what came too early, where one site changed
+early-set : (sites : List Shown) (i : ℕ) (old new : Shown) (more : List (List ℕ)) → slice_get sites i ≡ Some old → early_at (Some new) ≡ early_at (Some old) ++ more
+    → (j : ℕ) → (if j == i then early_at (slice_get sites j) ++ more else early_at (slice_get sites j)) ≡ early_at (slice_get (set sites i new) j)
+early-set sites i old new more there grown j = elim (cases_eq j i) [
+  | inl same ↦
+      ap (λ b. if b then early_at (slice_get sites j) ++ more else early_at (slice_get sites j)) (eq-eqb j i same)
+      ∙ ap (λ k. early_at (slice_get sites k) ++ more) same ∙ ap (λ o. early_at o ++ more) there ∙ sym grown
+      ∙ sym (ap early_at (ap (λ k. slice_get (set sites i new) k) same ∙ set-there sites i new old there))
+  | inr apart ↦
+      ap (λ b. if b then early_at (slice_get sites j) ++ more else early_at (slice_get sites j)) (ne_eqb j i apart)
+      ∙ sym (ap early_at (set-elsewhere sites i j new (λ e. apart (sym e))))
+]
+
+none-more : (early : List (List ℕ)) (b : Bool) → early ≡ (if b then early ++ [] else early)
+none-more early true = sym (append-nil early)
+none-more early false = refl
+
+remembered-is : (v : Verdict) (early : ℕ → List (List ℕ)) (i : ℕ) (bytes : List ℕ) (j : ℕ) → worlds.remembered v early i bytes j ≡ (if j == i then early j ++ early_as v bytes else early j)
+remembered-is verdict.NotMine early i bytes j = none-more (early j) (j == i)
+remembered-is verdict.Next early i bytes j = none-more (early j) (j == i)
+remembered-is verdict.Repeat early i bytes j = none-more (early j) (j == i)
+remembered-is verdict.Ahead early i bytes j = refl
+
+-- the world after one site changed, where so much more came too early
+changed_world : (sites : List Shown) (sent : List (List ℕ)) (i : ℕ) (new : Shown) (e : Effect (Host Managed)) (early : ℕ → List (List ℕ)) (strings : List (List ℕ)) → new.node ≡ e.after → strings ≡ e.sent
+    → ((j : ℕ) → early j ≡ early_at (slice_get (set sites i new) j)) → record (worlds.gone_on (world_of sites sent) i e) { early = early } ≡ world_of (set sites i new) (sent ++ strings)
+changed_world sites sent i new e early strings node is grown =
     let back = sym is in λ k. record {
       nodes = (ap (λ n. set (map (λ (s : Shown). s.node) sites) i n) (sym node) ∙ sym (map-set (λ (s : Shown). s.node) sites i new)) k;
       sent = sent ++ back k;
+      early = λ j. grown j k;
     }
 
-went : (c : Config) (sites : List Shown) (sent : List (List ℕ)) (i : ℕ) (old done : Shown) (e : Effect (Host Managed)) (step : Move)
-    → AreSites c sites → slice_get sites i ≡ Some old → IsGone old done e
-    → worlds.moved (host_rules managed_ops) c (world_of sites sent) step ≡ Some (worlds.gone_on (world_of sites sent) i e)
+went : (c : Config) (sites : List Shown) (sent : List (List ℕ)) (i : ℕ) (old done : Shown) (e : Effect (Host Managed)) (step : Move) (early : ℕ → List (List ℕ))
+    → AreSites c sites → slice_get sites i ≡ Some old → IsGone old done e → IsMadeByEvents done → ((j : ℕ) → early j ≡ early_at (slice_get (set sites i (record done { waiting = [] })) j))
+    → worlds.moved (host_rules managed_ops) c (world_of sites sent) step ≡ Some (record (worlds.gone_on (world_of sites sent) i e) { early = early })
     → Went c sites (set sites i (record done { waiting = [] })) sent (sent ++ done.waiting) step
-went c sites sent i old done e step h there gone moved =
+went c sites sent i old done e step early h there gone made grown moved =
     let waits : done.waiting ≡ e.sent = gone.waiting ∙ ap (λ l. l ++ e.sent) (h.none_waits i old there) in record {
-      made = moved ∙ ap Some (changed_world sites sent i (record done { waiting = [] }) done.waiting e gone.node waits);
-      are = changed_are c sites i old (record done { waiting = [] }) h there gone.config gone.me refl;
+      made = moved ∙ ap Some (changed_world sites sent i (record done { waiting = [] }) e early done.waiting gone.node waits grown);
+      are = changed_are c sites i old (record done { waiting = [] }) h there gone.config gone.me refl (all_taken done made);
       programs = same_map (λ (s : Shown). s.node.core.process.program) sites i old (record done { waiting = [] }) there (ap (λ (n : Node (Host Managed)). n.core.process.program) gone.node ∙ gone.program);
     }
 
--- a turn keeps the program
-
-module _ where
-  with-program : (n : Host Managed) (c : Call) (a : CallBegun Managed) (r : Answer) (o : Outcome (Host Managed)) → begins_with n c a r ≡ Some o → o.after.process.program ≡ n.process.program
-  with-program n c a (Given r) o e = ap (λ (x : Outcome (Host Managed)). x.after.process.program) (sym (same_Some (record { after = recorded n a.after c r; posted = a.posted }) o e))
-  with-program n c a Awaited o e = ap (λ (x : Outcome (Host Managed)). x.after.process.program) (sym (same_Some (record { after = record n { memory = a.after }; posted = a.posted }) o e))
-  with-program n c a Unserved o e = absurd (none-some o e)
-
-  begun-program : (n : Host Managed) (c : Call) (o : Outcome (Host Managed)) → begins managed_ops n c ≡ Some o → o.after.process.program ≡ n.process.program
-  begun-program n c o e =
-      let a = call_begun managed_ops n.memory c (length n.history + 1) in
-      with-program n c a a.answer o (guarded (nat_lt (length n.history + 1) (2 ^ 64)) (begins_as n c a) o e).1
-
-  stepped-program : (n : Host Managed) (s : Step) (o : Outcome (Host Managed)) → steps managed_ops n s ≡ Some o → o.after.process.program ≡ n.process.program
-  stepped-program n (Local s) o e = ap (λ (x : Outcome (Host Managed)). x.after.process.program) (sym (same_Some (quietly (record n { process = at_state n.process s })) o e))
-  stepped-program n (Asks c) o e = begun-program n c o e
-  stepped-program n Ends o e = absurd (none-some o e)
-
-  asked-program : (n : Host Managed) (asked : Option Call) (o : Outcome (Host Managed)) → turned_at managed_ops n asked ≡ Some o → o.after.process.program ≡ n.process.program
-  asked-program n (Some c) o e = let a = polled managed_ops n.memory (length n.history + 1) in with-program n c a a.answer o e
-  asked-program n None o e = stepped-program n (step_of n.process) o e
-
-  turned-program : (n : Host Managed) (o : Outcome (Host Managed)) → turn_of managed_ops n ≡ Some o → o.after.process.program ≡ n.process.program
-  unfolding turn_of
-  turned-program n o e = asked-program n n.memory.asked o e
-
-posting-core : (n : Node (Host Managed)) (core : Host Managed) (ps : List Parcel) (e : Effect (Host Managed)) → posting n core ps ≡ Some e → e.after.core ≡ core
-posting-core n core ps e is =
-    ap (λ (x : Effect (Host Managed)). x.after.core) (sym (same_Some (record { after = record { core = core; link = (sends n.link ps).after }; sent = map spelling (sends n.link ps).frames }) e (guarded (has_numbers n.link ps) _ e is).1))
+-- where nothing came
+quiet : (sites : List Shown) (i : ℕ) (old new : Shown) → slice_get sites i ≡ Some old → early_at (Some new) ≡ early_at (Some old) ++ [] → (j : ℕ) → early_at (slice_get sites j) ≡ early_at (slice_get (set sites i new) j)
+quiet sites i old new there grown j = none-more (early_at (slice_get sites j)) (j == i) ∙ early-set sites i old new [] there grown j
 
 still_gone : (old new : Shown) → new ≡ old → IsGone old new (stays old.node)
 still_gone old new same = record {
@@ -169,12 +174,13 @@ pub turn_went : (c : Config) (sites : List Shown) (sent : List (List ℕ)) (i : 
     → Went c sites (set sites i site) sent more step
 turn_went c sites sent i old done site t step more h there after is same added =
     let gone = turn_gone t old done after in
-    rw is (rw same (rw added (went c sites sent i old done gone.0 (move.Turn i) h there gone.2 (turn_is c sites sent i old there ∙ ap (worlds.goes_on (world_of sites sent) i) gone.1))))
+    rw is (rw same (rw added (went c sites sent i old done gone.0 (move.Turn i) (λ j. early_at (slice_get sites j)) h there gone.2 (turn_made t old done (h.made i old there) after)
+    (quiet sites i old (record done { waiting = [] }) there (turn_early t old done (h.made i old there) after)) (turn_is c sites sent i old there ∙ ap (worlds.goes_on (world_of sites sent) i) gone.1))))
 
 pub turn_refused : (c : Config) (sites : List Shown) (sent : List (List ℕ)) (i : ℕ) (old : Shown) (step : Move) (fault : Fault)
     → slice_get sites i ≡ Some old → step ≡ move.Turn i → IsSpentTurn old fault → IsWant fault → IsRefusedBy c (world_of sites sent) fault (Some step)
 turn_refused c sites sent i old step fault there is spent want =
-    rw is (⊎_elim (λ m. rw m tt) (λ s. rw s (turn_is c sites sent i old there ∙ ap (worlds.goes_on (world_of sites sent) i) (spent s))) want)
+    rw is (⊎_elim (λ m. rw m tt) (λ s. rw s (none-after (host_rules managed_ops) c (world_of sites sent) (move.Turn i) (turn_is c sites sent i old there ∙ ap (worlds.goes_on (world_of sites sent) i) (spent s)))) want)
 
 pulse_gone : (old new : Shown) (to : ℕ) → new ≡ after_pulse_to old to (pulsing old.node to) → IsGone old new (pulsing old.node to)
 unfolding pulsing
@@ -202,39 +208,8 @@ pub pulse_went : (c : Config) (sites : List Shown) (sent : List (List ℕ)) (i t
     → AreSites c sites → slice_get sites i ≡ Some old → to < length sites → i ≢ to → done ≡ after_pulse_to old to (pulsing old.node to) → step ≡ move.Pulse i to → site ≡ record done { waiting = [] } → more ≡ sent ++ done.waiting
     → Went c sites (set sites i site) sent more step
 pulse_went c sites sent i to old done site step more h there within apart after is same added =
-    rw is (rw same (rw added (went c sites sent i old done (pulsing old.node to) (move.Pulse i to) h there (pulse_gone old done to after) (pulse_is c sites sent i to old there within apart))))
-
--- a delivery keeps the program
-
-accepting-core : (f : Frame) (o : Option (Effect (Host Managed))) (e : Effect (Host Managed)) → accepting f o ≡ Some e → (x : Effect (Host Managed)) × (o ≡ Some x) × (e.after.core ≡ x.after.core)
-accepting-core f None e is = absurd (none-some e is)
-accepting-core f (Some x) e is =
-    (x, refl, ap (λ (y : Effect (Host Managed)). y.after.core) (sym (same_Some (record { after = record { core = x.after.core; link = accepted x.after.link f }; sent = x.sent }) e is)))
-
-kept-program : (n : Node (Host Managed)) (f : Frame) (e : Effect (Host Managed)) → accepting f (Some (stays n)) ≡ Some e → e.after.core.process.program ≡ n.core.process.program
-kept-program n f e is =
-    let x = accepting-core f (Some (stays n)) e is in
-    ap (λ (k : Host Managed). k.process.program) (x.2 ∙ ap (λ (y : Effect (Host Managed)). y.after.core) (sym (same_Some (stays n) x.0 x.1)))
-
-served-program : (n : Node (Host Managed)) (f : Frame) (body : Option Message) (e : Effect (Host Managed)) → served (host_rules managed_ops) n f body ≡ Some e → e.after.core.process.program ≡ n.core.process.program
-unfolding serving
-served-program n f None e is = kept-program n f e is
-served-program n f (Some m) e is =
-    let o = serving managed_ops n.core f.source m in
-    let x = accepting-core f (posting n o.after o.posted) e is in
-    ap (λ (k : Host Managed). k.process.program) (x.2 ∙ posting-core n o.after o.posted x.0 x.1)
-
-received-program : (v : Verdict) (n : Node (Host Managed)) (f : Frame) (e : Effect (Host Managed)) → received_as (host_rules managed_ops) v n f ≡ Some e → e.after.core.process.program ≡ n.core.process.program
-received-program verdict.NotMine n f e is = ap (λ (y : Effect (Host Managed)). y.after.core.process.program) (sym (same_Some (stays n) e is))
-received-program verdict.Next n f e is = served-program n f f.body e is
-received-program verdict.Repeat n f e is = kept-program n f e is
-received-program verdict.Ahead n f e is = kept-program n f e is
-
-delivered-is : (c : Config) → IsConfig c → (n : Node (Host Managed)) (f : Frame) (bytes : List ℕ) → Spells c f bytes → delivered (host_rules managed_ops) c n bytes ≡ received_as (host_rules managed_ops) (offered n.link f) n f
-unfolding delivered received
-delivered-is c config n f bytes spells =
-    let once = spelled_once c f bytes config spells in
-    ap (λ r. delivered_as (host_rules managed_ops) r n bytes) once.0 ∙ ap (λ g. received (host_rules managed_ops) n g) once.1
+    rw is (rw same (rw added (went c sites sent i old done (pulsing old.node to) (move.Pulse i to) (λ j. early_at (slice_get sites j)) h there (pulse_gone old done to after) (pulse_made-on to old done (h.made i old there) after)
+    (quiet sites i old (record done { waiting = [] }) there (pulse_early to old done (h.made i old there) after)) (pulse_is c sites sent i to old there within apart))))
 
 event_gone : (old new : Shown) (e : Effect (Host Managed)) → new.node ≡ e.after → new.waiting ≡ old.waiting ++ e.sent → new.config ≡ old.config → new.me ≡ old.me → e.after.core.process.program ≡ old.node.core.process.program → IsGone old new e
 event_gone old new e node waiting config me program = record { node = node; waiting = waiting; config = config; me = me; program = program }
@@ -251,7 +226,7 @@ delivery_gone old new bytes v config h =
     (ap (λ x. received_as (host_rules managed_ops) x old.node h.frame) h.is ∙ (sym (delivered-is old.config config old.node h.frame bytes h.spelled) ∙ h.delivered))
 
 delivery_is : (c : Config) (sites : List Shown) (sent : List (List ℕ)) (index i : ℕ) (old : Shown) (bytes : List ℕ) → slice_get sites i ≡ Some old → slice_get sent index ≡ Some bytes
-    → worlds.moved (host_rules managed_ops) c (world_of sites sent) (move.Deliver index i) ≡ worlds.goes_on (world_of sites sent) i (delivered (host_rules managed_ops) c old.node bytes)
+    → worlds.moved (host_rules managed_ops) c (world_of sites sent) (move.Deliver index i) ≡ worlds.remembering (verdict_of c old.node bytes) i bytes (worlds.goes_on (world_of sites sent) i (delivered (host_rules managed_ops) c old.node bytes))
 unfolding worlds.moved
 delivery_is c sites sent index i old bytes there found =
     let nodes = map (λ (s : Shown). s.node) sites in
@@ -268,8 +243,16 @@ pub delivery_went : (c : Config) (sites : List Shown) (sent : List (List ℕ)) (
 delivery_went c sites sent index i old done site bytes v step more limits h there found d is same added =
     let config : old.config ≡ c = h.config i old there in
     let given : delivered (host_rules managed_ops) c old.node bytes ≡ Some d.effect = subst (λ k. delivered (host_rules managed_ops) k old.node bytes ≡ Some d.effect) config d.delivered in
-    rw is (rw same (rw added (went c sites sent i old done d.effect (move.Deliver index i) h there (delivery_gone old done bytes v (subst IsConfig (sym config) limits) d)
-    (delivery_is c sites sent index i old bytes there found ∙ ap (worlds.goes_on (world_of sites sent) i) given))))
+    let well : IsConfig old.config = subst IsConfig (sym config) limits in
+    let made = h.made i old there in
+    let early = delivery_early bytes v old done well made d in
+    let said : verdict_of c old.node bytes ≡ v = ap (λ k. verdict_of k old.node bytes) (sym config) ∙ early.0 in
+    rw is (rw same (rw added (went c sites sent i old done d.effect (move.Deliver index i) (worlds.remembered v (λ j. early_at (slice_get sites j)) i bytes) h there
+    (delivery_gone old done bytes v well d) (delivery_made bytes v old done well made d)
+    (λ j. remembered-is v (λ k. early_at (slice_get sites k)) i bytes j ∙ early-set sites i old (record done { waiting = [] }) (early_as v bytes) there early.1 j)
+    (delivery_is c sites sent index i old bytes there found
+    ∙ ap (λ o. worlds.remembering (verdict_of c old.node bytes) i bytes (worlds.goes_on (world_of sites sent) i o)) given
+    ∙ ap (λ w. worlds.remembering w i bytes (worlds.goes_on (world_of sites sent) i (Some d.effect))) said))))
 
 contains_at : (xs : List (List ℕ)) (i : ℕ) (x : List ℕ) → slice_get xs i ≡ Some x → Contains xs x
 contains_at xs i x found = (i, slice_get_within xs i x found, get_or_from_slice_get xs i x x found)
@@ -282,4 +265,5 @@ delivery_refused c sites sent index i old bytes step fault Is limits h spell the
     let frame = spell bytes (contains_at sent index bytes found) in
     let once : checked old.config bytes ≡ Ok (frame_kind frame.0.body) = ap (λ k. checked k bytes) config ∙ (spelled_once c frame.0 bytes limits frame.1).0 in
     let want : IsWant fault = subst (λ r. MatchResult r (λ (k : FrameKind). IsWant fault) Is) once refused in
-    rw is (⊎_elim (λ m. rw m tt) (λ s. rw s (delivery_is c sites sent index i old bytes there found ∙ ap (worlds.goes_on (world_of sites sent) i) (subst (λ k. delivered (host_rules managed_ops) k old.node bytes ≡ None) config (spent s)))) want)
+    rw is (⊎_elim (λ m. rw m tt) (λ s. rw s (none-after (host_rules managed_ops) c (world_of sites sent) (move.Deliver index i) (delivery_is c sites sent index i old bytes there found
+    ∙ ap (λ o. worlds.remembering (verdict_of c old.node bytes) i bytes (worlds.goes_on (world_of sites sent) i o)) (subst (λ k. delivered (host_rules managed_ops) k old.node bytes ≡ None) config (spent s))))) want)

@@ -6,8 +6,12 @@ use Rattle.ivy_link.specs.Pulsed.{frames_again, pulsed}
 use Rattle.ivy_ether.specs.Marks.{Mark, Pulse}
 use Rattle.ivy_ether.specs.Nodes.{pulsing}
 use Rattle.ivy_node.specs.Outboxes.{Outbox, with_sending}
-use Rattle.ivy_node.specs.Shown.{Shown, pulse_marks, after_pulse_to}
+use Rattle.ivy_node.specs.Shown.{Shown, after_pulse_to}
+use Rattle.ivy_ether.specs.Parts.{pulse_marks}
+use Rattle.ivy_node.specs.Sites.{IsSite}
+use Rattle.ivy_host.proofs.Tame.{IsAskingHost}
 use Rattle.ivy_node.proofs.Boxes.{made-marks, none-marks}
+use Rattle.ivy_node.proofs.Made.{pulse_made-on}
 
 abbrev box_of : Shown → Outbox
 box_of v = record { config = v.config; me = v.me; link = v.node.link; waiting = v.waiting }
@@ -38,3 +42,13 @@ not_made true is h p = absurd cc
 not_made false is h p =
     let wrong : IsTrue false = h p in
     absurd cc
+
+-- what holds of a site holds after a pulse
+pub pulsed_site : (v : Shown) → IsSite v → (to : ℕ) (new : Shown) → new ≡ after_pulse_to v to (pulsing v.node to) → IsSite new
+unfolding pulsing
+pulsed_site v s to new after = record {
+  config = ap (λ (x : Shown). x.node.core.memory.coherence.config) after ∙ s.config ∙ sym (ap (λ (x : Shown). x.config) after);
+  me = ap (λ (x : Shown). x.node.core.memory.coherence.me) after ∙ s.me ∙ sym (ap (λ (x : Shown). x.me) after);
+  asking = subst (λ (x : Shown). IsAskingHost x.node.core) (sym after) s.asking;
+  made = pulse_made-on to v new s.made after;
+}

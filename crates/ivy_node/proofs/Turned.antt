@@ -1,6 +1,7 @@
 -- A site's turn, from what its parts did: `v` is what the fields are seen as, `n` the value.
 use Rattle.std.proofs.Common.{◌≡◌, Bool, true, false, List, [], ◌∷◌, ◌++◌, None, refl, sym, ap, ◌∙◌, subst}
 use Rattle.ivy_model.specs.declared.Call.{Call}
+use Rattle.std.proofs.lemmas.Option.{none-some}
 use Rattle.ivy_model.specs.declared.Fault.{Fault}
 use Rattle.ivy_model.specs.declared.Record.{Record}
 use Rattle.ivy_host.specs.Managers.{Managed, managed_ops}
@@ -15,6 +16,8 @@ use Rattle.ivy_node.specs.Shown.{Shown}
 use Rattle.ivy_node.specs.Sites.{Turns, HasTurn, AfterHostTurn, HasNoNumbers, IsSpentTurn, IsSite, host_of}
 use Rattle.ivy_host.proofs.Same.{turn-same}
 use Rattle.ivy_host.proofs.Tame.{IsAskingHost, turn-asking}
+use Rattle.ivy_node.specs.declared.turn.Turn.TheVariants as turn
+use Rattle.ivy_node.proofs.Made.{turn_made}
 use Rattle.ivy_node.proofs.Turning.{turn_steps, moved_quietly, moved_by_call, spent_call}
 
 abbrev H : Type 0
@@ -79,15 +82,27 @@ pub called_turn : (n v : Shown) → v ≡ n → (p : Process) (hs : List Record)
 called_turn n v same p hs h box reserved events k b room listed =
     moved_by_call n v same h box events (subst (λ x. HasTurn x (box_of v) h box) (resting_host v p hs k) b) (listed ∙ ap (λ es. es ++ Turn ∷ []) room)
 
-pub called_site : (v : Shown) (p : Process) (hs : List Record) (h : H) (box : Outbox) (events : List Mark) → IsSite v → IsAtRest v p hs → HasTurn (host_of v.node.core.memory p hs) (box_of v) h box → IsSite (with_box h box events)
-called_site v p hs h box events s k b0 =
+pub called_site : (v : Shown) (p : Process) (hs : List Record) (h : H) (box : Outbox) (reserved events : List Mark) → IsSite v → IsAtRest v p hs → HasTurn (host_of v.node.core.memory p hs) (box_of v) h box
+    → reserved ≡ v.events → events ≡ reserved ++ Turn ∷ [] → IsSite (with_box h box events)
+called_site v p hs h box reserved events s k b0 room listed =
     let b : HasTurn v.node.core (box_of v) h box = subst (λ x. HasTurn x (box_of v) h box) (resting_host v p hs k) b0 in
     let well = turn-same managed_ops v.node.core b.outcome b.turn in
     record {
       config = ap (λ (x : H). x.memory.coherence.config) b.host ∙ (well.config ∙ (s.config ∙ sym (ap (λ (x : Outbox). x.config) b.sent)));
       me = ap (λ (x : H). x.memory.coherence.me) b.host ∙ (well.me ∙ (s.me ∙ sym (ap (λ (x : Outbox). x.me) b.sent)));
       asking = subst IsAskingHost (sym b.host) (turn-asking managed_ops v.node.core b.outcome s.asking b.turn);
+      made = turn_made turn.Moved v (with_box h box events) s.made (called_turn v v refl p hs h box reserved events k b0 room listed);
     }
+
+-- what holds of a site holds after an instruction of its own
+pub local_site : (v : Shown) (x : Next) (p : Process) (hs : List Record) (events : List Mark) → IsSite v → v.node.core.memory.asked ≡ None → Steps x v.node.core.process p → x ≡ next.Local
+    → hs ≡ v.node.core.history → events ≡ v.events ++ Turn ∷ [] → IsSite (with_core v (host_of v.node.core.memory p hs) events)
+local_site v x p hs events s idle steps is history listed = record {
+  config = s.config;
+  me = s.me;
+  asking = λ call asked. absurd (none-some call (sym idle ∙ asked));
+  made = turn_made turn.Moved v (with_core v (host_of v.node.core.memory p hs) events) s.made (local_turn v v refl x p hs events idle steps is history listed);
+}
 
 -- whether anything changed
 pub has_turned : (b : Bool) → b ≡ true → (old : H) (box : Outbox) (new : H) (after : Outbox) → AfterHostTurn b old box new after → HasTurn old box new after

@@ -18,8 +18,9 @@ use Rattle.ivy_host.specs.Holding.{AllSpell}
 use Rattle.ivy_node.specs.Shown.{Shown}
 use Rattle.ivy_node.proofs.Headline.{spelled-led}
 use Rattle.ivy_node.proofs.Leading.{leads_one}
-use Rattle.ivy_node.specs.Sites.{first_shown}
-use Rattle.ivy_node.specs.WorldSites.{programs_of, world_of, run_of, AreSites, IsRunning, first_sites_from}
+use Rattle.ivy_node.specs.Sites.{first_shown, IsMadeByEvents}
+use Rattle.ivy_node.proofs.Made.{first_made}
+use Rattle.ivy_node.specs.WorldSites.{programs_of, early_at, world_of, run_of, AreSites, IsRunning, first_sites_from}
 
 -- the site of the first program left goes behind those that are there
 pub one_more_site : (c : Config) (me : ℕ) (sites : List Shown) (p : List Instruction) (left rest : List (List Instruction)) → left ≡ p ∷ rest
@@ -55,18 +56,29 @@ module _ (c : Config) where
       let me-is : s.me ≡ me + 1 + i = rest.1 in
       (rest.0, omega (arith, me-is), rest.2)
 
+  first_made_at : (me : ℕ) (ps : List (List Instruction)) (i : ℕ) (s : Shown) → slice_get (first_sites_from c me ps) i ≡ Some s → IsMadeByEvents s
+  first_made_at me [] i s e = absurd (none-some s e)
+  first_made_at me (p ∷ ps) zero s e = subst IsMadeByEvents (same_Some (first_shown c me p) s e) (first_made c me p)
+  first_made_at me (p ∷ ps) (suc i) s e = first_made_at (me + 1) ps i s e
+
+  first_early : (me : ℕ) (ps : List (List Instruction)) (i : ℕ) → early_at (slice_get (first_sites_from c me ps) i) ≡ []
+  first_early me [] i = refl
+  first_early me (p ∷ ps) zero = refl
+  first_early me (p ∷ ps) (suc i) = first_early (me + 1) ps i
+
   first_are : (ps : List (List Instruction)) → AreSites c (first_sites_from c 0 ps)
   first_are ps = record {
     config = λ i s e. (first_at 0 ps i s e).0;
     me = λ i s e. (let is : s.me ≡ 0 + i = (first_at 0 ps i s e).1 in omega (arith, is));
     none_waits = λ i s e. (first_at 0 ps i s e).2;
+    made = λ i s e. first_made_at 0 ps i s e;
   }
 
   first_run : (ps : List (List Instruction)) → run_of c (first_sites_from c 0 ps) [] ≡ record { config = c; programs = ps; world = opening managed_ops c ps }
-  first_run ps = λ k. record { config = c; programs = first_programs 0 ps k; world = record { nodes = first_nodes_are 0 ps k; sent = [] } }
+  first_run ps = λ k. record { config = c; programs = first_programs 0 ps k; world = record { nodes = first_nodes_are 0 ps k; sent = []; early = λ i. first_early 0 ps i k } }
 
   first_leads : (ps : List (List Instruction)) → IsLedTo c (opening managed_ops c (programs_of (first_sites_from c 0 ps))) [] (world_of (first_sites_from c 0 ps) [])
-  first_leads ps = λ k. record { nodes = (first_nodes_are 0 ps ∙ ap (first_nodes managed_ops c 0) (sym (first_programs 0 ps))) k; sent = [] }
+  first_leads ps = λ k. record { nodes = (first_nodes_are 0 ps ∙ ap (first_nodes managed_ops c 0) (sym (first_programs 0 ps))) k; sent = []; early = λ i. first_early 0 ps i k }
 
   first_running : IsConfig c → (ps : List (List Instruction)) → length ps ≡ c.nodes → IsRunning c (first_sites_from c 0 ps) []
   first_running config ps each = record {

@@ -5,7 +5,7 @@ use Rattle.ivy_model.specs.declared.Fault.{Fault}
 use Rattle.ivy_model.specs.declared.Fault.TheVariants.{Memory, NumbersSpent, NoSuchFrame}
 use Rattle.ivy_host.specs.Managers.{Managed, managed_ops}
 use Rattle.ivy_ether.specs.declared.Move.{Move}
-use Rattle.ivy_ether.specs.Worlds.{World, is_named, moved, Leads}
+use Rattle.ivy_ether.specs.Worlds.{World, is_named, HasNoneAfter, Leads}
 use Rattle.ivy_ether.specs.Explained.{GoesOn}
 use Rattle.ivy_host.specs.Hosts.{Host, host_rules, answered_by}
 use Rattle.ivy_host.specs.Openings.{opening}
@@ -19,7 +19,7 @@ made_of (Err e) moves = take e.0 moves
 -- why a move was refused: what it names is not there, or it would need a number above the greatest one, or memory
 abbrev pub IsRefusedBy : Config → World (Host Managed) → Fault → Option Move → Type 0
 IsRefusedBy c w NoSuchFrame (Some m) = is_named w m ≡ false
-IsRefusedBy c w NumbersSpent (Some m) = moved (host_rules managed_ops) c w m ≡ None
+IsRefusedBy c w NumbersSpent (Some m) = HasNoneAfter (host_rules managed_ops) c w m
 IsRefusedBy c w Memory (Some m) = Unit {0}
 IsRefusedBy c w f o = ⊥
 

@@ -4,8 +4,9 @@ use Rattle.ivy_model.specs.declared.Config.{Config}
 use Rattle.ivy_link.specs.declared.Verdict.{Verdict}
 use Rattle.ivy_link.specs.declared.Verdict.TheVariants as verdict
 use Rattle.ivy_host.specs.Managers.{Managed}
-use Rattle.ivy_ether.specs.Marks.{Mark, Delivery, Pulse}
+use Rattle.ivy_ether.specs.Marks.{Mark, Delivery}
 use Rattle.ivy_ether.specs.Nodes.{Node, Effect}
+use Rattle.ivy_ether.specs.Parts.{pulse_marks}
 use Rattle.ivy_host.specs.Hosts.{Host}
 
 pub record Shown : Type 0 where
@@ -33,10 +34,6 @@ after_delivery s bytes verdict.Repeat e = after_event s (Delivery bytes) e
 after_delivery s bytes verdict.Ahead e = after_event s (Delivery bytes) e
 
 -- a pulse without a frame is no event
-abbrev pub pulse_marks : ℕ → List (List ℕ) → List Mark
-pulse_marks to [] = []
-pulse_marks to (s ∷ ss) = Pulse to ∷ []
-
 abbrev pub after_pulse_to : Shown → ℕ → Effect (Host Managed) → Shown
 after_pulse_to s to e = record {
   config = s.config;

@@ -1,5 +1,5 @@
 -- What the calls of a site do.
-use Rattle.std.specs.Prelude.{◌≡◌, ℕ, List, [], ◌∷◌, Bool, true, false, Option, Some, None}
+use Rattle.std.specs.Prelude.{◌≡◌, ℕ, List, [], ◌∷◌, ◌++◌, Bool, true, false, Option, Some, None}
 use Rattle.ivy_model.specs.declared.Config.{Config}
 use Rattle.ivy_model.specs.declared.Call.{Call}
 use Rattle.ivy_model.specs.declared.Fault.{Fault}
@@ -14,6 +14,7 @@ use Rattle.ivy_host.specs.Managers.{Managed, managed_ops}
 use Rattle.ivy_ether.specs.Marks.{Turn}
 use Rattle.ivy_ether.specs.Cores.{Outcome}
 use Rattle.ivy_ether.specs.Nodes.{Effect, posting, turned, delivered}
+use Rattle.ivy_ether.specs.Parts.{AllHappen}
 use Rattle.ivy_node.specs.declared.turn.Turn as turn
 use Rattle.ivy_node.specs.declared.turn.Turn.TheVariants.{Idle, Moved, Ended}
 use Rattle.ivy_model.specs.declared.Record.{Record}
@@ -69,12 +70,23 @@ abbrev pub IsSpentDelivery : Shown → List ℕ → Fault → Type 0
 IsSpentDelivery old bytes fault =
     fault ≡ NumbersSpent → delivered (host_rules managed_ops) old.config old.node bytes ≡ None
 
+-- the node is what its events make of the first one of its program, and the strings that wait are the last of those
+-- that the events sent
+pub record IsMadeByEvents (s : Shown) : Type 0 where
+  pub effect : Effect (Host Managed)
+  pub happen : AllHappen (host_rules managed_ops) s.config
+      (first_node managed_ops s.config s.me s.node.core.process.program) s.events effect
+  pub node : s.node ≡ effect.after
+  pub taken : List (List ℕ)
+  pub waits : effect.sent ≡ taken ++ s.waiting
+
 -- what holds of a site, beside what its parts keep
 pub record IsSite (s : Shown) : Type 0 where
   pub config : s.node.core.memory.coherence.config ≡ s.config
   pub me : s.node.core.memory.coherence.me ≡ s.me
   pub asking : (call : Call) → s.node.core.memory.asked ≡ Some call
       → step_of s.node.core.process ≡ Asks call
+  pub made : IsMadeByEvents s
 
 abbrev pub host_of : memories.Memory Managed → Process → List Record → Host Managed
 host_of memory process history = record { memory = memory; process = process; history = history }

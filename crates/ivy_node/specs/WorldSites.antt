@@ -1,14 +1,16 @@
 -- What holds of the sites of a world.
-use Rattle.std.specs.Prelude.{◌≡◌, ◌⊎◌, ℕ, ◌+◌, List, [], ◌∷◌, length, map, slice_get, Some}
+use Rattle.std.specs.Prelude.{◌≡◌, ◌⊎◌, ℕ, ◌+◌, List, [], ◌∷◌, length, map, slice_get, Option, Some, None}
 use Rattle.ivy_model.specs.declared.Fault.{Fault}
 use Rattle.ivy_model.specs.declared.Fault.TheVariants.{Memory, BadConfig}
-use Rattle.ivy_node.specs.Sites.{first_shown}
+use Rattle.ivy_node.specs.Sites.{first_shown, IsMadeByEvents}
 use Rattle.ivy_model.specs.declared.Config.{Config}
 use Rattle.ivy_model.specs.Config.{IsConfig}
-use Rattle.ivy_host.specs.Managers.{Managed}
+use Rattle.ivy_host.specs.Managers.{Managed, managed_ops}
 use Rattle.ivy_program.specs.declared.Instruction.{Instruction}
 use Rattle.ivy_ether.specs.Worlds as worlds
-use Rattle.ivy_host.specs.Hosts.{Host}
+use Rattle.ivy_host.specs.Hosts.{Host, host_rules}
+use Rattle.ivy_host.specs.Openings.{first_node}
+use Rattle.ivy_ether.specs.Early.{early_in}
 use Rattle.ivy_node.specs.Shown.{Shown}
 use Rattle.ivy_node.specs.RunState.{Run}
 use Rattle.ivy_node.specs.Runs.{IsReached}
@@ -16,14 +18,25 @@ use Rattle.ivy_node.specs.Runs.{IsReached}
 abbrev pub programs_of : List Shown → List (List Instruction)
 programs_of sites = map (λ (s : Shown). s.node.core.process.program) sites
 
-abbrev pub world_of : List Shown → List (List ℕ) → worlds.World (Host Managed)
-world_of sites sent = record { nodes = map (λ (s : Shown). s.node) sites; sent = sent }
+-- what came to a site too early, told from its events
+abbrev pub early_at : Option Shown → List (List ℕ)
+early_at None = []
+early_at (Some s) = early_in (host_rules managed_ops) s.config
+    (first_node managed_ops s.config s.me s.node.core.process.program) s.events
 
--- each site is the node of its place, under this configuration, and no string waits at it
+abbrev pub world_of : List Shown → List (List ℕ) → worlds.World (Host Managed)
+world_of sites sent = record {
+  nodes = map (λ (s : Shown). s.node) sites;
+  sent = sent;
+  early = λ i. early_at (slice_get sites i);
+}
+
+-- each site is the node of its place, under this configuration, made by its events, and no string waits at it
 pub record AreSites (c : Config) (sites : List Shown) : Type 0 where
   pub config : (i : ℕ) (s : Shown) → slice_get sites i ≡ Some s → s.config ≡ c
   pub me : (i : ℕ) (s : Shown) → slice_get sites i ≡ Some s → s.me ≡ i
   pub none_waits : (i : ℕ) (s : Shown) → slice_get sites i ≡ Some s → s.waiting ≡ []
+  pub made : (i : ℕ) (s : Shown) → slice_get sites i ≡ Some s → IsMadeByEvents s
 
 -- the sites of the programs as they begin, from this number on
 abbrev pub first_sites_from : Config → ℕ → List (List Instruction) → List Shown

@@ -10,9 +10,9 @@ use Rattle.ivy_program.specs.declared.Instruction.{Instruction}
 use Rattle.ivy_ether.specs.declared.moves.Move.{Move}
 use Rattle.ivy_ether.specs.Nodes.{Node}
 use Rattle.ivy_ether.specs.Ordered.{Ordered, Steps}
-use Rattle.ivy_ether.specs.Worlds.{World, moved, Leads}
-use Rattle.ivy_ether.specs.Following.{IsTame, Follows, StepsTo, ordered_of}
-use Rattle.ivy_ether.proofs.Following.{follows}
+use Rattle.ivy_ether.specs.Worlds.{World, Leads}
+use Rattle.ivy_ether.specs.Following.{IsTame, Follows, ordered_of}
+use Rattle.ivy_ether.proofs.Kept.{moves-keep}
 use Rattle.ivy_host.specs.Hosts.{Host, host_rules, first_host}
 use Rattle.ivy_host.specs.Openings.{first_nodes, opening}
 use Rattle.ivy_host.specs.Sound.{IsSoundHost}
@@ -63,20 +63,13 @@ module _ {S : Type 0} (ops : Ops S) (c : Config) where
   IsSteady P = (o o' : Ordered (Host S)) → P o → AllSound ops c o → Steps (host_rules ops) o o' → P o'
 
 module _ {S : Type 0} (ops : Ops S) (c : Config) (limits : IsConfig c) (tame : IsTame (host_rules ops) c (IsSoundHost ops c)) where
-  -- each move keeps it so
-  order_moved : (P : Ordered (Host S) → Type 0) → IsSteady ops c P → (w w' : World (Host S)) (move : Move) → HasOrder ops c P w → moved (host_rules ops) c w move ≡ Some w' → HasOrder ops c P w'
-  order_moved P kept w w' move a is =
-      let next : StepsTo (host_rules ops) c (IsSoundHost ops c) w a.posted w' = follows (host_rules ops) c (IsSoundHost ops c) limits tame w w' a.posted move a.follows is in
-      record {
-        posted = next.0;
-        follows = next.1;
-        holds = kept (ordered_of w a.posted) (ordered_of w' next.0) a.holds (sound_cores ops c w a.posted a.follows) next.2;
-      }
-
-  -- and so do all moves
+  -- all moves keep it so
   pub order_led : (P : Ordered (Host S) → Type 0) → IsSteady ops c P → (w w' : World (Host S)) (moves : List Move) → HasOrder ops c P w → Leads (host_rules ops) c w moves w' → HasOrder ops c P w'
-  order_led P kept w w' [] a done = subst (HasOrder ops c P) (sym done) a
-  order_led P kept w w' (move ∷ moves) a lead = order_led P kept lead.0 w' moves (order_moved P kept w lead.0 move a lead.1) lead.2
+  order_led P kept w w' moves a lead =
+      let f = moves-keep (host_rules ops) c (IsSoundHost ops c) limits tame (λ v posted. P (ordered_of v posted))
+      (λ v v' posted follows holds next. kept (ordered_of v posted) (ordered_of v' next.0) holds (sound_cores ops c v posted follows) next.2)
+      w w' moves (a.posted, a.follows, a.holds) lead in
+      record { posted = f.0; follows = f.1; holds = f.2 }
 
 module _ {S : Type 0} (ops : Ops S) (c : Config) where
   first_cores : (me : ℕ) (ps : List (List Instruction)) (i : ℕ) (k : Host S) → slice_get (map core_of (first_nodes ops c me ps)) i ≡ Some k

@@ -1,4 +1,4 @@
-use Rattle.std.proofs.Common.{rules, ◌≡◌, ◌≢◌, List, ◌++◌, ◌∷◌, [], None, sym, refl, ap, ◌∙◌}
+use Rattle.std.proofs.Common.{rules, ◌≡◌, ◌≢◌, ℕ, List, ◌++◌, ◌∷◌, [], None, sym, refl, ap, ◌∙◌}
 use Rattle.ivy_wire.specs.Lent.{owned_message, owned_body, owned_frame}
 use Rattle.ivy_link.specs.declared.Verdict.TheVariants as verdict
 use Rattle.ivy_link.specs.Linked.{Linked}
@@ -42,6 +42,17 @@ module _ (g : Over) (c : After-accept g) where
       → new ≡ with_link c.if-eq-2.self-inside.outbox (accepted c.if-eq-2.self-inside.outbox.link (owned_frame c.in_ok-frame.frame))
   accepts new is = is ∙ ap (with_link c.if-eq-2.self-inside.outbox) (without_body c.if-eq-2.self-inside.outbox.link)
 
+  -- the delivery is listed behind the events before
+  listed : (marks : List Mark) (copy bytes : List ℕ) → c.reserve.new.self.marks ≡ c.self.inside.events.marks → marks ≡ c.if-eq-2.self-inside.events.marks ++ Delivery copy ∷ [] → copy ≡ bytes
+      → marks ≡ c.self.inside.events.marks ++ Delivery bytes ∷ []
+  listed marks copy bytes same pushed copied =
+      let kept : c.if-eq-2.self-inside.events.marks ≡ c.self.inside.events.marks = elim c.if-eq-2.branch [
+        | then-eq-2+in-Some+in_ok-handle w ↦ rw w.self-inside-is same
+        | then-eq-2+in_default w ↦ rw w.self-inside-is same
+        | else-eq-2 w ↦ rw w.self-inside-is same
+      ] in
+      pushed ∙ (ap (λ (ms : List Mark). ms ++ Delivery copy ∷ []) kept ∙ ap (λ b. c.self.inside.events.marks ++ Delivery b ∷ []) copied)
+
 pub returns-in_err-frame-clause-spent : goal.returns-in_err-frame-clause-spent
 returns-in_err-frame-clause-spent g c =
     err_there c.from_residual.result (IsSpentDelivery c.args.self.now c.args.bytes.now) _ c.from_residual.ensures.1
@@ -62,20 +73,17 @@ returns-in_err-handle-clause-spent g c =
 
 pub invariant_of-self-2 : goal.invariant_of-self-2
 invariant_of-self-2 g c =
-    heard_site _ (owned_frame c.in_ok-frame.frame) c.offer-verdict.result _ _ c.accept.new.self c.push_delivery.new.self.marks c.self.invariant (heard g (goal.at.invariant_of-self-2 g c).After-accept) (accepts g (goal.at.invariant_of-self-2 g c).After-accept _ c.accept.ensures)
+    heard_site _ c.config-config.result (owned_frame c.in_ok-frame.frame) c.args.bytes.now c.offer-verdict.result
+    (record { config = c.config-config.ensures.is; limits = c.config-config.ensures.limits; spelled = c.in_ok-frame.ensures.found; is = c.offer-verdict.ensures })
+    (apart g (goal.at.invariant_of-self-2 g c).After-accept) _ _ c.accept.new.self c.push_delivery.new.self.marks c.self.invariant (heard g (goal.at.invariant_of-self-2 g c).After-accept)
+    (accepts g (goal.at.invariant_of-self-2 g c).After-accept _ c.accept.ensures) (listed g (goal.at.invariant_of-self-2 g c).After-accept c.push_delivery.new.self.marks c.in_ok-copy.copy c.args.bytes.now c.in_ok-reserve.ensures.same c.push_delivery.ensures c.in_ok-copy.ensures)
 
 pub returns-clause-done : goal.returns-clause-done
 returns-clause-done g c =
-    let kept : c.if-eq-2.self-inside.events.marks ≡ c.self.inside.events.marks = elim c.if-eq-2.branch [
-      | then-eq-2+in-Some+in_ok-handle w ↦ rw w.self-inside-is c.in_ok-reserve.ensures.same
-      | then-eq-2+in_default w ↦ rw w.self-inside-is c.in_ok-reserve.ensures.same
-      | else-eq-2 w ↦ rw w.self-inside-is c.in_ok-reserve.ensures.same
-    ] in
-    let listed : c.push_delivery.new.self.marks ≡ c.self.inside.events.marks ++ Delivery c.args.bytes.now ∷ [] =
-    c.push_delivery.ensures ∙ (ap (λ (ms : List Mark). ms ++ Delivery c.in_ok-copy.copy ∷ []) kept ∙ ap (λ b. c.self.inside.events.marks ++ Delivery b ∷ []) c.in_ok-copy.ensures) in
+    let events = listed g (goal.at.returns-clause-done g c).After-accept c.push_delivery.new.self.marks c.in_ok-copy.copy c.args.bytes.now c.in_ok-reserve.ensures.same c.push_delivery.ensures c.in_ok-copy.ensures in
     heard_delivers _ _ c.self.view_is c.config-config.result (owned_frame c.in_ok-frame.frame) c.args.bytes.now c.offer-verdict.result
     (record { config = c.config-config.ensures.is; limits = c.config-config.ensures.limits; spelled = c.in_ok-frame.ensures.found; is = c.offer-verdict.ensures })
-    (apart g (goal.at.returns-clause-done g c).After-accept) _ _ c.accept.new.self c.push_delivery.new.self.marks (heard g (goal.at.returns-clause-done g c).After-accept) (accepts g (goal.at.returns-clause-done g c).After-accept _ c.accept.ensures) listed
+    (apart g (goal.at.returns-clause-done g c).After-accept) _ _ c.accept.new.self c.push_delivery.new.self.marks (heard g (goal.at.returns-clause-done g c).After-accept) (accepts g (goal.at.returns-clause-done g c).After-accept _ c.accept.ensures) events
 
 pub returns-clause-few : goal.returns-clause-few
 returns-clause-few g c =

@@ -1,7 +1,7 @@
 use Rattle.std.proofs.Common.{rules, refl, ap, sym, ◌∷◌, [], ◌++◌, ◌∙◌}
 use Rattle.ivy_ether.specs.Marks.{Turn}
 use Rattle.ivy_memory.proofs.Beginning.{err_there}
-use Rattle.ivy_node.proofs.Turned.{idle_turn, ended_turn, local_turn, makes_call, spent_turn, called_turn, called_site, has_turned, not_turned}
+use Rattle.ivy_node.proofs.Turned.{idle_turn, ended_turn, local_turn, local_site, makes_call, spent_turn, called_turn, called_site, has_turned, not_turned}
 use Rattle.ivy_node.proofs.site.Site.program_turn.Goals as goal
 
 pub returns-in-Ended-clause-done : goal.returns-in-Ended-clause-done
@@ -31,9 +31,9 @@ returns-then-not-began-clause-done g c =
 
 pub invariant_of-self-in-Call : goal.invariant_of-self-in-Call
 invariant_of-self-in-Call g c =
-    called_site _ c.next.new.self c.reserve.new.self.items _ c.begin.new.outbox _ c.self.invariant
+    called_site _ c.next.new.self c.reserve.new.self.items _ c.begin.new.outbox _ _ c.self.invariant
     (record { process = makes_call _ c.in-Call.call c.in_ok-next.field-0 c.next.new.self c.in_ok-next.ensures.step c.in-Call.is; history = c.in_ok-reserve.ensures.items })
-    (has_turned c.in_ok-began-in-Call.began (search rules) _ _ _ _ c.in_ok-began-in-Call.ensures.ok)
+    (has_turned c.in_ok-began-in-Call.began (search rules) _ _ _ _ c.in_ok-began-in-Call.ensures.ok) c.in_ok-reserve-2.ensures.same c.push_turn-in-Call.ensures
 
 pub returns-else-not-began-clause-done : goal.returns-else-not-began-clause-done
 returns-else-not-began-clause-done g c =
@@ -59,12 +59,17 @@ returns-then-not-changed-clause-done g c =
 
 pub invariant_of-self-in-Some : goal.invariant_of-self-in-Some
 invariant_of-self-in-Some g c =
-    called_site _ c.self.inside.machine c.reserve.new.self.items _ c.poll.new.outbox _ c.self.invariant
+    called_site _ c.self.inside.machine c.reserve.new.self.items _ c.poll.new.outbox _ _ c.self.invariant
     (record { process = refl; history = c.in_ok-reserve.ensures.items })
-    (has_turned c.in_ok-changed.changed (search rules) _ _ _ _ c.in_ok-changed.ensures.ok)
+    (has_turned c.in_ok-changed.changed (search rules) _ _ _ _ c.in_ok-changed.ensures.ok) c.in_ok-reserve-2.ensures.same c.push_turn.ensures
 
 pub returns-in-Some-clause-done : goal.returns-in-Some-clause-done
 returns-in-Some-clause-done g c =
     called_turn _ _ c.self.view_is c.self.inside.machine c.reserve.new.self.items _ c.poll.new.outbox _ _
     (record { process = refl; history = c.in_ok-reserve.ensures.items })
     (has_turned c.in_ok-changed.changed (search rules) _ _ _ _ c.in_ok-changed.ensures.ok) c.in_ok-reserve-2.ensures.same c.push_turn.ensures
+
+pub invariant_of-self-in-Local : goal.invariant_of-self-in-Local
+invariant_of-self-in-Local g c =
+    local_site _ c.in_ok-next.field-0 c.next.new.self c.reserve.new.self.items _ c.self.invariant (sym c.asked.ensures ∙ c.in_default.is) c.in_ok-next.ensures.step c.in-Local.is c.in_ok-reserve.ensures.items
+    (c.push_turn-in-Local.ensures ∙ ap (λ ms. ms ++ Turn ∷ []) c.in_ok-reserve-2.ensures.same)
