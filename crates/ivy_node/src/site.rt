@@ -8,7 +8,7 @@ ghost use Rattle.ivy_host.specs.Managers.{managed_ops};
 ghost use Rattle.ivy_ether.specs.Nodes.{pulsing};
 ghost use Rattle.ivy_node.specs.Outboxes.{most_sent};
 ghost use Rattle.ivy_node.specs.Shown.{after_pulse_to};
-ghost use Rattle.ivy_node.specs.Sites.{first_shown, host_of, AfterHostTurn, HasNoNumbers, AfterTurn, AfterDelivery, IsSpentTurn, IsSpentDelivery, TakesFrame, IsSameNode};
+ghost use Rattle.ivy_node.specs.Sites.{first_shown, host_of, AfterHostTurn, HasNoNumbers, AfterTurn, AfterDelivery, IsSpentTurn, IsSpentDelivery, TakesFrame, IsSameNode, IsMadeByEvents};
 ghost use Rattle.ivy_ether.specs.Marks.{marks};
 ghost use Rattle.ivy_model.specs.Legal.{HasWidth};
 
@@ -272,9 +272,11 @@ impl<A: Allocator + Copy> Site<A> {
         Ok(())
     }
 
-    /// The events of this node so far, in order.
+    /// The events of this node so far, in order. Making them again, from the node as it begins, makes the node
+    /// again, and what waits to be put on the wire was sent by them. It takes no memory.
     pub fn events(&self) -> &[Event<Bytes<A>>]
-        ensures { marks result.now ≡ self.now.events }
+        ensures is { marks result.now ≡ self.now.events }
+        ensures made { IsMadeByEvents self.now }
     {
         self.events.entries()
     }
