@@ -23,10 +23,10 @@ use Rattle.ivy_ether.specs.declared.moves.Move.{Move}
 use Rattle.ivy_ether.specs.declared.moves.Move.TheVariants.{Turn, Deliver, Pulse}
 use Rattle.ivy_ether.specs.Cores.{Core, Outcome}
 use Rattle.ivy_ether.specs.Nodes.{Node, Effect, stays, accepting, turned, turned_to, served, received, received_as, verdict_of, delivered, delivered_as, pulsing}
-use Rattle.ivy_ether.specs.Worlds.{World, gone_on, goes_on, remembered, remembering, is_named, turn_of, delivery_of, pulse_of, made_by, moved}
+use Rattle.ivy_ether.specs.Worlds.{World, early_of, gone_on, goes_on, remembered, remembering, is_named, turn_of, delivery_of, pulse_of, made_by, moved}
 use Rattle.ivy_ether.specs.Ordered.{rests, turns, delivers, one_more}
 use Rattle.ivy_ether.specs.Following.{links_of, ordered_of, IsString, Follows, IsTame, StepsTo}
-use Rattle.ivy_ether.proofs.Places.{guarded, set-cases, set-same, set-there, link-of, core-of, more-here, more-other_source, more-other_dest}
+use Rattle.ivy_ether.proofs.Places.{guarded, read-either, set-cases, set-same, set-there, link-of, core-of, more-here, more-other_source, more-other_dest}
 use Rattle.ivy_ether.proofs.Sent.{sends-delivered, sends-peers, sends-numbers, sends-acks, accepted-sent, repeat-delivered, ahead-delivered, next-delivered, next-others, sends-offered, next-means, pulse-delivered, pulse-sent, pulse-acks, made-fits, made-message, extended-fits}
 use Rattle.ivy_link.proofs.Pairs.{link_at-with, sends-paired, accepted-paired, pulsed-paired, made-longer}
 use Rattle.ivy_link.proofs.Making.{sends-made, pulsed-made}
@@ -102,19 +102,16 @@ module _ {C : Type 0} (c : Config) (Sound : ℕ → C → Type 0) where
     numbers = λ a b. rw (links-set w i e) (link_at-with (λ l. (peer_at l b).sent < 2 ^ 64) (links_of w) i a e.after.link lt (λ _. numbers b) (λ _. h.numbers a b));
     fits = fits;
     strings = All-append (IsString c posted') w.sent e.sent (All-weaker (IsString c posted) (IsString c posted') (λ bytes s. (s.0, s.1, more s.0 s.2)) w.sent h.strings) strings;
-    early = λ j. All-weaker (IsString c posted) (IsString c posted') (λ bytes s. (s.0, s.1, more s.0 s.2)) (w.early j) (h.early j);
+    early = λ j. All-weaker (IsString c posted) (IsString c posted') (λ bytes s. (s.0, s.1, more s.0 s.2)) (early_of w j) (h.early j);
   }
 
   -- what came to a node too early was a string of the world
-  remembered-fits : (posted : ℕ → ℕ → List Message) (v : Verdict) (early : ℕ → List (List ℕ)) (i : ℕ) (bytes : List ℕ) → ((j : ℕ) → All (IsString c posted) (early j)) → IsString c posted bytes → (j : ℕ) → All (IsString c posted) (remembered v early i bytes j)
+  remembered-fits : (posted : ℕ → ℕ → List Message) (v : Verdict) (early : List (List (List ℕ))) (i : ℕ) (bytes : List ℕ) → ((j : ℕ) → All (IsString c posted) (get_or early j [])) → IsString c posted bytes → (j : ℕ) → All (IsString c posted) (get_or (remembered v early i bytes) j [])
   remembered-fits posted verdict.Next early i bytes old new j = old j
   remembered-fits posted verdict.Repeat early i bytes old new j = old j
   remembered-fits posted verdict.NotMine early i bytes old new j = old j
-  remembered-fits posted verdict.Ahead early i bytes old new j = either (j == i)
-    where
-      either : (b : Bool) → All (IsString c posted) (if b then early j ++ bytes ∷ [] else early j)
-      either true = All-push (IsString c posted) (early j) bytes (old j) new
-      either false = old j
+  remembered-fits posted verdict.Ahead early i bytes old new j =
+      read-either (All (IsString c posted)) early i j (get_or early i [] ++ bytes ∷ []) [] (λ _. All-push (IsString c posted) (get_or early i []) bytes (old i) new) (old j)
 
   remembered-on : (w : World C) (posted : ℕ → ℕ → List Message) (v : Verdict) (i : ℕ) (bytes : List ℕ) → Follows c Sound w posted → IsString c posted bytes → Follows c Sound (record w { early = remembered v w.early i bytes }) posted
   remembered-on w posted v i bytes h string = record {
@@ -406,11 +403,11 @@ module _ {C : Type 0} (rules : Core C) (c : Config) (Sound : ℕ → C → Type 
       (λ e posted' f. All-contains (IsString c posted') (w.sent ++ e.sent) bytes f.strings (Contains-append_left w.sent e.sent bytes there))
       (slice_get w.nodes i) refl eq
 
-  pub early-follows : IsConfig c → (w w' : World C) (posted : ℕ → ℕ → List Message) (i : ℕ) (bytes : List ℕ) → Follows c Sound w posted → Contains (w.early i) bytes
+  pub early-follows : IsConfig c → (w w' : World C) (posted : ℕ → ℕ → List Message) (i : ℕ) (bytes : List ℕ) → Follows c Sound w posted → Contains (early_of w i) bytes
       → delivery_of rules c w i (slice_get w.nodes i) (Some bytes) ≡ Some w' → StepsTo rules c Sound w posted w'
   early-follows config w w' posted i bytes h there eq =
-      delivery-follows config w w' posted i bytes h (All-contains (IsString c posted) (w.early i) bytes (h.early i) there)
-      (λ e posted' f. All-contains (IsString c posted') (w.early i) bytes (f.early i) there)
+      delivery-follows config w w' posted i bytes h (All-contains (IsString c posted) (early_of w i) bytes (h.early i) there)
+      (λ e posted' f. All-contains (IsString c posted') (early_of w i) bytes (f.early i) there)
       (slice_get w.nodes i) refl eq
 
   -- pulses

@@ -1,5 +1,5 @@
 pub mod Noted
-mod Places
+pub mod Places
 mod Sent
 pub mod Following
 pub mod Opening

@@ -40,7 +40,7 @@ set-elsewhere (z ∷ xs) zero (suc j) y ne = refl
 set-elsewhere (z ∷ xs) (suc i) zero y ne = refl
 set-elsewhere (z ∷ xs) (suc i) (suc j) y ne = set-elsewhere xs i j y (λ e. ne (ap suc e))
 
-read-either : {X : Type 0} (P : X → Type 0) (xs : List X) (i j : ℕ) (y d : X) → (j ≡ i → P y) → P (get_or xs j d) → P (get_or (set xs i y) j d)
+pub read-either : {X : Type 0} (P : X → Type 0) (xs : List X) (i j : ℕ) (y d : X) → (j ≡ i → P y) → P (get_or xs j d) → P (get_or (set xs i y) j d)
 read-either P [] i j y d new old = old
 read-either P (x ∷ xs) zero zero y d new old = new refl
 read-either P (x ∷ xs) zero (suc j) y d new old = old

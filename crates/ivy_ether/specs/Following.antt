@@ -7,7 +7,7 @@ use Rattle.ivy_link.specs.Linked.{Linked, first_link, peer_at}
 use Rattle.ivy_link.specs.Paired.{IsPaired, IsMade, link_at}
 use Rattle.ivy_ether.specs.Cores.{Core, Outcome}
 use Rattle.ivy_ether.specs.Nodes.{Node}
-use Rattle.ivy_ether.specs.Worlds.{World}
+use Rattle.ivy_ether.specs.Worlds.{World, early_of}
 use Rattle.ivy_ether.specs.Ordered.{Ordered, Steps}
 
 module _ {C : Type 0} where
@@ -46,7 +46,7 @@ module _ {C : Type 0} (c : Config) (Sound : ℕ → C → Type 0) where
     pub numbers : (i j : ℕ) → (peer_at (link_at (links_of w) i) j).sent < 2 ^ 64
     pub fits : (i j : ℕ) → All (FitsMessage c) (posted i j)
     pub strings : All (IsString c posted) w.sent
-    pub early : (i : ℕ) → All (IsString c posted) (w.early i)
+    pub early : (i : ℕ) → All (IsString c posted) (early_of w i)
 
   -- each core is sound, no link has sent or been given anything, and no string was sent
   pub record IsOpening (w : World C) : Type 0 where
@@ -54,7 +54,7 @@ module _ {C : Type 0} (c : Config) (Sound : ℕ → C → Type 0) where
     pub sound : (i : ℕ) (n : Node C) → slice_get w.nodes i ≡ Some n → Sound i n.core
     pub links : (i : ℕ) (n : Node C) → slice_get w.nodes i ≡ Some n → n.link ≡ first_link i c.nodes
     pub sent : w.sent ≡ []
-    pub early : (i : ℕ) → w.early i ≡ []
+    pub early : (i : ℕ) → early_of w i ≡ []
 
 -- the world follows the ordered world from the messages posted so far on, by one move of it or none
 abbrev pub StepsTo : {C : Type 0} (rules : Core C) (c : Config) (Sound : ℕ → C → Type 0) → World C

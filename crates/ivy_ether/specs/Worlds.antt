@@ -2,7 +2,7 @@
 -- Any string ever sent may be delivered to any node, in any order and however often: a wire that loses,
 -- repeats and reorders. A loss is a string that is never delivered. After a delivery the node may go on, in the same
 -- move, with strings that came to it too early before: so a move is a relation of worlds, and no function.
-use Rattle.std.specs.Prelude.{◌≡◌, ℕ, ◌==◌, ◌&&◌, not, nat_lt, Bool, List, [], ◌∷◌, ◌++◌, length, slice_get, slice_set, Contains, Option, Some, None, if◌then◌else◌}
+use Rattle.std.specs.Prelude.{◌≡◌, ℕ, ◌==◌, ◌&&◌, not, nat_lt, Bool, List, [], ◌∷◌, ◌++◌, length, slice_get, slice_index_or, slice_set, Contains, Option, Some, None, if◌then◌else◌}
 use Rattle.ivy_model.specs.declared.Config.{Config}
 use Rattle.ivy_ether.specs.declared.moves.Move.{Move}
 use Rattle.ivy_ether.specs.declared.moves.Move.TheVariants.{Turn, Deliver, Pulse}
@@ -11,20 +11,24 @@ use Rattle.ivy_link.specs.declared.Verdict.TheVariants as verdict
 use Rattle.ivy_ether.specs.Cores.{Core}
 use Rattle.ivy_ether.specs.Nodes.{Node, Effect, turned, verdict_of, delivered, pulsing}
 
--- the nodes by number, all strings ever sent, in the order sent, and those that came to each node too early
+-- the nodes by number, all strings ever sent, in the order sent, and of each node those that came to it too early
 pub record World (C : Type 0) : Type 0 where
   pub nodes : List (Node C)
   pub sent : List (List ℕ)
-  pub early : ℕ → List (List ℕ)
+  pub early : List (List (List ℕ))
 
 -- a string that came too early is remembered at its node
-abbrev pub remembered : Verdict → (ℕ → List (List ℕ)) → ℕ → List ℕ → ℕ → List (List ℕ)
-remembered verdict.Next early i bytes j = early j
-remembered verdict.Repeat early i bytes j = early j
-remembered verdict.NotMine early i bytes j = early j
-remembered verdict.Ahead early i bytes j = if j == i then early j ++ bytes ∷ [] else early j
+abbrev pub remembered : Verdict → List (List (List ℕ)) → ℕ → List ℕ → List (List (List ℕ))
+remembered verdict.Next early i bytes = early
+remembered verdict.Repeat early i bytes = early
+remembered verdict.NotMine early i bytes = early
+remembered verdict.Ahead early i bytes = slice_set early i (slice_index_or early i [] ++ bytes ∷ [])
 
 module _ {C : Type 0} where
+  -- the strings that came to node i too early
+  abbrev pub early_of : World C → ℕ → List (List ℕ)
+  early_of w i = slice_index_or w.early i []
+
   -- node i goes on by this effect
   abbrev pub gone_on : World C → ℕ → Effect C → World C
   gone_on w i e =
@@ -73,7 +77,7 @@ module _ {C : Type 0} (rules : Core C) (c : Config) where
   -- the node goes on with these strings, each of which came to it too early, by the whole rule of a delivery
   abbrev pub GoesOnWith : World C → ℕ → List (List ℕ) → World C → Type 0
   GoesOnWith w i [] end = end ≡ w
-  GoesOnWith w i (s ∷ ss) end = Contains (w.early i) s
+  GoesOnWith w i (s ∷ ss) end = Contains (early_of w i) s
       × ((mid : World C) × (delivery_of w i (slice_get w.nodes i) (Some s) ≡ Some mid)
       × GoesOnWith mid i ss end)
 

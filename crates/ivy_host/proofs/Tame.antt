@@ -1,5 +1,5 @@
 -- Turns and messages keep what holds of a node, and post only what can be sent. For every manager that keeps the laws.
-use Rattle.std.proofs.Common.{◌≡◌, ◌≢◌, ℕ, zero, suc, ◌+◌, ◌^◌, ◌<◌, Bool, true, false, List, [], ◌∷◌, length, Option, Some, None, nat_lt, slice_get, refl, sym, ap, ◌∙◌, subst, arith, if◌then◌else◌}
+use Rattle.std.proofs.Common.{◌≡◌, ◌≢◌, ℕ, zero, suc, ◌+◌, ◌^◌, ◌<◌, Bool, true, false, List, [], ◌∷◌, length, map, get_or, Option, Some, None, nat_lt, slice_get, refl, sym, ap, ◌∙◌, subst, arith, if◌then◌else◌}
 use Rattle.std.specs.Prelude.{All}
 use Rattle.std.proofs.lemmas.Bool.{ltb-true}
 use Rattle.std.proofs.lemmas.Option.{same_Some, none-some}
@@ -155,6 +155,11 @@ first_at ops c me k (p ∷ ps) (suc i) n at is =
     let rest = first_at ops c (me + 1) k ps i n (omega (arith, at)) is in
     (rest.0, rest.1, (let below = rest.2 in omega (arith, below)))
 
+none_early : (programs : List (List Instruction)) (i : ℕ) → ◌≡◌ {A = List (List ℕ)} (get_or (map (λ (p : List Instruction). []) programs) i []) []
+none_early [] i = refl
+none_early (p ∷ ps) zero = refl
+none_early (p ∷ ps) (suc i) = none_early ps i
+
 -- the world as it begins
 pub opening_is : {S : Type 0} {ops : Ops S} → Laws ops → (c : Config) (programs : List (List Instruction)) → IsConfig c → length programs ≡ c.nodes → IsOpening c (IsSoundHost ops c) (opening ops c programs)
 opening_is {S} {ops} laws c programs limits many = record {
@@ -164,5 +169,5 @@ opening_is {S} {ops} laws c programs limits many = record {
       (record { memory = first_sound-memory laws c i limits (let below = x.2 in omega (arith, below, many)); config = refl; me = refl; numbered = λ k asked. absurd (none-some k asked) }));
   links = λ i n is. (let x = first_at ops c 0 i programs i n (omega arith) is in ap (λ (m : Node (Host S)). m.link) x.1);
   sent = refl;
-  early = λ i. refl;
+  early = none_early programs;
 }

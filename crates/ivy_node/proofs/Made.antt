@@ -142,20 +142,20 @@ all_taken s h = record {
 
 -- what came too early by more events
 early_grown : (old new : Shown) (ms : List Mark) → IsMadeByEvents old → new.config ≡ old.config → new.me ≡ old.me → program_in new ≡ program_in old → new.events ≡ old.events ++ ms
-    → early_at (Some new) ≡ early_at (Some old) ++ early_in rules old.config old.node ms
+    → early_at new ≡ early_at old ++ early_in rules old.config old.node ms
 early_grown old new ms h config me program events =
     ap (λ p. early_in rules new.config (first_node managed_ops new.config new.me p) new.events) program
     ∙ ap (λ i. early_in rules new.config (first_node managed_ops new.config i (program_in old)) new.events) me
     ∙ ap (λ c. early_in rules c (first_node managed_ops c old.me (program_in old)) new.events) config
     ∙ ap (early_in rules old.config (first_node managed_ops old.config old.me (program_in old))) events
     ∙ early-append rules old.config (first_node managed_ops old.config old.me (program_in old)) old.events ms h.effect h.happen
-    ∙ ap (λ n. early_at (Some old) ++ early_in rules old.config n ms) (sym h.node)
+    ∙ ap (λ n. early_at old ++ early_in rules old.config n ms) (sym h.node)
 
-early_same : (old new : Shown) → new ≡ old → early_at (Some new) ≡ early_at (Some old) ++ []
-early_same old new same = ap (λ s. early_at (Some s)) same ∙ sym (append-nil (early_at (Some old)))
+early_same : (old new : Shown) → new ≡ old → early_at new ≡ early_at old ++ []
+early_same old new same = ap early_at same ∙ sym (append-nil (early_at old))
 
 -- nothing comes by a turn or a pulse
-pub turn_early : (t : turn.Turn) (old new : Shown) → IsMadeByEvents old → AfterTurn t old new → early_at (Some new) ≡ early_at (Some old) ++ []
+pub turn_early : (t : turn.Turn) (old new : Shown) → IsMadeByEvents old → AfterTurn t old new → early_at new ≡ early_at old ++ []
 turn_early Idle old new h after = early_same old new after.1
 turn_early Ended old new h after = early_same old new after.2
 turn_early Moved old new h after =
@@ -167,30 +167,30 @@ pulse_nothing : (n : Node (Host Managed)) (c : Config) (to : ℕ) (strings : Lis
 pulse_nothing n c to [] = refl
 pulse_nothing n c to (s ∷ strings) = refl
 
-pub pulse_early : (to : ℕ) (old new : Shown) → IsMadeByEvents old → new ≡ after_pulse_to old to (pulsing old.node to) → early_at (Some new) ≡ early_at (Some old) ++ []
+pub pulse_early : (to : ℕ) (old new : Shown) → IsMadeByEvents old → new ≡ after_pulse_to old to (pulsing old.node to) → early_at new ≡ early_at old ++ []
 unfolding pulsing
 pulse_early to old new h after =
     early_grown old new (pulse_marks to (pulsing old.node to).sent) h (ap (λ (s : Shown). s.config) after) (ap (λ (s : Shown). s.me) after) (ap program_in after) (ap (λ (s : Shown). s.events) after)
-    ∙ ap (λ l. early_at (Some old) ++ l) (pulse_nothing old.node old.config to (pulsing old.node to).sent)
+    ∙ ap (λ l. early_at old ++ l) (pulse_nothing old.node old.config to (pulsing old.node to).sent)
 
 -- by a delivery a string that came too early
 delivered_early : (bytes : List ℕ) (v : Verdict) (old new : Shown) → IsConfig old.config → IsMadeByEvents old → (d : AfterDelivery bytes v old new) → new ≡ after_event old (Delivery bytes) d.effect → verdict_of old.config old.node bytes ≡ v
-    → early_at (Some new) ≡ early_at (Some old) ++ early_as v bytes
+    → early_at new ≡ early_at old ++ early_as v bytes
 delivered_early bytes v old new limits h d after is =
     early_grown old new (Delivery bytes ∷ []) h (ap (λ (s : Shown). s.config) after) (ap (λ (s : Shown). s.me) after)
     (ap program_in after ∙ delivered-program old.config limits old.node d.frame bytes d.effect d.spelled d.delivered) (ap (λ (s : Shown). s.events) after)
-    ∙ ap (λ l. early_at (Some old) ++ l) (append-nil (early_as (verdict_of old.config old.node bytes) bytes))
-    ∙ ap (λ w. early_at (Some old) ++ early_as w bytes) is
+    ∙ ap (λ l. early_at old ++ l) (append-nil (early_as (verdict_of old.config old.node bytes) bytes))
+    ∙ ap (λ w. early_at old ++ early_as w bytes) is
 
-early_after : (bytes : List ℕ) (v : Verdict) (old new : Shown) → IsConfig old.config → IsMadeByEvents old → (d : AfterDelivery bytes v old new) → (w : Verdict) → v ≡ w → early_at (Some new) ≡ early_at (Some old) ++ early_as w bytes
+early_after : (bytes : List ℕ) (v : Verdict) (old new : Shown) → IsConfig old.config → IsMadeByEvents old → (d : AfterDelivery bytes v old new) → (w : Verdict) → v ≡ w → early_at new ≡ early_at old ++ early_as w bytes
 early_after bytes v old new limits h d verdict.NotMine is = early_same old new (d.after ∙ ap (λ x. after_delivery old bytes x d.effect) is)
 early_after bytes v old new limits h d verdict.Next is =
-    delivered_early bytes v old new limits h d (d.after ∙ ap (λ x. after_delivery old bytes x d.effect) is) (read_verdict bytes v old new limits d) ∙ ap (λ w. early_at (Some old) ++ early_as w bytes) is
+    delivered_early bytes v old new limits h d (d.after ∙ ap (λ x. after_delivery old bytes x d.effect) is) (read_verdict bytes v old new limits d) ∙ ap (λ w. early_at old ++ early_as w bytes) is
 early_after bytes v old new limits h d verdict.Repeat is =
-    delivered_early bytes v old new limits h d (d.after ∙ ap (λ x. after_delivery old bytes x d.effect) is) (read_verdict bytes v old new limits d) ∙ ap (λ w. early_at (Some old) ++ early_as w bytes) is
+    delivered_early bytes v old new limits h d (d.after ∙ ap (λ x. after_delivery old bytes x d.effect) is) (read_verdict bytes v old new limits d) ∙ ap (λ w. early_at old ++ early_as w bytes) is
 early_after bytes v old new limits h d verdict.Ahead is =
-    delivered_early bytes v old new limits h d (d.after ∙ ap (λ x. after_delivery old bytes x d.effect) is) (read_verdict bytes v old new limits d) ∙ ap (λ w. early_at (Some old) ++ early_as w bytes) is
+    delivered_early bytes v old new limits h d (d.after ∙ ap (λ x. after_delivery old bytes x d.effect) is) (read_verdict bytes v old new limits d) ∙ ap (λ w. early_at old ++ early_as w bytes) is
 
 pub delivery_early : (bytes : List ℕ) (v : Verdict) (old new : Shown) → IsConfig old.config → IsMadeByEvents old → (d : AfterDelivery bytes v old new)
-    → (verdict_of old.config old.node bytes ≡ v) × (early_at (Some new) ≡ early_at (Some old) ++ early_as v bytes)
+    → (verdict_of old.config old.node bytes ≡ v) × (early_at new ≡ early_at old ++ early_as v bytes)
 delivery_early bytes v old new limits h d = (read_verdict bytes v old new limits d, early_after bytes v old new limits h d v refl)

@@ -36,23 +36,10 @@ use Rattle.ivy_node.specs.Shown.{Shown, after_pulse_to, after_delivery}
 use Rattle.ivy_node.specs.Sites.{IsMadeByEvents, AfterTurn, IsSpentTurn, AfterDelivery, IsSpentDelivery}
 use Rattle.ivy_node.specs.WorldSites.{programs_of, early_at, world_of, AreSites}
 use Rattle.ivy_ether.specs.Early.{early_as}
-use Rattle.ivy_ether.proofs.Places.{set-there, set-elsewhere}
+use Rattle.ivy_ether.proofs.Places.{set-cases}
 use Rattle.ivy_ether.proofs.Kept.{none-after}
 use Rattle.ivy_node.proofs.Made.{turn_made, turn_early, pulse_made-on, pulse_early, delivery_made, delivery_early, all_taken}
 use Rattle.ivy_node.proofs.Programs.{turned-program, posting-core, received-program, delivered-is}
-
--- what a test guards
-guarded : {X : Type 0} (b : Bool) (o : Option X) (x : X) → (if b then o else None) ≡ Some x → (b ≡ true) × (o ≡ Some x)
-guarded true o x e = (refl, e)
-guarded false o x e = absurd (none-some x e)
-
--- what stands in a list one of whose elements was written
-set-cases : {X : Type 0} (xs : List X) (i j : ℕ) (y x : X) → slice_get (set xs i y) j ≡ Some x → ((j ≡ i) × (x ≡ y)) ⊎ (slice_get xs j ≡ Some x)
-set-cases [] i j y x e = inr e
-set-cases (z ∷ xs) zero zero y x e = inl (refl, sym (same_Some y x e))
-set-cases (z ∷ xs) zero (suc j) y x e = inr e
-set-cases (z ∷ xs) (suc i) zero y x e = inr e
-set-cases (z ∷ xs) (suc i) (suc j) y x e = ⊎_elim (λ p. inl (ap suc p.0, p.1)) inr (set-cases xs i j y x e)
 
 -- one site changed
 
@@ -83,40 +70,30 @@ changed_are c sites i old new h there config me none made = record {
 }
 
 -- what came too early, where one site changed
-early-set : (sites : List Shown) (i : ℕ) (old new : Shown) (more : List (List ℕ)) → slice_get sites i ≡ Some old → early_at (Some new) ≡ early_at (Some old) ++ more
-    → (j : ℕ) → (if j == i then early_at (slice_get sites j) ++ more else early_at (slice_get sites j)) ≡ early_at (slice_get (set sites i new) j)
-early-set sites i old new more there grown j = elim (cases_eq j i) [
-  | inl same ↦
-      ap (λ b. if b then early_at (slice_get sites j) ++ more else early_at (slice_get sites j)) (eq-eqb j i same)
-      ∙ ap (λ k. early_at (slice_get sites k) ++ more) same ∙ ap (λ o. early_at o ++ more) there ∙ sym grown
-      ∙ sym (ap early_at (ap (λ k. slice_get (set sites i new) k) same ∙ set-there sites i new old there))
-  | inr apart ↦
-      ap (λ b. if b then early_at (slice_get sites j) ++ more else early_at (slice_get sites j)) (ne_eqb j i apart)
-      ∙ sym (ap early_at (set-elsewhere sites i j new (λ e. apart (sym e))))
-]
+quiet : (sites : List Shown) (i : ℕ) (old new : Shown) → slice_get sites i ≡ Some old → early_at new ≡ early_at old ++ [] → map early_at sites ≡ map early_at (set sites i new)
+quiet sites i old new there grown = sym (same_map early_at sites i old new there (grown ∙ append-nil (early_at old)))
 
-none-more : (early : List (List ℕ)) (b : Bool) → early ≡ (if b then early ++ [] else early)
-none-more early true = sym (append-nil early)
-none-more early false = refl
-
-remembered-is : (v : Verdict) (early : ℕ → List (List ℕ)) (i : ℕ) (bytes : List ℕ) (j : ℕ) → worlds.remembered v early i bytes j ≡ (if j == i then early j ++ early_as v bytes else early j)
-remembered-is verdict.NotMine early i bytes j = none-more (early j) (j == i)
-remembered-is verdict.Next early i bytes j = none-more (early j) (j == i)
-remembered-is verdict.Repeat early i bytes j = none-more (early j) (j == i)
-remembered-is verdict.Ahead early i bytes j = refl
+early-set : (sites : List Shown) (i : ℕ) (old new : Shown) (v : Verdict) (bytes : List ℕ) → slice_get sites i ≡ Some old → early_at new ≡ early_at old ++ early_as v bytes
+    → worlds.remembered v (map early_at sites) i bytes ≡ map early_at (set sites i new)
+early-set sites i old new verdict.NotMine bytes there grown = quiet sites i old new there grown
+early-set sites i old new verdict.Next bytes there grown = quiet sites i old new there grown
+early-set sites i old new verdict.Repeat bytes there grown = quiet sites i old new there grown
+early-set sites i old new verdict.Ahead bytes there grown =
+    let found = get_or_from_slice_get (map early_at sites) i (early_at old) [] (slice_get-map early_at sites i ∙ ap (option_map early_at) there) in
+    ap (λ l. set (map early_at sites) i (l ++ bytes ∷ [])) found ∙ ap (set (map early_at sites) i) (sym grown) ∙ sym (map-set early_at sites i new)
 
 -- the world after one site changed, where so much more came too early
-changed_world : (sites : List Shown) (sent : List (List ℕ)) (i : ℕ) (new : Shown) (e : Effect (Host Managed)) (early : ℕ → List (List ℕ)) (strings : List (List ℕ)) → new.node ≡ e.after → strings ≡ e.sent
-    → ((j : ℕ) → early j ≡ early_at (slice_get (set sites i new) j)) → record (worlds.gone_on (world_of sites sent) i e) { early = early } ≡ world_of (set sites i new) (sent ++ strings)
+changed_world : (sites : List Shown) (sent : List (List ℕ)) (i : ℕ) (new : Shown) (e : Effect (Host Managed)) (early : List (List (List ℕ))) (strings : List (List ℕ)) → new.node ≡ e.after → strings ≡ e.sent
+    → early ≡ map early_at (set sites i new) → record (worlds.gone_on (world_of sites sent) i e) { early = early } ≡ world_of (set sites i new) (sent ++ strings)
 changed_world sites sent i new e early strings node is grown =
     let back = sym is in λ k. record {
       nodes = (ap (λ n. set (map (λ (s : Shown). s.node) sites) i n) (sym node) ∙ sym (map-set (λ (s : Shown). s.node) sites i new)) k;
       sent = sent ++ back k;
-      early = λ j. grown j k;
+      early = grown k;
     }
 
-went : (c : Config) (sites : List Shown) (sent : List (List ℕ)) (i : ℕ) (old done : Shown) (e : Effect (Host Managed)) (step : Move) (early : ℕ → List (List ℕ))
-    → AreSites c sites → slice_get sites i ≡ Some old → IsGone old done e → IsMadeByEvents done → ((j : ℕ) → early j ≡ early_at (slice_get (set sites i (record done { waiting = [] })) j))
+went : (c : Config) (sites : List Shown) (sent : List (List ℕ)) (i : ℕ) (old done : Shown) (e : Effect (Host Managed)) (step : Move) (early : List (List (List ℕ)))
+    → AreSites c sites → slice_get sites i ≡ Some old → IsGone old done e → IsMadeByEvents done → early ≡ map early_at (set sites i (record done { waiting = [] }))
     → worlds.moved (host_rules managed_ops) c (world_of sites sent) step ≡ Some (record (worlds.gone_on (world_of sites sent) i e) { early = early })
     → Went c sites (set sites i (record done { waiting = [] })) sent (sent ++ done.waiting) step
 went c sites sent i old done e step early h there gone made grown moved =
@@ -125,10 +102,6 @@ went c sites sent i old done e step early h there gone made grown moved =
       are = changed_are c sites i old (record done { waiting = [] }) h there gone.config gone.me refl (all_taken done made);
       programs = same_map (λ (s : Shown). s.node.core.process.program) sites i old (record done { waiting = [] }) there (ap (λ (n : Node (Host Managed)). n.core.process.program) gone.node ∙ gone.program);
     }
-
--- where nothing came
-quiet : (sites : List Shown) (i : ℕ) (old new : Shown) → slice_get sites i ≡ Some old → early_at (Some new) ≡ early_at (Some old) ++ [] → (j : ℕ) → early_at (slice_get sites j) ≡ early_at (slice_get (set sites i new) j)
-quiet sites i old new there grown j = none-more (early_at (slice_get sites j)) (j == i) ∙ early-set sites i old new [] there grown j
 
 still_gone : (old new : Shown) → new ≡ old → IsGone old new (stays old.node)
 still_gone old new same = record {
@@ -174,7 +147,7 @@ pub turn_went : (c : Config) (sites : List Shown) (sent : List (List ℕ)) (i : 
     → Went c sites (set sites i site) sent more step
 turn_went c sites sent i old done site t step more h there after is same added =
     let gone = turn_gone t old done after in
-    rw is (rw same (rw added (went c sites sent i old done gone.0 (move.Turn i) (λ j. early_at (slice_get sites j)) h there gone.2 (turn_made t old done (h.made i old there) after)
+    rw is (rw same (rw added (went c sites sent i old done gone.0 (move.Turn i) (map early_at sites) h there gone.2 (turn_made t old done (h.made i old there) after)
     (quiet sites i old (record done { waiting = [] }) there (turn_early t old done (h.made i old there) after)) (turn_is c sites sent i old there ∙ ap (worlds.goes_on (world_of sites sent) i) gone.1))))
 
 pub turn_refused : (c : Config) (sites : List Shown) (sent : List (List ℕ)) (i : ℕ) (old : Shown) (step : Move) (fault : Fault)
@@ -208,7 +181,7 @@ pub pulse_went : (c : Config) (sites : List Shown) (sent : List (List ℕ)) (i t
     → AreSites c sites → slice_get sites i ≡ Some old → to < length sites → i ≢ to → done ≡ after_pulse_to old to (pulsing old.node to) → step ≡ move.Pulse i to → site ≡ record done { waiting = [] } → more ≡ sent ++ done.waiting
     → Went c sites (set sites i site) sent more step
 pulse_went c sites sent i to old done site step more h there within apart after is same added =
-    rw is (rw same (rw added (went c sites sent i old done (pulsing old.node to) (move.Pulse i to) (λ j. early_at (slice_get sites j)) h there (pulse_gone old done to after) (pulse_made-on to old done (h.made i old there) after)
+    rw is (rw same (rw added (went c sites sent i old done (pulsing old.node to) (move.Pulse i to) (map early_at sites) h there (pulse_gone old done to after) (pulse_made-on to old done (h.made i old there) after)
     (quiet sites i old (record done { waiting = [] }) there (pulse_early to old done (h.made i old there) after)) (pulse_is c sites sent i to old there within apart))))
 
 event_gone : (old new : Shown) (e : Effect (Host Managed)) → new.node ≡ e.after → new.waiting ≡ old.waiting ++ e.sent → new.config ≡ old.config → new.me ≡ old.me → e.after.core.process.program ≡ old.node.core.process.program → IsGone old new e
@@ -247,9 +220,9 @@ delivery_went c sites sent index i old done site bytes v step more limits h ther
     let made = h.made i old there in
     let early = delivery_early bytes v old done well made d in
     let said : verdict_of c old.node bytes ≡ v = ap (λ k. verdict_of k old.node bytes) (sym config) ∙ early.0 in
-    rw is (rw same (rw added (went c sites sent i old done d.effect (move.Deliver index i) (worlds.remembered v (λ j. early_at (slice_get sites j)) i bytes) h there
+    rw is (rw same (rw added (went c sites sent i old done d.effect (move.Deliver index i) (worlds.remembered v (map early_at sites) i bytes) h there
     (delivery_gone old done bytes v well d) (delivery_made bytes v old done well made d)
-    (λ j. remembered-is v (λ k. early_at (slice_get sites k)) i bytes j ∙ early-set sites i old (record done { waiting = [] }) (early_as v bytes) there early.1 j)
+    (early-set sites i old (record done { waiting = [] }) v bytes there early.1)
     (delivery_is c sites sent index i old bytes there found
     ∙ ap (λ o. worlds.remembering (verdict_of c old.node bytes) i bytes (worlds.goes_on (world_of sites sent) i o)) given
     ∙ ap (λ w. worlds.remembering w i bytes (worlds.goes_on (world_of sites sent) i (Some d.effect))) said))))

@@ -61,10 +61,9 @@ module _ (c : Config) where
   first_made_at me (p ∷ ps) zero s e = subst IsMadeByEvents (same_Some (first_shown c me p) s e) (first_made c me p)
   first_made_at me (p ∷ ps) (suc i) s e = first_made_at (me + 1) ps i s e
 
-  first_early : (me : ℕ) (ps : List (List Instruction)) (i : ℕ) → early_at (slice_get (first_sites_from c me ps) i) ≡ []
-  first_early me [] i = refl
-  first_early me (p ∷ ps) zero = refl
-  first_early me (p ∷ ps) (suc i) = first_early (me + 1) ps i
+  first_early : (me : ℕ) (ps : List (List Instruction)) → map early_at (first_sites_from c me ps) ≡ map (λ (p : List Instruction). []) ps
+  first_early me [] = refl
+  first_early me (p ∷ ps) = ap (λ l. [] ∷ l) (first_early (me + 1) ps)
 
   first_are : (ps : List (List Instruction)) → AreSites c (first_sites_from c 0 ps)
   first_are ps = record {
@@ -75,10 +74,10 @@ module _ (c : Config) where
   }
 
   first_run : (ps : List (List Instruction)) → run_of c (first_sites_from c 0 ps) [] ≡ record { config = c; programs = ps; world = opening managed_ops c ps }
-  first_run ps = λ k. record { config = c; programs = first_programs 0 ps k; world = record { nodes = first_nodes_are 0 ps k; sent = []; early = λ i. first_early 0 ps i k } }
+  first_run ps = λ k. record { config = c; programs = first_programs 0 ps k; world = record { nodes = first_nodes_are 0 ps k; sent = []; early = first_early 0 ps k } }
 
   first_leads : (ps : List (List Instruction)) → IsLedTo c (opening managed_ops c (programs_of (first_sites_from c 0 ps))) [] (world_of (first_sites_from c 0 ps) [])
-  first_leads ps = λ k. record { nodes = (first_nodes_are 0 ps ∙ ap (first_nodes managed_ops c 0) (sym (first_programs 0 ps))) k; sent = []; early = λ i. first_early 0 ps i k }
+  first_leads ps = λ k. record { nodes = (first_nodes_are 0 ps ∙ ap (first_nodes managed_ops c 0) (sym (first_programs 0 ps))) k; sent = []; early = (first_early 0 ps ∙ ap (map (λ (p : List Instruction). [])) (sym (first_programs 0 ps))) k }
 
   first_running : IsConfig c → (ps : List (List Instruction)) → length ps ≡ c.nodes → IsRunning c (first_sites_from c 0 ps) []
   first_running config ps each = record {

@@ -19,16 +19,15 @@ abbrev pub programs_of : List Shown → List (List Instruction)
 programs_of sites = map (λ (s : Shown). s.node.core.process.program) sites
 
 -- what came to a site too early, told from its events
-abbrev pub early_at : Option Shown → List (List ℕ)
-early_at None = []
-early_at (Some s) = early_in (host_rules managed_ops) s.config
+abbrev pub early_at : Shown → List (List ℕ)
+early_at s = early_in (host_rules managed_ops) s.config
     (first_node managed_ops s.config s.me s.node.core.process.program) s.events
 
 abbrev pub world_of : List Shown → List (List ℕ) → worlds.World (Host Managed)
 world_of sites sent = record {
   nodes = map (λ (s : Shown). s.node) sites;
   sent = sent;
-  early = λ i. early_at (slice_get sites i);
+  early = map early_at sites;
 }
 
 -- each site is the node of its place, under this configuration, made by its events, and no string waits at it
