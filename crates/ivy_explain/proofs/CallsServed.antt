@@ -1,12 +1,13 @@
 -- A call by what it is to the memory of a node: its word, carried out on its page, is the call, and what is refused the
 -- flat memory refuses.
-use Rattle.std.proofs.Common.{◌≡◌, ◌≤◌, ◌<◌, ℕ, ◌*◌, ◌/◌, ◌%◌, Bool, true, false, get_or, Option, Some, None, nat_lt, refl, sym, ap, ◌∙◌, subst, arith, if◌then◌else◌, slice_get}
+use Rattle.std.proofs.Common.{◌≡◌, ◌≤◌, ◌<◌, ℕ, ◌*◌, ◌/◌, ◌%◌, Bool, true, false, get_or, Option, Some, None, Ok, Err, nat_lt, refl, ap, subst, arith, if◌then◌else◌, slice_get}
 use Rattle.std.proofs.lemmas.Bool.{ltb-true, ltb-false}
-use Rattle.std.proofs.lemmas.Option.{same_Some, none-some, slice_get-get_or, slice_get_past}
+use Rattle.std.proofs.lemmas.Option.{slice_get-get_or, slice_get_past}
 use Rattle.ivy_model.specs.declared.Config.{Config}
 use Rattle.ivy_model.specs.declared.Call.{Call}
 use Rattle.ivy_model.specs.declared.Call.TheVariants as call
 use Rattle.ivy_model.specs.declared.Reply.TheVariants as reply
+use Rattle.ivy_model.specs.declared.Fault.TheVariants.{NoSuchCount}
 use Rattle.ivy_model.specs.Config.{IsConfig, count_len}
 use Rattle.ivy_model.specs.Memory.{IsSized, flat_page}
 use Rattle.ivy_model.specs.Memory as model
@@ -16,7 +17,7 @@ use Rattle.ivy_pagetable.specs.declared.Word.{Word}
 use Rattle.ivy_pagetable.specs.declared.Word.TheVariants as word
 use Rattle.ivy_pagetable.specs.Words.{carried_out}
 use Rattle.ivy_memory.specs.declared.Asked.TheVariants as asked
-use Rattle.ivy_memory.specs.Asking.{asked_of, count_refusal, word_unless}
+use Rattle.ivy_memory.specs.Asking.{asked_of, count_asked, word_unless}
 use Rattle.ivy_explain.proofs.WordsServed.{IsServed, load_served, store_served, load_refused, store_refused, count_served, advance_served, await_served, count_refused, advance_refused, await_refused}
 use Rattle.ivy_explain.proofs.Owing.{IsWordOf}
 
@@ -29,32 +30,31 @@ is_refused : (o : Option ℕ) (p code : ℕ) (v : Word) → word_unless o p v �
 is_refused None p code v h = absurd cc
 is_refused (Some n) p code v h = (let e : n ≡ code = cc in ap Some e)
 
--- a count that is refused is past the last
-count_there : (b : Bool) (o : Option ℕ) → (if b then o else Some 6) ≡ None → b ≡ true
-count_there true o h = refl
-count_there false o h = absurd (none-some 6 (sym h))
+-- a count that is a word is there, and one that is refused is past the last
+count_there : (b : Bool) (q : ℕ) (v w : Word) → count_asked (if b then Ok v else Err NoSuchCount) ≡ asked.Word q w → (b ≡ true) × (0 ≡ q) × (v ≡ w)
+count_there true q v w h = (refl, (let e : 0 ≡ q = cc in e), (let e : v ≡ w = cc in e))
+count_there false q v w h = absurd cc
 
-count_gone : (b : Bool) (o : Option ℕ) (code : ℕ) → o ≡ None → (if b then o else Some 6) ≡ Some code → (b ≡ false) × (6 ≡ code)
-count_gone true o code none h = absurd (none-some code (sym none ∙ h))
-count_gone false o code none h = (refl, same_Some 6 code h)
+count_gone : (b : Bool) (code : ℕ) (v : Word) → count_asked (if b then Ok v else Err NoSuchCount) ≡ asked.Refused code → (b ≡ false) × (6 ≡ code)
+count_gone true code v h = absurd cc
+count_gone false code v h = (refl, (let e : 6 ≡ code = cc in e))
 
 module _ (c : Config) (mem : model.Memory) (sized : IsSized c mem) where
   -- the count itself
   abbrev count_at : ℕ → ℕ
   count_at k = get_or mem.counts k 0
 
-  counts_on : (k : ℕ) → count_refusal c k ≡ None → slice_get mem.counts k ≡ Some (count_at k)
-  counts_on k none = slice_get-get_or mem.counts k 0 (
-      let below : k < count_len c = ltb-true k (count_len c) (count_there (nat_lt k (count_len c)) None none) in
+  counts_on : (k : ℕ) → nat_lt k (count_len c) ≡ true → slice_get mem.counts k ≡ Some (count_at k)
+  counts_on k there = slice_get-get_or mem.counts k 0 (
+      let below : k < count_len c = ltb-true k (count_len c) there in
       let long = sized.counts in
       omega (arith, below, long)
       )
 
-  no_count : (k code : ℕ) → count_refusal c k ≡ Some code → (slice_get mem.counts k ≡ None) × (6 ≡ code)
-  no_count k code some =
-      let gone = count_gone (nat_lt k (count_len c)) None code refl some in
-      let past : count_len c ≤ k = ltb-false k (count_len c) gone.0 in
-      (slice_get_past mem.counts k (let long = sized.counts in omega (arith, past, long)), gone.1)
+  no_count : (k : ℕ) → nat_lt k (count_len c) ≡ false → slice_get mem.counts k ≡ None
+  no_count k gone =
+      let past : count_len c ≤ k = ltb-false k (count_len c) gone in
+      slice_get_past mem.counts k (let long = sized.counts in omega (arith, past, long))
 
   -- the word is what stands here
   this_word : (called : Call) (p q : ℕ) (v w : Word) → p ≡ q → v ≡ w → IsServed c mem called p (carried_out v (flat_page c mem p)) → IsServed c mem called q (carried_out w (flat_page c mem q))
@@ -69,13 +69,13 @@ module _ (c : Config) (mem : model.Memory) (sized : IsSized c mem) where
       let is = is_word (access_refusal c width addr) (addr / c.page_size) page (word.Store width (addr % c.page_size) value) w of in
       this_word (call.Store width addr value) (addr / c.page_size) page (word.Store width (addr % c.page_size) value) w is.1 is.2 (store_served c mem config width addr legal is.0 sized value)
   word_served config (call.Count k) page w legal of =
-      let is = is_word (count_refusal c k) 0 page (word.Count (8 * k)) w of in
+      let is = count_there (nat_lt k (count_len c)) page (word.Count (8 * k)) w of in
       this_word (call.Count k) 0 page (word.Count (8 * k)) w is.1 is.2 (count_served c mem sized k (count_at k) (counts_on k is.0))
   word_served config (call.Advance k) page w legal of =
-      let is = is_word (count_refusal c k) 0 page (word.Advance (8 * k)) w of in
+      let is = count_there (nat_lt k (count_len c)) page (word.Advance (8 * k)) w of in
       this_word (call.Advance k) 0 page (word.Advance (8 * k)) w is.1 is.2 (advance_served c mem sized k (count_at k) (counts_on k is.0))
   word_served config (call.Await k least) page w legal of =
-      let is = is_word (count_refusal c k) 0 page (word.Await (8 * k) least) w of in
+      let is = count_there (nat_lt k (count_len c)) page (word.Await (8 * k) least) w of in
       this_word (call.Await k least) 0 page (word.Await (8 * k) least) w is.1 is.2 (await_served c mem sized k (count_at k) (counts_on k is.0) least)
   word_served config (call.Alloc size) page w legal of = absurd cc
   word_served config (call.Free addr) page w legal of = absurd cc
@@ -85,13 +85,13 @@ module _ (c : Config) (mem : model.Memory) (sized : IsSized c mem) where
   refusal_served (call.Store width addr value) code is =
       store_refused c mem width addr code (is_refused (access_refusal c width addr) (addr / c.page_size) code (word.Store width (addr % c.page_size) value) is) value
   refusal_served (call.Count k) code is =
-      let gone = no_count k code (is_refused (count_refusal c k) 0 code (word.Count (8 * k)) is) in
-      subst (λ n. Serves c mem (call.Count k) (reply.Refused n) mem) gone.1 (count_refused c mem k gone.0)
+      let gone = count_gone (nat_lt k (count_len c)) code (word.Count (8 * k)) is in
+      subst (λ n. Serves c mem (call.Count k) (reply.Refused n) mem) gone.1 (count_refused c mem k (no_count k gone.0))
   refusal_served (call.Advance k) code is =
-      let gone = no_count k code (is_refused (count_refusal c k) 0 code (word.Advance (8 * k)) is) in
-      subst (λ n. Serves c mem (call.Advance k) (reply.Refused n) mem) gone.1 (advance_refused c mem k gone.0)
+      let gone = count_gone (nat_lt k (count_len c)) code (word.Advance (8 * k)) is in
+      subst (λ n. Serves c mem (call.Advance k) (reply.Refused n) mem) gone.1 (advance_refused c mem k (no_count k gone.0))
   refusal_served (call.Await k least) code is =
-      let gone = no_count k code (is_refused (count_refusal c k) 0 code (word.Await (8 * k) least) is) in
-      subst (λ n. Serves c mem (call.Await k least) (reply.Refused n) mem) gone.1 (await_refused c mem k gone.0 least)
+      let gone = count_gone (nat_lt k (count_len c)) code (word.Await (8 * k) least) is in
+      subst (λ n. Serves c mem (call.Await k least) (reply.Refused n) mem) gone.1 (await_refused c mem k (no_count k gone.0) least)
   refusal_served (call.Alloc size) code is = absurd cc
   refusal_served (call.Free addr) code is = absurd cc

@@ -1,11 +1,12 @@
 -- A word that a call asks for can be asked for: its page is there, and it lies in the page.
-use Rattle.std.proofs.Common.{◌≡◌, ℕ, ◌+◌, ◌*◌, ◌/◌, ◌%◌, ◌<◌, ◌≤◌, Bool, true, false, [], ◌∷◌, Option, Some, None, nat_lt, refl, sym, ap, lit<, ◌∙◌, arith, if◌then◌else◌, ◌==◌}
+use Rattle.std.proofs.Common.{◌≡◌, ℕ, ◌+◌, ◌*◌, ◌/◌, ◌%◌, ◌<◌, ◌≤◌, Bool, true, false, [], ◌∷◌, Option, Some, None, Ok, Err, nat_lt, refl, sym, ap, lit<, ◌∙◌, arith, if◌then◌else◌, ◌==◌}
 use Rattle.std.proofs.lemmas.Bool.{eqb-true, ltb-true}
 use Rattle.std.proofs.lemmas.List.Elements.{All-contains, All-from_recursion}
 use Rattle.std.proofs.lemmas.Option.{none-some}
 use Rattle.ivy_model.specs.declared.Config.{Config}
 use Rattle.ivy_model.specs.declared.Call.{Call}
 use Rattle.ivy_model.specs.declared.Call.TheVariants as call
+use Rattle.ivy_model.specs.declared.Fault.TheVariants.{NoSuchCount}
 use Rattle.ivy_model.specs.Config.{IsConfig, count_len}
 use Rattle.ivy_model.specs.Legal.{IsWidth, HasWidth}
 use Rattle.ivy_model.specs.Serves.{access_refusal}
@@ -15,7 +16,7 @@ use Rattle.ivy_model.proofs.Words.{IsPlaced}
 use Rattle.ivy_pagetable.specs.declared.Word.{Word}
 use Rattle.ivy_pagetable.specs.declared.Word.TheVariants as word
 use Rattle.ivy_pagetable.specs.Words.{IsWord, width_of, offset_of}
-use Rattle.ivy_memory.specs.Asking.{CanAsk, asked_of, count_refusal, word_unless}
+use Rattle.ivy_memory.specs.Asking.{CanAsk, asked_of, count_asked, word_unless}
 
 offset_aligned : (width m o : ℕ) → IsWidth width → (8 * m + o) % width ≡ 0 → o % width ≡ 0
 offset_aligned width m o h =
@@ -39,15 +40,11 @@ access-word c width addr config w none =
     let split : 8 * (page * (c.page_size / 8)) + offset ≡ addr = omega (arith, placed.split, words) in
     (placed.page_to, offset_aligned width (page * (c.page_size / 8)) offset w (ap (λ a. a % width) split ∙ aligned), placed.within)
 
-there_of : (b : Bool) (o : Option ℕ) → (if b then o else Some 6) ≡ None → b ≡ true
-there_of true o h = refl
-there_of false o h = absurd (none-some 6 (sym h))
-
 -- a count that is there is an aligned word of page 0
-count-word : (c : Config) (k : ℕ) → IsConfig c → count_refusal c k ≡ None → (0 < c.pages) × (8 * k % 8 ≡ 0) × (8 * k + 8 ≤ c.page_size)
-count-word c k config none =
+count-word : (c : Config) (k : ℕ) → IsConfig c → nat_lt k (count_len c) ≡ true → (0 < c.pages) × (8 * k % 8 ≡ 0) × (8 * k + 8 ≤ c.page_size)
+count-word c k config there =
     let s = page_has_words c.page_size config.page_size in
-    let below : k < count_len c = ltb-true k (count_len c) (there_of (nat_lt k (count_len c)) None none) in
+    let below : k < count_len c = ltb-true k (count_len c) there in
     let words = s.words in
     let pages = config.pages_from in
     (omega (arith, pages), omega arith, omega (arith, below, words))
@@ -59,11 +56,15 @@ unless : (c : Config) (o : Option ℕ) (page : ℕ) (w : Word) → (o ≡ None �
 unless c None page w h = h refl
 unless c (Some code) page w h = tt
 
-counted : (c : Config) (k : ℕ) (w : Word) → IsConfig c → width_of w ≡ 8 → offset_of w ≡ 8 * k → CanAsk c (word_unless (count_refusal c k) 0 w)
+there : (c : Config) (b : Bool) (w : Word) → (b ≡ true → (0 < c.pages) × IsWord c.page_size w) → CanAsk c (count_asked (if b then Ok w else Err NoSuchCount))
+there c true w h = h refl
+there c false w h = tt
+
+counted : (c : Config) (k : ℕ) (w : Word) → IsConfig c → width_of w ≡ 8 → offset_of w ≡ 8 * k → CanAsk c (count_asked (if nat_lt k (count_len c) then Ok w else Err NoSuchCount))
 counted c k w config eight at =
-    unless c (count_refusal c k) 0 w
-    (λ none. (let there = count-word c k config none in
-    (there.0, record { width = rw eight width_of_count; aligned = rw (eight, at) there.1; within = rw (eight, at) there.2 })))
+    there c (nat_lt k (count_len c)) w
+    (λ below. (let placed = count-word c k config below in
+    (placed.0, record { width = rw eight width_of_count; aligned = rw (eight, at) placed.1; within = rw (eight, at) placed.2 })))
 
 accessed : (c : Config) (width addr : ℕ) (w : Word) → IsConfig c → IsWidth width → width_of w ≡ width → offset_of w ≡ addr % c.page_size
     → CanAsk c (word_unless (access_refusal c width addr) (addr / c.page_size) w)

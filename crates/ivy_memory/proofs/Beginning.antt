@@ -1,5 +1,5 @@
 -- A call that begins, and a message that comes, as the code has them.
-use Rattle.std.proofs.Common.{◌≡◌, ◌≢◌, ℕ, ◌^◌, ◌<◌, ◌≤◌, length, Option, Some, None, Result, Ok, Err, OnOk, OnErr, IsErrAnd, IfErr, refl, sym, ap, ◌∙◌, subst}
+use Rattle.std.proofs.Common.{◌≡◌, ◌≢◌, ℕ, ◌^◌, ◌<◌, ◌≤◌, Bool, false, length, is_some, Option, Some, None, Result, Ok, Err, OnOk, OnErr, IsErrAnd, IfErr, refl, sym, ap, ◌∙◌, subst}
 use Rattle.ivy_model.specs.declared.Config.{Config}
 use Rattle.ivy_model.specs.declared.Call.{Call}
 use Rattle.ivy_model.specs.Legal.{HasWidth}
@@ -22,6 +22,10 @@ use Rattle.ivy_memory.proofs.Asking.{can_ask}
 use Rattle.ivy_memory.specs.Sound.{IsSoundMemory}
 use Rattle.ivy_memory.proofs.Tame.{Begins, begun-begins, one_wide, had-sound, started-sound, told-sound, needed-posted, call-few}
 
+none_of : {A : Type 0} (o : Option A) → is_some o ≡ false → o ≡ None
+none_of None h = refl
+none_of (Some a) h = absurd cc
+
 -- what holds of a result either way
 pub of_either : {A B X : Type 0} (P : Type 0) (F : X → Type 0) (r : Result A B) (new good old : X) → OnOk r (new ≡ good) → OnErr r ((new ≡ old) × P) → F good → F old → F new
 of_either P F (Ok a) new good old h k x y = subst F (sym h) x
@@ -31,6 +35,10 @@ of_either P F (Err e) new good old h k x y = subst F (sym k.0) y
 pub err_there : {A E : Type 0} (r : Result A E) (F : E → Type 0) (e : E) → IsErrAnd r (λ x. x ≡ e) → F e → IfErr r F
 err_there (Ok a) F e h k = absurd h
 err_there (Err x) F e h k = subst F (sym h) k
+
+-- no call is in progress where the code sees none
+pub no_call : {S : Type 0} (n v : Memory S) {b : Bool} → v ≡ n → b ≡ is_some v.asked → b ≡ false → n.asked ≡ None
+no_call n v same seen none = ap (λ (m : Memory _). m.asked) (sym same) ∙ none_of v.asked (sym seen ∙ none)
 
 -- a call that begins as a word of a page, as the code has it: `v` is what the fields are seen as, `n` the value
 pub record IsBeginning {S : Type 0} (ops : Ops S) (n v : Memory S) (k : Config) (c : Call) (number page : ℕ) (w : Word) : Type 0 where

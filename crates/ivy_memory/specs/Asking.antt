@@ -1,10 +1,12 @@
 -- What a call is to the memory of a node: refused at once, a word of a page, or a call of the heap.
-use Rattle.std.specs.Prelude.{◌<◌, ℕ, ◌*◌, ◌/◌, ◌%◌, Option, Some, None, nat_lt, if◌then◌else◌}
+use Rattle.std.specs.Prelude.{◌<◌, ℕ, ◌/◌, ◌%◌, Option, Some, None, Result, Ok, Err}
 use Rattle.ivy_model.specs.declared.Config.{Config}
 use Rattle.ivy_model.specs.declared.Call.{Call}
 use Rattle.ivy_model.specs.declared.Call.TheVariants.{Load, Store, Count, Advance, Await, Alloc, Free}
-use Rattle.ivy_model.specs.Config.{count_len}
+use Rattle.ivy_model.specs.declared.Fault.{Fault}
+use Rattle.ivy_model.specs.Numbers.{fault_number}
 use Rattle.ivy_model.specs.Serves.{access_refusal}
+use Rattle.ivy_event.specs.Counts.{word_of_count}
 use Rattle.ivy_pagetable.specs.declared.Word.{Word}
 use Rattle.ivy_pagetable.specs.declared.Word.TheVariants as word
 use Rattle.ivy_pagetable.specs.Words.{IsWord}
@@ -13,18 +15,15 @@ use Rattle.ivy_coherence.specs.Faults.{HasToAsk}
 use Rattle.ivy_memory.specs.declared.asked.Asked.{Asked}
 use Rattle.ivy_memory.specs.declared.asked.Asked.TheVariants as asked
 
--- 6 where there is no such count
-abbrev pub count_refusal : Config → ℕ → Option ℕ
-count_refusal c k = if nat_lt k (count_len c) then None else Some 6
-
 -- the word of a page, unless it is refused
 abbrev pub word_unless : Option ℕ → ℕ → Word → Asked
 word_unless (Some code) page w = asked.Refused code
 word_unless None page w = asked.Word page w
 
--- a count is the 8 bytes at its place in page 0
-abbrev pub count_asked : Config → ℕ → Word → Asked
-count_asked c k w = word_unless (count_refusal c k) 0 w
+-- a count is a word of page 0, and is refused where there is no such count
+abbrev pub count_asked : Result Word Fault → Asked
+count_asked (Ok w) = asked.Word 0 w
+count_asked (Err fault) = asked.Refused (fault_number fault)
 
 -- a load reads the word at its place in the page
 abbrev pub word_loaded : Config → ℕ → ℕ → Word
@@ -36,9 +35,9 @@ asked_of c (Load width addr) =
 asked_of c (Store width addr value) =
     word_unless (access_refusal c width addr) (addr / c.page_size)
     (word.Store width (addr % c.page_size) value)
-asked_of c (Count k) = count_asked c k (word.Count (8 * k))
-asked_of c (Advance k) = count_asked c k (word.Advance (8 * k))
-asked_of c (Await k least) = count_asked c k (word.Await (8 * k) least)
+asked_of c (Count k) = count_asked (word_of_count c k word.Count)
+asked_of c (Advance k) = count_asked (word_of_count c k word.Advance)
+asked_of c (Await k least) = count_asked (word_of_count c k (λ offset. word.Await offset least))
 asked_of c (Alloc size) = asked.Heap
 asked_of c (Free addr) = asked.Heap
 

@@ -1,14 +1,12 @@
 //! What a call is to the memory of a node.
-ghost use Rattle.std.specs.Prelude.{◌≡◌, ◌*◌, None, Some, MatchOption};
+ghost use Rattle.std.specs.Prelude.{◌≡◌};
 ghost use Rattle.ivy_model.specs.Config.{IsConfig};
 ghost use Rattle.ivy_model.specs.Legal.{HasWidth};
-ghost use Rattle.ivy_memory.specs.Asking.{asked_of, count_refusal};
+ghost use Rattle.ivy_memory.specs.Asking.{count_asked, asked_of};
 
-use ivy_model::{Call, Config, access_refusal};
+use ivy_event::{advance, await_at_least, read};
+use ivy_model::{Call, Config, Fault, access_refusal};
 use ivy_pagetable::Word;
-
-/// The refusal of a call on an eventcount that is not there.
-const NO_SUCH_COUNT: u8 = 6;
 
 /// What a call is to the memory of a node.
 #[derive(Clone, Copy, Debug, PartialEq, Eq)]
@@ -21,15 +19,13 @@ pub enum Asked {
     Heap,
 }
 
-/// Where an eventcount lies in page 0, if there is one.
-fn count_offset(config: &Config, k: u64) -> Option<u32>
-    requires limits { IsConfig config.now }
-    ensures there { MatchOption result (count_refusal config.now k ≡ Some 6) (λ offset. (count_refusal config.now k ≡ None) × (offset ≡ 8 * k)) }
+/// What a call on an eventcount is, whose word is this: it is refused where there is no such count.
+fn count_asked(word: Result<Word, Fault>) -> Asked
+    ensures { result ≡ count_asked word }
 {
-    if k < u64::from(config.page_size / 8) {
-        Some((8 * k) as u32)
-    } else {
-        None
+    match word {
+        Ok(word) => Asked::Word { page: 0, word },
+        Err(fault) => Asked::Refused(fault.number()),
     }
 }
 
@@ -66,27 +62,9 @@ pub fn asked_of(config: &Config, call: Call) -> Asked
                 },
             }
         }
-        Call::Count { k } => match count_offset(config, k) {
-            Some(offset) => Asked::Word {
-                page: 0,
-                word: Word::Count { offset },
-            },
-            None => Asked::Refused(NO_SUCH_COUNT),
-        },
-        Call::Advance { k } => match count_offset(config, k) {
-            Some(offset) => Asked::Word {
-                page: 0,
-                word: Word::Advance { offset },
-            },
-            None => Asked::Refused(NO_SUCH_COUNT),
-        },
-        Call::Await { k, least } => match count_offset(config, k) {
-            Some(offset) => Asked::Word {
-                page: 0,
-                word: Word::Await { offset, least },
-            },
-            None => Asked::Refused(NO_SUCH_COUNT),
-        },
+        Call::Count { k } => count_asked(read(config, k)),
+        Call::Advance { k } => count_asked(advance(config, k)),
+        Call::Await { k, least } => count_asked(await_at_least(config, k, least)),
         Call::Alloc { .. } | Call::Free { .. } => Asked::Heap,
     }
 }

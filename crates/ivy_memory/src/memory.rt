@@ -1,5 +1,5 @@
 //! The memory of one node, as its program sees it: one call in progress, over the node's coherence.
-ghost use Rattle.std.specs.Prelude.{◌≡◌, ◌≢◌, ◌<◌, ◌≤◌, None, IfOk, IfErr, OnOk, OnErr, IsOkUnless, MatchOption, length};
+ghost use Rattle.std.specs.Prelude.{◌≡◌, ◌≢◌, ◌<◌, ◌≤◌, ◌↔◌, None, IsSome, IfOk, IfErr, OnOk, OnErr, IsOkUnless, IsErrOf, length};
 ghost use Rattle.ivy_model.specs.Config.{IsConfig};
 ghost use Rattle.ivy_model.specs.Legal.{HasWidth};
 ghost use Rattle.ivy_model.specs.Wants.{IsWant};
@@ -84,26 +84,29 @@ impl<M: Manager, A: Allocator> Memory<M, A> {
     }
 
     #[tactic(auto, unfolding(crate::specs::Memories::call_begun))]
-    /// A call begins, as the one of this number [1, 17]: it is answered at once, or it is in progress from now on.
+    /// A call begins, as the one of this number [1, 17, 18]: it is answered at once, or it is in progress from now on.
     ///
-    /// No call is in progress. A call of the heap is not served yet. Only a call that other nodes have to be asked
-    /// for is refused by a fault: any other takes no memory, and asks the post nothing.
+    /// Refused with 18 exactly where a call is in progress already. A call of the heap is not served yet. Else only a
+    /// call that other nodes have to be asked for is refused: any other takes no memory, and asks the post nothing.
     pub fn begin<P: Post>(&mut self, call: Call, number: u64, post: &mut P) -> Result<Answer, Fault>
-        requires idle { self.old.asked ≡ None }
         requires width { HasWidth call }
         requires number { 1 ≤ number }
         requires config { P.config post.old ≡ self.old.coherence.config }
         requires node { P.node post.old ≡ self.old.coherence.me }
+        ensures busy { IsErrOf result Fault.Busy ↔ IsSome self.old.asked }
         ensures few { length (call_begun M.ops self.old call number).posted ≤ 8 }
         ensures reply { IfOk result (λ answer. answer ≡ (call_begun M.ops self.old call number).answer) }
         ensures ok { OnOk result (self.new ≡ (call_begun M.ops self.old call number).after) }
         ensures posted { OnOk result (post.new ≡ P.after post.old (call_begun M.ops self.old call number).posted) }
         ensures took { OnOk result (P.takes post.old (call_begun M.ops self.old call number).posted) }
         ensures err { OnErr result ((self.new ≡ self.old) × (post.new ≡ post.old)) }
-        ensures fault { IfErr result (P.refuses post.old (call_begun M.ops self.old call number).posted) }
-        ensures sure { OnErr result (CallHasToAsk self.old.coherence call) }
-        ensures want { IfErr result IsWant }
+        ensures fault { self.old.asked ≡ None → IfErr result (P.refuses post.old (call_begun M.ops self.old call number).posted) }
+        ensures sure { self.old.asked ≡ None → OnErr result (CallHasToAsk self.old.coherence call) }
+        ensures want { self.old.asked ≡ None → IfErr result IsWant }
     {
+        if self.asked.is_some() {
+            return Err(Fault::Busy);
+        }
         match asked_of(&self.coherence.config(), call) {
             Asked::Refused(code) => Ok(Answer::Given(Reply::Refused(code))),
             Asked::Word { page, word } => match self.coherence.need(page, word, number, post)? {

@@ -1,4 +1,5 @@
 ghost use Rattle.std.specs.Prelude.{◌≡◌, ◌<◌, ◌≤◌, length};
+ghost use Rattle.ivy_model.specs.Legal.{HasWidth};
 ghost use Rattle.ivy_wire.specs.Lent.{owned_message};
 ghost use Rattle.ivy_wire.specs.Spelling.{FitsMessage};
 
@@ -147,13 +148,16 @@ impl Node {
     fn awaits(&mut self, least: u64, number: u64) -> Result<Answer, Fail>
         requires { 1 ≤ number }
     {
-        if self.memory.asked().is_some() {
-            return Err("a call is in progress".into());
-        }
-        let answer = self
-            .memory
-            .begin(Call::Await { k: 0, least }, number, &mut self.posted)?;
+        let answer = self.begins(Call::Await { k: 0, least }, number)?;
         Ok(answer)
+    }
+
+    /// The node's program makes this call, the one of this number.
+    fn begins(&mut self, call: Call, number: u64) -> Result<Answer, Fault>
+        requires width { HasWidth call }
+        requires number { 1 ≤ number }
+    {
+        self.memory.begin(call, number, &mut self.posted)
     }
 
     /// The call of this number is asked for its reply.
@@ -366,5 +370,39 @@ fn owner_waits(rt: &impl Abort, node: &mut Node) -> Result<(), Fail> {
     assert!(rt; node.has_posted(&posted));
     node.deliver(1, copy(&FULL, 0, 2))?;
     assert_eq!(rt; node.polls(2)?, Answer::Given(Reply::Value(u64::MAX)));
+    Ok(())
+}
+
+/// A call beside one in progress is refused with 18, be it one that hits, is refused or wants to post, and the one
+/// in progress goes on.
+#[test]
+fn a_call_beside_another(rt: HostRuntime) -> Result<(), Fail> {
+    let mut node = Node::new(rt.alloc(), 0)?;
+    is_busy(&rt, &mut node)?;
+    goes_on(&rt, &mut node)?;
+    Ok(())
+}
+
+fn is_busy(rt: &impl Abort, node: &mut Node) -> Result<(), Fail> {
+    assert_eq!(rt; node.awaits(1, 1)?, Answer::Awaited);
+    assert_eq!(rt; node.begins(Call::Count { k: 0 }, 1), Err(Fault::Busy));
+    assert_eq!(rt; node.begins(Call::Count { k: 8 }, 2), Err(Fault::Busy));
+    assert_eq!(rt; node.begins(Call::Alloc { size: 8 }, 2), Err(Fault::Busy));
+    node.deliver(1, write_request(1, 7))?;
+    assert_eq!(rt; node.begins(Call::Advance { k: 0 }, 2), Err(Fault::Busy));
+    assert!(rt; node.has_posted(&[parcel(0, 1, whole(1, 7))]));
+    assert_eq!(rt; node.memory.asked(), Some(Call::Await { k: 0, least: 1 }));
+    Ok(())
+}
+
+fn goes_on(rt: &impl Abort, node: &mut Node) -> Result<(), Fail> {
+    assert_eq!(rt; node.polls(1)?, Answer::Awaited);
+    assert_eq!(rt; node.begins(Call::Count { k: 0 }, 2), Err(Fault::Busy));
+    node.deliver(1, copy(&FULL, 0, 1))?;
+    assert_eq!(rt; node.polls(1)?, Answer::Given(Reply::Value(u64::MAX)));
+    assert_eq!(rt;
+        node.begins(Call::Count { k: 8 }, 2),
+        Ok(Answer::Given(Reply::Refused(6)))
+    );
     Ok(())
 }
