@@ -1,7 +1,6 @@
 -- Every frame of a link has a spelling, whatever the node sends, accepts or sends again.
-use Rattle.std.proofs.Common.{◌≡◌, ◌≢◌, ℕ, ◌+◌, ◌-◌, ◌^◌, ◌<◌, ◌≤◌, List, [], ◌∷◌, length, take, All, refl, sym, ap, subst, ◌∙◌, arith, inl, inr, true, nat_lt, Some}
-use Rattle.std.proofs.lemmas.Bool.{cases_eq, cases_lt, cond_both, and_parts, eq-eqb, ne_eqb, lt-leb, le-leb}
-use Rattle.std.proofs.lemmas.Bool.Decides.{nat_tests}
+use Rattle.std.proofs.Common.{◌≡◌, ◌≢◌, ℕ, ◌+◌, ◌-◌, ◌^◌, ◌<◌, ◌≤◌, List, [], ◌∷◌, length, take, All, refl, sym, ap, subst, ◌∙◌, arith, inl, inr, true, Some}
+use Rattle.std.proofs.lemmas.Bool.{cases_eq, cases_lt, cond_both, eq-eqb, ne_eqb, lt-leb, le-leb}
 use Rattle.std.proofs.lemmas.List.{get_or_past, length-set, length-append, length-drop, length-take, length-replicate}
 use Rattle.std.proofs.lemmas.List.Elements.{All-nil, All-cons, All-head, All-tail, All-append, All-set, All-take, All-drop, All-replicate}
 use Rattle.ivy_model.specs.declared.Config.{Config}
@@ -13,6 +12,7 @@ use Rattle.ivy_link.specs.Accepted.{verdict_on, still_kept, counted, heard, acce
 use Rattle.ivy_link.specs.Pulsed.{numbered, ack_alone, pulse_of, frames_again, settled, after_pulse}
 use Rattle.ivy_link.specs.Fitting.{FitsPeer, FitsLink}
 use Rattle.ivy_link.proofs.Peers.{accepted-mine, accepted-other}
+use Rattle.ivy_link.proofs.Counting.{has-number}
 
 -- what stays: the node's own number, and how many nodes there are
 pub sends-me : (l : Linked) (ps : List Parcel) → (after_sends l ps).me ≡ l.me
@@ -80,12 +80,6 @@ with-fits c l j p h fits = record { me = h.me; nodes = length-set l.peers j p �
 -- sending
 pub fits-within : (c : Config) (l : Linked) (ps : List Parcel) → FitsLink c l → All (FitsParcel c l.me) ps → AreWithin l ps
 fits-within c l ps h of k d lt = omega (arith, (of k d lt).dest, h.nodes)
-
-has-number : (l : Linked) (p : Parcel) (ps : List Parcel) → has_numbers l (p ∷ ps) ≡ true → ((peer_at l p.dest).sent + 1 < 2 ^ 64) × (has_numbers (sent_one l p) ps ≡ true)
-has-number l p ps all =
-    let both : (nat_lt (peer_at l p.dest).sent (2 ^ 64 - 1) ≡ true) × (has_numbers (sent_one l p) ps ≡ true) = and_parts (nat_lt (peer_at l p.dest).sent (2 ^ 64 - 1)) (has_numbers (sent_one l p) ps) all in
-    let number : (peer_at l p.dest).sent + 1 < 2 ^ 64 = grind (arith, nat_tests, both.0) in
-    (number, both.1)
 
 message-fits : (c : Config) (p : Peer) (m : Message) → FitsPeer c p → FitsMessage c m → p.sent + 1 < 2 ^ 64 → FitsPeer c (with_message p m)
 message-fits c p m h fits number = record {

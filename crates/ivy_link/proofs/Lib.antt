@@ -1,4 +1,5 @@
 pub mod Peers
+pub mod Counting
 pub mod Sending
 pub mod Pulses
 pub mod Pairs

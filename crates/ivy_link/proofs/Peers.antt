@@ -1,7 +1,7 @@
 -- Reading what is known of a node after a change.
-use Rattle.std.proofs.Common.{◌≡◌, ◌≢◌, ℕ, suc, ◌+◌, ◌<◌, ◌≤◌, ◌-◌, ◌^◌, List, [], ◌∷◌, length, get_or, map, refl, sym, ap, ◌∙◌, arith, inl, inr, replicate}
-use Rattle.std.proofs.lemmas.Bool.{cases_eq, cases_lt, eq-eqb, ne_eqb}
-use Rattle.std.proofs.lemmas.List.{get_or-set_other, get_or_default, get_or-replicate, get_or_past, get_or-map, set-get_or, length-set, length-map, length-replicate, map-set}
+use Rattle.std.proofs.Common.{◌≡◌, ◌≢◌, ℕ, suc, ◌<◌, ◌≤◌, List, [], ◌∷◌, length, get_or, map, refl, sym, ap, ◌∙◌, arith, inl, inr, replicate}
+use Rattle.std.proofs.lemmas.Bool.{cases_eq, eq-eqb, ne_eqb}
+use Rattle.std.proofs.lemmas.List.{get_or-set_other, get_or-map, set-get_or, length-set, length-map, map-set}
 use Rattle.std.proofs.lemmas.Grind.{get_or-set_at}
 use Rattle.std.proofs.Math.ListN.{set}
 use Rattle.std.proofs.Math.ListN as lists
@@ -9,7 +9,7 @@ use Rattle.ivy_wire.specs.Data.{Parcel}
 use Rattle.ivy_link.specs.Linked.{Peer, Linked, fresh, first_link, peer_at, with_peer, with_message, sent_one, after_sends, AreWithin}
 use Rattle.ivy_wire.specs.declared.frame.Frame as frame
 use Rattle.ivy_link.specs.Accepted.{accepted, verdict_on, heard}
-use Rattle.ivy_link.specs.Sides.{Sided, peer_of, linked, side_at, AreReached, AreNumbers}
+use Rattle.ivy_link.specs.Sides.{Sided, peer_of, linked}
 
 pub at-with : (P : Peer → Type 0) (l : Linked) (i j : ℕ) (p : Peer) → i < length l.peers → (j ≡ i → P p) → (j ≢ i → P (peer_at l j)) → P (peer_at (with_peer l i p) j)
 at-with P l i j p lt same other =
@@ -74,27 +74,11 @@ module _ (l : Linked) (me : ℕ) (sides : List Sided) (view : linked me sides �
   view-write i old new f lt read written =
       with_side me sides i old new f (omega (arith, lt, view-length)) read written ∙ ap (λ (k : Linked). with_peer k i (f (peer_at k i))) view
 
--- rooms made, which change nothing that is known
-module _ (start sides : List Sided) (counts : List ℕ) (i : ℕ) (s : Sided) (same : map peer_of sides ≡ map peer_of start) (lt : i < length sides) (read : s ≡ get_or sides i s) where
-  pub room-reached : AreReached start counts → s.peer.sent ≤ get_or counts i 0
-  room-reached reached =
-      let there : i < length start = omega (arith, lt, length-map sides peer_of, length-map start peer_of, ap length same) in
-      let now : get_or (map peer_of sides) i fresh ≡ s.peer = get_or-map peer_of sides i s fresh lt ∙ ap peer_of (sym read) in
-      let before : get_or (map peer_of start) i fresh ≡ (side_at start i).peer = get_or-map peer_of start i (side_at [] 0) fresh there in
-      let equal : s.peer ≡ (side_at start i).peer = sym now ∙ (ap (λ ps. get_or ps i fresh) same ∙ before) in
-      rw equal (reached i there)
-
-  pub room-same : (new : Sided) → new.peer ≡ s.peer → map peer_of (set sides i new) ≡ map peer_of start
-  room-same new equal =
-      let now : s.peer ≡ get_or (map peer_of sides) i fresh = sym (get_or-map peer_of sides i s fresh lt ∙ ap peer_of (sym read)) in
-      map-set peer_of sides i new ∙ (ap (set (map peer_of sides) i) (equal ∙ now) ∙ (set-get_or (map peer_of sides) i fresh ∙ same))
-
-  pub room-more : (new : Sided) → new.peer ≡ s.peer → get_or counts i 0 - s.peer.sent ≤ new.room → ((j : ℕ) → j < i → get_or counts j 0 ≤ (side_at sides j).peer.sent + (side_at sides j).room) → (j : ℕ) → j < i + 1 → get_or counts j 0 ≤ (side_at (set sides i new) j).peer.sent + (side_at (set sides i new) j).room
-  room-more new equal room before j below =
-      elim (cases_eq j i) [
-        | inl e ↦ rw (get_or-set_at sides i j new (side_at [] 0) e lt) (rw e (omega (arith, room, ap (λ (p : Peer). p.sent) equal)))
-        | inr ne ↦ rw (get_or-set_other sides i j new (side_at [] 0) ne) (before j (omega (arith, below, ne)))
-      ]
+-- a side whose peer stays
+pub room-same : (start sides : List Sided) (i : ℕ) (s new : Sided) → map peer_of sides ≡ map peer_of start → i < length sides → s ≡ get_or sides i s → new.peer ≡ s.peer → map peer_of (set sides i new) ≡ map peer_of start
+room-same start sides i s new same lt read equal =
+    let now : s.peer ≡ get_or (map peer_of sides) i fresh = sym (get_or-map peer_of sides i s fresh lt ∙ ap peer_of (sym read)) in
+    map-set peer_of sides i new ∙ (ap (set (map peer_of sides) i) (equal ∙ now) ∙ (set-get_or (map peer_of sides) i fresh ∙ same))
 
 pub accepted-mine : {B : Type 0} (l : Linked) (f : frame.Frame B) → f.dest ≡ l.me → accepted l f ≡ with_peer l f.source (heard (verdict_on (peer_at l f.source).delivered f.number) (peer_at l f.source) f.number f.ack)
 accepted-mine l f e = rw (eq-eqb f.dest l.me e) refl
@@ -102,29 +86,5 @@ accepted-mine l f e = rw (eq-eqb f.dest l.me e) refl
 pub accepted-other : {B : Type 0} (l : Linked) (f : frame.Frame B) → f.dest ≢ l.me → accepted l f ≡ l
 accepted-other l f ne = rw (ne_eqb f.dest l.me ne) refl
 
-pub new-short : (sides : List Sided) (n nodes : ℕ) → map peer_of sides ≡ replicate n fresh → n ≤ nodes → nodes < 256 → length sides ≤ 256
-new-short sides n nodes h le small = omega (arith, le, small, length-map sides peer_of, ap length h, length-replicate n fresh)
-
 pub new-all : (me : ℕ) (sides : List Sided) (n nodes : ℕ) → map peer_of sides ≡ replicate n fresh → n ≡ nodes → linked me sides ≡ first_link me nodes
 new-all me sides n nodes h e = ap (λ qs. record { me = me; peers = qs }) (h ∙ ap (λ k. replicate k fresh) e)
-
-pub same-read : {X : Type 0} (xs : List X) (i : ℕ) (a b : X) → i < length xs → a ≡ get_or xs i a → b ≡ get_or xs i b → a ≡ b
-same-read xs i a b lt reads other = reads ∙ (get_or_default xs i a b lt ∙ sym other)
-
-pub numbers-set : (counts : List ℕ) (i v : ℕ) → AreNumbers counts → v < 2 ^ 64 → AreNumbers (set counts i v)
-numbers-set counts i v small fits j =
-    elim (cases_eq j i) [
-      | inl e ↦
-          elim (cases_lt i (length counts)) [
-            | inl lt ↦ rw (get_or-set_at counts i j v 0 e lt) fits
-            | inr le ↦ rw (get_or_past (set counts i v) j 0 (omega (arith, le, e, length-set counts i v))) (omega arith)
-          ]
-      | inr ne ↦ rw (get_or-set_other counts i j v 0 ne) (small j)
-    ]
-
-pub numbers-none : (n : ℕ) → AreNumbers (replicate n 0)
-numbers-none n j =
-    elim (cases_lt j n) [
-      | inl lt ↦ rw (get_or-replicate {A = ℕ} n j 0 0 lt) (omega arith)
-      | inr le ↦ rw (get_or_past {X = ℕ} (replicate n 0) j 0 (omega (arith, le, length-replicate {A = ℕ} n 0))) (omega arith)
-    ]

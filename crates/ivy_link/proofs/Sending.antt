@@ -1,108 +1,32 @@
 -- Parcels sent one after the other: the steps of the loops over them.
-use Rattle.std.proofs.Common.{◌≡◌, ℕ, suc, ◌+◌, ◌-◌, ◌^◌, ◌<◌, ◌≤◌, List, [], ◌∷◌, ◌++◌, length, get_or, map, take, drop, refl, sym, ap, subst, ◌∙◌, arith, inl, inr, Some, true, false, ◌&&◌, nat_lt}
-use Rattle.std.proofs.lemmas.Bool.{cases_eq, and_parts}
-use Rattle.std.proofs.lemmas.Bool.Decides.{nat_tests}
-use Rattle.std.proofs.lemmas.List.{get_or-set_other, get_or-map, length-set, length-map, get_or_default, length-take, get_or-take, take_more, take_all, drop_all}
+use Rattle.std.proofs.Common.{◌≡◌, ℕ, suc, ◌+◌, ◌-◌, ◌^◌, ◌<◌, ◌≤◌, List, [], ◌∷◌, length, get_or, map, take, drop, refl, sym, ap, subst, ◌∙◌, arith, inl, inr, Some, true, false, ◌&&◌, nat_lt}
+use Rattle.std.proofs.lemmas.Bool.{cases_eq}
+use Rattle.std.proofs.lemmas.List.{get_or-set_other, get_or-map, length-set, length-map, get_or_default, take-map}
 use Rattle.std.proofs.lemmas.Grind.{get_or-set_at}
 use Rattle.std.proofs.Math.ListN.{set}
 use Rattle.std.proofs.Math.Seq.{drop-cons}
 use Rattle.std.specs.Borrow.{Bor}
+use Rattle.std.specs.List.{slice_get}
 use Rattle.ivy_wire.specs.declared.parcel.Parcel as parcel
 use Rattle.ivy_wire.specs.declared.frame.Content.TheVariants.{ReadReq}
-use Rattle.ivy_wire.specs.Data.{Message, Parcel, Frame}
+use Rattle.ivy_wire.specs.Data.{Message, Parcel}
 use Rattle.ivy_wire.specs.Lent.{owned_parcel}
-use Rattle.ivy_link.specs.Linked.{Peer, Linked, fresh, peer_at, with_message, sent_one, after_sends, frame_of, frames_of, has_numbers, AreWithin}
-use Rattle.ivy_link.specs.Sides.{Sided, peer_of, message_of, linked, side_at, AreCounts, AreReached, IsRoomy, HasRoomFor, HaveRoom}
-use Rattle.ivy_link.proofs.Peers.{at-with, IsAfter, sends-after, within-head, within-rest, with_side, view-length, view-read}
-
-pub sends-append : (l : Linked) (ps qs : List Parcel) → after_sends l (ps ++ qs) ≡ after_sends (after_sends l ps) qs
-sends-append l [] qs = refl
-sends-append l (p ∷ ps) qs = sends-append (sent_one l p) ps qs
-
-pub frames-append : (l : Linked) (ps qs : List Parcel) → frames_of l (ps ++ qs) ≡ frames_of l ps ++ frames_of (after_sends l ps) qs
-frames-append l [] qs = refl
-frames-append l (p ∷ ps) qs = ap (λ fs. frame_of l p ∷ fs) (frames-append (sent_one l p) ps qs)
-
-take_one : (ps : List Parcel) (i : ℕ) (p : Parcel) → i < length ps → p ≡ get_or ps i p → take (i + 1) ps ≡ take i ps ++ p ∷ []
-take_one ps i p lt read = take_more ps i p lt ∙ ap (λ q. take i ps ++ q ∷ []) (sym read)
+use Rattle.ivy_link.specs.Linked.{Peer, Linked, fresh, peer_at, with_message, sent_one, after_sends, frames_of, has_numbers, AreWithin}
+use Rattle.ivy_link.specs.Sides.{Sided, peer_of, message_of, linked, side_at, count_to, HasRoomFor}
+use Rattle.ivy_link.proofs.Peers.{within-head, within-rest, with_side, view-length}
+use Rattle.ivy_link.proofs.Counting.{count-here, count-other, count-part, has-number, numbers-within, numbers-spent, frame-at}
 
 drop_one : (ps : List Parcel) (i : ℕ) (p : Parcel) → i < length ps → p ≡ get_or ps i p → drop i ps ≡ p ∷ drop (i + 1) ps
 drop_one ps i p lt read =
     let next : suc i ≡ i + 1 = omega arith in
     drop-cons ps i p lt ∙ (ap (λ q. q ∷ drop (suc i) ps) (sym read) ∙ ap (λ k. p ∷ drop k ps) next)
 
-pub sends-more : (l : Linked) (ps : List Parcel) (i : ℕ) (p : Parcel) → i < length ps → p ≡ get_or ps i p → after_sends l (take (i + 1) ps) ≡ sent_one (after_sends l (take i ps)) p
-sends-more l ps i p lt read = ap (after_sends l) (take_one ps i p lt read) ∙ sends-append l (take i ps) (p ∷ [])
-
-pub frames-more : (l : Linked) (ps : List Parcel) (i : ℕ) (p : Parcel) → i < length ps → p ≡ get_or ps i p → frames_of l (take (i + 1) ps) ≡ frames_of l (take i ps) ++ frame_of (after_sends l (take i ps)) p ∷ []
-frames-more l ps i p lt read = ap (frames_of l) (take_one ps i p lt read) ∙ frames-append l (take i ps) (p ∷ [])
-
-pub within-take : (l : Linked) (ps : List Parcel) (i : ℕ) → AreWithin l ps → AreWithin l (take i ps)
-within-take l ps i within k d lt = rw (get_or-take i ps k d (omega (arith, length-take i ps))) (within k d (omega (arith, length-take i ps)))
-
--- what was sent when so many of the parcels were gone through
-pub sent-part : (l : Linked) (ps : List Parcel) (i : ℕ) → AreWithin l ps → IsAfter l (after_sends l (take i ps))
-sent-part l ps i within = sends-after l (take i ps) (within-take l ps i within)
-
--- so many of the parcels were gone through, and the counts are those then
-pub record IsUnderway (l : Linked) (ps : List Parcel) (i : ℕ) (counts : List ℕ) : Type 0 where
-  pub counted : AreCounts (after_sends l (take i ps)) counts
-  pub numbers : has_numbers (after_sends l (take i ps)) (drop i ps) ≡ has_numbers l ps
-
-pub underway-first : (l : Linked) (ps : List Parcel) (counts : List ℕ) → AreCounts l counts → IsUnderway l ps 0 counts
-underway-first l ps counts h = record { counted = h; numbers = refl }
-
-numbers-here : (l : Linked) (ps : List Parcel) (i : ℕ) (p : Parcel) (counts : List ℕ) → IsUnderway l ps i counts → i < length ps → p ≡ get_or ps i p → (nat_lt (peer_at (after_sends l (take i ps)) p.dest).sent (2 ^ 64 - 1) && has_numbers (sent_one (after_sends l (take i ps)) p) (drop (i + 1) ps)) ≡ has_numbers l ps
-numbers-here l ps i p counts h lt read = sym (ap (has_numbers (after_sends l (take i ps))) (drop_one ps i p lt read)) ∙ h.numbers
-
-count-here : (l : Linked) (ps : List Parcel) (i : ℕ) (p : Parcel) (counts : List ℕ) → AreWithin l ps → IsUnderway l ps i counts → i < length ps → p ≡ get_or ps i p → get_or counts p.dest 0 ≡ (peer_at (after_sends l (take i ps)) p.dest).sent
-count-here l ps i p counts within h lt read =
-    let at : p.dest < length l.peers = rw read (within i p lt) in
-    h.counted p.dest (omega (arith, at, (sent-part l ps i within).peers))
-
--- a parcel for which no number is left
-pub underway-spent : (l : Linked) (ps : List Parcel) (i : ℕ) (p : Parcel) (counts : List ℕ) → AreWithin l ps → IsUnderway l ps i counts → i < length ps → p ≡ get_or ps i p → 2 ^ 64 ≤ get_or counts p.dest 0 + 1 → has_numbers l ps ≡ false
-underway-spent l ps i p counts within h lt read spent =
-    let count : get_or counts p.dest 0 ≡ (peer_at (after_sends l (take i ps)) p.dest).sent = count-here l ps i p counts within h lt read in
-    let none : nat_lt (peer_at (after_sends l (take i ps)) p.dest).sent (2 ^ 64 - 1) ≡ false = grind (arith, nat_tests, count, spent) in
-    sym (numbers-here l ps i p counts h lt read) ∙ ap (λ b. b && has_numbers (sent_one (after_sends l (take i ps)) p) (drop (i + 1) ps)) none
-
--- a parcel whose number is there
-pub underway-number : (l : Linked) (ps : List Parcel) (i : ℕ) (p : Parcel) (counts : List ℕ) → AreWithin l ps → has_numbers l ps ≡ true → IsUnderway l ps i counts → i < length ps → p ≡ get_or ps i p → get_or counts p.dest 0 + 1 < 2 ^ 64
-underway-number l ps i p counts within all h lt read =
-    let count : get_or counts p.dest 0 ≡ (peer_at (after_sends l (take i ps)) p.dest).sent = count-here l ps i p counts within h lt read in
-    let there : nat_lt (peer_at (after_sends l (take i ps)) p.dest).sent (2 ^ 64 - 1) ≡ true = (and_parts _ _ (numbers-here l ps i p counts h lt read ∙ all)).0 in
-    grind (arith, nat_tests, count, there)
-
-pub underway-more : (l : Linked) (ps : List Parcel) (i : ℕ) (p : Parcel) (counts : List ℕ) → AreWithin l ps → length l.peers ≤ length counts → IsUnderway l ps i counts → i < length ps → p ≡ get_or ps i p → get_or counts p.dest 0 + 1 < 2 ^ 64 → IsUnderway l ps (i + 1) (set counts p.dest (get_or counts p.dest 0 + 1))
-underway-more l ps i p counts within long h lt read number =
-    let now : Linked = after_sends l (take i ps) in
-    let at : p.dest < length l.peers = rw read (within i p lt) in
-    let here : p.dest < length now.peers = omega (arith, at, (sent-part l ps i within).peers) in
-    let count : get_or counts p.dest 0 ≡ (peer_at now p.dest).sent = count-here l ps i p counts within h lt read in
-    let there : nat_lt (peer_at now p.dest).sent (2 ^ 64 - 1) ≡ true = grind (arith, nat_tests, count, number) in
-    let next : after_sends l (take (i + 1) ps) ≡ sent_one now p = sends-more l ps i p lt read in
-    let written : AreCounts (sent_one now p) (set counts p.dest (get_or counts p.dest 0 + 1)) =
-    λ j inside.
-    at-with (λ q. get_or (set counts p.dest (get_or counts p.dest 0 + 1)) j 0 ≡ q.sent) now p.dest j (with_message (peer_at now p.dest) p.message) here
-    (λ e. get_or-set_at counts p.dest j (get_or counts p.dest 0 + 1) 0 e (omega (arith, at, long)) ∙ ap (λ n. n + 1) count)
-    (λ ne. get_or-set_other counts p.dest j (get_or counts p.dest 0 + 1) 0 ne ∙ h.counted j (omega (arith, inside, length-set now.peers p.dest (with_message (peer_at now p.dest) p.message)))) in
-    record {
-      counted = rw next written;
-      numbers = rw next (ap (λ b. b && has_numbers (sent_one now p) (drop (i + 1) ps)) (sym there) ∙ numbers-here l ps i p counts h lt read);
-    }
-
-pub underway-last : (l : Linked) (ps : List Parcel) (i : ℕ) (counts : List ℕ) → length ps ≤ i → IsUnderway l ps i counts → (has_numbers l ps ≡ true) × AreCounts (after_sends l ps) counts
-underway-last l ps i counts end h =
-    let all : take i ps ≡ ps = take_all i ps end in
-    let none : drop i ps ≡ [] = drop_all i ps end in
-    (sym (rw none at h.numbers), rw all at h.counted)
-
 -- a message kept at its node: what is left to send, and the room for it
 pub record IsKeeping (start : List Sided) (all : List Parcel) (sides : List Sided) (ps : List Parcel) : Type 0 where
   pub goal : after_sends (linked 0 sides) ps ≡ after_sends (linked 0 start) all
   pub within : AreWithin (linked 0 sides) ps
   pub room : HasRoomFor sides ps
+  pub numbers : has_numbers (linked 0 sides) ps ≡ true
 
 -- the side read is the one at its place
 side-here : (sides : List Sided) (i : ℕ) (s : Sided) → i < length sides → s ≡ get_or sides i s → side_at sides i ≡ s
@@ -114,21 +38,18 @@ peer-here me sides i s lt read = get_or-map peer_of sides i s fresh lt ∙ ap pe
 pub keeping-here : (start : List Sided) (all : List Parcel) (sides : List Sided) (p : Parcel) (ps : List Parcel) (s : Sided) → IsKeeping start all sides (p ∷ ps) → s ≡ get_or sides p.dest s → (p.dest < length sides) × (1 ≤ s.room) × (s.peer.sent + 1 < 2 ^ 64)
 keeping-here start all sides p ps s h read =
     let l : Linked = linked 0 sides in
-    let inside : p.dest < length l.peers = within-head l p ps h.within in
-    let at : p.dest < length sides = omega (arith, inside, length-map sides peer_of) in
-    let count : (peer_at (sent_one l p) p.dest).sent ≡ s.peer.sent + 1 =
-    at-with (λ q. q.sent ≡ s.peer.sent + 1) l p.dest p.dest (with_message (peer_at l p.dest) p.message) inside (λ _. ap (λ q. q.sent + 1) (peer-here 0 sides p.dest s at read)) (λ ne. absurd (ne refl)) in
-    let most : (peer_at (sent_one l p) p.dest).sent ≤ (peer_at (after_sends l (p ∷ ps)) p.dest).sent = (sends-after (sent_one l p) ps (within-rest l p ps h.within)).sent p.dest in
-    let roomy : IsRoomy s (peer_at (after_sends l (p ∷ ps)) p.dest).sent = rw (side-here sides p.dest s at read) at (h.room p.dest at) in
-    (at, omega (arith, count, most, roomy.0), omega (arith, count, most, roomy.1))
+    let at : p.dest < length sides = omega (arith, within-head l p ps h.within, length-map sides peer_of) in
+    let roomy : count_to (p ∷ ps) p.dest ≤ s.room = rw (side-here sides p.dest s at read) at (h.room p.dest at) in
+    let number : (peer_at l p.dest).sent + 1 < 2 ^ 64 = (has-number l p ps h.numbers).0 in
+    (at, omega (arith, roomy, count-here p ps p.dest refl), omega (arith, number, ap (λ q. q.sent) (peer-here 0 sides p.dest s at read)))
 
-roomy-set : (sides : List Sided) (i j : ℕ) (old new : Sided) (count : ℕ) → i < length sides → old ≡ get_or sides i old → new.peer.sent ≡ old.peer.sent + 1 → new.room + 1 ≡ old.room → IsRoomy (side_at sides j) count → IsRoomy (side_at (set sides i new) j) count
-roomy-set sides i j old new count lt read more less roomy =
-    elim (cases_eq j i) [
+room-less : (sides : List Sided) (p : Parcel) (ps : List Parcel) (j : ℕ) (old new : Sided) → p.dest < length sides → old ≡ get_or sides p.dest old → new.room + 1 ≡ old.room → count_to (p ∷ ps) j ≤ (side_at sides j).room → count_to ps j ≤ (side_at (set sides p.dest new) j).room
+room-less sides p ps j old new lt read less roomy =
+    elim (cases_eq j p.dest) [
       | inl e ↦
-          let before : IsRoomy old count = rw (side-here sides i old lt read) at (rw e at roomy) in
-          rw (get_or-set_at sides i j new (side_at [] 0) e lt) (omega (arith, before.0, more, less), before.1)
-      | inr ne ↦ rw (get_or-set_other sides i j new (side_at [] 0) ne) roomy
+          let same : side_at sides j ≡ old = ap (side_at sides) e ∙ side-here sides p.dest old lt read in
+          rw (get_or-set_at sides p.dest j new (side_at [] 0) e lt) (omega (arith, roomy, less, ap (λ (s : Sided). s.room) same, count-here p ps j (sym e)))
+      | inr ne ↦ rw (get_or-set_other sides p.dest j new (side_at [] 0) ne) (omega (arith, roomy, count-other p ps j (λ e. ne (sym e))))
     ]
 
 pub keeping-more : (start : List Sided) (all : List Parcel) (sides : List Sided) (p : Parcel) (ps : List Parcel) (old new : Sided) → IsKeeping start all sides (p ∷ ps) → old ≡ get_or sides p.dest old → new.peer ≡ with_message old.peer p.message → new.room + 1 ≡ old.room → IsKeeping start all (set sides p.dest new) ps
@@ -138,15 +59,17 @@ keeping-more start all sides p ps old new h read written less =
     record {
       goal = ap (λ l. after_sends l ps) next ∙ h.goal;
       within = subst (λ l. AreWithin l ps) (sym next) (within-rest (linked 0 sides) p ps h.within);
-      room = λ j lt.
-          let inside : j < length sides = omega (arith, lt, length-set sides p.dest new) in
-          let before : IsRoomy (side_at sides j) (peer_at (after_sends (linked 0 sides) (p ∷ ps)) j).sent = h.room j inside in
-          subst (λ l. IsRoomy (side_at (set sides p.dest new) j) (peer_at (after_sends l ps) j).sent) (sym next) (roomy-set sides p.dest j old new (peer_at (after_sends (linked 0 sides) (p ∷ ps)) j).sent here.0 read (ap (λ q. q.sent) written) less before);
+      room = λ j lt. room-less sides p ps j old new here.0 read less (h.room j (omega (arith, lt, length-set sides p.dest new)));
+      numbers = ap (λ l. has_numbers l ps) next ∙ (has-number (linked 0 sides) p ps h.numbers).1;
     }
 
 peers-alone : (a b : ℕ) (peers : List Peer) (ps : List Parcel) → (after_sends (record { me = a; peers = peers }) ps).peers ≡ (after_sends (record { me = b; peers = peers }) ps).peers
 peers-alone a b peers [] = refl
 peers-alone a b peers (p ∷ ps) = peers-alone a b (sent_one (record { me = a; peers = peers }) p).peers ps
+
+numbers-alone : (a b : ℕ) (peers : List Peer) (ps : List Parcel) → has_numbers (record { me = a; peers = peers }) ps ≡ has_numbers (record { me = b; peers = peers }) ps
+numbers-alone a b peers [] = refl
+numbers-alone a b peers (p ∷ ps) = ap (λ rest. nat_lt (peer_at (record { me = a; peers = peers }) p.dest).sent (2 ^ 64 - 1) && rest) (numbers-alone a b (sent_one (record { me = a; peers = peers }) p).peers ps)
 
 me-after : (l : Linked) (ps : List Parcel) → (after_sends l ps).me ≡ l.me
 me-after l [] = refl
@@ -171,34 +94,37 @@ parcel-here parcels i lt = sym (get_or-map owned_parcel parcels i nobody (parcel
 pub parcel-inside : (parcels : List (parcel.Parcel (Bor (List ℕ)))) (i : ℕ) → i < length parcels → i < length (map owned_parcel parcels)
 parcel-inside parcels i lt = omega (arith, lt, length-map parcels owned_parcel)
 
+-- at the parcel that a loop or a call is at, which goes to the node n
 module _ (l : Linked) (parcels : List (parcel.Parcel (Bor (List ℕ)))) (i n : ℕ) (within : AreWithin l (map owned_parcel parcels)) (lt : i < length parcels) (here : n ≡ (parcel_at parcels i).dest) where
   pub here-within : n < length l.peers
   here-within = rw here (subst (λ (q : Parcel). q.dest < length l.peers) (sym (parcel-here parcels i lt)) (within i (parcel_at parcels i) (parcel-inside parcels i lt)))
 
-  pub here-spent : (counts : List ℕ) → IsUnderway l (map owned_parcel parcels) i counts → 2 ^ 64 ≤ get_or counts n 0 + 1 → has_numbers l (map owned_parcel parcels) ≡ false
-  here-spent counts h spent = underway-spent l (map owned_parcel parcels) i (parcel_at parcels i) counts within h (parcel-inside parcels i lt) (parcel-here parcels i lt) (rw here at spent)
+  -- the earlier parcels to the same node
+  here-earlier : (earlier : ℕ) → earlier ≡ count_to (map owned_parcel (take i parcels)) (parcel_at parcels i).dest → earlier ≡ count_to (take i (map owned_parcel parcels)) (parcel_at parcels i).dest
+  here-earlier earlier before = before ∙ ap (λ ps. count_to ps (parcel_at parcels i).dest) (sym (take-map owned_parcel i parcels))
 
-  pub here-number : (counts : List ℕ) → IsUnderway l (map owned_parcel parcels) i counts → has_numbers l (map owned_parcel parcels) ≡ true → get_or counts n 0 + 1 < 2 ^ 64
-  here-number counts h all = rw here (underway-number l (map owned_parcel parcels) i (parcel_at parcels i) counts within all h (parcel-inside parcels i lt) (parcel-here parcels i lt))
+  -- there is one parcel more that goes there
+  here-part : count_to (take i (map owned_parcel parcels)) (parcel_at parcels i).dest + 1 ≤ count_to (map owned_parcel parcels) n
+  here-part = rw here (count-part (map owned_parcel parcels) i (parcel_at parcels i) (parcel-inside parcels i lt) (parcel-here parcels i lt))
 
-  pub here-more : (counts : List ℕ) (count : ℕ) → length l.peers ≤ length counts → IsUnderway l (map owned_parcel parcels) i counts → count ≡ get_or counts n 0 + 1 → count < 2 ^ 64 → IsUnderway l (map owned_parcel parcels) (i + 1) (set counts n count)
-  here-more counts count long h is number =
-      let small : get_or counts (parcel_at parcels i).dest 0 + 1 < 2 ^ 64 = rw here at (rw is at number) in
-      rw is (rw here (underway-more l (map owned_parcel parcels) i (parcel_at parcels i) counts within long h (parcel-inside parcels i lt) (parcel-here parcels i lt) small))
+  pub here-number : (sent earlier : ℕ) → has_numbers l (map owned_parcel parcels) ≡ true → sent ≡ (peer_at l n).sent → earlier ≡ count_to (map owned_parcel (take i parcels)) (parcel_at parcels i).dest → sent + earlier + 1 < 2 ^ 64
+  here-number sent earlier all count before =
+      let few : (peer_at l n).sent + count_to (map owned_parcel parcels) n < 2 ^ 64 = numbers-within l (map owned_parcel parcels) within all n (omega (arith, here-part)) in
+      omega (arith, here-part, few, count, here-earlier earlier before)
 
-  pub here-frame : (counts : List ℕ) (frames : List Frame) (source ack : ℕ) (message : Message) → IsUnderway l (map owned_parcel parcels) i counts → frames ≡ frames_of l (take i (map owned_parcel parcels)) → source ≡ l.me → ack ≡ (peer_at l n).delivered → message ≡ (parcel_at parcels i).message → frames ++ record { source = source; dest = (parcel_at parcels i).dest; number = get_or counts n 0 + 1; ack = ack; body = Some message } ∷ [] ≡ frames_of l (take (i + 1) (map owned_parcel parcels))
-  here-frame counts frames source ack message h before me heard said =
-      let p : Parcel = parcel_at parcels i in
-      let now : Linked = after_sends l (take i (map owned_parcel parcels)) in
-      let after : IsAfter l now = sent-part l (map owned_parcel parcels) i within in
-      let count : get_or counts n 0 ≡ (peer_at now p.dest).sent = rw here (count-here l (map owned_parcel parcels) i p counts within h (parcel-inside parcels i lt) (parcel-here parcels i lt)) in
-      let there : ack ≡ (peer_at now p.dest).delivered = heard ∙ rw here (sym (after.delivered p.dest)) in
-      let same : record { source = source; dest = p.dest; number = get_or counts n 0 + 1; ack = ack; body = Some message } ≡ frame_of now p =
-      ap (λ m. record { source = m; dest = p.dest; number = get_or counts n 0 + 1; ack = ack; body = Some message }) (me ∙ sym after.me)
-      ∙ (ap (λ k. record { source = now.me; dest = p.dest; number = k + 1; ack = ack; body = Some message }) count
-      ∙ (ap (λ a. record { source = now.me; dest = p.dest; number = (peer_at now p.dest).sent + 1; ack = a; body = Some message }) there
-      ∙ ap (λ m. record { source = now.me; dest = p.dest; number = (peer_at now p.dest).sent + 1; ack = (peer_at now p.dest).delivered; body = Some m }) said)) in
-      ap (λ f. frames ++ f ∷ []) same ∙ (ap (λ fs. fs ++ frame_of now p ∷ []) before ∙ sym (frames-more l (map owned_parcel parcels) i p (parcel-inside parcels i lt) (parcel-here parcels i lt)))
+  pub here-spent : (sent more : ℕ) → sent ≡ (peer_at l n).sent → more ≡ count_to (map owned_parcel parcels) (parcel_at parcels i).dest → 2 ^ 64 ≤ sent + more → has_numbers l (map owned_parcel parcels) ≡ false
+  here-spent sent more count is spent =
+      let same : more ≡ count_to (map owned_parcel parcels) n = rw here is in
+      numbers-spent l (map owned_parcel parcels) within n (omega (arith, here-part)) (omega (arith, count, same, spent))
+
+  pub here-frame : (source sent earlier ack : ℕ) (message : Message) → source ≡ l.me → sent ≡ (peer_at l n).sent → earlier ≡ count_to (map owned_parcel (take i parcels)) (parcel_at parcels i).dest → ack ≡ (peer_at l n).delivered → message ≡ (parcel_at parcels i).message → slice_get (frames_of l (map owned_parcel parcels)) i ≡ Some (record { source = source; dest = (parcel_at parcels i).dest; number = sent + earlier + 1; ack = ack; body = Some message })
+  here-frame source sent earlier ack message me count before heard said =
+      rw (me, count, here-earlier earlier before, heard, said, here) (frame-at l (map owned_parcel parcels) i (parcel_at parcels i) within (parcel-inside parcels i lt) (parcel-here parcels i lt))
+
+-- the same where the sides had room made
+pub ready-within : (start sides : List Sided) (parcels : List (parcel.Parcel (Bor (List ℕ)))) (i n : ℕ) → map peer_of sides ≡ map peer_of start → AreWithin (linked 0 start) (map owned_parcel parcels) → i < length parcels → n ≡ (parcel_at parcels i).dest → n < length sides
+ready-within start sides parcels i n same within lt here =
+    omega (arith, here-within (linked 0 start) parcels i n within lt here, ap length same, length-map sides peer_of)
 
 -- the same while messages are kept
 module _ (start : List Sided) (parcels : List (parcel.Parcel (Bor (List ℕ)))) (sides : List Sided) (i n : ℕ) (lt : i < length parcels) (here : n ≡ (parcel_at parcels i).dest) where
@@ -232,43 +158,18 @@ module _ (start : List Sided) (parcels : List (parcel.Parcel (Bor (List ℕ)))) 
       omega (arith, lengths)
 
 -- the steps of a whole send: room is made, then the messages are kept
-module _ (l : Linked) (sides ready : List Sided) (ps : List Parcel) (counts : List ℕ) (view : linked l.me sides ≡ l) (within : AreWithin l ps) (same : map peer_of ready ≡ map peer_of sides) where
-  equal-lengths : length ready ≡ length sides
-  equal-lengths = sym (length-map ready peer_of) ∙ (ap length same ∙ length-map sides peer_of)
-
+module _ (l : Linked) (sides ready : List Sided) (ps : List Parcel) (view : linked l.me sides ≡ l) (within : AreWithin l ps) (same : map peer_of ready ≡ map peer_of sides) where
   equal-views : linked l.me ready ≡ l
   equal-views = ap (λ qs. record { me = l.me; peers = qs }) same ∙ view
-
-  pub send-short : length sides ≤ 256 → length ready ≤ 256
-  send-short short = omega (arith, short, equal-lengths)
 
   pub send-within : AreWithin (linked 0 ready) ps
   send-within k d lt = omega (arith, within k d lt, length-map ready peer_of, view-length l l.me ready equal-views)
 
-  -- the counts are what the peers come to, at the node 0 too
-  final-there : (j : ℕ) → (peer_at (after_sends (linked 0 ready) ps) j).sent ≡ (peer_at (after_sends l ps) j).sent
-  final-there j = ap (λ qs. (get_or qs j fresh).sent) (peers-alone 0 l.me (map peer_of ready) ps ∙ ap (λ (k : Linked). (after_sends k ps).peers) equal-views)
-
-  pub send-room : AreCounts (after_sends l ps) counts → ((j : ℕ) → get_or counts j 0 < 2 ^ 64) → HaveRoom ready counts → HasRoomFor ready ps
-  send-room counted small room j lt =
-      let inside : j < length (after_sends l ps).peers = omega (arith, lt, view-length l l.me ready equal-views, (sends-after l ps within).peers) in
-      let count : (peer_at (after_sends (linked 0 ready) ps) j).sent ≡ get_or counts j 0 = final-there j ∙ sym (counted j inside) in
-      (omega (arith, count, room j lt), omega (arith, count, small j))
+  pub send-numbers : has_numbers l ps ≡ true → has_numbers (linked 0 ready) ps ≡ true
+  send-numbers all = numbers-alone 0 l.me (map peer_of ready) ps ∙ (ap (λ (k : Linked). has_numbers k ps) equal-views ∙ all)
 
   pub send-done : (kept : List Sided) → linked 0 kept ≡ after_sends (linked 0 ready) ps → linked l.me kept ≡ after_sends l ps
   send-done kept h = sends-at l.me (map peer_of ready) (map peer_of kept) ps (ap (λ (k : Linked). k.peers) h) ∙ ap (λ (k : Linked). after_sends k ps) equal-views
-
-  pub send-kept-short : (kept : List Sided) → length sides ≤ 256 → linked 0 kept ≡ after_sends (linked 0 ready) ps → length kept ≤ 256
-  send-kept-short kept short h =
-      omega (arith, short, equal-lengths, length-map kept peer_of, length-map ready peer_of, ap (λ (k : Linked). length k.peers) h, (sends-after (linked 0 ready) ps send-within).peers)
-
-pub send-reached : (l : Linked) (sides : List Sided) (ps : List Parcel) (counts : List ℕ) → linked l.me sides ≡ l → AreWithin l ps → AreCounts (after_sends l ps) counts → AreReached sides counts
-send-reached l sides ps counts view within counted j lt =
-    let inside : j < length l.peers = omega (arith, lt, view-length l l.me sides view) in
-    let after : IsAfter l (after_sends l ps) = sends-after l ps within in
-    let here : peer_at l j ≡ (side_at sides j).peer = view-read l l.me sides view j (side_at sides j) inside (get_or_default sides j (side_at [] 0) (side_at sides j) lt) in
-    let count : get_or counts j 0 ≡ (peer_at (after_sends l ps) j).sent = counted j (omega (arith, inside, after.peers)) in
-    omega (arith, after.sent j, count, ap (λ (p : Peer). p.sent) here)
 
 pub sends-nodes : (l : Linked) (ps : List Parcel) → length (after_sends l ps).peers ≡ length l.peers
 sends-nodes l [] = refl

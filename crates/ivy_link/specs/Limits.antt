@@ -1,10 +1,6 @@
 -- The limits of a link.
 use Rattle.std.specs.Prelude.{ℕ, ◌-◌, ◌^◌}
 
--- how many nodes a number of one byte can name
-abbrev pub most_named : ℕ
-most_named = 256
-
 -- the greatest number of a message
 abbrev pub greatest_number : ℕ
 greatest_number = 2 ^ 64 - 1

@@ -1,13 +1,12 @@
 //! The link of one node to all others.
-ghost use Rattle.std.specs.Prelude.{◌≡◌, ◌≢◌, ◌↔◌, ℕ, ◌<◌, ◌≤◌, List, [], ◌∷◌, ◌++◌, length, map, true, false, IfOk, IfErr, OnOk, OnErr, IsErrOf, IsOkUnless, MatchOption};
+ghost use Rattle.std.specs.Prelude.{◌≡◌, ◌≢◌, ◌↔◌, ℕ, ◌<◌, List, [], ◌∷◌, ◌++◌, length, map, slice_get, true, false, Some, IfOk, IfErr, OnOk, OnErr, IsErrOf, IsOkUnless};
 ghost use Rattle.ivy_model.specs.Wants.{IsWant};
 ghost use Rattle.ivy_model.specs.declared.Fault.TheVariants.{Memory, NumbersSpent};
 ghost use Rattle.ivy_wire.specs.Lent.{owned_message, owned_parcel, owned_frame};
-ghost use Rattle.ivy_link.specs.Limits.{most_named};
 ghost use Rattle.ivy_link.specs.Linked.{first_link, peer_at, after_sends, frames_of, has_numbers, AreWithin};
 ghost use Rattle.ivy_link.specs.Accepted.{offered, accepted};
 ghost use Rattle.ivy_link.specs.Pulsed.{repeated, frames_again, after_pulse};
-ghost use Rattle.ivy_link.specs.Sides.{peer_of, linked, message_of, HasRoomFor, AreNumbers, AreCounts, AreReached, HaveRoom};
+ghost use Rattle.ivy_link.specs.Sides.{peer_of, linked, message_of, count_to, HasRoomFor};
 
 use crate::lent::{add, again, copied, copies};
 use crate::side::Side;
@@ -17,9 +16,6 @@ use ivy_wire::{Frame, Message, Page, Parcel};
 use std::alloc::{AllocError, Allocator};
 use std::collections::VecDeque;
 use std::marker::Model;
-
-/// How many nodes a number of one byte can name.
-const MOST_NAMED: usize = 256;
 
 /// How many kept messages are sent again at once.
 pub const MOST_AGAIN: usize = 32;
@@ -36,16 +32,13 @@ pub struct Link<A: Allocator> {
 }
 
 impl<A: Allocator> Model for Link<A> {
-    ghost use Rattle.std.specs.Prelude.{◌≤◌, length, map};
-    ghost use Rattle.ivy_link.specs.Limits.{most_named};
+    ghost use Rattle.std.specs.Prelude.{map};
     ghost use Rattle.ivy_link.specs.Linked.{Linked};
     ghost use Rattle.ivy_link.specs.Sides.{peer_of};
 
     ghost Value = { Linked };
 
     ghost view = { λ l. record { me = l.me; peers = map peer_of l.sides.items } };
-
-    ghost invariant = { λ l. length l.sides.items ≤ most_named };
 }
 
 impl<A: Allocator + Copy> Link<A> {
@@ -93,31 +86,37 @@ impl<A: Allocator + Copy> Link<A> {
         self.sides[usize::from(to)].settle();
     }
 
-    fn counts(&self) -> [u64; MOST_NAMED]
-        ensures counts { AreCounts self.now result }
-        ensures small { AreNumbers result }
-        ensures long { length self.now.peers ≤ length result }
+    /// Whether a number is left for each of the parcels.
+    pub fn has_numbers(&self, parcels: &[Parcel<&[u8]>]) -> bool
+        requires within { AreWithin self.now (map owned_parcel parcels.now) }
+        ensures { result ≡ has_numbers self.now (map owned_parcel parcels.now) }
     {
-        let mut counts = [0; MOST_NAMED];
-        for node in 0..self.sides.len() {
-            counts[node] = self.sides[node].sent();
+        for parcel in parcels {
+            let side = &self.sides[usize::from(parcel.dest)];
+            if !side.has_numbers(count_to(parcels, parcel.dest)) {
+                return false;
+            }
         }
-        counts
+        true
     }
 
-    /// How many messages each node was sent once the parcels are sent too. None where a number is missing.
-    fn counts_after(&self, parcels: &[Parcel<&[u8]>]) -> Option<[u64; MOST_NAMED]>
+    /// The frame of the parcel at this index, one of those that [`Link::frames`] would give now.
+    pub fn frame<'p>(&self, parcels: &[Parcel<&'p [u8]>], index: usize) -> Frame<&'p [u8]>
         requires within { AreWithin self.now (map owned_parcel parcels.now) }
-        ensures numbers { MatchOption result (has_numbers self.now (map owned_parcel parcels.now) ≡ false) (λ _. has_numbers self.now (map owned_parcel parcels.now) ≡ true) }
-        ensures counts { MatchOption result (Unit {0}) (AreCounts (after_sends self.now (map owned_parcel parcels.now))) }
-        ensures small { MatchOption result (Unit {0}) AreNumbers }
+        requires numbers { has_numbers self.now (map owned_parcel parcels.now) ≡ true }
+        requires inside { index < length parcels.now }
+        ensures { slice_get (frames_of self.now (map owned_parcel parcels.now)) index ≡ Some (owned_frame result) }
     {
-        let mut counts = self.counts();
-        for parcel in parcels {
-            let dest = usize::from(parcel.dest);
-            counts[dest] = counts[dest].checked_add(1)?;
+        let parcel = &parcels[index];
+        let side = &self.sides[usize::from(parcel.dest)];
+        let earlier = count_to(&parcels[..index], parcel.dest);
+        Frame {
+            source: self.me,
+            dest: parcel.dest,
+            number: side.sent() + earlier as u64 + 1,
+            ack: side.delivered(),
+            body: Some(again(&parcel.message)),
         }
-        Some(counts)
     }
 
     fn numbered<'p>(
@@ -128,20 +127,9 @@ impl<A: Allocator + Copy> Link<A> {
         requires numbers { has_numbers self.now (map owned_parcel parcels.now) ≡ true }
         ensures { IfOk result (λ frames. map owned_frame frames.items ≡ frames_of self.now (map owned_parcel parcels.now)) }
     {
-        let mut counts = self.counts();
         let mut frames = Vec::with_capacity(self.alloc, parcels.len())?;
-        for parcel in parcels {
-            let dest = usize::from(parcel.dest);
-            let number = counts[dest] + 1;
-            counts[dest] = number;
-            let frame = Frame {
-                source: self.me,
-                dest: parcel.dest,
-                number,
-                ack: self.sides[dest].delivered(),
-                body: Some(again(&parcel.message)),
-            };
-            add(&mut frames, frame)?;
+        for index in 0..parcels.len() {
+            add(&mut frames, self.frame(parcels, index))?;
         }
         Ok(frames)
     }
@@ -154,10 +142,11 @@ impl<A: Allocator + Copy> Link<A> {
         ensures spent { IsErrOf result NumbersSpent ↔ (has_numbers self.now (map owned_parcel parcels.now) ≡ false) }
         ensures want { IfErr result IsWant }
     {
-        if self.counts_after(parcels).is_none() {
-            return Err(Fault::NumbersSpent);
+        if self.has_numbers(parcels) {
+            Ok(self.numbered(parcels)?)
+        } else {
+            Err(Fault::NumbersSpent)
         }
-        Ok(self.numbered(parcels)?)
     }
 
     /// Numbers the messages and keeps copies of them until they are acknowledged [1, 17]: all of them, or
@@ -175,11 +164,11 @@ impl<A: Allocator + Copy> Link<A> {
         ensures spent { IsErrOf result NumbersSpent ↔ (has_numbers self.old (map owned_parcel parcels.now) ≡ false) }
         ensures want { IfErr result IsWant }
     {
-        let Some(counts) = self.counts_after(parcels) else {
+        if !self.has_numbers(parcels) {
             return Err(Fault::NumbersSpent);
-        };
+        }
         let copies = copies(self.alloc, parcels)?;
-        reserve(&mut self.sides, &counts)?;
+        reserve(&mut self.sides, parcels)?;
         keep_each(&mut self.sides, parcels, copies);
         Ok(())
     }
@@ -264,19 +253,25 @@ impl<A: Allocator + Copy> Link<A> {
     }
 }
 
-/// Makes room at each node for the messages that bring its count to the given one.
+/// How many of the parcels go to the node.
+fn count_to(parcels: &[Parcel<&[u8]>], node: u8) -> usize
+    ensures { result ≡ count_to (map owned_parcel parcels.now) node }
+{
+    parcels.iter().filter(|parcel| parcel.dest == node).count()
+}
+
+/// Makes room at each node for the messages of the parcels that go there.
 fn reserve<A: Allocator>(
     sides: &mut Vec<Side<A>, A>,
-    counts: &[u64; MOST_NAMED],
+    parcels: &[Parcel<&[u8]>],
 ) -> Result<(), AllocError>
-    requires limit { length sides.old.items ≤ most_named }
-    requires reached { AreReached sides.old.items counts.now }
+    requires within { AreWithin (linked 0 sides.old.items) (map owned_parcel parcels.now) }
     ensures peers { map peer_of sides.new.items ≡ map peer_of sides.old.items }
-    ensures room { OnOk result (HaveRoom sides.new.items counts.now) }
+    ensures room { OnOk result (HasRoomFor sides.new.items (map owned_parcel parcels.now)) }
 {
-    for node in 0..sides.len() {
-        let more = counts[node] - sides[node].sent();
-        sides[node].reserve(more as usize)?;
+    for parcel in parcels {
+        let more = count_to(parcels, parcel.dest);
+        sides[usize::from(parcel.dest)].reserve(more)?;
     }
     Ok(())
 }
@@ -289,6 +284,7 @@ fn keep_each<A: Allocator>(
 )
     requires within { AreWithin (linked 0 sides.old.items) (map owned_parcel parcels.now) }
     requires room { HasRoomFor sides.old.items (map owned_parcel parcels.now) }
+    requires numbers { has_numbers (linked 0 sides.old.items) (map owned_parcel parcels.now) ≡ true }
     requires copies { copies.items ≡ map message_of (map owned_parcel parcels.now) }
     ensures { linked 0 sides.new.items ≡ after_sends (linked 0 sides.old.items) (map owned_parcel parcels.now) }
 {

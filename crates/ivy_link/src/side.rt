@@ -1,5 +1,5 @@
 //! What a link knows of one other node.
-ghost use Rattle.std.specs.Prelude.{◌≡◌, ◌+◌, ◌<◌, ◌≤◌, length, drop, OnOk};
+ghost use Rattle.std.specs.Prelude.{◌≡◌, ◌↔◌, ◌+◌, ◌<◌, ◌≤◌, length, drop, IsTrue, OnOk};
 ghost use Rattle.ivy_link.specs.Limits.{greatest_number};
 ghost use Rattle.ivy_link.specs.Linked.{with_message};
 
@@ -55,6 +55,13 @@ impl<A: Allocator> Side<A> {
         ensures { result ≡ self.now.peer.sent }
     {
         self.sent
+    }
+
+    /// Whether so many more messages can be numbered.
+    pub(crate) fn has_numbers(&self, more: usize) -> bool
+        ensures { IsTrue result ↔ (self.now.peer.sent + more ≤ greatest_number) }
+    {
+        self.sent.checked_add(more as u64).is_some()
     }
 
     pub(crate) fn delivered(&self) -> u64

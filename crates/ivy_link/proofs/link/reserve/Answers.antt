@@ -1,23 +1,33 @@
-use Rattle.std.proofs.Common.{rules, ◌≡◌, ◌<◌, length, sym, ap, ◌∙◌}
-use Rattle.ivy_link.specs.Sides.{Sided}
-use Rattle.ivy_link.proofs.Peers.{room-reached, room-same, room-more, same-read}
+use Rattle.std.proofs.Common.{◌≡◌, ◌<◌, ◌≤◌, length, map, take, ap, arith}
+use Rattle.std.proofs.lemmas.List.{length-map, take_all}
+use Rattle.ivy_wire.specs.Lent.{owned_parcel}
+use Rattle.ivy_link.specs.Sides.{side_at, count_to}
+use Rattle.ivy_link.proofs.Peers.{room-same}
+use Rattle.ivy_link.proofs.Counting.{room-more, room-none}
+use Rattle.ivy_link.proofs.Sending.{ready-within, parcel_at, parcel-here, parcel-inside}
 use Rattle.ivy_link.proofs.link.reserve.Goals as goal
 
-pub overflow_sub-more : goal.overflow_sub-more
-overflow_sub-more g c =
-    let lt : c.loop-node.node < length c.loop-node.sides.items = search rules in
-    rw c.sent.ensures (room-reached c.args.sides.now.items c.loop-node.sides.items c.args.counts.now c.loop-node.node c.index.result.now c.loop-node.invariant.peers lt c.index.ensures c.requires.reached)
+pub index_mut-requires : goal.index_mut-requires
+index_mut-requires g c =
+    let at : c.from.result < length c.loop-parcel.sides.items = ready-within c.args.sides.now.items c.loop-parcel.sides.items c.args.parcels.now c.loop-parcel.parcel-index c.from.result c.loop-parcel.invariant.peers c.requires.within c.loop-parcel-test.true c.from.ensures in
+    omega (arith, at)
 
 pub returns-in_err-reserve-clause-peers : goal.returns-in_err-reserve-clause-peers
 returns-in_err-reserve-clause-peers g c =
-    let lt : c.loop-node.node < length c.loop-node.sides.items = search rules in
-    room-same c.args.sides.now.items c.loop-node.sides.items c.args.counts.now c.loop-node.node c.index_mut.result.now c.loop-node.invariant.peers lt c.index_mut.ensures.value c.reserve.new.self c.reserve.ensures.peer
+    let at : c.from.result < length c.loop-parcel.sides.items = ready-within c.args.sides.now.items c.loop-parcel.sides.items c.args.parcels.now c.loop-parcel.parcel-index c.from.result c.loop-parcel.invariant.peers c.requires.within c.loop-parcel-test.true c.from.ensures in
+    room-same c.args.sides.now.items c.loop-parcel.sides.items c.from.result c.index_mut.result.now c.reserve.new.self c.loop-parcel.invariant.peers at c.index_mut.ensures.value c.reserve.ensures.peer
 
-pub loop-node-preserved : goal.loop-node-preserved
-loop-node-preserved g c =
-    let lt : c.loop-node.node < length c.loop-node.sides.items = search rules in
-    let equal : c.sent.result ≡ c.index_mut.result.now.peer.sent = c.sent.ensures ∙ ap (λ (s : Sided). s.peer.sent) (same-read c.loop-node.sides.items c.loop-node.node c.index.result.now c.index_mut.result.now lt c.index.ensures c.index_mut.ensures.value) in
+pub loop-parcel-preserved : goal.loop-parcel-preserved
+loop-parcel-preserved g c =
+    let at : c.from.result < length c.loop-parcel.sides.items = ready-within c.args.sides.now.items c.loop-parcel.sides.items c.args.parcels.now c.loop-parcel.parcel-index c.from.result c.loop-parcel.invariant.peers c.requires.within c.loop-parcel-test.true c.from.ensures in
+    let more : c.count_to-more.result ≡ count_to (map owned_parcel c.args.parcels.now) (parcel_at c.args.parcels.now c.loop-parcel.parcel-index).dest = c.count_to-more.ensures in
+    let room : c.count_to-more.result ≤ c.reserve.new.self.room = c.in_ok-reserve.ensures.room in
     record {
-      peers = room-same c.args.sides.now.items c.loop-node.sides.items c.args.counts.now c.loop-node.node c.index_mut.result.now c.loop-node.invariant.peers lt c.index_mut.ensures.value c.reserve.new.self c.reserve.ensures.peer;
-      room = room-more c.args.sides.now.items c.loop-node.sides.items c.args.counts.now c.loop-node.node c.index_mut.result.now c.loop-node.invariant.peers lt c.index_mut.ensures.value c.reserve.new.self c.reserve.ensures.peer (rw (sym equal) c.in_ok-reserve.ensures.room) c.loop-node.invariant.room;
+      peers = room-same c.args.sides.now.items c.loop-parcel.sides.items c.from.result c.index_mut.result.now c.reserve.new.self c.loop-parcel.invariant.peers at c.index_mut.ensures.value c.reserve.ensures.peer;
+      room = room-more c.loop-parcel.sides.items (map owned_parcel c.args.parcels.now) c.loop-parcel.parcel-index c.from.result (parcel_at c.args.parcels.now c.loop-parcel.parcel-index) c.reserve.new.self (parcel-inside c.args.parcels.now c.loop-parcel.parcel-index c.loop-parcel-test.true) (parcel-here c.args.parcels.now c.loop-parcel.parcel-index c.loop-parcel-test.true) c.from.ensures at (omega (arith, more, room)) c.loop-parcel.invariant.room;
     }
+
+pub returns-clause-room : goal.returns-clause-room
+returns-clause-room g c =
+    let all : take c.loop-parcel.parcel-index (map owned_parcel c.args.parcels.now) ≡ map owned_parcel c.args.parcels.now = take_all c.loop-parcel.parcel-index (map owned_parcel c.args.parcels.now) (omega (arith, c.loop-parcel-test.false, length-map c.args.parcels.now owned_parcel)) in
+    λ j lt. room-none (map owned_parcel c.args.parcels.now) j (side_at c.loop-parcel.sides.items j).room (λ some. c.loop-parcel.invariant.room j lt (omega (arith, some, ap (λ ps. count_to ps j) all)))
