@@ -1,20 +1,12 @@
 -- How many messages one event posts at most: one for each message that is served, and one to each node that is told to give
 -- its copy up.
-use Rattle.std.proofs.Common.{◌≡◌, inl, inr, ℕ, zero, suc, ◌+◌, ◌-◌, ◌<◌, ◌≤◌, Bool, true, false, List, [], ◌∷◌, ◌++◌, length, length-append, Option, Some, None, subst, arith}
-use Rattle.std.specs.Prelude.{if◌then◌else◌}
-use Rattle.std.specs.FinSet as set
-use Rattle.std.specs.List.{filter, range_with_len}
-use Rattle.std.proofs.lemmas.Bool.{cases_Bool}
-use Rattle.std.proofs.lemmas.List.{length-map}
-use Rattle.ivy_wire.specs.Data.{Message, Parcel}
+use Rattle.std.proofs.Common.{◌≡◌, ℕ, ◌≤◌, Bool, true, false, List, [], ◌∷◌, length, Option, Some, None, subst, arith}
+use Rattle.ivy_wire.specs.Data.{Message}
 use Rattle.ivy_wire.specs.Spelling.{FitsContent, FitsMessage}
 use Rattle.ivy_pagetable.specs.declared.Entry.{Entry}
-use Rattle.ivy_pagetable.specs.declared.PutOff.{PutOff}
-use Rattle.ivy_pagetable.specs.declared.Request.{Request}
-use Rattle.ivy_pagetable.specs.declared.Request.TheVariants as request
 use Rattle.ivy_pagetable.specs.declared.Word.{Word}
 use Rattle.ivy_pagetable.specs.Limits.{most_put_off}
-use Rattle.ivy_pagetable.specs.NodeSets.{Nodes, IsBelow, nodes_of, nodes_with}
+use Rattle.ivy_pagetable.specs.NodeSets.{Nodes, IsBelow, nodes_with}
 use Rattle.ivy_pagetable.specs.States.{IdleState, WaitingState}
 use Rattle.ivy_pagetable.specs.Entries.{put_offs, copying, owning}
 use Rattle.ivy_pagetable.specs.Tables.{entry_at, page_at}
@@ -23,7 +15,7 @@ use Rattle.ivy_pagetable.specs.Manager.{Ops}
 use Rattle.ivy_pagetable.proofs.Bits.{with_below}
 use Rattle.ivy_coherence.specs.Coherent.{Coherent}
 use Rattle.ivy_serving.specs.Limits.{most_posted}
-use Rattle.ivy_serving.specs.Serving.{Serving, serving, served_by_owner, served_by_other, served, all_served, told, settled, invalidations}
+use Rattle.ivy_serving.specs.Serving.{invalidations}
 use Rattle.ivy_coherence.specs.Steps.{unlocked, handled}
 use Rattle.ivy_coherence.specs.Faults.{begun}
 use Rattle.ivy_coherence.specs.Sound.{IsSound}

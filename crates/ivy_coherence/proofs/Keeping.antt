@@ -13,6 +13,7 @@ use Rattle.ivy_wire.specs.Data.{Message, Parcel}
 use Rattle.ivy_wire.specs.Spelling.{FitsContent, FitsMessage, FitsParcel}
 use Rattle.ivy_pagetable.specs.declared.Entry.{Entry}
 use Rattle.ivy_pagetable.specs.declared.Entry.TheVariants as entry
+use Rattle.ivy_pagetable.specs.declared.Out.{Out}
 use Rattle.ivy_pagetable.specs.declared.PutOff.{PutOff}
 use Rattle.ivy_pagetable.specs.declared.Request.{Request}
 use Rattle.ivy_pagetable.specs.declared.Request.TheVariants as request
@@ -22,14 +23,14 @@ use Rattle.ivy_pagetable.specs.Limits.{most_put_off}
 use Rattle.ivy_pagetable.specs.NodeSets.{Nodes, nodes_of, nodes_with}
 use Rattle.ivy_pagetable.specs.States.{IdleState, WaitingState, AwaitWriteState, AwaitAcksState}
 use Rattle.ivy_pagetable.specs.Entries.{nothing, owned, is_owner, is_locked, with_put_off, can_put_off, without, copying, owning}
-use Rattle.ivy_pagetable.specs.Tables.{entry_at, page_at, first_entry}
+use Rattle.ivy_pagetable.specs.Tables.{entry_at, page_at, with_page, first_entry}
 use Rattle.ivy_pagetable.specs.Words.{IsWord, needs_write, carried_out}
 use Rattle.ivy_pagetable.specs.Manager.{Ops, Laws}
 use Rattle.ivy_pagetable.proofs.Bits.{with_below}
 use Rattle.ivy_pagetable.proofs.Words.{length-carried_out}
 use Rattle.ivy_coherence.specs.Coherent.{Coherent}
 use Rattle.ivy_serving.specs.Serving.{Serving, serving, told, settled, parcel_to, invalidations}
-use Rattle.ivy_coherence.specs.Steps.{Effect, collected, still_collecting, IsWaiting, IsCollecting, unlocked_as, breach, unlocked, put_by, given_up, asked, handled}
+use Rattle.ivy_coherence.specs.Steps.{Effect, collected, still_collecting, IsWaiting, IsCollecting, unlocked_as, breach, after_serving, unlocked, put_by, given_up, asked, handled}
 use Rattle.ivy_coherence.specs.Faults.{Begun, hit, faulted, waiting_from, begun, suffices}
 use Rattle.ivy_serving.specs.Sound.{CanBeServed, AreOthers, IsSoundIdle}
 use Rattle.ivy_coherence.specs.Sound.{IsSoundEntry, IsSound, first_coherent}
@@ -45,6 +46,11 @@ Keeps ops c e = IsSound ops e.after × All (FitsParcel c.config c.me) e.posted
 -- what an access has to keep
 abbrev pub KeepsBegun : {S : Type 0} → Ops S → Coherent S → Begun S → Type 0
 KeepsBegun ops c b = IsSound ops b.after × All (FitsParcel c.config c.me) b.posted
+
+-- what was put off is served with these bytes, the bytes of the page are `now`, and no word waits at this node
+abbrev pub settled_with : {S : Type 0} → Ops S → Coherent S → ℕ → ℕ → IdleState → Option Bool → List ℕ → List ℕ → Option Out → List PutOff → Effect S
+settled_with ops c from page i reply bytes now done qs =
+    after_serving ops (record c { table = with_page c.table page now; locked = None; done = done }) page (settled ops c.me from page bytes i c.manager c.breaches reply qs)
 
 -- entries of each kind
 pub idle-sound : (c : Config) (me : ℕ) (s : IdleState) → IsSoundIdle c me s → IsSoundEntry c me (entry.Idle s)
@@ -260,16 +266,15 @@ module _ {S : Type 0} {ops : Ops S} (laws : Laws ops) where
     fits = all_none (FitsParcel c.config c.me);
   }
 
-  unlocked-keeps : (c : Coherent S) (from page : ℕ) (i : IdleState) (reply : Option Bool) (bytes : List ℕ) (w : WaitingState) → IsSound ops c → page < c.config.pages → length bytes ≡ c.config.page_size
-      → is_locked (entry_at c.table page) ≡ true → IsWord c.config.page_size w.word → All (CanBeServed c.config c.me) w.put_off
-      → IsServing ops c.config c.me page c.manager (serving i (told ops from page c.manager reply) c.breaches []) → Keeps ops c (unlocked ops c from page i reply bytes w)
-  unlocked-keeps c from page i reply bytes w s inside sized lock word can start =
-      let now : List ℕ = (carried_out w.word bytes).bytes in
-      let long : length now ≡ c.config.page_size = length-carried_out w.word bytes (subst (λ n. IsWord n w.word) (sym sized) word) ∙ sized in
-      let v : Serving S = settled ops c.me from page now i c.manager c.breaches reply w.put_off in
+  -- what was put off is served with these bytes, and no word waits then; the page's own bytes may be others
+  settled-keeps : (c : Coherent S) (from page : ℕ) (i : IdleState) (reply : Option Bool) (bytes now : List ℕ) (done : Option Out) (qs : List PutOff) → IsSound ops c → page < c.config.pages → length bytes ≡ c.config.page_size → length now ≡ c.config.page_size
+      → is_locked (entry_at c.table page) ≡ true → All (CanBeServed c.config c.me) qs
+      → IsServing ops c.config c.me page c.manager (serving i (told ops from page c.manager reply) c.breaches []) → Keeps ops c (settled_with ops c from page i reply bytes now done qs)
+  settled-keeps c from page i reply bytes now done qs s inside sized long lock can start =
+      let v : Serving S = settled ops c.me from page bytes i c.manager c.breaches reply qs in
       let h : IsServing ops c.config c.me page c.manager v
-      = all_served-keeps laws c.config c.me page now c.manager (place c page now s inside long) (serving i (told ops from page c.manager reply) c.breaches []) w.put_off start can in (
-        change-sound c page (entry.Idle v.idle) (set c.table.pages page now) v.manager None (Some (carried_out w.word bytes).out) v.breaches s
+      = all_served-keeps laws c.config c.me page bytes c.manager (place c page bytes s inside sized) (serving i (told ops from page c.manager reply) c.breaches []) qs start can in (
+        change-sound c page (entry.Idle v.idle) (set c.table.pages page now) v.manager None done v.breaches s
             (record {
               inside = inside;
               entry = idle-sound c.config c.me v.idle h.idle;
@@ -281,6 +286,13 @@ module _ {S : Type 0} {ops : Ops S} (laws : Laws ops) where
             }),
         h.fits,
       )
+
+  unlocked-keeps : (c : Coherent S) (from page : ℕ) (i : IdleState) (reply : Option Bool) (bytes : List ℕ) (w : WaitingState) → IsSound ops c → page < c.config.pages → length bytes ≡ c.config.page_size
+      → is_locked (entry_at c.table page) ≡ true → IsWord c.config.page_size w.word → All (CanBeServed c.config c.me) w.put_off
+      → IsServing ops c.config c.me page c.manager (serving i (told ops from page c.manager reply) c.breaches []) → Keeps ops c (unlocked ops c from page i reply bytes w)
+  unlocked-keeps c from page i reply bytes w s inside sized lock word can start =
+      let long : length (carried_out w.word bytes).bytes ≡ c.config.page_size = length-carried_out w.word bytes (subst (λ n. IsWord n w.word) (sym sized) word) ∙ sized in
+      settled-keeps c from page i reply _ _ (Some (carried_out w.word bytes).out) w.put_off s inside long long lock can start
 
   -- a copy comes for the word that waits to read; the page comes alone for one that waits to write; the last copy was given up
   copy-keeps : (c : Coherent S) (from page : ℕ) (bytes : List ℕ) (w : WaitingState) → IsSound ops c → from < c.config.nodes → from ≢ c.me → page < c.config.pages → length bytes ≡ c.config.page_size
@@ -354,12 +366,17 @@ module _ {S : Type 0} {ops : Ops S} (laws : Laws ops) where
       let h = collects-at (entry_at c.table page) w waits in
       subst (λ (x : WaitingState). IsWord c.config.page_size x.word) (sym h.1.1) ((entry_is c page (entry.AwaitAcks h.0) s h.1.0).collecting h.0 refl).0.0
 
-  pub unlocking-keeps : (c : Coherent S) (from page : ℕ) (write : Bool) (bytes : List ℕ) (w : WaitingState) → IsSound ops c → from < c.config.nodes → from ≢ c.me → page < c.config.pages → length bytes ≡ c.config.page_size
-      → IsWaiting (entry_at c.table page) write w → Keeps ops c (unlocked ops c from page (unlocked_as write) (Some write) bytes w)
-  unlocking-keeps c from page true bytes w s below foreign inside sized waits =
+  pub unlocking-keeps : (c : Coherent S) (from page : ℕ) (write : Bool) (bytes now : List ℕ) (done : Option Out) (w : WaitingState) → IsSound ops c → from < c.config.nodes → from ≢ c.me → page < c.config.pages → length bytes ≡ c.config.page_size → length now ≡ c.config.page_size
+      → IsWaiting (entry_at c.table page) write w → Keeps ops c (settled_with ops c from page (unlocked_as write) (Some write) bytes now done w.put_off)
+  unlocking-keeps c from page true bytes now done w s below foreign inside sized long waits =
       let h = writes-at (entry_at c.table page) w waits in
-      subst (λ x. Keeps ops c (unlocked ops c from page owning (Some true) bytes x)) (sym h.1.1) (alone-keeps c from page bytes h.0 s below inside sized h.1.0)
-  unlocking-keeps c from page false bytes w s below foreign inside sized waits = copy-keeps c from page bytes w s below foreign inside sized (reads-at (entry_at c.table page) w waits)
+      let good : IsSoundEntry c.config c.me (entry.AwaitWrite h.0) = entry_is c page (entry.AwaitWrite h.0) s h.1.0 in
+      settled-keeps c from page owning (Some true) bytes now done w.put_off s inside sized long (ap is_locked h.1.0)
+      (subst (λ (x : WaitingState). All (CanBeServed c.config c.me) x.put_off) (sym h.1.1) good.put_off) (page-start c page from s inside below)
+  unlocking-keeps c from page false bytes now done w s below foreign inside sized long waits =
+      let is : entry_at c.table page ≡ entry.AwaitRead w = reads-at (entry_at c.table page) w waits in
+      settled-keeps c from page copying (Some false) bytes now done w.put_off s inside sized long (ap is_locked is)
+      (entry_is c page (entry.AwaitRead w) s is).put_off (copy-start c page from s inside (ap is_owner is) below foreign)
 
   pub last-keeps : (c : Coherent S) (from page : ℕ) (w : WaitingState) → IsSound ops c → page < c.config.pages → IsCollecting (entry_at c.table page) w → Keeps ops c (unlocked ops c from page owning None (page_at c.table page) w)
   last-keeps c from page w s inside waits =

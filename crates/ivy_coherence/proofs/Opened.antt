@@ -96,6 +96,10 @@ pub fits_spare : {S : Type 0} (n v : Coherent S) → v ≡ n → (bytes spare : 
     → length spare ≡ v.config.page_size → length bytes ≡ length spare
 fits_spare n v same bytes spare sized spare_sized = sized ∙ sym (spare_sized ∙ ap (λ (x : Coherent _). x.config.page_size) same)
 
+-- and what has their length keeps the spare one's
+pub spare_then : {S : Type 0} (n v : Coherent S) → v ≡ n → (bytes spare : List ℕ) → length bytes ≡ n.config.page_size → length spare ≡ length bytes → length spare ≡ v.config.page_size
+spare_then n v same bytes spare sized long = long ∙ sized ∙ sym (ap (λ (x : Coherent _). x.config.page_size) same)
+
 -- what is asked of bytes that come
 pub record Comes {S : Type 0} (n : Coherent S) (source page : ℕ) (bytes : List ℕ) : Type 0 where
   pub below : source < n.config.nodes
@@ -160,22 +164,23 @@ module _ {S : Type 0} {ops : Ops S} (laws : Laws ops) (n v : Coherent S) (same :
   unlock_word page write bytes w waits sized =
       subst (λ z. IsWord z w.word) (ap (λ (x : Coherent S). x.config.page_size) same ∙ sym sized) (waiting_word laws v page write w s (waits_there page write w waits))
 
-  pub unlock_fits : (from page : ℕ) (write : Bool) (bytes now : List ℕ) (w : WaitingState) (i : IdleState) (qs : List PutOff) (k : Config) (node : ℕ) → Comes n from page bytes → IsWaiting (entry_at n.table page) write w
-      → now ≡ (carried_out w.word bytes).bytes → i ≡ unlocked_as write → qs ≡ w.put_off → k ≡ n.config → node ≡ n.me → All (FitsParcel k node) (settled ops v.me from page now i v.manager v.breaches (Some write) qs).posted
-  unlock_fits from page write bytes now w i qs k node comes waits bytes_are idle list config me =
+  pub unlock_fits : (from page : ℕ) (write : Bool) (bytes : List ℕ) (w : WaitingState) (i : IdleState) (qs : List PutOff) (k : Config) (node : ℕ) → Comes n from page bytes → IsWaiting (entry_at n.table page) write w
+      → i ≡ unlocked_as write → qs ≡ w.put_off → k ≡ n.config → node ≡ n.me → All (FitsParcel k node) (settled ops v.me from page bytes i v.manager v.breaches (Some write) qs).posted
+  unlock_fits from page write bytes w i qs k node comes waits idle list config me =
       let at : Comes v from page bytes = came from page bytes comes in
-      let keeps = unlocking-keeps laws v from page write bytes w s at.below at.foreign at.inside at.sized (waits_there page write w waits) in
-      rw (bytes_are, idle, list) (fits_at n v same k node config me _ keeps.1)
+      let keeps = unlocking-keeps laws v from page write bytes bytes None w s at.below at.foreign at.inside at.sized at.sized (waits_there page write w waits) in
+      rw (idle, list) (fits_at n v same k node config me _ keeps.1)
 
-  pub unlock_sound : (from page : ℕ) (write : Bool) (bytes now : List ℕ) (w : WaitingState) (i after : IdleState) (qs : List PutOff) (t : Table) (m : S) (o : Out) (b : ℕ) → Comes n from page bytes → IsWaiting (entry_at n.table page) write w
-      → now ≡ (carried_out w.word bytes).bytes → i ≡ unlocked_as write → qs ≡ w.put_off → after ≡ (settled ops v.me from page now i v.manager v.breaches (Some write) qs).idle
-      → t ≡ with_page (with_entry v.table page (entry.Idle after)) page now → m ≡ (settled ops v.me from page now i v.manager v.breaches (Some write) qs).manager → o ≡ (carried_out w.word bytes).out
-      → b ≡ (settled ops v.me from page now i v.manager v.breaches (Some write) qs).breaches
-      → IsSound ops (record { config = v.config; me = v.me; table = t; manager = m; locked = None; done = Some o; breaches = b })
-  unlock_sound from page write bytes now w i after qs t m o b comes waits bytes_are idle list idle_is table manager out breaches =
+  pub unlock_sound : (from page : ℕ) (write : Bool) (bytes now : List ℕ) (w : WaitingState) (i after : IdleState) (qs : List PutOff) (t : Table) (m : S) (o : Option Out) (b : ℕ) → Comes n from page bytes → length now ≡ n.config.page_size → IsWaiting (entry_at n.table page) write w
+      → i ≡ unlocked_as write → qs ≡ w.put_off → after ≡ (settled ops v.me from page bytes i v.manager v.breaches (Some write) qs).idle
+      → t ≡ with_page (with_entry v.table page (entry.Idle after)) page now → m ≡ (settled ops v.me from page bytes i v.manager v.breaches (Some write) qs).manager
+      → b ≡ (settled ops v.me from page bytes i v.manager v.breaches (Some write) qs).breaches
+      → IsSound ops (record { config = v.config; me = v.me; table = t; manager = m; locked = None; done = o; breaches = b })
+  unlock_sound from page write bytes now w i after qs t m o b comes long waits idle list idle_is table manager breaches =
       let at : Comes v from page bytes = came from page bytes comes in
-      let keeps = unlocking-keeps laws v from page write bytes w s at.below at.foreign at.inside at.sized (waits_there page write w waits) in
-      rw (table, manager, out, breaches, idle_is, bytes_are, idle, list) keeps.0
+      let sized : length now ≡ v.config.page_size = (came from page now (record { below = comes.below; foreign = comes.foreign; inside = comes.inside; sized = long })).sized in
+      let keeps = unlocking-keeps laws v from page write bytes now o w s at.below at.foreign at.inside at.sized sized (waits_there page write w waits) in
+      rw (table, manager, breaches, idle_is, idle, list) keeps.0
 
   -- the last acknowledgement comes
   pub last_word : (page : ℕ) (w : WaitingState) → IsCollecting (entry_at n.table page) w → IsWord v.config.page_size w.word

@@ -1,5 +1,5 @@
 -- What a message of another node does at one node (Li and Hudak 1989): the state after it and what is posted, in order.
-use Rattle.std.specs.Prelude.{◌≡◌, ℕ, Bool, true, false, not, ◌&&◌, List, [], ◌∷◌, map, Option, Some, None, if◌then◌else◌, ◌==◌}
+use Rattle.std.specs.Prelude.{◌≡◌, ℕ, Bool, true, false, not, ◌&&◌, List, [], ◌∷◌, Option, Some, None, if◌then◌else◌, ◌==◌}
 use Rattle.std.specs.FinSet as set
 use Rattle.ivy_wire.specs.declared.Content.TheVariants as content
 use Rattle.ivy_wire.specs.Data.{Content, Message, Parcel}
@@ -8,7 +8,7 @@ use Rattle.ivy_pagetable.specs.declared.Entry.TheVariants as entry
 use Rattle.ivy_pagetable.specs.declared.PutOff.{PutOff}
 use Rattle.ivy_pagetable.specs.declared.Request.{Request}
 use Rattle.ivy_pagetable.specs.declared.Request.TheVariants as request
-use Rattle.ivy_pagetable.specs.NodeSets.{Nodes, nodes_of, nodes_with}
+use Rattle.ivy_pagetable.specs.NodeSets.{Nodes, nodes_with}
 use Rattle.ivy_pagetable.specs.States.{IdleState, WaitingState}
 use Rattle.ivy_pagetable.specs.Entries.{can_put_off, with_put_off, copying, owning}
 use Rattle.ivy_pagetable.specs.Tables.{entry_at, page_at, with_entry, with_page}

@@ -1,27 +1,18 @@
 -- How many messages are posted at most: one for each message that is served, and one to each node that is told to give
 -- its copy up.
-use Rattle.std.proofs.Common.{◌≡◌, inl, inr, ℕ, zero, suc, ◌+◌, ◌-◌, ◌<◌, ◌≤◌, Bool, true, false, List, [], ◌∷◌, ◌++◌, length, length-append, Option, Some, None, subst, arith}
+use Rattle.std.proofs.Common.{◌≡◌, inl, inr, ℕ, zero, suc, ◌+◌, ◌-◌, ◌<◌, ◌≤◌, Bool, true, false, List, [], ◌∷◌, ◌++◌, length, length-append, Option, arith}
 use Rattle.std.specs.Prelude.{if◌then◌else◌}
 use Rattle.std.specs.FinSet as set
 use Rattle.std.specs.List.{filter, range_with_len}
 use Rattle.std.proofs.lemmas.Bool.{cases_Bool}
 use Rattle.std.proofs.lemmas.List.{length-map}
-use Rattle.ivy_wire.specs.Data.{Message, Parcel}
-use Rattle.ivy_wire.specs.Spelling.{FitsContent, FitsMessage}
-use Rattle.ivy_pagetable.specs.declared.Entry.{Entry}
+use Rattle.ivy_wire.specs.Data.{Parcel}
 use Rattle.ivy_pagetable.specs.declared.PutOff.{PutOff}
 use Rattle.ivy_pagetable.specs.declared.Request.{Request}
 use Rattle.ivy_pagetable.specs.declared.Request.TheVariants as request
-use Rattle.ivy_pagetable.specs.declared.Word.{Word}
-use Rattle.ivy_pagetable.specs.Limits.{most_put_off}
-use Rattle.ivy_pagetable.specs.NodeSets.{Nodes, IsBelow, nodes_of, nodes_with}
-use Rattle.ivy_pagetable.specs.States.{IdleState, WaitingState}
-use Rattle.ivy_pagetable.specs.Entries.{put_offs, copying, owning}
-use Rattle.ivy_pagetable.specs.Tables.{entry_at, page_at}
-use Rattle.ivy_pagetable.specs.Words.{carried_out}
+use Rattle.ivy_pagetable.specs.NodeSets.{Nodes, IsBelow, nodes_of}
+use Rattle.ivy_pagetable.specs.States.{IdleState}
 use Rattle.ivy_pagetable.specs.Manager.{Ops}
-use Rattle.ivy_pagetable.proofs.Bits.{with_below}
-use Rattle.ivy_serving.specs.Limits.{most_posted}
 use Rattle.ivy_serving.specs.Serving.{Serving, serving, served_by_owner, served_by_other, served, all_served, told, settled, invalidations}
 
 one_more : (ps : List Parcel) (p : Parcel) → length (ps ++ p ∷ []) ≤ length ps + 1

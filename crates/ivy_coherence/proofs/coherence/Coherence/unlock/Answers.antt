@@ -1,6 +1,5 @@
 use Rattle.std.proofs.Common.{◌≡◌, length, ◌∙◌, ap}
-use Rattle.ivy_pagetable.specs.Words.{carried_out}
-use Rattle.ivy_coherence.proofs.Opened.{fits_spare, unlocked_below, unlock_word, unlock_fits, unlock_sound}
+use Rattle.ivy_coherence.proofs.Opened.{fits_spare, spare_then, unlocked_below, unlock_word, unlock_fits, unlock_sound}
 use Rattle.ivy_coherence.proofs.coherence.Coherence.unlock.Goals as goal
 
 pub copy_from-requires : goal.copy_from-requires
@@ -16,22 +15,23 @@ settle-requires-clause-below g c = rw c.unlocked_as-idle.ensures (unlocked_below
 
 pub settle-requires-clause-fits : goal.settle-requires-clause-fits
 settle-requires-clause-fits g c =
-    unlock_fits g.met.M.Manager.laws _ _ c.self.view_is c.self.invariant.0 c.args.from c.args.page c.args.write c.args.bytes.now _ c.args.waiting.now _ _ _ _
-    (record { below = c.requires.from; foreign = c.requires.foreign; inside = c.requires.page; sized = c.requires.sized }) c.requires.waits
-    (c.bytes.ensures ∙ rw (c.word.ensures, c.copy_from.ensures) at c.carry_out-out.ensures.bytes) c.unlocked_as-idle.ensures c.put_offs-messages.ensures.list c.requires.config c.requires.node
+    let sized : length c.bytes.result.now ≡ c.args.self.now.config.page_size = cc in
+    unlock_fits g.met.M.Manager.laws _ _ c.self.view_is c.self.invariant.0 c.args.from c.args.page c.args.write c.bytes.result.now c.args.waiting.now _ _ _ _
+    (record { below = c.requires.from; foreign = c.requires.foreign; inside = c.requires.page; sized = sized }) c.requires.waits c.unlocked_as-idle.ensures c.put_offs-messages.ensures.list c.requires.config c.requires.node
 
 pub invariant_of-self : goal.invariant_of-self
 invariant_of-self g c = (
   rw (c.in_err-after.ensures.err.0, c.in_err-after.ensures.err.1) c.self.invariant.0,
-  c.carry_out-out.ensures.sized ∙ ap length c.copy_from.ensures ∙ fits_spare _ _ c.self.view_is c.args.bytes.now c.self.inside.spare c.requires.sized c.self.invariant.1 ∙ c.self.invariant.1,
+  spare_then _ _ c.self.view_is c.args.bytes.now _ c.requires.sized cc,
 )
 
 pub invariant_of-self-2 : goal.invariant_of-self-2
 invariant_of-self-2 g c =
-    let now : c.bytes.result.now ≡ (carried_out c.args.waiting.now.word c.args.bytes.now).bytes = c.bytes.ensures ∙ rw (c.word.ensures, c.copy_from.ensures) at c.carry_out-out.ensures.bytes in (
-      unlock_sound g.met.M.Manager.laws _ _ c.self.view_is c.self.invariant.0 c.args.from c.args.page c.args.write c.args.bytes.now c.bytes.result.now c.args.waiting.now c.unlocked_as-idle.result _ c.put_offs-messages.result.now _ _ _ _
-          (record { below = c.requires.from; foreign = c.requires.foreign; inside = c.requires.page; sized = c.requires.sized }) c.requires.waits
-          now c.unlocked_as-idle.ensures c.put_offs-messages.ensures.list c.in_ok-after.ensures.idle
-          (rw (c.set_entry.ensures, ← c.bytes.ensures) at c.swap_page.ensures.table) c.in_ok-after.ensures.manager (rw (c.word.ensures, c.copy_from.ensures) at c.carry_out-out.ensures.out) c.in_ok-after.ensures.breaches,
+    let sized : length c.bytes.result.now ≡ c.args.self.now.config.page_size = cc in
+    let long : length c.carry_out-out.new.self ≡ c.args.self.now.config.page_size = cc in (
+      unlock_sound g.met.M.Manager.laws _ _ c.self.view_is c.self.invariant.0 c.args.from c.args.page c.args.write c.bytes.result.now c.carry_out-out.new.self c.args.waiting.now c.unlocked_as-idle.result _ c.put_offs-messages.result.now _ _ _ _
+          (record { below = c.requires.from; foreign = c.requires.foreign; inside = c.requires.page; sized = sized }) long c.requires.waits
+          c.unlocked_as-idle.ensures c.put_offs-messages.ensures.list c.in_ok-after.ensures.idle
+          (rw c.set_entry.ensures at c.swap_page.ensures.table) c.in_ok-after.ensures.manager c.in_ok-after.ensures.breaches,
       c.swap_page.ensures.size ∙ ap (λ t. t.page_size) c.set_entry.ensures ∙ c.self.invariant.0.size,
     )
