@@ -1,4 +1,4 @@
-use Rattle.std.proofs.Common.{map, take, ◌++◌, arith, ap, ◌∙◌}
+use Rattle.std.proofs.Common.{map, ◌++◌, arith, ap, ◌∙◌}
 use Rattle.std.proofs.lemmas.List.{length-map, take_all}
 use Rattle.ivy_wire.specs.Lent.{owned_parcel, owned_frame}
 use Rattle.ivy_wire.specs.Spelling.{spelling}

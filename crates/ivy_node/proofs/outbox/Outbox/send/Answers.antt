@@ -1,4 +1,4 @@
-use Rattle.std.proofs.Common.{map, ap, ◌∙◌}
+use Rattle.std.proofs.Common.{map}
 use Rattle.ivy_wire.specs.Lent.{owned_parcel}
 use Rattle.ivy_node.proofs.Boxes.{numbers-at, sent-within, sent-fit, sent-box}
 use Rattle.ivy_node.proofs.outbox.Outbox.send.Goals as goal
