@@ -1,10 +1,11 @@
 -- What holds of an outbox stays, and how many strings an event adds.
-use Rattle.std.proofs.Common.{◌≡◌, ◌≢◌, ℕ, ◌+◌, ◌^◌, ◌<◌, ◌≤◌, List, [], ◌∷◌, ◌++◌, All, length, map, get_or, take, Bool, true, false, refl, sym, ap, subst, ◌∙◌, arith}
+use Rattle.std.proofs.Common.{◌≡◌, ◌≢◌, ℕ, ◌+◌, ◌^◌, ◌<◌, ◌≤◌, List, [], ◌∷◌, ◌++◌, All, length, map, get_or, take, true, refl, sym, ap, subst, ◌∙◌, arith, append_assoc, Some}
 use Rattle.std.specs.Borrow.{Bor}
-use Rattle.std.specs.Prelude.{IsErrOf, Ok, Err}
-use Rattle.std.proofs.lemmas.List.{length-map, get_or-map, map_more, map-append, length-append}
+use Rattle.std.specs.List.{slice_get}
+use Rattle.std.proofs.lemmas.Option.{slice_get_within, get_or_from_slice_get}
+use Rattle.std.proofs.Math.Seq.{take-append_seam}
+use Rattle.std.proofs.lemmas.List.{length-map, get_or-map, take_more, map_more, map-append, length-append}
 use Rattle.ivy_model.specs.declared.Config.{Config}
-use Rattle.ivy_model.specs.declared.Fault.{Fault}
 use Rattle.ivy_model.specs.Config.{IsConfig}
 use Rattle.ivy_wire.specs.Data.{Frame, Parcel}
 use Rattle.ivy_wire.specs.declared.frame.Frame as frame
@@ -36,6 +37,18 @@ pub spelled_more : (fs : List (frame.Frame (Bor (List ℕ)))) (i : ℕ) (d : fra
 spelled_more fs i d strings string lt so here =
     ap (λ ss. ss ++ string ∷ []) so ∙ (ap (λ s. map spelling (map owned_frame (take i fs)) ++ s ∷ []) here
     ∙ sym (ap (map spelling) (map_more owned_frame fs i d lt) ∙ map-append spelling (map owned_frame (take i fs)) (owned_frame (get_or fs i d) ∷ [])))
+
+pub fits_read : (c : Config) (fs : List Frame) (i : ℕ) (f : Frame) → slice_get fs i ≡ Some f → All (Fits c) fs → Fits c f
+fits_read c fs i f read fit = subst (Fits c) (get_or_from_slice_get fs i f f read) (fit i f (slice_get_within fs i f read))
+
+pub spelled_one : (fs : List Frame) (i : ℕ) (f : Frame) (before strings : List (List ℕ)) (string : List ℕ) → slice_get fs i ≡ Some f → strings ≡ before ++ map spelling (take i fs) → string ≡ spelling f → strings ++ string ∷ [] ≡ before ++ map spelling (take (i + 1) fs)
+spelled_one fs i f before strings string read so here =
+    let more : take (i + 1) fs ≡ take i fs ++ f ∷ [] = take_more fs i f (slice_get_within fs i f read) ∙ ap (λ x. take i fs ++ x ∷ []) (get_or_from_slice_get fs i f f read) in
+    let mapped : map spelling (take (i + 1) fs) ≡ map spelling (take i fs) ++ spelling f ∷ [] = ap (map spelling) more ∙ map-append spelling (take i fs) (f ∷ []) in
+    ap (λ ss. ss ++ string ∷ []) so ∙ (append_assoc before (map spelling (take i fs)) (string ∷ []) ∙ ap (λ ss. before ++ ss) (ap (λ s. map spelling (take i fs) ++ s ∷ []) here ∙ sym mapped))
+
+pub front-stays : (before more strings : List (List ℕ)) → strings ≡ before ++ more → take (length before) strings ≡ before
+front-stays before more strings so = ap (take (length before)) so ∙ take-append_seam before more
 
 pub few-wait : (o : Outbox) (to : ℕ) → length (with_sending o (pulsed o.link to)).waiting ≤ length o.waiting + 32
 few-wait o to = omega (arith, few o.link to, length-append o.waiting (map spelling (frames_again o.link to)))
@@ -87,24 +100,17 @@ own-fit n v same s ps fit =
 pub sent-within : (n v : Outbox) → v ≡ n → IsSoundOutbox v → (ps : List Parcel) → All (FitsParcel n.config n.me) ps → AreWithin v.link ps
 sent-within n v same s ps fit = fits-within v.config v.link ps s.fits (own-fit n v same s ps fit)
 
-pub never : {T P : Type 0} (x : T) (f : Fault) → (P → IsErrOf (Ok x) f) → P → ⊥
-never x f h p =
-    let wrong : Ok x ≡ Err f = h p in
-    absurd cc
+pub numbers-at : (n v : Outbox) → v ≡ n → (ps : List Parcel) → has_numbers n.link ps ≡ true → has_numbers v.link ps ≡ true
+numbers-at n v same ps all = ap (λ (x : Outbox). has_numbers x.link ps) same ∙ all
 
-not_false : (b : Bool) → b ≢ false → b ≡ true
-not_false true h = refl
-not_false false h = absurd (h refl)
+pub sent-fit : (n v : Outbox) → v ≡ n → IsSoundOutbox v → (ps : List Parcel) → All (FitsParcel n.config n.me) ps → has_numbers n.link ps ≡ true → All (Fits v.config) (frames_of v.link ps)
+sent-fit n v same s ps fit numbers = frames-fit v.config v.link ps s.fits (own-fit n v same s ps fit) (numbers-at n v same ps numbers)
 
-pub sent-fit : (n v : Outbox) → v ≡ n → IsSoundOutbox v → (ps : List Parcel) (fs : List Frame) → All (FitsParcel n.config n.me) ps → has_numbers v.link ps ≢ false → fs ≡ frames_of v.link ps → All (Fits v.config) fs
-sent-fit n v same s ps fs fit numbers is =
-    subst (All (Fits v.config)) (sym is) (frames-fit v.config v.link ps s.fits (own-fit n v same s ps fit) (not_false (has_numbers v.link ps) numbers))
-
-pub sent-box : (n v : Outbox) → v ≡ n → IsSoundOutbox v → (ps : List Parcel) (l : Linked) (ws : List (List ℕ)) → All (FitsParcel n.config n.me) ps → has_numbers v.link ps ≢ false → l ≡ after_sends v.link ps → IsSoundOutbox (record { config = v.config; me = v.me; link = l; waiting = ws })
+pub sent-box : (n v : Outbox) → v ≡ n → IsSoundOutbox v → (ps : List Parcel) (l : Linked) (ws : List (List ℕ)) → All (FitsParcel n.config n.me) ps → has_numbers n.link ps ≡ true → l ≡ after_sends v.link ps → IsSoundOutbox (record { config = v.config; me = v.me; link = l; waiting = ws })
 sent-box n v same s ps l ws fit numbers is = record {
   limits = s.limits;
   mine = ap (λ k. k.me) is ∙ (sends-me v.link ps ∙ s.mine);
-  fits = subst (FitsLink v.config) (sym is) (sends-fits v.config v.link ps s.fits (own-fit n v same s ps fit) (not_false (has_numbers v.link ps) numbers));
+  fits = subst (FitsLink v.config) (sym is) (sends-fits v.config v.link ps s.fits (own-fit n v same s ps fit) (numbers-at n v same ps numbers));
 }
 
 pub few-added : (n v : Outbox) → v ≡ n → (to : ℕ) (fs : List Frame) (strings ws : List (List ℕ)) → fs ≡ frames_again v.link to → strings ≡ map spelling fs → ws ≡ v.waiting ++ strings → length ws ≤ length n.waiting + 32

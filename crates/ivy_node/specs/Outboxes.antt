@@ -28,6 +28,9 @@ pub record IsSoundOutbox (o : Outbox) : Type 0 where
 abbrev pub with_link : Outbox → Linked → Outbox
 with_link o link = record { config = o.config; me = o.me; link = link; waiting = o.waiting }
 
+abbrev pub with_waiting : Outbox → List (List ℕ) → Outbox
+with_waiting o waiting = record { config = o.config; me = o.me; link = o.link; waiting = waiting }
+
 -- a link made frames: their spellings wait, in order
 abbrev pub with_sending : Outbox → Sending → Outbox
 with_sending o s = record {

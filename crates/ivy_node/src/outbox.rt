@@ -1,12 +1,12 @@
 //! A node's link, and the strings that wait to be put on the wire.
-ghost use Rattle.std.specs.Prelude.{◌≡◌, ◌≢◌, ◌↔◌, ◌+◌, ◌<◌, ◌≤◌, ◌^◌, [], map, All, IfOk, OnOk, OnErr, IsOkUnless, IsTrue, length};
+ghost use Rattle.std.specs.Prelude.{◌≡◌, ◌≢◌, ◌↔◌, ◌+◌, ◌++◌, ◌<◌, ◌≤◌, ◌^◌, [], map, take, true, All, IfOk, OnOk, OnErr, IsOkUnless, IsTrue, length};
 ghost use Rattle.ivy_model.specs.Config.{IsConfig};
-ghost use Rattle.ivy_wire.specs.Lent.{owned_frame};
-ghost use Rattle.ivy_wire.specs.Spelling.{spelling, Fits};
-ghost use Rattle.ivy_link.specs.Linked.{first_link};
+ghost use Rattle.ivy_wire.specs.Lent.{owned_frame, owned_parcel};
+ghost use Rattle.ivy_wire.specs.Spelling.{spelling, Fits, FitsParcel};
+ghost use Rattle.ivy_link.specs.Linked.{first_link, frames_of, sends, has_numbers, AreWithin};
 ghost use Rattle.ivy_link.specs.Accepted.{offered, accepted};
 ghost use Rattle.ivy_link.specs.Pulsed.{frames_again, pulsed};
-ghost use Rattle.ivy_node.specs.Outboxes.{with_link, with_sending, Takes, most_sent};
+ghost use Rattle.ivy_node.specs.Outboxes.{with_link, with_waiting, with_sending, Takes, most_sent};
 
 use ivy_link::{Link, Verdict};
 use ivy_model::{Config, Fault};
@@ -52,6 +52,30 @@ fn spelled<A: Allocator + Copy>(
         strings.push_back(Bytes::from_vec(encode(alloc, config, frame)?))?;
     }
     Ok(strings)
+}
+
+/// Adds the spellings of the frames of the parcels, in order. A refused call may have added some.
+fn spell<A: Allocator + Copy>(
+    strings: &mut VecDeque<Bytes<A>, A>,
+    alloc: A,
+    config: &Config,
+    link: &Link<A>,
+    parcels: &[Parcel<&[u8]>],
+) -> Result<(), Fault>
+    requires limits { IsConfig config.now }
+    requires within { AreWithin link.now (map owned_parcel parcels.now) }
+    requires numbers { has_numbers link.now (map owned_parcel parcels.now) ≡ true }
+    requires fit { All (Fits config.now) (frames_of link.now (map owned_parcel parcels.now)) }
+    ensures ok { OnOk result (strings.new.items ≡ strings.old.items ++ map spelling (frames_of link.now (map owned_parcel parcels.now))) }
+    ensures front { take (length strings.old.items) strings.new.items ≡ strings.old.items }
+    ensures memory { IsOkUnless result Fault.Memory }
+{
+    strings.reserve(parcels.len())?;
+    for index in 0..parcels.len() {
+        let frame = link.frame(parcels, index);
+        strings.push_back(Bytes::from_vec(encode(alloc, config, &frame)?))?;
+    }
+    Ok(())
 }
 
 impl<A: Allocator + Copy> Outbox<A> {
@@ -131,6 +155,26 @@ impl<A: Allocator + Copy> Outbox<A> {
         let _ = self.waiting.append(&mut strings);
         Ok(made)
     }
+
+    /// Sends the parcels: their messages are kept, and the strings of their frames wait [1]. A refused
+    /// call may leave strings after those that waited.
+    fn send(&mut self, parcels: &[Parcel<&[u8]>]) -> Result<(), Fault>
+        requires fits { All (FitsParcel self.old.config self.old.me) (map owned_parcel parcels.now) }
+        requires numbers { has_numbers self.old.link (map owned_parcel parcels.now) ≡ true }
+        ensures ok { OnOk result (self.new ≡ with_sending self.old (sends self.old.link (map owned_parcel parcels.now))) }
+        ensures err { OnErr result (with_waiting self.new (take (length self.old.waiting) self.new.waiting) ≡ self.old) }
+        ensures memory { IsOkUnless result Fault.Memory }
+    {
+        spell(
+            &mut self.waiting,
+            self.alloc,
+            &self.config,
+            &self.link,
+            parcels,
+        )?;
+        self.link.keep(parcels)?;
+        Ok(())
+    }
 }
 
 impl<A: Allocator + Copy> Post for Outbox<A> {
@@ -150,11 +194,14 @@ impl<A: Allocator + Copy> Post for Outbox<A> {
         if parcels.is_empty() {
             return Ok(());
         }
-        let frames = self.link.frames(parcels)?;
-        let mut strings = spelled(self.alloc, &self.config, &frames)?;
-        self.waiting.reserve(strings.len())?;
-        self.link.keep(parcels)?;
-        let _ = self.waiting.append(&mut strings);
+        if !self.link.has_numbers(parcels) {
+            return Err(Fault::NumbersSpent);
+        }
+        let waiting = self.waiting.len();
+        if let Err(fault) = self.send(parcels) {
+            self.waiting.truncate(waiting);
+            return Err(fault);
+        }
         Ok(())
     }
 
