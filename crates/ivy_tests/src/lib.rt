@@ -8,11 +8,15 @@
 #[cfg(test)]
 mod common;
 #[cfg(test)]
+mod counts;
+#[cfg(test)]
 mod dynamic;
 #[cfg(test)]
 mod eight_nodes;
 #[cfg(test)]
 mod first_load;
+#[cfg(test)]
+mod growths_of_counts;
 #[cfg(test)]
 mod growths_of_sites;
 #[cfg(test)]
