@@ -1,98 +1,34 @@
 //! Counts: nodes that advance them and wait for them. A count is a word of page 0, so a node reads and writes
 //! it where it has that page, and faults for it as for any other.
-ghost use Rattle.std.specs.Prelude.{◌≡◌, ◌<◌};
-
-use crate::common::{PAIR, ZEROS, is_answered, is_sent, play, receive, string, take_turn, world};
+use crate::common::{
+    PAIR, Run, Shown, Written, check_run, ended, has_next, loaded, node_of, receive, refused,
+    stored, string, take_turns,
+};
 use ivy_model::{Call, Record, Reply};
-use ivy_node::{Move, Site, Verdict, World, parse};
+use ivy_node::{Move, Site, Verdict};
 use std::alloc::Allocator;
+use std::process::Abort;
 use std::test::Fail;
 
-const NOTHING: &[u8] = &[];
-
-/// A page whose first word is this one. In page 0 that is count 0.
-pub(crate) fn page_of(word: u64) -> [u8; 64] {
-    let mut page = ZEROS;
-    for (byte, digits) in page.iter_mut().zip(word.to_be_bytes()) {
-        *byte = digits;
-    }
-    page
-}
-
-/// A record of an advance of count 0.
-pub(crate) fn advanced(node: u8, reply: Reply) -> Record {
+/// An advance of count 0, which is done.
+pub(crate) fn advanced(node: u8) -> Record {
     let call = Call::Advance { k: 0 };
+    let reply = Reply::Done;
     Record { node, call, reply }
 }
 
-/// A record of an await of count 0 that was answered a value.
+/// An await of count 0, which is answered a value.
 pub(crate) fn awaited(node: u8, least: u64, value: u64) -> Record {
     let call = Call::Await { k: 0, least };
     let reply = Reply::Value(value);
     Record { node, call, reply }
 }
 
-/// A record of a load of the first word of page 1, or of fewer of its bytes.
-fn loaded(node: u8, width: u8, value: u64) -> Record {
-    let call = Call::Load { width, addr: 64 };
+/// A read of a count, which is answered a value.
+fn counted(node: u8, k: u64, value: u64) -> Record {
+    let call = Call::Count { k };
     let reply = Reply::Value(value);
     Record { node, call, reply }
-}
-
-/// A record of a store there.
-fn stored(node: u8, width: u8, value: u64) -> Record {
-    let call = Call::Store {
-        width,
-        addr: 64,
-        value,
-    };
-    let reply = Reply::Done;
-    Record { node, call, reply }
-}
-
-/// The node of this number, with the last program of a text.
-pub(crate) fn node_of<A: Allocator + Copy>(alloc: A, me: u8, text: &str) -> Result<Site<A>, Fail>
-    requires { me < 2 }
-{
-    PAIR.check()?;
-    let program = parse(alloc, text)?.pop().ok_or("no program")?;
-    Ok(Site::new(alloc, &PAIR, me, program)?)
-}
-
-/// So many turns of a node.
-pub(crate) fn turns<A: Allocator + Copy>(site: &mut Site<A>, number: u64) -> Result<(), Fail> {
-    for _ in 0..number {
-        take_turn(site)?;
-    }
-    Ok(())
-}
-
-/// Takes the next string of a node. Whether it is the one written so.
-pub(crate) fn has_next<A: Allocator + Copy>(
-    alloc: A,
-    site: &mut Site<A>,
-    words: &str,
-    page: &[u8],
-) -> Result<bool, Fail> {
-    let wanted = string(alloc, words, page)?;
-    match site.take_frame() {
-        Some(sent) => Ok(sent.bytes() == wanted.as_slice()),
-        None => Ok(false),
-    }
-}
-
-/// Whether the strings sent are these, each written as hexadecimal words and then a page.
-fn are_strings<A: Allocator + Copy>(
-    alloc: A,
-    world: &World<A>,
-    wanted: &[(&str, &[u8])],
-) -> Result<bool, Fail> {
-    for (index, string) in wanted.iter().enumerate() {
-        if !is_sent(alloc, world, index, string.0, string.1)? {
-            return Ok(false);
-        }
-    }
-    Ok(world.sent().len() == wanted.len())
 }
 
 /// Node 1 stores and then advances count 0. Node 0 awaits that, and then loads.
@@ -174,33 +110,43 @@ const LOAD_ASKS: &str =
 const LOAD_GETS: &str =
     "495601030100004d 0000000000000004 0000000000000003 00 0000000000000002 00000001";
 
-/// Whether the strings, the replies and what is printed are those of the notice.
-fn is_noticed<A: Allocator + Copy>(alloc: A, world: &World<A>) -> Result<bool, Fail>
-    requires { world.now.config ≡ PAIR }
-{
-    let wanted = [
-        (STORE_ASKS, NOTHING),
-        (STORE_GETS, ZEROS.as_slice()),
-        (ADVANCE_ASKS, NOTHING),
-        (ADVANCE_GETS, ZEROS.as_slice()),
-        (AWAIT_ASKS, NOTHING),
-        (AWAIT_GETS, &page_of(1)),
-        (LOAD_ASKS, NOTHING),
-        (LOAD_GETS, &page_of(9)),
-    ];
-    let zero = [awaited(0, 1, 1), loaded(0, 8, 9)];
-    let one = [stored(1, 8, 9), advanced(1, Reply::Done)];
-    let answered = is_answered(world, 0, &zero) && is_answered(world, 1, &one);
-    let printed = world.output(0) == [9].as_slice() && world.ended(0) && world.ended(1);
-    Ok(are_strings(alloc, world, &wanted)? && answered && printed)
+const NOTICE_SENT: [(usize, Written); 8] = [
+    (0, (STORE_ASKS, None)),
+    (1, (STORE_GETS, Some(0))),
+    (2, (ADVANCE_ASKS, None)),
+    (3, (ADVANCE_GETS, Some(0))),
+    (4, (AWAIT_ASKS, None)),
+    (5, (AWAIT_GETS, Some(1))),
+    (6, (LOAD_ASKS, None)),
+    (7, (LOAD_GETS, Some(9))),
+];
+
+/// Asserts the strings, the replies and what is printed of the notice under these moves.
+fn check_notice<A: Allocator + Copy>(
+    rt: &impl Abort,
+    alloc: A,
+    stages: &[(&[Move], usize)],
+) -> Result<(), Fail> {
+    check_run(
+        rt,
+        alloc,
+        &Run {
+            config: PAIR,
+            text: NOTICE,
+            stages,
+            kinds: &[],
+            strings: &NOTICE_SENT,
+            nodes: &[
+                ended(0, &[awaited(0, 1, 1), loaded(0, 8, 64, 9)], &[9]),
+                ended(1, &[stored(1, 8, 64, 9), advanced(1)], &[]),
+            ],
+        },
+    )
 }
 
 #[test]
 fn store_then_advance(rt: HostRuntime) -> Result<(), Fail> {
-    let mut world = world(rt.alloc(), PAIR, NOTICE)?;
-    play(&mut world, &NOTICE_MOVES)?;
-    assert!(rt; is_noticed(rt.alloc(), &world)?);
-    Ok(())
+    check_notice(&rt, rt.alloc(), &[(&NOTICE_MOVES, 8)])
 }
 
 /// The moves with each delivery made three times in a row.
@@ -220,42 +166,78 @@ fn thrice<A: Allocator>(alloc: A, moves: &[Move]) -> Result<Vec<Move, A>, Fail> 
 #[test]
 fn every_string_thrice(rt: HostRuntime) -> Result<(), Fail> {
     let moves = thrice(rt.alloc(), &NOTICE_MOVES)?;
-    let mut world = world(rt.alloc(), PAIR, NOTICE)?;
-    play(&mut world, &moves)?;
-    play(&mut world, &NOTICE_AGAIN)?;
-    assert!(rt; is_noticed(rt.alloc(), &world)?);
-    Ok(())
+    check_notice(&rt, rt.alloc(), &[(&moves, 8), (&NOTICE_AGAIN, 8)])
 }
 
 /// A string comes to a node three times in a row. Whether it is new and then a repeat, twice.
 fn is_once_new<A: Allocator + Copy>(
     alloc: A,
     site: &mut Site<A>,
-    words: &str,
+    written: Written,
 ) -> Result<bool, Fail> {
-    let given = string(alloc, words, &ZEROS)?;
+    let given = string(alloc, written)?;
     Ok(
-        receive(site, &given)? == Verdict::Next
-            && receive(site, &given)? == Verdict::Repeat
-            && receive(site, &given)? == Verdict::Repeat,
+        receive(site, &given) == Ok(Verdict::Next)
+            && receive(site, &given) == Ok(Verdict::Repeat)
+            && receive(site, &given) == Ok(Verdict::Repeat),
     )
+}
+
+/// A node makes so many turns and asks for a page, which comes three times.
+fn gets_thrice<A: Allocator + Copy>(
+    rt: &impl Abort,
+    alloc: A,
+    site: &mut Site<A>,
+    turns: u64,
+    asks: &str,
+    gets: &str,
+) -> Result<(), Fail> {
+    take_turns(site, turns)?;
+    assert!(rt; has_next(alloc, site, (asks, None))?);
+    assert!(rt; is_once_new(alloc, site, (gets, Some(0)))?);
+    Ok(())
+}
+
+fn gets_both_thrice<A: Allocator + Copy>(
+    rt: &impl Abort,
+    alloc: A,
+    site: &mut Site<A>,
+) -> Result<(), Fail> {
+    gets_thrice(rt, alloc, site, 3, STORE_ASKS, STORE_GETS)?;
+    gets_thrice(rt, alloc, site, 2, ADVANCE_ASKS, ADVANCE_GETS)?;
+    take_turns(site, 1)?;
+    assert!(rt; site.take_frame().is_none() && site.ended());
+    assert!(rt; site.history() == [stored(1, 8, 64, 9), advanced(1)].as_slice());
+    Ok(())
 }
 
 /// Both pages come to node 1 three times, and it asks and is answered as if they came once.
 #[test]
 fn pages_given_thrice(rt: HostRuntime) -> Result<(), Fail> {
-    let alloc = rt.alloc();
-    let mut site = node_of(alloc, 1, NOTICE)?;
-    turns(&mut site, 3)?;
-    assert!(rt; has_next(alloc, &mut site, STORE_ASKS, NOTHING)?);
-    assert!(rt; is_once_new(alloc, &mut site, STORE_GETS)?);
-    turns(&mut site, 2)?;
-    assert!(rt; has_next(alloc, &mut site, ADVANCE_ASKS, NOTHING)?);
-    assert!(rt; is_once_new(alloc, &mut site, ADVANCE_GETS)?);
-    turns(&mut site, 1)?;
-    assert!(rt; site.take_frame().is_none() && site.ended());
-    assert!(rt; site.history() == [stored(1, 8, 9), advanced(1, Reply::Done)].as_slice());
-    Ok(())
+    let mut site = node_of(rt.alloc(), 1, NOTICE)?;
+    gets_both_thrice(&rt, rt.alloc(), &mut site)
+}
+
+/// Makes so many turns of node 0, which sends nothing. Asserts what it shows.
+fn check_alone<A: Allocator + Copy>(
+    rt: &impl Abort,
+    alloc: A,
+    text: &str,
+    turns: &[Move],
+    zero: Shown,
+) -> Result<(), Fail> {
+    check_run(
+        rt,
+        alloc,
+        &Run {
+            config: PAIR,
+            text,
+            stages: &[(turns, 0)],
+            kinds: &[],
+            strings: &[],
+            nodes: &[zero],
+        },
+    )
 }
 
 const WAITS: &str = "node 0
@@ -272,22 +254,12 @@ node 1
 /// A count that is high enough is answered at once. The last await has no answer in any turn.
 #[test]
 fn await_that_waits(rt: HostRuntime) -> Result<(), Fail> {
-    let mut world = world(rt.alloc(), PAIR, WAITS)?;
-    play(&mut world, &[Move::Turn(0); 24])?;
-    let records = [awaited(0, 0, 0), advanced(0, Reply::Done), awaited(0, 1, 1)];
-    assert!(rt; is_answered(&world, 0, &records));
-    assert!(rt; !world.ended(0) && world.output(0).is_empty() && world.sent().is_empty());
-    Ok(())
-}
-
-/// A record of a call of node 0 on a count that is not there.
-fn refused(call: Call) -> Record {
-    let reply = Reply::Refused(6);
-    Record {
-        node: 0,
-        call,
-        reply,
-    }
+    let records = [awaited(0, 0, 0), advanced(0), awaited(0, 1, 1)];
+    let waits = Shown {
+        ended: false,
+        ..ended(0, &records, &[])
+    };
+    check_alone(&rt, rt.alloc(), WAITS, &[Move::Turn(0); 24], waits)
 }
 
 /// Pages of 64 bytes have the counts 0 to 7.
@@ -312,22 +284,14 @@ node 1
 
 #[test]
 fn no_such_count(rt: HostRuntime) -> Result<(), Fail> {
-    let mut world = world(rt.alloc(), PAIR, NO_COUNT)?;
-    play(&mut world, &[Move::Turn(0); 15])?;
     let records = [
-        refused(Call::Count { k: 8 }),
-        refused(Call::Advance { k: 8 }),
-        refused(Call::Await { k: 8, least: 0 }),
-        Record {
-            node: 0,
-            call: Call::Count { k: 7 },
-            reply: Reply::Value(0),
-        },
+        refused(0, Call::Count { k: 8 }, 6),
+        refused(0, Call::Advance { k: 8 }, 6),
+        refused(0, Call::Await { k: 8, least: 0 }, 6),
+        counted(0, 7, 0),
     ];
-    assert!(rt; is_answered(&world, 0, &records));
-    assert!(rt; world.output(0) == [6, 6, 5, 0, 0].as_slice());
-    assert!(rt; world.ended(0) && world.sent().is_empty());
-    Ok(())
+    let zero = ended(0, &records, &[6, 6, 5, 0, 0]);
+    check_alone(&rt, rt.alloc(), NO_COUNT, &[Move::Turn(0); 15], zero)
 }
 
 const WIDTHS: &str = "node 0
@@ -344,17 +308,13 @@ node 1
 /// A store keeps the low bytes of its value, and the first byte of a word is its highest.
 #[test]
 fn big_endian_widths(rt: HostRuntime) -> Result<(), Fail> {
-    let mut world = world(rt.alloc(), PAIR, WIDTHS)?;
-    play(&mut world, &[Move::Turn(0); 7])?;
     let records = [
-        stored(0, 1, 258),
-        loaded(0, 2, 512),
-        loaded(0, 8, 144_115_188_075_855_872),
+        stored(0, 1, 64, 258),
+        loaded(0, 2, 64, 512),
+        loaded(0, 8, 64, 144_115_188_075_855_872),
     ];
-    assert!(rt; is_answered(&world, 0, &records));
-    assert!(rt; world.output(0) == [512, 144_115_188_075_855_872].as_slice());
-    assert!(rt; world.ended(0) && world.sent().is_empty());
-    Ok(())
+    let zero = ended(0, &records, &[512, 144_115_188_075_855_872]);
+    check_alone(&rt, rt.alloc(), WIDTHS, &[Move::Turn(0); 7], zero)
 }
 
 /// Node 1 asks for page 0, for the first of its calls, and is given it.
@@ -405,40 +365,59 @@ const WAKES_MOVES: [Move; 19] = [
     Move::Turn(0),
 ];
 
+const WAKES_SENT: [(usize, Written); 8] = [
+    (0, (FIRST_ASKS, None)),
+    (1, (FIRST_GETS, Some(0))),
+    (2, (RETRY_ASKS, None)),
+    (3, (RETRY_GETS, Some(1))),
+    (
+        4,
+        (
+            "495601050100000d 0000000000000003 0000000000000002 01 0000000000000002 00000000",
+            None,
+        ),
+    ),
+    (
+        5,
+        (
+            "495601060001000d 0000000000000003 0000000000000002 01 0000000000000002 00000000",
+            None,
+        ),
+    ),
+    (
+        6,
+        (
+            "495601010001000d 0000000000000004 0000000000000003 00 0000000000000001 00000000",
+            None,
+        ),
+    ),
+    (
+        7,
+        (
+            "495601030100004d 0000000000000004 0000000000000003 00 0000000000000001 00000000",
+            Some(2),
+        ),
+    ),
+];
+
 /// Each time the await asks for a copy it is call 1 of node 0.
 #[test]
 fn await_tried_again(rt: HostRuntime) -> Result<(), Fail> {
-    let alloc = rt.alloc();
-    let mut world = world(alloc, PAIR, WAKES)?;
-    play(&mut world, &WAKES_MOVES)?;
-    let wanted = [
-        (FIRST_ASKS, NOTHING),
-        (FIRST_GETS, ZEROS.as_slice()),
-        (RETRY_ASKS, NOTHING),
-        (RETRY_GETS, &page_of(1)),
-        (
-            "495601050100000d 0000000000000003 0000000000000002 01 0000000000000002 00000000",
-            NOTHING,
-        ),
-        (
-            "495601060001000d 0000000000000003 0000000000000002 01 0000000000000002 00000000",
-            NOTHING,
-        ),
-        (
-            "495601010001000d 0000000000000004 0000000000000003 00 0000000000000001 00000000",
-            NOTHING,
-        ),
-        (
-            "495601030100004d 0000000000000004 0000000000000003 00 0000000000000001 00000000",
-            &page_of(2),
-        ),
-    ];
-    assert!(rt; are_strings(alloc, &world, &wanted)?);
-    assert!(rt; is_answered(&world, 0, &[awaited(0, 2, 2)]) && world.ended(0));
-    let both = [advanced(1, Reply::Done), advanced(1, Reply::Done)];
-    assert!(rt; is_answered(&world, 1, &both) && world.ended(1));
-    assert!(rt; world.output(0) == [2].as_slice());
-    Ok(())
+    check_run(
+        &rt,
+        rt.alloc(),
+        &Run {
+            config: PAIR,
+            text: WAKES,
+            stages: &[(&WAKES_MOVES, 8)],
+            kinds: &[],
+            strings: &WAKES_SENT,
+            nodes: &[
+                ended(0, &[awaited(0, 2, 2)], &[2]),
+                ended(1, &[advanced(1), advanced(1)], &[]),
+            ],
+        },
+    )
 }
 
 /// Node 1 advances and reads a count, and advances it again.
@@ -452,27 +431,44 @@ status r2
 print r2
 ";
 
+/// Node 1 asks for the page, which comes with a full count, and goes on to its end.
+fn gets_full<A: Allocator + Copy>(
+    rt: &impl Abort,
+    alloc: A,
+    site: &mut Site<A>,
+) -> Result<(), Fail> {
+    take_turns(site, 1)?;
+    assert!(rt; has_next(alloc, site, (FIRST_ASKS, None))?);
+    let given = string(alloc, (FIRST_GETS, Some(u64::MAX)))?;
+    assert!(rt; receive(site, &given) == Ok(Verdict::Next));
+    take_turns(site, 6)?;
+    Ok(())
+}
+
+/// Another node asks for a copy of the page, whose count is full still.
+fn gives_full<A: Allocator + Copy>(
+    rt: &impl Abort,
+    alloc: A,
+    site: &mut Site<A>,
+) -> Result<(), Fail> {
+    let asked = string(alloc, (RETRY_ASKS, None))?;
+    assert!(rt; receive(site, &asked) == Ok(Verdict::Next));
+    assert!(rt; has_next(alloc, site, (RETRY_GETS, Some(u64::MAX)))?);
+    Ok(())
+}
+
+fn is_full<A: Allocator + Copy>(rt: &impl Abort, alloc: A, site: &mut Site<A>) -> Result<(), Fail> {
+    gets_full(rt, alloc, site)?;
+    let refused = refused(1, Call::Advance { k: 0 }, 7);
+    let records = [refused, counted(1, 0, 18_446_744_073_709_551_615), refused];
+    assert!(rt; site.history() == records.as_slice() && site.ended());
+    assert!(rt; site.output() == [18_446_744_073_709_551_615, 7].as_slice());
+    gives_full(rt, alloc, site)
+}
+
 /// The page is forged: its count is full. Nothing changes, neither where the page comes nor where it is at hand.
 #[test]
 fn full_count(rt: HostRuntime) -> Result<(), Fail> {
-    let alloc = rt.alloc();
-    let mut site = node_of(alloc, 1, FULL)?;
-    turns(&mut site, 1)?;
-    assert!(rt; has_next(alloc, &mut site, FIRST_ASKS, NOTHING)?);
-    let full = page_of(u64::MAX);
-    let given = string(alloc, FIRST_GETS, &full)?;
-    assert!(rt; receive(&mut site, &given) == Ok(Verdict::Next));
-    turns(&mut site, 6)?;
-    let read = Record {
-        node: 1,
-        call: Call::Count { k: 0 },
-        reply: Reply::Value(18_446_744_073_709_551_615),
-    };
-    let refused = advanced(1, Reply::Refused(7));
-    assert!(rt; site.history() == [refused, read, refused].as_slice() && site.ended());
-    assert!(rt; site.output() == [18_446_744_073_709_551_615, 7].as_slice());
-    let asked = string(alloc, RETRY_ASKS, NOTHING)?;
-    assert!(rt; receive(&mut site, &asked) == Ok(Verdict::Next));
-    assert!(rt; has_next(alloc, &mut site, RETRY_GETS, &full)?);
-    Ok(())
+    let mut site = node_of(rt.alloc(), 1, FULL)?;
+    is_full(&rt, rt.alloc(), &mut site)
 }

@@ -1,6 +1,6 @@
 //! Each growth refused in turn where frames are written, read, sent and sent again, in the order checker
 //! and in a page table.
-use crate::common::{MANY, PAIR, REPLY, ZEROS, is_met, string};
+use crate::common::{MANY, PAIR, REPLY, is_met, string};
 use growths::Refusing;
 use ivy_link::Link;
 use ivy_model::{Call, Fault, Record, Reply, check_order};
@@ -57,7 +57,7 @@ fn growths_of_encode(rt: HostRuntime) -> Result<(), Fail> {
 }
 
 fn decode_at(rt: &impl Abort, memory: &Refusing<Global>, n: u64) -> Result<bool, Fail> {
-    let string = string(memory, REPLY, &ZEROS)?;
+    let string = string(memory, (REPLY, Some(0)))?;
     PAIR.check()?;
     memory.refuse(n);
     let fault = decode(memory, &PAIR, &string).err();

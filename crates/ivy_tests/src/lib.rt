@@ -16,8 +16,6 @@ mod eight_nodes;
 #[cfg(test)]
 mod first_load;
 #[cfg(test)]
-mod growths_of_counts;
-#[cfg(test)]
 mod growths_of_sites;
 #[cfg(test)]
 mod growths_of_strings;
