@@ -1,6 +1,6 @@
 //! Accesses that are refused, schedules that are, worlds that are, and a request that is forwarded.
 use crate::common::{
-    LOADS, PAIR, Run, TRIO, check_run, deliver, ended, loaded, play, pulse, refused, world,
+    LOADS, PAIR, Run, TRIO, check_run, deliver, ended, loaded, play, refused, world,
 };
 use ivy_model::{Call, Config, Fault, Kind};
 use ivy_node::{Move, World};
@@ -94,27 +94,30 @@ fn forwarded_read(rt: HostRuntime) -> Result<(), Fail> {
     )
 }
 
-/// That the last of the moves names nothing, and those before it are made.
-fn check_last<A: Allocator + Copy>(
+/// Makes moves of which the one at this place names nothing. Those before it are made.
+fn check_refused<A: Allocator + Copy>(
     rt: &impl Abort,
     world: &mut World<A>,
     moves: &[Move],
+    place: usize,
     sent: usize,
 ) {
-    let last = moves.len() - 1;
-    assert_eq!(rt; play(world, moves), Err((last, Fault::NoSuchFrame)));
+    assert_eq!(rt; play(world, moves), Err((place, Fault::NoSuchFrame)));
     assert_eq!(rt; world.sent().len(), sent);
 }
 
+/// A node, a string or a pulse that is not there.
+const NAMES: [Move; 5] = [
+    Move::Turn(2),
+    Move::Deliver { index: 0, to: 0 },
+    Move::Pulse { from: 0, to: 0 },
+    Move::Pulse { from: 0, to: 2 },
+    Move::Pulse { from: 2, to: 0 },
+];
+
 fn check_names<A: Allocator + Copy>(rt: &impl Abort, world: &mut World<A>) {
-    for step in [
-        Move::Turn(2),
-        deliver(0, 0),
-        pulse(0, 0),
-        pulse(0, 2),
-        pulse(2, 0),
-    ] {
-        check_last(rt, world, &[step], 0);
+    for step in NAMES {
+        check_refused(rt, world, &[step], 0, 0);
     }
 }
 
@@ -123,10 +126,11 @@ fn check_names<A: Allocator + Copy>(rt: &impl Abort, world: &mut World<A>) {
 fn moves_that_name_nothing(rt: HostRuntime) -> Result<(), Fail> {
     let mut world = world(rt.alloc(), PAIR, LOADS)?;
     check_names(&rt, &mut world);
-    check_last(
+    check_refused(
         &rt,
         &mut world,
         &[Move::Turn(1), Move::Turn(1), deliver(1, 1)],
+        2,
         1,
     );
     Ok(())
