@@ -73,19 +73,20 @@ pub(crate) fn ended<'a>(node: u64, answers: &'a [Record], printed: &'a [u64]) ->
 /// zeros.
 pub(crate) type Written<'a> = (&'a str, Option<u64>);
 
-/// Programs, moves that are made, and what the world has to show then.
+/// Programs, and what their world has to show once the moves are made.
 #[derive(Clone, Copy)]
 pub(crate) struct Run<'a> {
     pub(crate) config: Config,
     pub(crate) text: &'a str,
-    /// Moves, and how many strings were ever sent once they are made.
-    pub(crate) stages: &'a [(&'a [Move], usize)],
     /// The first strings, each by what it is about, its source and its destination.
     pub(crate) kinds: &'a [(FrameKind, u8, u8)],
     /// Some strings by their index.
     pub(crate) strings: &'a [(usize, Written<'a>)],
     pub(crate) nodes: &'a [Shown<'a>],
 }
+
+/// Moves, and how many strings were ever sent once they are made.
+pub(crate) type Stage<'a> = (&'a [Move], usize);
 
 /// The world of the programs of a text, as it begins.
 pub(crate) fn world<A: Allocator + Copy>(
@@ -114,11 +115,7 @@ pub(crate) fn shows<A: Allocator + Copy>(world: &World<A>, shown: &Shown) -> boo
         && world.ended(shown.node) == shown.ended
 }
 
-fn play_stages<A: Allocator + Copy>(
-    rt: &impl Abort,
-    world: &mut World<A>,
-    stages: &[(&[Move], usize)],
-) {
+fn play_stages<A: Allocator + Copy>(rt: &impl Abort, world: &mut World<A>, stages: &[Stage]) {
     for (stage, (moves, sent)) in stages.iter().enumerate() {
         assert_eq!(rt; play(world, moves), Ok(()), "stage {stage}");
         assert_eq!(rt; world.sent().len(), *sent, "stage {stage}");
@@ -154,21 +151,23 @@ fn check_world<A: Allocator + Copy>(
     alloc: A,
     world: &mut World<A>,
     run: &Run,
+    stages: &[Stage],
 ) -> Result<(), Fail> {
-    play_stages(rt, world, run.stages);
+    play_stages(rt, world, stages);
     check_nodes(rt, world, run.nodes);
     check_kinds(rt, world, run);
     check_strings(rt, alloc, world, run.strings)
 }
 
-/// Plays a run, and asserts that the world shows what it has to.
+/// Makes the moves of a run, and asserts that the world shows what it has to.
 pub(crate) fn check_run<A: Allocator + Copy>(
     rt: &impl Abort,
     alloc: A,
     run: &Run,
+    stages: &[Stage],
 ) -> Result<(), Fail> {
     let mut world = world(alloc, run.config, run.text)?;
-    check_world(rt, alloc, &mut world, run)
+    check_world(rt, alloc, &mut world, run, stages)
 }
 
 /// Node 0 of a configuration, whose program is empty.
@@ -197,9 +196,10 @@ pub(crate) fn take_turn<A: Allocator + Copy>(site: &mut Site<A>) -> Result<Turn,
 }
 
 /// So many turns of a node.
-pub(crate) fn take_turns<A: Allocator + Copy>(site: &mut Site<A>, number: u64) -> Result<(), Fault>
-    ensures { (site.new.config ≡ site.old.config) × (site.new.me ≡ site.old.me) }
-{
+pub(crate) fn take_turns<A: Allocator + Copy>(
+    site: &mut Site<A>,
+    number: u64,
+) -> Result<(), Fault> {
     for _ in 0..number {
         take_turn(site)?;
     }

@@ -1,8 +1,8 @@
 //! Counts: nodes that advance them and wait for them. A count is a word of page 0, so a node reads and writes
 //! it where it has that page, and faults for it as for any other.
 use crate::common::{
-    PAIR, Run, Shown, Written, check_run, ended, has_next, loaded, node_of, receive, refused,
-    stored, string, take_turns,
+    PAIR, Run, Shown, Stage, Written, check_run, ended, has_next, loaded, node_of, receive,
+    refused, stored, string, take_turns,
 };
 use ivy_model::{Call, Record, Reply};
 use ivy_node::{Move, Site, Verdict};
@@ -125,7 +125,7 @@ const NOTICE_SENT: [(usize, Written); 8] = [
 fn check_notice<A: Allocator + Copy>(
     rt: &impl Abort,
     alloc: A,
-    stages: &[(&[Move], usize)],
+    stages: &[Stage],
 ) -> Result<(), Fail> {
     check_run(
         rt,
@@ -133,7 +133,6 @@ fn check_notice<A: Allocator + Copy>(
         &Run {
             config: PAIR,
             text: NOTICE,
-            stages,
             kinds: &[],
             strings: &NOTICE_SENT,
             nodes: &[
@@ -141,6 +140,7 @@ fn check_notice<A: Allocator + Copy>(
                 ended(1, &[stored(1, 8, 64, 9), advanced(1)], &[]),
             ],
         },
+        stages,
     )
 }
 
@@ -232,11 +232,11 @@ fn check_alone<A: Allocator + Copy>(
         &Run {
             config: PAIR,
             text,
-            stages: &[(turns, 0)],
             kinds: &[],
             strings: &[],
             nodes: &[zero],
         },
+        &[(turns, 0)],
     )
 }
 
@@ -409,7 +409,6 @@ fn await_tried_again(rt: HostRuntime) -> Result<(), Fail> {
         &Run {
             config: PAIR,
             text: WAKES,
-            stages: &[(&WAKES_MOVES, 8)],
             kinds: &[],
             strings: &WAKES_SENT,
             nodes: &[
@@ -417,6 +416,7 @@ fn await_tried_again(rt: HostRuntime) -> Result<(), Fail> {
                 ended(1, &[advanced(1), advanced(1)], &[]),
             ],
         },
+        &[(&WAKES_MOVES, 8)],
     )
 }
 

@@ -1,10 +1,11 @@
 //! Worlds under the dynamic manager: hints that lead to the owner of a page, at once or over other nodes.
 //! One of the worlds is played under the fixed manager too, where the requests go other ways.
 use crate::common::{
-    PAIR, Run, TRIO, Written, check_run, deliver, ended, ends_of, loaded, play, shows, stored,
-    world,
+    PAIR, Run, Shown, TRIO, Written, check_run, deliver, ended, ends_of, loaded, play, shows,
+    stored, world,
 };
 use crate::eight_nodes::deliver_from;
+use crate::stores::UPGRADE_SHOWN;
 use ivy_model::{Config, Fault, Kind};
 use ivy_node::{Move, World};
 use ivy_wire::FrameKind;
@@ -80,6 +81,24 @@ const LATE_SENT: [(usize, Written); 6] = [
     ),
 ];
 
+/// The copy for node 1, string 1, is held back until the message that is to end it came.
+const LATE_MOVES: [Move; 14] = [
+    Move::Turn(1),
+    Move::Turn(1),
+    Move::Deliver { index: 0, to: 0 },
+    Move::Turn(2),
+    Move::Turn(2),
+    Move::Turn(2),
+    Move::Deliver { index: 2, to: 0 },
+    Move::Deliver { index: 3, to: 2 },
+    Move::Deliver { index: 4, to: 1 },
+    Move::Deliver { index: 1, to: 1 },
+    Move::Deliver { index: 5, to: 2 },
+    Move::Turn(1),
+    Move::Turn(1),
+    Move::Turn(2),
+];
+
 /// The copy for node 1 is late: the message that is to end it comes first, and waits for it.
 #[test]
 fn late_read_page(rt: HostRuntime) -> Result<(), Fail> {
@@ -89,13 +108,6 @@ fn late_read_page(rt: HostRuntime) -> Result<(), Fail> {
         &Run {
             config: HINTS,
             text: LATE,
-            stages: &[
-                (&[Move::Turn(1), Move::Turn(1), deliver(0, 0)], 2),
-                (&[Move::Turn(2); 3], 3),
-                (&[deliver(2, 0), deliver(3, 2), deliver(4, 1)], 5),
-                (&[deliver(1, 1), deliver(5, 2)], 6),
-                (&[Move::Turn(1), Move::Turn(1), Move::Turn(2)], 6),
-            ],
             kinds: &[],
             strings: &LATE_SENT,
             nodes: &[
@@ -103,6 +115,7 @@ fn late_read_page(rt: HostRuntime) -> Result<(), Fail> {
                 ended(2, &[stored(2, 8, 64, 5)], &[]),
             ],
         },
+        &[(&LATE_MOVES[..9], 5), (&LATE_MOVES[9..], 6)],
     )
 }
 
@@ -258,29 +271,25 @@ const UPGRADE_SENT: [(usize, Written); 13] = [
     ),
 ];
 
+const UPGRADE_RUN: Run = Run {
+    config: HINTS,
+    text: UPGRADE,
+    kinds: &[],
+    strings: &UPGRADE_SENT,
+    nodes: &UPGRADE_SHOWN,
+};
+
 #[test]
 fn upgrade_race(rt: HostRuntime) -> Result<(), Fail> {
-    let one = [loaded(1, 8, 64, 0), stored(1, 8, 64, 11)];
-    let two = [loaded(2, 8, 64, 0), stored(2, 8, 64, 22)];
     check_run(
         &rt,
         rt.alloc(),
-        &Run {
-            config: HINTS,
-            text: UPGRADE,
-            stages: &[
-                (&UPGRADE_ASKS, 6),
-                (&UPGRADE_GIVES, 11),
-                (&UPGRADE_LOADS, 13),
-            ],
-            kinds: &[],
-            strings: &UPGRADE_SENT,
-            nodes: &[
-                ended(0, &[loaded(0, 8, 64, 22)], &[22]),
-                ended(1, &one, &[]),
-                ended(2, &two, &[]),
-            ],
-        },
+        &UPGRADE_RUN,
+        &[
+            (&UPGRADE_ASKS, 6),
+            (&UPGRADE_GIVES, 11),
+            (&UPGRADE_LOADS, 13),
+        ],
     )
 }
 
@@ -299,8 +308,15 @@ set r2 2
 store 8 r1 r2
 ";
 
+/// Each node is served in its turn, under either manager.
+const STALE_SHOWN: [Shown; 3] = [
+    ended!(0, &[loaded!(0, 64, 2)], &[2]),
+    ended!(1, &[stored!(1, 64, 1)], &[]),
+    ended!(2, &[stored!(2, 64, 2)], &[]),
+];
+
 /// Node 1 stores, node 2 asks for the page, and its request goes on to node 1, which gives it. Then node 0 loads.
-const STALE_MOVES: [Move; 17] = [
+const STALE_MOVES: [Move; 19] = [
     Move::Turn(1),
     Move::Turn(1),
     Move::Turn(1),
@@ -318,6 +334,8 @@ const STALE_MOVES: [Move; 17] = [
     Move::Turn(0),
     Move::Deliver { index: 5, to: 2 },
     Move::Deliver { index: 6, to: 0 },
+    Move::Turn(0),
+    Move::Turn(0),
 ];
 
 const STALE_SENT: [(usize, Written); 7] = [
@@ -372,41 +390,23 @@ const STALE_SENT: [(usize, Written); 7] = [
     ),
 ];
 
-/// Plays these programs. Asserts the strings, the replies and what is printed.
-fn check_stale<A: Allocator + Copy>(
-    rt: &impl Abort,
-    alloc: A,
-    config: Config,
-    moves: &[Move],
-    strings: &[(usize, Written)],
-) -> Result<(), Fail> {
-    check_run(
-        rt,
-        alloc,
-        &Run {
-            config,
-            text: STALE,
-            stages: &[(moves, 7), (&[Move::Turn(0); 2], 7)],
-            kinds: &[],
-            strings,
-            nodes: &[
-                ended(0, &[loaded(0, 8, 64, 2)], &[2]),
-                ended(1, &[stored(1, 8, 64, 1)], &[]),
-                ended(2, &[stored(2, 8, 64, 2)], &[]),
-            ],
-        },
-    )
-}
+const STALE_RUN: Run = Run {
+    config: HINTS,
+    text: STALE,
+    kinds: &[],
+    strings: &STALE_SENT,
+    nodes: &STALE_SHOWN,
+};
 
 /// Node 2 still hints at node 0, which gave the page away and sends the request on. From then on node 0 hints
 /// at node 2, so its own request goes there at once.
 #[test]
 fn stale_hint(rt: HostRuntime) -> Result<(), Fail> {
-    check_stale(&rt, rt.alloc(), HINTS, &STALE_MOVES, &STALE_SENT)
+    check_run(&rt, rt.alloc(), &STALE_RUN, &[(&STALE_MOVES, 7)])
 }
 
 /// Node 2 asks the managing node, which owns the page, and so the request of node 0 takes two hops.
-const MANAGED_MOVES: [Move; 17] = [
+const MANAGED_MOVES: [Move; 19] = [
     Move::Turn(1),
     Move::Turn(1),
     Move::Turn(1),
@@ -424,6 +424,8 @@ const MANAGED_MOVES: [Move; 17] = [
     Move::Deliver { index: 4, to: 1 },
     Move::Deliver { index: 5, to: 2 },
     Move::Deliver { index: 6, to: 0 },
+    Move::Turn(0),
+    Move::Turn(0),
 ];
 
 const MANAGED_SENT: [(usize, Written); 7] = [
@@ -478,10 +480,18 @@ const MANAGED_SENT: [(usize, Written); 7] = [
     ),
 ];
 
+const MANAGED_RUN: Run = Run {
+    config: TRIO,
+    text: STALE,
+    kinds: &[],
+    strings: &MANAGED_SENT,
+    nodes: &STALE_SHOWN,
+};
+
 /// The same programs under the fixed manager: node 1 manages the page, so it is node 1 that sends a request on.
 #[test]
 fn no_hint_at_all(rt: HostRuntime) -> Result<(), Fail> {
-    check_stale(&rt, rt.alloc(), TRIO, &MANAGED_MOVES, &MANAGED_SENT)
+    check_run(&rt, rt.alloc(), &MANAGED_RUN, &[(&MANAGED_MOVES, 7)])
 }
 
 /// Nodes 1 to 7 each load the word and then store their own number. Node 0 loads last.

@@ -1,5 +1,5 @@
 //! Eight nodes that all load the same word, under several schedules, and that all store to one page.
-use crate::common::{Run, check_run, deliver, ended, loaded, play, shows, stored, world};
+use crate::common::{Run, Shown, check_run, deliver, ended, loaded, play, shows, stored, world};
 use ivy_model::{Config, Fault, Kind};
 use ivy_node::{Move, World};
 use std::alloc::{AllocError, Allocator, Global};
@@ -243,57 +243,64 @@ pub(crate) fn put_off_by_a_writer<A: Allocator>(
     moves_of(alloc, &parts)
 }
 
-/// The order in which the nodes ask, and the last string: the page as it comes to the node that asked last. Seven
-/// words are stored, its own is not.
-const ORDERS: [([u64; 7], &str); 2] = [
+/// Each node has stored its number.
+const STORED: [Shown; 8] = [
+    ended!(0, &[stored!(0, 64, 1)], &[]),
+    ended!(1, &[stored!(1, 72, 2)], &[]),
+    ended!(2, &[stored!(2, 80, 3)], &[]),
+    ended!(3, &[stored!(3, 88, 4)], &[]),
+    ended!(4, &[stored!(4, 96, 5)], &[]),
+    ended!(5, &[stored!(5, 104, 6)], &[]),
+    ended!(6, &[stored!(6, 112, 7)], &[]),
+    ended!(7, &[loaded!(7, 120, 0), stored!(7, 120, 8)], &[]),
+];
+
+/// Each order in which the nodes ask, and what is shown then: the last string has the page as it comes to the node
+/// that asked last. Seven words are stored, its own is not.
+const ORDERS: [([u64; 7], Run); 2] = [
     (
         [7, 0, 2, 3, 4, 5, 6],
-        "495601040506004e 0000000000000001 0000000000000000 06 0000000000000001 00000001 00 \
+        Run {
+            config: EIGHT,
+            text: ALL_STORE,
+            kinds: &[],
+            strings: &[(
+                26,
+                (
+                    "495601040506004e 0000000000000001 0000000000000000 06 0000000000000001 00000001 00 \
          0000000000000001 0000000000000002 0000000000000003 0000000000000004 \
          0000000000000005 0000000000000006 0000000000000000 0000000000000008",
+                    None,
+                ),
+            )],
+            nodes: &STORED,
+        },
     ),
     (
         [6, 5, 4, 3, 2, 0, 7],
-        "495601040007004e 0000000000000002 0000000000000000 07 0000000000000002 00000001 00 \
+        Run {
+            config: EIGHT,
+            text: ALL_STORE,
+            kinds: &[],
+            strings: &[(
+                26,
+                (
+                    "495601040007004e 0000000000000002 0000000000000000 07 0000000000000002 00000001 00 \
          0000000000000001 0000000000000002 0000000000000003 0000000000000004 \
          0000000000000005 0000000000000006 0000000000000007 0000000000000000",
+                    None,
+                ),
+            )],
+            nodes: &STORED,
+        },
     ),
 ];
 
-fn check_stores<A: Allocator + Copy>(
-    rt: &impl Abort,
-    alloc: A,
-    order: &[u64; 7],
-    last: &str,
-) -> Result<(), Fail> {
-    let moves = put_off_by_a_writer(alloc, order)?;
-    check_run(
-        rt,
-        alloc,
-        &Run {
-            config: EIGHT,
-            text: ALL_STORE,
-            stages: &[(&moves, 27)],
-            kinds: &[],
-            strings: &[(26, (last, None))],
-            nodes: &[
-                ended(0, &[stored(0, 8, 64, 1)], &[]),
-                ended(1, &[stored(1, 8, 72, 2)], &[]),
-                ended(2, &[stored(2, 8, 80, 3)], &[]),
-                ended(3, &[stored(3, 8, 88, 4)], &[]),
-                ended(4, &[stored(4, 8, 96, 5)], &[]),
-                ended(5, &[stored(5, 8, 104, 6)], &[]),
-                ended(6, &[stored(6, 8, 112, 7)], &[]),
-                ended(7, &[loaded(7, 8, 120, 0), stored(7, 8, 120, 8)], &[]),
-            ],
-        },
-    )
-}
-
 #[test]
 fn seven_requests_put_off(rt: HostRuntime) -> Result<(), Fail> {
-    for (order, last) in ORDERS {
-        check_stores(&rt, rt.alloc(), &order, last)?;
+    for (order, run) in &ORDERS {
+        let moves = put_off_by_a_writer(rt.alloc(), order)?;
+        check_run(&rt, rt.alloc(), run, &[(&moves, 27)])?;
     }
     Ok(())
 }
@@ -323,28 +330,28 @@ pub(crate) const PUT_OFF_WHILE_AWAITED: [Part; 10] = [
     Part::Turns(1, &[0, 1, 2, 3, 4, 5, 6, 7]),
 ];
 
+/// All but node 2 have loaded what it stored.
+const LOADED: [Shown; 8] = [
+    ended!(0, &[loaded!(0, 64, 3)], &[3]),
+    ended!(1, &[loaded!(1, 64, 3)], &[3]),
+    ended!(2, &[stored!(2, 64, 3)], &[]),
+    ended!(3, &[loaded!(3, 64, 3)], &[3]),
+    ended!(4, &[loaded!(4, 64, 3)], &[3]),
+    ended!(5, &[loaded!(5, 64, 3)], &[3]),
+    ended!(6, &[loaded!(6, 64, 3)], &[3]),
+    ended!(7, &[loaded!(7, 64, 3)], &[3]),
+];
+
+const LATE_RUN: Run = Run {
+    config: EIGHT,
+    text: ONE_STORES,
+    kinds: &[],
+    strings: &[],
+    nodes: &LOADED,
+};
+
 #[test]
 fn seven_requests_for_a_page_that_is_late(rt: HostRuntime) -> Result<(), Fail> {
     let moves = moves_of(rt.alloc(), &PUT_OFF_WHILE_AWAITED)?;
-    check_run(
-        &rt,
-        rt.alloc(),
-        &Run {
-            config: EIGHT,
-            text: ONE_STORES,
-            stages: &[(&moves, 23)],
-            kinds: &[],
-            strings: &[],
-            nodes: &[
-                ended(0, &[loaded(0, 8, 64, 3)], &[3]),
-                ended(1, &[loaded(1, 8, 64, 3)], &[3]),
-                ended(2, &[stored(2, 8, 64, 3)], &[]),
-                ended(3, &[loaded(3, 8, 64, 3)], &[3]),
-                ended(4, &[loaded(4, 8, 64, 3)], &[3]),
-                ended(5, &[loaded(5, 8, 64, 3)], &[3]),
-                ended(6, &[loaded(6, 8, 64, 3)], &[3]),
-                ended(7, &[loaded(7, 8, 64, 3)], &[3]),
-            ],
-        },
-    )
+    check_run(&rt, rt.alloc(), &LATE_RUN, &[(&moves, 23)])
 }

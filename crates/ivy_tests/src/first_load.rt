@@ -34,7 +34,6 @@ const SHOWN: [Shown; 1] = [Shown {
 const FIRST_LOAD: Run = Run {
     config: PAIR,
     text: LOADS,
-    stages: &[(&MOVES, 2)],
     kinds: &[],
     strings: &SENT,
     nodes: &SHOWN,
@@ -47,17 +46,17 @@ fn empty_programs(rt: HostRuntime) -> Result<(), Fail> {
         rt.alloc(),
         &Run {
             text: "node 0\nnode 1\n",
-            stages: &[(&[Move::Turn(0), Move::Turn(1)], 0)],
             strings: &[],
             nodes: &[ended(0, &[], &[]), ended(1, &[], &[])],
             ..FIRST_LOAD
         },
+        &[(&[Move::Turn(0), Move::Turn(1)], 0)],
     )
 }
 
 #[test]
 fn first_load(rt: HostRuntime) -> Result<(), Fail> {
-    check_run(&rt, rt.alloc(), &FIRST_LOAD)
+    check_run(&rt, rt.alloc(), &FIRST_LOAD, &[(&MOVES, 2)])
 }
 
 /// After the first load each node sends again what it keeps or owes, and then nothing.
@@ -69,14 +68,14 @@ fn pulses_after_the_first_load(rt: HostRuntime) -> Result<(), Fail> {
         &rt,
         rt.alloc(),
         &Run {
-            stages: &[
-                (&MOVES, 2),
-                (&[pulse(1, 0), deliver(2, 0), pulse(0, 1), deliver(3, 1)], 4),
-                (&[pulse(1, 0), pulse(0, 1)], 4),
-            ],
             strings: &[(2, (again, None)), (3, (acknowledged, None))],
             ..FIRST_LOAD
         },
+        &[
+            (&MOVES, 2),
+            (&[pulse(1, 0), deliver(2, 0), pulse(0, 1), deliver(3, 1)], 4),
+            (&[pulse(1, 0), pulse(0, 1)], 4),
+        ],
     )
 }
 
@@ -96,7 +95,6 @@ fn lost_request(rt: HostRuntime) -> Result<(), Fail> {
         &rt,
         rt.alloc(),
         &Run {
-            stages: &[(&moves, 3)],
             strings: &[
                 (0, (REQUEST, None)),
                 (1, (REQUEST, None)),
@@ -104,22 +102,25 @@ fn lost_request(rt: HostRuntime) -> Result<(), Fail> {
             ],
             ..FIRST_LOAD
         },
+        &[(&moves, 3)],
     )
 }
 
+/// The first load with each delivery made three times.
+const THRICE: [Move; 10] = [
+    Move::Turn(1),
+    Move::Turn(1),
+    Move::Deliver { index: 0, to: 0 },
+    Move::Deliver { index: 0, to: 0 },
+    Move::Deliver { index: 0, to: 0 },
+    Move::Deliver { index: 1, to: 1 },
+    Move::Deliver { index: 1, to: 1 },
+    Move::Deliver { index: 1, to: 1 },
+    Move::Turn(1),
+    Move::Turn(1),
+];
+
 #[test]
 fn every_string_thrice(rt: HostRuntime) -> Result<(), Fail> {
-    check_run(
-        &rt,
-        rt.alloc(),
-        &Run {
-            stages: &[
-                (&[Move::Turn(1); 2], 1),
-                (&[deliver(0, 0); 3], 2),
-                (&[deliver(1, 1); 3], 2),
-                (&[Move::Turn(1); 2], 2),
-            ],
-            ..FIRST_LOAD
-        },
-    )
+    check_run(&rt, rt.alloc(), &FIRST_LOAD, &[(&THRICE, 2)])
 }

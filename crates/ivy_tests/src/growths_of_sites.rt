@@ -5,12 +5,11 @@
 ghost use Rattle.std.specs.Prelude.{◌≡◌, IfOk};
 
 use crate::common::{
-    LOADS, MANY, REPLY, REQUEST, Written, has_next, is_met, loaded, node_of, receive, string,
-    take_turn, take_turns,
+    LOADS, MANY, REPLY, REQUEST, Written, has_next, is_met, node_of, receive, string, take_turn,
 };
-use crate::counts::{FIRST_ASKS, FIRST_GETS, RETRY_ASKS, RETRY_GETS, advanced, awaited};
+use crate::counts::{FIRST_ASKS, FIRST_GETS, RETRY_ASKS, RETRY_GETS};
 use growths::Refusing;
-use ivy_model::{Fault, Record};
+use ivy_model::{Call, Fault, Record, Reply};
 use ivy_node::Site;
 use std::alloc::{Allocator, Global};
 use std::process::Abort;
@@ -178,114 +177,143 @@ fn growths_of(rt: &impl Abort, alloc: Global, growing: &Growing) -> Result<(), F
 }
 
 /// A load faults: the request waits to be put on the wire.
+const TURN: Growing = Growing {
+    me: 1,
+    text: LOADS,
+    before: &[Step::Turn],
+    comes: None,
+    sends: Some((REQUEST, None)),
+    answers: &[],
+};
+
 #[test]
 fn growths_of_a_turn(rt: HostRuntime) -> Result<(), Fail> {
-    let growing = Growing {
-        me: 1,
-        text: LOADS,
-        before: &[Step::Turn],
-        comes: None,
-        sends: Some((REQUEST, None)),
-        answers: &[],
-    };
-    growths_of(&rt, rt.alloc(), &growing)
+    growths_of(&rt, rt.alloc(), &TURN)
 }
 
 /// The request comes to the owner.
+const REQUEST_COMES: Growing = Growing {
+    me: 0,
+    text: EMPTY,
+    before: &[],
+    comes: Some((REQUEST, None)),
+    sends: Some((REPLY, Some(0))),
+    answers: &[],
+};
+
 #[test]
 fn growths_of_a_request_that_comes(rt: HostRuntime) -> Result<(), Fail> {
-    let growing = Growing {
-        me: 0,
-        text: EMPTY,
-        before: &[],
-        comes: Some((REQUEST, None)),
-        sends: Some((REPLY, Some(0))),
-        answers: &[],
-    };
-    growths_of(&rt, rt.alloc(), &growing)
+    growths_of(&rt, rt.alloc(), &REQUEST_COMES)
 }
 
+const LOADED: [Record; 1] = [loaded!(1, 64, 0)];
+
+const ADVANCED: [Record; 1] = [Record {
+    node: 0,
+    call: Call::Advance { k: 0 },
+    reply: Reply::Done,
+}];
+
+const AWAITED: [Record; 1] = [Record {
+    node: 0,
+    call: Call::Await { k: 0, least: 1 },
+    reply: Reply::Value(1),
+}];
+
+/// Node 1 at its load, and once it asked for the page.
+const LOADING: [Step; 3] = [Step::Turn, Step::Turn, Step::Sends((REQUEST, None))];
+
 /// The reply comes to the node that asked.
+const REPLY_COMES: Growing = Growing {
+    me: 1,
+    text: LOADS,
+    before: &LOADING,
+    comes: Some((REPLY, Some(0))),
+    sends: None,
+    answers: &LOADED,
+};
+
 #[test]
 fn growths_of_a_reply_that_comes(rt: HostRuntime) -> Result<(), Fail> {
-    let growing = Growing {
-        me: 1,
-        text: LOADS,
-        before: &[Step::Turn, Step::Turn, Step::Sends((REQUEST, None))],
-        comes: Some((REPLY, Some(0))),
-        sends: None,
-        answers: &[loaded(1, 8, 64, 0)],
-    };
-    growths_of(&rt, rt.alloc(), &growing)
+    growths_of(&rt, rt.alloc(), &REPLY_COMES)
 }
 
 /// Node 0 advances a count of its own page.
+const ADVANCE: Growing = Growing {
+    me: 0,
+    text: ADVANCES,
+    before: &[],
+    comes: None,
+    sends: None,
+    answers: &ADVANCED,
+};
+
 #[test]
 fn growths_of_an_advance(rt: HostRuntime) -> Result<(), Fail> {
-    let growing = Growing {
-        me: 0,
-        text: ADVANCES,
-        before: &[],
-        comes: None,
-        sends: None,
-        answers: &[advanced(0)],
-    };
-    growths_of(&rt, rt.alloc(), &growing)
+    growths_of(&rt, rt.alloc(), &ADVANCE)
 }
 
 /// Node 1 asks for the page to advance its count.
+const ADVANCE_ASKS: Growing = Growing {
+    me: 1,
+    text: ADVANCES,
+    before: &[],
+    comes: None,
+    sends: Some((FIRST_ASKS, None)),
+    answers: &[],
+};
+
 #[test]
 fn growths_of_an_advance_that_asks(rt: HostRuntime) -> Result<(), Fail> {
-    let growing = Growing {
-        me: 1,
-        text: ADVANCES,
-        before: &[],
-        comes: None,
-        sends: Some((FIRST_ASKS, None)),
-        answers: &[],
-    };
-    growths_of(&rt, rt.alloc(), &growing)
+    growths_of(&rt, rt.alloc(), &ADVANCE_ASKS)
 }
 
-/// Node 0 is at an await that waits, after it gave its page to node 1. The await is tried again, and asks for a
-/// copy.
+/// Node 0 is at an await that waits, and gives its page to node 1.
+const GIVING: [Step; 4] = [
+    Step::Turn,
+    Step::Turn,
+    Step::Comes((FIRST_ASKS, None)),
+    Step::Sends((FIRST_GETS, Some(0))),
+];
+
+/// Then it tries the await again, and asks for a copy.
+const WAITING: [Step; 6] = [
+    Step::Turn,
+    Step::Turn,
+    Step::Comes((FIRST_ASKS, None)),
+    Step::Sends((FIRST_GETS, Some(0))),
+    Step::Turn,
+    Step::Sends((RETRY_ASKS, None)),
+];
+
+/// The await is tried again, and asks for a copy.
+const AWAIT_TRIED: Growing = Growing {
+    me: 0,
+    text: AWAITS,
+    before: &GIVING,
+    comes: None,
+    sends: Some((RETRY_ASKS, None)),
+    answers: &[],
+};
+
 #[test]
 fn growths_of_an_await_tried_again(rt: HostRuntime) -> Result<(), Fail> {
-    let growing = Growing {
-        me: 0,
-        text: AWAITS,
-        before: &[
-            Step::Turn,
-            Step::Turn,
-            Step::Comes((FIRST_ASKS, None)),
-            Step::Sends((FIRST_GETS, Some(0))),
-        ],
-        comes: None,
-        sends: Some((RETRY_ASKS, None)),
-        answers: &[],
-    };
-    growths_of(&rt, rt.alloc(), &growing)
+    growths_of(&rt, rt.alloc(), &AWAIT_TRIED)
 }
 
 /// The copy comes, and the count is high enough.
+const ANSWER_COMES: Growing = Growing {
+    me: 0,
+    text: AWAITS,
+    before: &WAITING,
+    comes: Some((RETRY_GETS, Some(1))),
+    sends: None,
+    answers: &AWAITED,
+};
+
 #[test]
 fn growths_of_an_answer_to_an_await(rt: HostRuntime) -> Result<(), Fail> {
-    let growing = Growing {
-        me: 0,
-        text: AWAITS,
-        before: &[
-            Step::Turn,
-            Step::Turn,
-            Step::Comes((FIRST_ASKS, None)),
-            Step::Sends((FIRST_GETS, Some(0))),
-            Step::Turn,
-            Step::Sends((RETRY_ASKS, None)),
-        ],
-        comes: Some((RETRY_GETS, Some(1))),
-        sends: None,
-        answers: &[awaited(0, 1, 1)],
-    };
-    growths_of(&rt, rt.alloc(), &growing)
+    growths_of(&rt, rt.alloc(), &ANSWER_COMES)
 }
 
 /// Node 1, whose request is on the wire.
@@ -293,7 +321,8 @@ fn asking<A: Allocator + Copy>(alloc: A) -> Result<Site<A>, Fail>
     ensures { IfOk result (λ site. (site.config.nodes ≡ 2) × (site.me ≡ 1)) }
 {
     let mut site = node_of(alloc, 1, LOADS)?;
-    take_turns(&mut site, 2)?;
+    take_turn(&mut site)?;
+    take_turn(&mut site)?;
     let _ = site.take_frame();
     Ok(site)
 }

@@ -59,11 +59,11 @@ fn refused_accesses(rt: HostRuntime) -> Result<(), Fail> {
         &Run {
             config: PAIR,
             text: ACCESSES,
-            stages: &[(&[Move::Turn(0); 10], 0)],
             kinds: &[],
             strings: &[],
             nodes: &[ended(0, &records, &[])],
         },
+        &[(&[Move::Turn(0); 10], 0)],
     )
 }
 
@@ -76,13 +76,6 @@ fn forwarded_read(rt: HostRuntime) -> Result<(), Fail> {
         &Run {
             config: TRIO,
             text: "node 0\nnode 1\nnode 2\nset r1 64\nload 8 r2 r1\nprint r2\n",
-            stages: &[
-                (
-                    &[Move::Turn(2), Move::Turn(2), deliver(0, 1), deliver(1, 0)],
-                    3,
-                ),
-                (&[deliver(2, 2), Move::Turn(2), Move::Turn(2)], 3),
-            ],
             kinds: &[
                 (FrameKind::ReadReq, 2, 1),
                 (FrameKind::ReadReq, 1, 0),
@@ -91,6 +84,13 @@ fn forwarded_read(rt: HostRuntime) -> Result<(), Fail> {
             strings: &[],
             nodes: &[ended(2, &[loaded(2, 8, 64, 0)], &[0])],
         },
+        &[
+            (
+                &[Move::Turn(2), Move::Turn(2), deliver(0, 1), deliver(1, 0)],
+                3,
+            ),
+            (&[deliver(2, 2), Move::Turn(2), Move::Turn(2)], 3),
+        ],
     )
 }
 

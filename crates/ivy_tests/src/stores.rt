@@ -55,11 +55,11 @@ fn local_stores(rt: HostRuntime) -> Result<(), Fail> {
         &Run {
             config: PAIR,
             text: LOCAL,
-            stages: &[(&[Move::Turn(0); 17], 0)],
             kinds: &[],
             strings: &[],
             nodes: &[ended(0, &records, &[144_115_188_075_855_879])],
         },
+        &[(&[Move::Turn(0); 17], 0)],
     )
 }
 
@@ -156,7 +156,6 @@ fn late_read_page(rt: HostRuntime) -> Result<(), Fail> {
         &Run {
             config: TRIO,
             text: LATE,
-            stages: &[(&LATE_MOVES[..10], 6), (&LATE_MOVES[10..], 7)],
             kinds: &[],
             strings: &LATE_SENT,
             nodes: &[
@@ -164,6 +163,7 @@ fn late_read_page(rt: HostRuntime) -> Result<(), Fail> {
                 ended(2, &[loaded(2, 8, 64, 0)], &[0]),
             ],
         },
+        &[(&LATE_MOVES[..10], 6), (&LATE_MOVES[10..], 7)],
     )
 }
 
@@ -182,11 +182,11 @@ fn store_that_waits(rt: HostRuntime) -> Result<(), Fail> {
         &Run {
             config: TRIO,
             text: LATE,
-            stages: &[(&LATE_MOVES[..12], 7)],
             kinds: &[],
             strings: &[],
             nodes: &[waits],
         },
+        &[(&LATE_MOVES[..12], 7)],
     )
 }
 
@@ -256,7 +256,6 @@ fn upgrade_race_of_two(rt: HostRuntime) -> Result<(), Fail> {
         &Run {
             config: PAIR,
             text: UPGRADE_OF_TWO,
-            stages: &[(&UPGRADE_OF_TWO_MOVES, 8)],
             kinds: &[
                 (FrameKind::ReadReq, 1, 0),
                 (FrameKind::ReadRep, 0, 1),
@@ -270,6 +269,7 @@ fn upgrade_race_of_two(rt: HostRuntime) -> Result<(), Fail> {
             strings: &[(5, (given, Some(11)))],
             nodes: &[ended(0, &zero, &[22]), ended(1, &one, &[22])],
         },
+        &[(&UPGRADE_OF_TWO_MOVES, 8)],
     )
 }
 
@@ -341,29 +341,46 @@ const UPGRADE_OF_THREE_KINDS: [(FrameKind, u8, u8); 14] = [
     (FrameKind::ReadRep, 2, 0),
 ];
 
+/// The page as it comes to node 1 and then to node 2.
+const UPGRADE_OF_THREE_SENT: [(usize, Written); 2] = [
+    (
+        7,
+        (
+            "495601040001004e 0000000000000002 0000000000000002 01 0000000000000002 00000001 04",
+            Some(0),
+        ),
+    ),
+    (
+        10,
+        (
+            "495601040102004e 0000000000000002 0000000000000002 02 0000000000000002 00000001 00",
+            Some(11),
+        ),
+    ),
+];
+
+/// Both nodes store over the copy that they loaded from, and node 2 is the last.
+pub(crate) const UPGRADE_SHOWN: [Shown; 3] = [
+    ended!(0, &[loaded!(0, 64, 22)], &[22]),
+    ended!(1, &[loaded!(1, 64, 0), stored!(1, 64, 11)], &[]),
+    ended!(2, &[loaded!(2, 64, 0), stored!(2, 64, 22)], &[]),
+];
+
+const UPGRADE_OF_THREE_RUN: Run = Run {
+    config: TRIO,
+    text: UPGRADE_OF_THREE,
+    kinds: &UPGRADE_OF_THREE_KINDS,
+    strings: &UPGRADE_OF_THREE_SENT,
+    nodes: &UPGRADE_SHOWN,
+};
+
 #[test]
 fn upgrade_race_of_three(rt: HostRuntime) -> Result<(), Fail> {
-    let first =
-        "495601040001004e 0000000000000002 0000000000000002 01 0000000000000002 00000001 04";
-    let second =
-        "495601040102004e 0000000000000002 0000000000000002 02 0000000000000002 00000001 00";
-    let one = [loaded(1, 8, 64, 0), stored(1, 8, 64, 11)];
-    let two = [loaded(2, 8, 64, 0), stored(2, 8, 64, 22)];
     check_run(
         &rt,
         rt.alloc(),
-        &Run {
-            config: TRIO,
-            text: UPGRADE_OF_THREE,
-            stages: &[(&UPGRADE_OF_THREE_MOVES, 14)],
-            kinds: &UPGRADE_OF_THREE_KINDS,
-            strings: &[(7, (first, Some(0))), (10, (second, Some(11)))],
-            nodes: &[
-                ended(0, &[loaded(0, 8, 64, 22)], &[22]),
-                ended(1, &one, &[]),
-                ended(2, &two, &[]),
-            ],
-        },
+        &UPGRADE_OF_THREE_RUN,
+        &[(&UPGRADE_OF_THREE_MOVES, 14)],
     )
 }
 
@@ -474,7 +491,6 @@ fn store_buffering(rt: HostRuntime) -> Result<(), Fail> {
             &Run {
                 config: Config { pages: 3, ..PAIR },
                 text: BUFFERING,
-                stages: &[(moves, sent)],
                 kinds: &[],
                 strings: &[],
                 nodes: &[
@@ -482,6 +498,7 @@ fn store_buffering(rt: HostRuntime) -> Result<(), Fail> {
                     ended(1, &[stored(1, 8, 128, 1), loaded(1, 8, 64, one)], &[one]),
                 ],
             },
+            &[(moves, sent)],
         )?;
     }
     Ok(())
