@@ -1,8 +1,7 @@
 //! Worlds under the dynamic manager: hints that lead to the owner of a page, at once or over other nodes.
 //! One of the worlds is played under the fixed manager too, where the requests go other ways.
 use crate::common::{
-    PAIR, Run, Shown, TRIO, Written, check_run, deliver, ended, ends_of, loaded, play, shows,
-    stored, world,
+    PAIR, Run, Shown, TRIO, Written, check_run, ended, ends_of, loaded, play, shows, stored, world,
 };
 use crate::eight_nodes::deliver_from;
 use crate::stores::UPGRADE_SHOWN;
