@@ -8,6 +8,8 @@
 mod command;
 #[cfg(test)]
 mod examples;
+#[cfg(test)]
+mod examples_of_counts;
 mod failure;
 mod moves;
 #[cfg(test)]

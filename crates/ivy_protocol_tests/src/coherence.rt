@@ -3,11 +3,12 @@ ghost use Rattle.std.specs.Prelude.{◌≡◌, ◌<◌, ◌≤◌, length};
 ghost use Rattle.ivy_wire.specs.Lent.{owned_message};
 ghost use Rattle.ivy_wire.specs.Spelling.{FitsMessage};
 
+use crate::posted::{Posted, parcel};
 use ivy_coherence::{Coherence, Need};
 use ivy_fixed::FixedManager;
-use ivy_model::{Config, Fault, Kind};
+use ivy_model::{Config, Kind};
 use ivy_pagetable::{Out, Word};
-use ivy_wire::{Content, Message, Page, Parcel, Post};
+use ivy_wire::{Content, Message};
 use std::alloc::Global;
 use std::marker::Model;
 use std::process::Abort;
@@ -25,81 +26,6 @@ const TRIO: Config = Config {
 static ZEROS: [u8; 64] = [0; 64];
 
 static ONES: [u8; 64] = [255; 64];
-
-/// Keeps the messages of a node, in order, or refuses them.
-#[derive(Drop)]
-struct Posted {
-    alloc: Global,
-    config: Config,
-    node: u8,
-    parcels: Vec<Parcel<Page<Global>>, Global>,
-    is_full: bool,
-}
-
-impl Model for Posted {
-    ghost use Rattle.std.specs.Prelude.{ℕ, List};
-    ghost use Rattle.ivy_model.specs.declared.Config as declared;
-    ghost use Rattle.ivy_wire.specs.Data as wire;
-
-    ghost Value = { declared.Config × ℕ × List wire.Parcel };
-
-    ghost view = { λ p. (p.config, p.node, p.parcels.items) };
-}
-
-impl Posted {
-    fn node(&self) -> u8
-        ensures { result ≡ self.now.1 }
-    {
-        self.node
-    }
-
-    fn parcels(&self) -> &[Parcel<Page<Global>>]
-        ensures { result.now ≡ self.now.2 }
-    {
-        &self.parcels
-    }
-}
-
-impl Post for Posted {
-    ghost use Rattle.std.specs.Prelude.{◌≡◌, ◌≢◌, [], ◌++◌, refl};
-    ghost use Rattle.std.proofs.Common.{ap, append-nil};
-    ghost use Rattle.ivy_model.specs.declared.Fault.TheVariants.{Memory};
-
-    ghost config = { λ p. p.0 };
-
-    ghost node = { λ p. p.1 };
-
-    ghost takes = { λ p parcels. Unit {0} };
-
-    ghost after = { λ p parcels. (p.0, p.1, p.2 ++ parcels) };
-
-    ghost refuses = { λ p parcels fault. (parcels ≢ []) × (fault ≡ Memory) };
-
-    fn post(&mut self, parcels: &[Parcel<&[u8]>]) -> Result<(), Fault> {
-        if parcels.is_empty() {
-            return Ok(());
-        }
-        if self.is_full {
-            return Err(Fault::Memory);
-        }
-        let mut taken = Vec::new(self.alloc);
-        for parcel in parcels {
-            taken.push(Parcel {
-                source: parcel.source,
-                dest: parcel.dest,
-                message: parcel.message.owned(self.alloc)?,
-            })?;
-        }
-        self.parcels.append(&mut taken)?;
-        Ok(())
-    }
-
-    ghost takes_none = { λ p. tt };
-
-    ghost after_none = { λ p. ap (λ xs. (p.0, p.1, xs)) (append-nil p.2) };
-
-    ghost refuses_none = { λ p fault why. why.0 refl };
-}
 
 /// One of the three nodes, and what it posts.
 #[derive(Drop)]
@@ -135,13 +61,7 @@ impl Node {
         let manager = FixedManager::new(alloc, &TRIO, me)?;
         Ok(Node {
             coherence: Coherence::new(alloc, &TRIO, me, manager)?,
-            posted: Posted {
-                alloc,
-                config: TRIO,
-                node: me,
-                parcels: Vec::new(alloc),
-                is_full: false,
-            },
+            posted: Posted::new(alloc, TRIO, me),
         })
     }
 
@@ -206,33 +126,6 @@ impl Node {
     /// The answer that is there, taken out.
     fn returned(&mut self) -> Option<Out> {
         self.coherence.returned()
-    }
-
-    /// From now on messages are refused, or taken.
-    fn refuse_messages(&mut self, is_full: bool) {
-        self.posted.is_full = is_full;
-    }
-
-    /// Whether this is the message that was posted at this place, from 0.
-    fn has_posted_at(&self, index: usize, wanted: &Parcel<&[u8]>) -> bool {
-        match self.posted.parcels().get(index) {
-            Some(parcel) => {
-                parcel.source == wanted.source
-                    && parcel.dest == wanted.dest
-                    && parcel.message.lent() == wanted.message
-            }
-            None => false,
-        }
-    }
-
-    /// Whether these are all messages that were posted, in order.
-    fn has_posted(&self, wanted: &[Parcel<&[u8]>]) -> bool {
-        for (index, parcel) in wanted.iter().enumerate() {
-            if !self.has_posted_at(index, parcel) {
-                return false;
-            }
-        }
-        self.posted.parcels().len() == wanted.len()
     }
 }
 
@@ -319,14 +212,6 @@ fn acknowledgement<'a>(origin: u8, call: u64) -> Message<&'a [u8]>
     }
 }
 
-fn parcel(source: u8, dest: u8, message: Message<&[u8]>) -> Parcel<&[u8]> {
-    Parcel {
-        source,
-        dest,
-        message,
-    }
-}
-
 /// A node without a copy asks the managing node, and its entry is locked then.
 #[test]
 fn a_read_fault(rt: HostRuntime) -> Result<(), Fail> {
@@ -339,7 +224,7 @@ fn faults_to_read(rt: &impl Abort, node: &mut Node) -> Result<(), Fail> {
     assert_eq!(rt; node.coherence.config(), TRIO);
     assert_eq!(rt; node.load(1, 1)?, Need::Started);
     assert_eq!(rt; node.load(0, 2)?, Need::Busy);
-    assert!(rt; node.has_posted(&[parcel(2, 1, request(2, 1))]));
+    assert!(rt; node.posted.are(&[parcel(2, 1, request(2, 1))]));
     assert_eq!(rt; node.returned(), None);
     Ok(())
 }
@@ -354,7 +239,7 @@ fn an_owner_answers(rt: HostRuntime) -> Result<(), Fail> {
 
 fn answers(rt: &impl Abort, node: &mut Node) -> Result<(), Fail> {
     node.deliver(1, request(2, 7))?;
-    assert!(rt; node.has_posted(&[parcel(0, 2, copy(&ZEROS, 2, 7))]));
+    assert!(rt; node.posted.are(&[parcel(0, 2, copy(&ZEROS, 2, 7))]));
     assert_eq!(rt; node.load(1, 1)?, Need::Have(Out::Value(0)));
     assert_eq!(rt; node.coherence.breaches(), 0);
     Ok(())
@@ -370,7 +255,7 @@ fn a_request_goes_on(rt: HostRuntime) -> Result<(), Fail> {
 
 fn sends_on(rt: &impl Abort, node: &mut Node) -> Result<(), Fail> {
     node.deliver(2, request(2, 7))?;
-    assert!(rt; node.has_posted(&[parcel(1, 0, request(2, 7))]));
+    assert!(rt; node.posted.are(&[parcel(1, 0, request(2, 7))]));
     Ok(())
 }
 
@@ -388,12 +273,15 @@ fn puts_off(rt: &impl Abort, node: &mut Node) -> Result<(), Fail> {
     for call in 1..10u64 {
         node.deliver(2, request(2, call))?;
     }
-    assert!(rt; node.has_posted(&[parcel(1, 0, request(1, 3))]));
+    assert!(rt; node.posted.are(&[parcel(1, 0, request(1, 3))]));
     assert_eq!(rt; node.coherence.breaches(), 1);
     node.deliver(0, copy(&ONES, 1, 3))?;
     assert_eq!(rt; node.posted.parcels().len(), 9);
     for call in 1..9u64 {
-        assert!(rt; node.has_posted_at(call as usize, &parcel(1, 0, request(2, call))));
+        assert!(rt;
+            node.posted
+                .has_at(call as usize, &parcel(1, 0, request(2, call)))
+        );
     }
     let answer = Some(Out::Value(u64::MAX));
     assert_eq!(rt; node.coherence.answer(), answer);
@@ -421,7 +309,7 @@ fn is_sent_forged(rt: &impl Abort, node: &mut Node) -> Result<(), Fail> {
     node.deliver(1, request(2, 2))?;
     assert_eq!(rt; node.coherence.breaches(), 3);
     assert_eq!(rt; node.coherence.answer(), None);
-    assert!(rt; node.has_posted(&[parcel(2, 1, request(2, 2))]));
+    assert!(rt; node.posted.are(&[parcel(2, 1, request(2, 2))]));
     Ok(())
 }
 
@@ -437,7 +325,7 @@ fn a_write_fault(rt: HostRuntime) -> Result<(), Fail> {
 fn faults_to_write(rt: &impl Abort, node: &mut Node) -> Result<(), Fail> {
     assert_eq!(rt; node.store(4)?, Need::Started);
     node.deliver(0, whole(2, 2, 4))?;
-    assert!(rt; node.has_posted(&[parcel(2, 1, write_request(2, 4)), parcel(2, 1, order(2, 4))]));
+    assert!(rt; node.posted.are(&[parcel(2, 1, write_request(2, 4)), parcel(2, 1, order(2, 4))]));
     node.deliver(1, request(1, 9))?;
     assert_eq!(rt; node.coherence.answer(), None);
     node.deliver(1, acknowledgement(2, 4))?;
@@ -459,9 +347,9 @@ fn an_owner_gives_the_page(rt: HostRuntime) -> Result<(), Fail> {
 fn gives_the_page(rt: &impl Abort, node: &mut Node) -> Result<(), Fail> {
     node.deliver(1, request(1, 7))?;
     node.deliver(1, write_request(2, 8))?;
-    assert!(rt; node.has_posted_at(1, &parcel(0, 2, whole(2, 2, 8))));
+    assert!(rt; node.posted.has_at(1, &parcel(0, 2, whole(2, 2, 8))));
     assert_eq!(rt; node.load(1, 1)?, Need::Started);
-    assert!(rt; node.has_posted_at(2, &parcel(0, 1, request(0, 1))));
+    assert!(rt; node.posted.has_at(2, &parcel(0, 1, request(0, 1))));
     Ok(())
 }
 
@@ -477,8 +365,8 @@ fn stores(rt: &impl Abort, node: &mut Node) -> Result<(), Fail> {
     node.deliver(1, request(1, 7))?;
     node.deliver(1, request(2, 7))?;
     assert_eq!(rt; node.store(1)?, Need::Started);
-    assert!(rt; node.has_posted_at(2, &parcel(0, 1, order(0, 1))));
-    assert!(rt; node.has_posted_at(3, &parcel(0, 2, order(0, 1))));
+    assert!(rt; node.posted.has_at(2, &parcel(0, 1, order(0, 1))));
+    assert!(rt; node.posted.has_at(3, &parcel(0, 2, order(0, 1))));
     node.deliver(2, acknowledgement(0, 1))?;
     assert_eq!(rt; node.coherence.answer(), None);
     node.deliver(1, acknowledgement(0, 1))?;
@@ -498,10 +386,10 @@ fn copies_given_up(rt: HostRuntime) -> Result<(), Fail> {
 fn gives_copies_up(rt: &impl Abort, node: &mut Node) -> Result<(), Fail> {
     assert_eq!(rt; node.load(1, 1)?, Need::Started);
     node.deliver(1, order(1, 6))?;
-    assert!(rt; node.has_posted(&[parcel(2, 1, request(2, 1))]));
+    assert!(rt; node.posted.are(&[parcel(2, 1, request(2, 1))]));
     node.deliver(0, copy(&ONES, 2, 1))?;
     assert_eq!(rt; node.returned(), Some(Out::Value(u64::MAX)));
-    assert!(rt; node.has_posted_at(1, &parcel(2, 1, acknowledgement(1, 6))));
+    assert!(rt; node.posted.has_at(1, &parcel(2, 1, acknowledgement(1, 6))));
     assert_eq!(rt; node.load(1, 2)?, Need::Started);
     Ok(())
 }
@@ -518,10 +406,10 @@ fn is_refused(rt: &impl Abort, node: &mut Node) -> Result<(), Fail> {
     node.deliver(1, request(1, 7))?;
     assert_eq!(rt; node.store(1)?, Need::Started);
     node.deliver(2, request(2, 3))?;
-    node.refuse_messages(true);
+    node.posted.refuse(true);
     assert!(rt; node.refuses(1, acknowledgement(0, 1))?);
     assert_eq!(rt; node.coherence.answer(), None);
-    node.refuse_messages(false);
+    node.posted.refuse(false);
     node.deliver(1, acknowledgement(0, 1))?;
     assert_eq!(rt; node.returned(), Some(Out::Done));
     assert_eq!(rt; node.posted.parcels().len(), 3);

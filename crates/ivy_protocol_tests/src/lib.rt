@@ -18,3 +18,5 @@ mod host;
 mod link;
 #[cfg(test)]
 mod memory;
+#[cfg(test)]
+mod posted;

@@ -3,10 +3,11 @@ ghost use Rattle.ivy_model.specs.Legal.{HasWidth};
 ghost use Rattle.ivy_wire.specs.Lent.{owned_message};
 ghost use Rattle.ivy_wire.specs.Spelling.{FitsMessage};
 
+use crate::posted::{Posted, parcel};
 use ivy_fixed::FixedManager;
 use ivy_memory::{Answer, Memory};
-use ivy_model::{Call, Config, Fault, Kind, Reply};
-use ivy_wire::{Content, Message, Page, Parcel, Post};
+use ivy_model::{Call, Config, Kind, Reply};
+use ivy_wire::{Content, Message};
 use std::alloc::Global;
 use std::marker::Model;
 use std::process::Abort;
@@ -24,81 +25,6 @@ const PAIR: Config = Config {
 static ZEROS: [u8; 64] = [0; 64];
 
 static FULL: [u8; 64] = [255; 64];
-
-/// Keeps the messages of a node, in order, or refuses them.
-#[derive(Drop)]
-struct Posted {
-    alloc: Global,
-    config: Config,
-    node: u8,
-    parcels: Vec<Parcel<Page<Global>>, Global>,
-    is_full: bool,
-}
-
-impl Model for Posted {
-    ghost use Rattle.std.specs.Prelude.{ℕ, List};
-    ghost use Rattle.ivy_model.specs.declared.Config as declared;
-    ghost use Rattle.ivy_wire.specs.Data as wire;
-
-    ghost Value = { declared.Config × ℕ × List wire.Parcel };
-
-    ghost view = { λ p. (p.config, p.node, p.parcels.items) };
-}
-
-impl Posted {
-    fn node(&self) -> u8
-        ensures { result ≡ self.now.1 }
-    {
-        self.node
-    }
-
-    fn parcels(&self) -> &[Parcel<Page<Global>>]
-        ensures { result.now ≡ self.now.2 }
-    {
-        &self.parcels
-    }
-}
-
-impl Post for Posted {
-    ghost use Rattle.std.specs.Prelude.{◌≡◌, ◌≢◌, [], ◌++◌, refl};
-    ghost use Rattle.std.proofs.Common.{ap, append-nil};
-    ghost use Rattle.ivy_model.specs.declared.Fault.TheVariants.{Memory};
-
-    ghost config = { λ p. p.0 };
-
-    ghost node = { λ p. p.1 };
-
-    ghost takes = { λ p parcels. Unit {0} };
-
-    ghost after = { λ p parcels. (p.0, p.1, p.2 ++ parcels) };
-
-    ghost refuses = { λ p parcels fault. (parcels ≢ []) × (fault ≡ Memory) };
-
-    fn post(&mut self, parcels: &[Parcel<&[u8]>]) -> Result<(), Fault> {
-        if parcels.is_empty() {
-            return Ok(());
-        }
-        if self.is_full {
-            return Err(Fault::Memory);
-        }
-        let mut taken = Vec::new(self.alloc);
-        for parcel in parcels {
-            taken.push(Parcel {
-                source: parcel.source,
-                dest: parcel.dest,
-                message: parcel.message.owned(self.alloc)?,
-            })?;
-        }
-        self.parcels.append(&mut taken)?;
-        Ok(())
-    }
-
-    ghost takes_none = { λ p. tt };
-
-    ghost after_none = { λ p. ap (λ xs. (p.0, p.1, xs)) (append-nil p.2) };
-
-    ghost refuses_none = { λ p fault why. why.0 refl };
-}
 
 /// One of the two nodes, and what it posts.
 #[derive(Drop)]
@@ -134,13 +60,7 @@ impl Node {
         let manager = FixedManager::new(alloc, &PAIR, me)?;
         Ok(Node {
             memory: Memory::new(alloc, &PAIR, me, manager)?,
-            posted: Posted {
-                alloc,
-                config: PAIR,
-                node: me,
-                parcels: Vec::new(alloc),
-                is_full: false,
-            },
+            posted: Posted::new(alloc, PAIR, me),
         })
     }
 
@@ -188,33 +108,6 @@ impl Node {
         }
         self.memory.handle(from, message, &mut self.posted)?;
         Ok(())
-    }
-
-    /// From now on messages are refused, or taken.
-    fn refuse_messages(&mut self, is_full: bool) {
-        self.posted.is_full = is_full;
-    }
-
-    /// Whether this is the message that was posted at this place, from 0.
-    fn has_posted_at(&self, index: usize, wanted: &Parcel<&[u8]>) -> bool {
-        match self.posted.parcels().get(index) {
-            Some(parcel) => {
-                parcel.source == wanted.source
-                    && parcel.dest == wanted.dest
-                    && parcel.message.lent() == wanted.message
-            }
-            None => false,
-        }
-    }
-
-    /// Whether these are all messages that were posted, in order.
-    fn has_posted(&self, wanted: &[Parcel<&[u8]>]) -> bool {
-        for (index, parcel) in wanted.iter().enumerate() {
-            if !self.has_posted_at(index, parcel) {
-                return false;
-            }
-        }
-        self.posted.parcels().len() == wanted.len()
     }
 }
 
@@ -299,14 +192,6 @@ fn acknowledgement<'a>(origin: u8, call: u64) -> Message<&'a [u8]>
     }
 }
 
-fn parcel(source: u8, dest: u8, message: Message<&[u8]>) -> Parcel<&[u8]> {
-    Parcel {
-        source,
-        dest,
-        message,
-    }
-}
-
 /// An awaited count comes too low. The word is tried again without an answer, and nothing is posted; once the
 /// copy is given up it faults again, under the same number; and the next copy has the count.
 #[test]
@@ -320,7 +205,7 @@ fn an_await_without_a_copy(rt: HostRuntime) -> Result<(), Fail> {
 fn waits_for_a_copy(rt: &impl Abort, node: &mut Node) -> Result<(), Fail> {
     assert_eq!(rt; node.awaits(1, 3)?, Answer::Awaited);
     assert_eq!(rt; node.polls(3)?, Answer::Unserved);
-    assert!(rt; node.has_posted(&[parcel(1, 0, request(1, 3))]));
+    assert!(rt; node.posted.are(&[parcel(1, 0, request(1, 3))]));
     node.deliver(0, copy(&ZEROS, 1, 3))?;
     assert_eq!(rt; node.polls(3)?, Answer::Unserved);
     assert_eq!(rt; node.polls(3)?, Answer::Unserved);
@@ -331,9 +216,9 @@ fn waits_for_a_copy(rt: &impl Abort, node: &mut Node) -> Result<(), Fail> {
 
 fn faults_again(rt: &impl Abort, node: &mut Node) -> Result<(), Fail> {
     node.deliver(0, order(0, 9))?;
-    node.refuse_messages(true);
+    node.posted.refuse(true);
     assert!(rt; node.is_refused(3));
-    node.refuse_messages(false);
+    node.posted.refuse(false);
     assert_eq!(rt; node.polls(3)?, Answer::Awaited);
     assert_eq!(rt; node.polls(3)?, Answer::Unserved);
     let posted = [
@@ -341,7 +226,7 @@ fn faults_again(rt: &impl Abort, node: &mut Node) -> Result<(), Fail> {
         parcel(1, 0, acknowledgement(0, 9)),
         parcel(1, 0, request(1, 3)),
     ];
-    assert!(rt; node.has_posted(&posted));
+    assert!(rt; node.posted.are(&posted));
     node.deliver(0, copy(&FULL, 1, 3))?;
     let reply = Reply::Value(u64::MAX);
     assert_eq!(rt; node.polls(3)?, Answer::Given(reply));
@@ -363,11 +248,11 @@ fn owner_waits(rt: &impl Abort, node: &mut Node) -> Result<(), Fail> {
     assert_eq!(rt; node.awaits(0, 1)?, Answer::Given(Reply::Value(0)));
     assert_eq!(rt; node.awaits(5, 2)?, Answer::Awaited);
     assert_eq!(rt; node.polls(2)?, Answer::Unserved);
-    assert!(rt; node.has_posted(&[]));
+    assert!(rt; node.posted.are(&[]));
     node.deliver(1, write_request(1, 7))?;
     assert_eq!(rt; node.polls(2)?, Answer::Awaited);
     let posted = [parcel(0, 1, whole(1, 7)), parcel(0, 1, request(0, 2))];
-    assert!(rt; node.has_posted(&posted));
+    assert!(rt; node.posted.are(&posted));
     node.deliver(1, copy(&FULL, 0, 2))?;
     assert_eq!(rt; node.polls(2)?, Answer::Given(Reply::Value(u64::MAX)));
     Ok(())

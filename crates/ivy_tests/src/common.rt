@@ -1,10 +1,10 @@
-//! What the tests share: configurations, the first load, and worlds and strings to compare.
+//! What the tests share: configurations, worlds and what they have to show, nodes and strings.
 ghost use Rattle.std.specs.Prelude.{◌≡◌, ◌<◌, length, IfOk, IfErr};
 
 use growths::Refusing;
-use ivy_model::{Config, Fault, Kind, Record, Reply};
+use ivy_model::{Call, Config, Fault, Kind, Record, Reply};
 use ivy_node::{Move, Program, Site, Turn, Verdict, World, parse};
-use ivy_wire::{FrameKind, decode};
+use ivy_wire::{FrameKind, read};
 use std::alloc::{Allocator, Global};
 use std::process::Abort;
 use std::test::Fail;
@@ -30,18 +30,144 @@ pub(crate) const REQUEST: &str =
 pub(crate) const REPLY: &str =
     "495601030001004d 0000000000000001 0000000000000000 01 0000000000000001 00000001";
 
-pub(crate) const ZEROS: [u8; 64] = [0; 64];
+/// A store to an address, which is done.
+pub(crate) fn stored(node: u8, width: u8, addr: u64, value: u64) -> Record {
+    let call = Call::Store { width, addr, value };
+    let reply = Reply::Done;
+    Record { node, call, reply }
+}
+
+/// A load from an address, which is answered a value.
+pub(crate) fn loaded(node: u8, width: u8, addr: u64, value: u64) -> Record {
+    let call = Call::Load { width, addr };
+    let reply = Reply::Value(value);
+    Record { node, call, reply }
+}
+
+/// A call that is refused by this number.
+pub(crate) fn refused(node: u8, call: Call, fault: u8) -> Record {
+    let reply = Reply::Refused(fault);
+    Record { node, call, reply }
+}
+
+/// What a node has to show: all that its program was answered and printed, and whether it has ended.
+#[derive(Clone, Copy)]
+pub(crate) struct Shown<'a> {
+    pub(crate) node: u64,
+    pub(crate) answers: &'a [Record],
+    pub(crate) printed: &'a [u64],
+    pub(crate) ended: bool,
+}
+
+/// What a node shows that has ended.
+pub(crate) fn ended<'a>(node: u64, answers: &'a [Record], printed: &'a [u64]) -> Shown<'a> {
+    Shown {
+        node,
+        answers,
+        printed,
+        ended: true,
+    }
+}
+
+/// A string: hexadecimal words, and then a page where there is one. Its first word is this one, the rest of it is
+/// zeros.
+pub(crate) type Written<'a> = (&'a str, Option<u64>);
+
+/// Programs, and what their world has to show once the moves are made.
+#[derive(Clone, Copy)]
+pub(crate) struct Run<'a> {
+    pub(crate) config: Config,
+    pub(crate) text: &'a str,
+    /// The first strings, each by what it is about, its source and its destination.
+    pub(crate) kinds: &'a [(FrameKind, u8, u8)],
+    /// Some strings by their index.
+    pub(crate) strings: &'a [(usize, Written<'a>)],
+    pub(crate) nodes: &'a [Shown<'a>],
+}
+
+/// Moves, and how many strings were ever sent once they are made.
+pub(crate) type Stage<'a> = (&'a [Move], usize);
 
 /// The world of the programs of a text, as it begins.
 pub(crate) fn world<A: Allocator + Copy>(
     alloc: A,
     config: Config,
     text: &str,
-) -> Result<World<A>, Fault>
-    ensures { IfOk result (λ world. world.config ≡ config) }
+) -> Result<World<A>, Fault> {
+    World::new(alloc, config, parse(alloc, text)?)
+}
+
+/// Makes the moves of a world. Of all that is promised of it, callers need only this.
+pub(crate) fn play<A: Allocator + Copy>(
+    world: &mut World<A>,
+    moves: &[Move],
+) -> Result<(), (usize, Fault)>
+    ensures { IfErr result (λ e. e.0 < length moves.now) }
 {
-    let world = World::new(alloc, config, parse(alloc, text)?)?;
-    Ok(world)
+    world.run(moves)
+}
+
+/// Whether a node shows this.
+pub(crate) fn shows<A: Allocator + Copy>(world: &World<A>, shown: &Shown) -> bool {
+    shown.node < world.nodes()
+        && world.history(shown.node) == shown.answers
+        && world.output(shown.node) == shown.printed
+        && world.ended(shown.node) == shown.ended
+}
+
+fn play_stages<A: Allocator + Copy>(rt: &impl Abort, world: &mut World<A>, stages: &[Stage]) {
+    for (stage, (moves, sent)) in stages.iter().enumerate() {
+        assert_eq!(rt; play(world, moves), Ok(()), "stage {stage}");
+        assert_eq!(rt; world.sent().len(), *sent, "stage {stage}");
+    }
+}
+
+fn check_kinds<A: Allocator + Copy>(rt: &impl Abort, world: &World<A>, run: &Run) {
+    for (sent, kind) in world.sent().iter().zip(run.kinds) {
+        assert_eq!(rt; ends_of(&run.config, sent.bytes()), Ok(*kind));
+    }
+}
+
+fn check_strings<A: Allocator + Copy>(
+    rt: &impl Abort,
+    alloc: A,
+    world: &World<A>,
+    strings: &[(usize, Written)],
+) -> Result<(), Fail> {
+    for (index, written) in strings {
+        assert!(rt; is_sent(alloc, world, *index, *written)?, "string {index}");
+    }
+    Ok(())
+}
+
+fn check_nodes<A: Allocator + Copy>(rt: &impl Abort, world: &World<A>, nodes: &[Shown]) {
+    for shown in nodes {
+        assert!(rt; shows(world, shown), "node {}", shown.node);
+    }
+}
+
+fn check_world<A: Allocator + Copy>(
+    rt: &impl Abort,
+    alloc: A,
+    world: &mut World<A>,
+    run: &Run,
+    stages: &[Stage],
+) -> Result<(), Fail> {
+    play_stages(rt, world, stages);
+    check_nodes(rt, world, run.nodes);
+    check_kinds(rt, world, run);
+    check_strings(rt, alloc, world, run.strings)
+}
+
+/// Makes the moves of a run, and asserts that the world shows what it has to.
+pub(crate) fn check_run<A: Allocator + Copy>(
+    rt: &impl Abort,
+    alloc: A,
+    run: &Run,
+    stages: &[Stage],
+) -> Result<(), Fail> {
+    let mut world = world(alloc, run.config, run.text)?;
+    check_world(rt, alloc, &mut world, run, stages)
 }
 
 /// Node 0 of a configuration, whose program is empty.
@@ -50,30 +176,34 @@ pub(crate) fn owner<A: Allocator + Copy>(alloc: A, config: &Config) -> Result<Si
     Ok(Site::new(alloc, config, 0, Program::new(alloc, Vec::new(alloc)))?)
 }
 
-/// Node 1 at the load of its program.
-pub(crate) fn loading<A: Allocator + Copy>(alloc: A) -> Result<Site<A>, Fail>
-    ensures { IfOk result (λ site. (site.config.nodes ≡ 2) × (site.me ≡ 1)) }
+/// The node of this number of a pair, with the last program of a text.
+pub(crate) fn node_of<A: Allocator + Copy>(alloc: A, me: u8, text: &str) -> Result<Site<A>, Fail>
+    ensures { IfOk result (λ site. (site.config.nodes ≡ 2) × (site.me ≡ me)) }
 {
     PAIR.check()?;
-    let mut programs = parse(alloc, LOADS)?;
-    let program = programs.pop().ok_or("no program")?;
-    let mut site = Site::new(alloc, &PAIR, 1, program)?;
-    site.program_turn()?;
-    Ok(site)
+    if me >= PAIR.nodes {
+        return Err("no such node".into());
+    }
+    let program = parse(alloc, text)?.pop().ok_or("no program")?;
+    Ok(Site::new(alloc, &PAIR, me, program)?)
 }
 
-/// Node 1, which asked for the page that its program loads from.
-pub(crate) fn asking<A: Allocator + Copy>(alloc: A) -> Result<Site<A>, Fail>
-    ensures { IfOk result (λ site. (site.config.nodes ≡ 2) × (site.me ≡ 1)) }
+/// A turn of a node. Of all that is promised of it, callers need only this.
+pub(crate) fn take_turn<A: Allocator + Copy>(site: &mut Site<A>) -> Result<Turn, Fault>
+    ensures { (site.new.config ≡ site.old.config) × (site.new.me ≡ site.old.me) }
 {
-    let mut site = loading(alloc)?;
-    site.program_turn()?;
-    Ok(site)
+    site.program_turn()
 }
 
-/// A turn of a node. Of all that is promised of it, callers need nothing.
-pub(crate) fn take_turn<A: Allocator + Copy>(site: &mut Site<A>) -> Result<Turn, Fault> {
-    site.program_turn()
+/// So many turns of a node.
+pub(crate) fn take_turns<A: Allocator + Copy>(
+    site: &mut Site<A>,
+    number: u64,
+) -> Result<(), Fault> {
+    for _ in 0..number {
+        take_turn(site)?;
+    }
+    Ok(())
 }
 
 /// A string comes to a node. Of all that is promised of it, callers need nothing.
@@ -84,40 +214,54 @@ pub(crate) fn receive<A: Allocator + Copy>(
     site.deliver(bytes)
 }
 
-/// Makes the moves of a world. Of all that is promised of it, callers need only this.
-pub(crate) fn play<A: Allocator + Copy>(
-    world: &mut World<A>,
-    moves: &[Move],
-) -> Result<(), (usize, Fault)>
-    ensures nodes { world.new.config ≡ world.old.config }
-    ensures place { IfErr result (λ e. e.0 < length moves.now) }
-{
-    world.run(moves)
+/// Takes the next string of a node. Whether it is this one.
+pub(crate) fn has_next<A: Allocator + Copy>(
+    alloc: A,
+    site: &mut Site<A>,
+    written: Written,
+) -> Result<bool, Fail> {
+    let wanted = string(alloc, written)?;
+    match site.take_frame() {
+        Some(sent) => Ok(sent.bytes() == wanted.as_slice()),
+        None => Ok(false),
+    }
 }
 
-/// The string that is written as hexadecimal words, and then a page.
-pub(crate) fn string<A: Allocator + Copy>(
+fn add_words<A: Allocator + Copy>(
     alloc: A,
+    string: &mut Vec<u8, A>,
     words: &str,
-    page: &[u8],
-) -> Result<Vec<u8, A>, Fail> {
-    let mut string = Vec::new(alloc);
+) -> Result<(), Fail> {
     for word in words.split(' ') {
         string.extend_from_slice(&hex::decode(alloc, word)?)?;
     }
-    string.extend_from_slice(page)?;
+    Ok(())
+}
+
+fn add_page<A: Allocator>(string: &mut Vec<u8, A>, first: Option<u64>) -> Result<(), Fail> {
+    if let Some(first) = first {
+        string.extend_from_slice(&first.to_be_bytes())?;
+        string.extend_from_slice(&[0; 56])?;
+    }
+    Ok(())
+}
+
+/// The bytes of a string.
+pub(crate) fn string<A: Allocator + Copy>(alloc: A, written: Written) -> Result<Vec<u8, A>, Fail> {
+    let mut string = Vec::new(alloc);
+    add_words(alloc, &mut string, written.0)?;
+    add_page(&mut string, written.1)?;
     Ok(string)
 }
 
-/// Whether the string of this index was sent, and is the one written so.
+/// Whether the string of this index was sent, and is this one.
 pub(crate) fn is_sent<A: Allocator + Copy>(
     alloc: A,
     world: &World<A>,
     index: usize,
-    words: &str,
-    page: &[u8],
+    written: Written,
 ) -> Result<bool, Fail> {
-    let wanted = string(alloc, words, page)?;
+    let wanted = string(alloc, written)?;
     match world.sent().get(index) {
         Some(sent) => Ok(sent.bytes() == wanted.as_slice()),
         None => Ok(false),
@@ -125,54 +269,10 @@ pub(crate) fn is_sent<A: Allocator + Copy>(
 }
 
 /// What a string is about, its source and its destination.
-pub(crate) fn ends_of<A: Allocator + Copy>(
-    alloc: A,
-    config: &Config,
-    bytes: &[u8],
-) -> Result<(FrameKind, u8, u8), Fail> {
+pub(crate) fn ends_of(config: &Config, bytes: &[u8]) -> Result<(FrameKind, u8, u8), Fault> {
     config.check()?;
-    let frame = decode(alloc, config, bytes)?;
-    Ok((frame.lent().kind(), frame.source, frame.dest))
-}
-
-/// Whether the strings sent are these, each by what it is about, its source and its destination.
-pub(crate) fn are_sent<A: Allocator + Copy>(
-    alloc: A,
-    config: &Config,
-    world: &World<A>,
-    wanted: &[(FrameKind, u8, u8)],
-) -> Result<bool, Fail> {
-    if world.sent().len() != wanted.len() {
-        return Ok(false);
-    }
-    for (sent, wanted) in world.sent().iter().zip(wanted) {
-        if ends_of(alloc, config, sent.bytes())? != *wanted {
-            return Ok(false);
-        }
-    }
-    Ok(true)
-}
-
-/// Whether a node was answered so, in order.
-pub(crate) fn is_answered<A: Allocator + Copy>(
-    world: &World<A>,
-    node: u64,
-    records: &[Record],
-) -> bool
-    requires { node < world.now.config.nodes }
-{
-    world.history(node) == records
-}
-
-/// Whether a node's one call was answered the value 0, which it then printed, and has ended.
-pub(crate) fn has_loaded_zero<A: Allocator + Copy>(world: &World<A>, node: u64) -> bool
-    requires { node < world.now.config.nodes }
-{
-    let history = world.history(node);
-    history.len() == 1
-        && history[0].reply == Reply::Value(0)
-        && world.output(node) == [0].as_slice()
-        && world.ended(node)
+    let frame = read(config, bytes)?;
+    Ok((frame.kind(), frame.source, frame.dest))
 }
 
 /// A delivery of the string of this index to a node.

@@ -1,10 +1,9 @@
 //! Eight nodes that all load the same word, under several schedules, and that all store to one page.
-ghost use Rattle.std.specs.Prelude.{◌≡◌, IfOk};
-
-use crate::common::{deliver, has_loaded_zero, is_sent, play, world};
-use ivy_model::{Config, Fault, Kind, Reply};
+use crate::common::{Run, Shown, check_run, deliver, ended, loaded, play, shows, stored, world};
+use ivy_model::{Config, Fault, Kind};
 use ivy_node::{Move, World};
 use std::alloc::{AllocError, Allocator, Global};
+use std::process::Abort;
 use std::test::Fail;
 
 pub(crate) const EIGHT: Config = Config {
@@ -26,22 +25,22 @@ node 7\nset r1 64\nload 8 r2 r1\nprint r2\n";
 /// More strings than these programs send under any schedule here.
 const MANY: u64 = 100;
 
+/// A turn of each node.
+const ALL_TURN: [Move; 8] = [
+    Move::Turn(0),
+    Move::Turn(1),
+    Move::Turn(2),
+    Move::Turn(3),
+    Move::Turn(4),
+    Move::Turn(5),
+    Move::Turn(6),
+    Move::Turn(7),
+];
+
 /// Each node makes two turns.
-fn all_turn<A: Allocator + Copy>(world: &mut World<A>) -> Result<(), (usize, Fault)>
-    ensures { world.new.config ≡ world.old.config }
-{
-    let moves = [
-        Move::Turn(0),
-        Move::Turn(1),
-        Move::Turn(2),
-        Move::Turn(3),
-        Move::Turn(4),
-        Move::Turn(5),
-        Move::Turn(6),
-        Move::Turn(7),
-    ];
-    play(world, &moves)?;
-    play(world, &moves)
+fn all_turn<A: Allocator + Copy>(world: &mut World<A>) -> Result<(), (usize, Fault)> {
+    play(world, &ALL_TURN)?;
+    play(world, &ALL_TURN)
 }
 
 /// The node that a string which was sent is for.
@@ -55,9 +54,7 @@ fn dest_of<A: Allocator + Copy>(world: &World<A>, index: u64) -> Option<u8> {
 pub(crate) fn deliver_from<A: Allocator + Copy>(
     world: &mut World<A>,
     first: u64,
-) -> Result<u64, (usize, Fault)>
-    ensures { world.new.config ≡ world.old.config }
-{
+) -> Result<u64, (usize, Fault)> {
     for index in first..MANY {
         let Some(to) = dest_of(world, index) else {
             return Ok(index);
@@ -71,33 +68,15 @@ pub(crate) fn deliver_from<A: Allocator + Copy>(
 fn deliver_to_all<A: Allocator + Copy>(
     world: &mut World<A>,
     index: u64,
-) -> Result<(), (usize, Fault)>
-    ensures { world.new.config ≡ world.old.config }
-{
-    play(
-        world,
-        &[
-            deliver(index, 0),
-            deliver(index, 1),
-            deliver(index, 2),
-            deliver(index, 3),
-        ],
-    )?;
-    play(
-        world,
-        &[
-            deliver(index, 4),
-            deliver(index, 5),
-            deliver(index, 6),
-            deliver(index, 7),
-        ],
-    )
+) -> Result<(), (usize, Fault)> {
+    for to in 0..8 {
+        play(world, &[deliver(index, to)])?;
+    }
+    Ok(())
 }
 
 /// Delivers each string to every node, in the order sent, until none is new.
-fn deliver_each_to_all<A: Allocator + Copy>(world: &mut World<A>) -> Result<(), (usize, Fault)>
-    ensures { world.new.config ≡ world.old.config }
-{
+fn deliver_each_to_all<A: Allocator + Copy>(world: &mut World<A>) -> Result<(), (usize, Fault)> {
     for index in 0..MANY {
         if dest_of(world, index).is_none() {
             break;
@@ -107,10 +86,22 @@ fn deliver_each_to_all<A: Allocator + Copy>(world: &mut World<A>) -> Result<(), 
     Ok(())
 }
 
+/// All nodes ask before any is answered.
+fn ask_all_first<A: Allocator + Copy>(world: &mut World<A>) -> Result<(), (usize, Fault)> {
+    all_turn(world)?;
+    let _ = deliver_from(world, 0)?;
+    all_turn(world)
+}
+
+/// All nodes ask, and each string goes to every node.
+fn tell_all<A: Allocator + Copy>(world: &mut World<A>) -> Result<(), (usize, Fault)> {
+    all_turn(world)?;
+    deliver_each_to_all(world)?;
+    all_turn(world)
+}
+
 /// Each node goes on to its end before the next one begins.
-fn turn_one_by_one<A: Allocator + Copy>(world: &mut World<A>) -> Result<(), (usize, Fault)>
-    ensures { world.new.config ≡ world.old.config }
-{
+fn turn_one_by_one<A: Allocator + Copy>(world: &mut World<A>) -> Result<(), (usize, Fault)> {
     let mut next = 0;
     for node in 0..8 {
         let turns = [Move::Turn(7 - node), Move::Turn(7 - node)];
@@ -122,48 +113,38 @@ fn turn_one_by_one<A: Allocator + Copy>(world: &mut World<A>) -> Result<(), (usi
 }
 
 /// Whether every node has loaded the value 0, printed it, and ended.
-fn all_have_loaded_zero<A: Allocator + Copy>(world: &World<A>) -> bool
-    requires { world.now.config ≡ EIGHT }
-{
-    for node in 0..8 {
-        if !has_loaded_zero(world, node) {
+fn all_have_loaded_zero<A: Allocator + Copy>(world: &World<A>) -> bool {
+    for node in 0..8u8 {
+        if !shows(
+            world,
+            &ended(u64::from(node), &[loaded(node, 8, 64, 0)], &[0]),
+        ) {
             return false;
         }
     }
     true
 }
 
-fn eight(alloc: Global) -> Result<World<Global>, Fault>
-    ensures { IfOk result (λ world. world.config ≡ EIGHT) }
-{
-    world(alloc, EIGHT, ALL_LOAD)
-}
-
 #[test]
 fn all_ask_before_any_is_answered(rt: HostRuntime) -> Result<(), Fail> {
-    let mut world = eight(rt.alloc())?;
-    all_turn(&mut world)?;
-    let next = deliver_from(&mut world, 0)?;
-    assert!(rt; next < MANY);
-    all_turn(&mut world)?;
+    let mut world = world(rt.alloc(), EIGHT, ALL_LOAD)?;
+    assert_eq!(rt; ask_all_first(&mut world), Ok(()));
     assert!(rt; all_have_loaded_zero(&world));
     Ok(())
 }
 
 #[test]
 fn each_string_goes_to_every_node(rt: HostRuntime) -> Result<(), Fail> {
-    let mut world = eight(rt.alloc())?;
-    all_turn(&mut world)?;
-    deliver_each_to_all(&mut world)?;
-    all_turn(&mut world)?;
+    let mut world = world(rt.alloc(), EIGHT, ALL_LOAD)?;
+    assert_eq!(rt; tell_all(&mut world), Ok(()));
     assert!(rt; all_have_loaded_zero(&world));
     Ok(())
 }
 
 #[test]
 fn one_node_after_another(rt: HostRuntime) -> Result<(), Fail> {
-    let mut world = eight(rt.alloc())?;
-    turn_one_by_one(&mut world)?;
+    let mut world = world(rt.alloc(), EIGHT, ALL_LOAD)?;
+    assert_eq!(rt; turn_one_by_one(&mut world), Ok(()));
     assert!(rt; all_have_loaded_zero(&world));
     Ok(())
 }
@@ -179,34 +160,38 @@ node 5\nset r1 104\nset r2 6\nstore 8 r1 r2
 node 6\nset r1 112\nset r2 7\nstore 8 r1 r2
 node 7\nset r1 120\nload 8 r2 r1\nset r2 8\nstore 8 r1 r2\n";
 
-/// Whether the last answer to every node is that its store is done, and it has ended.
-fn all_have_stored<A: Allocator + Copy>(world: &World<A>) -> bool
-    requires { world.now.config ≡ EIGHT }
-{
-    for node in 0..8 {
-        let Some(last) = world.history(node).last() else {
-            return false;
-        };
-        if last.reply != Reply::Done || !world.ended(node) {
-            return false;
-        }
-    }
-    true
+/// Moves that belong together.
+#[derive(Clone, Copy)]
+pub(crate) enum Part<'a> {
+    /// So many turns of each of these nodes, one node after another.
+    Turns(u64, &'a [u64]),
+    /// A delivery of each string from this one on, to these nodes in order.
+    Strings(u64, &'a [u64]),
 }
 
-/// Adds three turns of each of these nodes, up to its first call or past it.
-fn turn_to_store<A: Allocator + Copy>(
+fn add_turns<A: Allocator>(
     moves: &mut Vec<Move, A>,
-    nodes: &[u64],
+    number: u64,
+    node: u64,
 ) -> Result<(), AllocError> {
-    for node in nodes {
-        moves.extend_from_slice(&[Move::Turn(*node); 3])?;
+    for _ in 0..number {
+        moves.push(Move::Turn(node))?;
     }
     Ok(())
 }
 
-/// Adds a delivery of each string from this one on, to these nodes in order.
-fn deliver_to<A: Allocator + Copy>(
+fn add_all_turns<A: Allocator>(
+    moves: &mut Vec<Move, A>,
+    number: u64,
+    nodes: &[u64],
+) -> Result<(), AllocError> {
+    for node in nodes {
+        add_turns(moves, number, *node)?;
+    }
+    Ok(())
+}
+
+fn add_deliveries<A: Allocator>(
     moves: &mut Vec<Move, A>,
     first: u64,
     nodes: &[u64],
@@ -217,64 +202,105 @@ fn deliver_to<A: Allocator + Copy>(
     Ok(())
 }
 
-/// Adds a turn of every node.
-fn turn_each<A: Allocator + Copy>(moves: &mut Vec<Move, A>) -> Result<(), AllocError> {
-    for node in 0..8 {
-        moves.push(Move::Turn(node))?;
+fn add_parts<A: Allocator>(moves: &mut Vec<Move, A>, parts: &[Part]) -> Result<(), AllocError> {
+    for part in parts {
+        match part {
+            Part::Turns(number, nodes) => add_all_turns(moves, *number, nodes)?,
+            Part::Strings(first, nodes) => add_deliveries(moves, *first, nodes)?,
+        }
     }
     Ok(())
+}
+
+pub(crate) fn moves_of<A: Allocator>(alloc: A, parts: &[Part]) -> Result<Vec<Move, A>, AllocError> {
+    let mut moves = Vec::new(alloc);
+    add_parts(&mut moves, parts)?;
+    Ok(moves)
 }
 
 /// Node 1, which manages the page, gets it from node 0 and waits for node 7 to end its copy. Meanwhile all
 /// others ask node 1 for the page, in this order, so it puts off seven requests. Then it hands the page to the
 /// first of them, and sends each further request on to the node that asked before.
-pub(crate) fn put_off_by_a_writer<A: Allocator + Copy>(
+pub(crate) fn put_off_by_a_writer<A: Allocator>(
     alloc: A,
     order: &[u64; 7],
 ) -> Result<Vec<Move, A>, AllocError> {
-    let mut moves = Vec::new(alloc);
-    turn_to_store(&mut moves, &[7])?;
-    moves.pop();
-    deliver_to(&mut moves, 0, &[1, 0, 7])?;
-    moves.push(Move::Turn(7))?;
-    turn_to_store(&mut moves, &[1])?;
-    deliver_to(&mut moves, 3, &[0, 1])?;
-    turn_to_store(&mut moves, order)?;
-    deliver_to(&mut moves, 6, &[1; 7])?;
-    deliver_to(&mut moves, 5, &[7])?;
-    deliver_to(&mut moves, 13, &[1])?;
-    deliver_to(&mut moves, 14, &order[..1])?;
-    deliver_to(&mut moves, 15, &order[..6])?;
-    deliver_to(&mut moves, 21, &order[1..])?;
-    turn_each(&mut moves)?;
-    Ok(moves)
+    let parts = [
+        Part::Turns(2, &[7]),
+        Part::Strings(0, &[1, 0, 7]),
+        Part::Turns(1, &[7]),
+        Part::Turns(3, &[1]),
+        Part::Strings(3, &[0, 1]),
+        Part::Turns(3, order),
+        Part::Strings(6, &[1; 7]),
+        Part::Strings(5, &[7]),
+        Part::Strings(13, &[1]),
+        Part::Strings(14, &order[..1]),
+        Part::Strings(15, &order[..6]),
+        Part::Strings(21, &order[1..]),
+        Part::Turns(1, &[0, 1, 2, 3, 4, 5, 6, 7]),
+    ];
+    moves_of(alloc, &parts)
 }
 
-/// The page as it comes to the node that asked last: seven words are stored, its own is not.
+/// Each node has stored its number.
+const STORED: [Shown; 8] = [
+    ended!(0, &[stored!(0, 64, 1)], &[]),
+    ended!(1, &[stored!(1, 72, 2)], &[]),
+    ended!(2, &[stored!(2, 80, 3)], &[]),
+    ended!(3, &[stored!(3, 88, 4)], &[]),
+    ended!(4, &[stored!(4, 96, 5)], &[]),
+    ended!(5, &[stored!(5, 104, 6)], &[]),
+    ended!(6, &[stored!(6, 112, 7)], &[]),
+    ended!(7, &[loaded!(7, 120, 0), stored!(7, 120, 8)], &[]),
+];
+
+/// Each order in which the nodes ask, and what is shown then: the last string has the page as it comes to the node
+/// that asked last. Seven words are stored, its own is not.
+const ORDERS: [([u64; 7], Run); 2] = [
+    (
+        [7, 0, 2, 3, 4, 5, 6],
+        Run {
+            config: EIGHT,
+            text: ALL_STORE,
+            kinds: &[],
+            strings: &[(
+                26,
+                (
+                    "495601040506004e 0000000000000001 0000000000000000 06 0000000000000001 00000001 00 \
+         0000000000000001 0000000000000002 0000000000000003 0000000000000004 \
+         0000000000000005 0000000000000006 0000000000000000 0000000000000008",
+                    None,
+                ),
+            )],
+            nodes: &STORED,
+        },
+    ),
+    (
+        [6, 5, 4, 3, 2, 0, 7],
+        Run {
+            config: EIGHT,
+            text: ALL_STORE,
+            kinds: &[],
+            strings: &[(
+                26,
+                (
+                    "495601040007004e 0000000000000002 0000000000000000 07 0000000000000002 00000001 00 \
+         0000000000000001 0000000000000002 0000000000000003 0000000000000004 \
+         0000000000000005 0000000000000006 0000000000000007 0000000000000000",
+                    None,
+                ),
+            )],
+            nodes: &STORED,
+        },
+    ),
+];
+
 #[test]
 fn seven_requests_put_off(rt: HostRuntime) -> Result<(), Fail> {
-    let alloc = rt.alloc();
-    for (order, header, page) in [
-        (
-            [7, 0, 2, 3, 4, 5, 6],
-            "495601040506004e 0000000000000001 0000000000000000 06 0000000000000001 00000001 00",
-            "0000000000000001 0000000000000002 0000000000000003 0000000000000004 \
-             0000000000000005 0000000000000006 0000000000000000 0000000000000008",
-        ),
-        (
-            [6, 5, 4, 3, 2, 0, 7],
-            "495601040007004e 0000000000000002 0000000000000000 07 0000000000000002 00000001 00",
-            "0000000000000001 0000000000000002 0000000000000003 0000000000000004 \
-             0000000000000005 0000000000000006 0000000000000007 0000000000000000",
-        ),
-    ] {
-        let mut world = world(alloc, EIGHT, ALL_STORE)?;
-        let moves = put_off_by_a_writer(alloc, &order)?;
-        play(&mut world, &moves)?;
-        assert_eq!(rt; world.sent().len(), 27);
-        assert!(rt; all_have_stored(&world));
-        let last = format!(in alloc; "{header} {page}")?;
-        assert!(rt; is_sent(alloc, &world, 26, last.as_str(), &[])?);
+    for (order, run) in &ORDERS {
+        let moves = put_off_by_a_writer(rt.alloc(), order)?;
+        check_run(&rt, rt.alloc(), run, &[(&moves, 27)])?;
     }
     Ok(())
 }
@@ -291,43 +317,41 @@ node 7\nset r1 64\nload 8 r2 r1\nprint r2\n";
 
 /// While the page, string 2, is under way to node 2, all others ask for a copy, node 1 last, which manages the
 /// page. So node 2 puts off seven requests, and then gives seven copies.
-pub(crate) fn put_off_while_awaited<A: Allocator + Copy>(
-    alloc: A,
-) -> Result<Vec<Move, A>, AllocError> {
-    let mut moves = Vec::new(alloc);
-    turn_to_store(&mut moves, &[2])?;
-    deliver_to(&mut moves, 0, &[1, 0])?;
-    turn_to_store(&mut moves, &[0, 3, 4, 5, 6, 7])?;
-    deliver_to(&mut moves, 3, &[1; 6])?;
-    turn_to_store(&mut moves, &[1])?;
-    deliver_to(&mut moves, 9, &[2; 7])?;
-    deliver_to(&mut moves, 2, &[2])?;
-    deliver_to(&mut moves, 16, &[0, 3, 4, 5, 6, 7, 1])?;
-    turn_each(&mut moves)?;
-    turn_each(&mut moves)?;
-    Ok(moves)
-}
+pub(crate) const PUT_OFF_WHILE_AWAITED: [Part; 10] = [
+    Part::Turns(3, &[2]),
+    Part::Strings(0, &[1, 0]),
+    Part::Turns(3, &[0, 3, 4, 5, 6, 7]),
+    Part::Strings(3, &[1; 6]),
+    Part::Turns(3, &[1]),
+    Part::Strings(9, &[2; 7]),
+    Part::Strings(2, &[2]),
+    Part::Strings(16, &[0, 3, 4, 5, 6, 7, 1]),
+    Part::Turns(1, &[0, 1, 2, 3, 4, 5, 6, 7]),
+    Part::Turns(1, &[0, 1, 2, 3, 4, 5, 6, 7]),
+];
 
-/// Whether every node has ended, and all but node 2 have printed what it stored.
-fn all_have_loaded_three<A: Allocator + Copy>(world: &World<A>) -> bool
-    requires { world.now.config ≡ EIGHT }
-{
-    for node in 0..8 {
-        let printed: &[u64] = if node == 2 { &[] } else { &[3] };
-        if world.output(node) != printed || !world.ended(node) {
-            return false;
-        }
-    }
-    true
-}
+/// All but node 2 have loaded what it stored.
+const LOADED: [Shown; 8] = [
+    ended!(0, &[loaded!(0, 64, 3)], &[3]),
+    ended!(1, &[loaded!(1, 64, 3)], &[3]),
+    ended!(2, &[stored!(2, 64, 3)], &[]),
+    ended!(3, &[loaded!(3, 64, 3)], &[3]),
+    ended!(4, &[loaded!(4, 64, 3)], &[3]),
+    ended!(5, &[loaded!(5, 64, 3)], &[3]),
+    ended!(6, &[loaded!(6, 64, 3)], &[3]),
+    ended!(7, &[loaded!(7, 64, 3)], &[3]),
+];
+
+const LATE_RUN: Run = Run {
+    config: EIGHT,
+    text: ONE_STORES,
+    kinds: &[],
+    strings: &[],
+    nodes: &LOADED,
+};
 
 #[test]
 fn seven_requests_for_a_page_that_is_late(rt: HostRuntime) -> Result<(), Fail> {
-    let alloc = rt.alloc();
-    let mut world = world(alloc, EIGHT, ONE_STORES)?;
-    let moves = put_off_while_awaited(alloc)?;
-    play(&mut world, &moves)?;
-    assert_eq!(rt; world.sent().len(), 23);
-    assert!(rt; all_have_loaded_three(&world));
-    Ok(())
+    let moves = moves_of(rt.alloc(), &PUT_OFF_WHILE_AWAITED)?;
+    check_run(&rt, rt.alloc(), &LATE_RUN, &[(&moves, 23)])
 }

@@ -1,21 +1,75 @@
-//! Each growth refused in turn in a turn of a node, in the deliveries of a request and of its reply, and in a
-//! pulse. A refused call changes nothing: the node goes on as a twin does that was never refused, to the same
-//! strings.
+//! Each growth refused in turn in a turn of a node, in the delivery of a string and in a pulse: where it loads or
+//! advances a count, at once or by asking for the page, where it tries an await again, and where what comes is
+//! served or answers it. A refused call changes nothing: the node goes on as a twin does that was never refused,
+//! to the same strings and replies.
+ghost use Rattle.std.specs.Prelude.{◌≡◌, IfOk};
+
 use crate::common::{
-    MANY, PAIR, REPLY, REQUEST, ZEROS, asking, is_met, loading, owner, receive, string, take_turn,
+    LOADS, MANY, REPLY, REQUEST, Written, has_next, is_met, node_of, receive, string, take_turn,
 };
+use crate::counts::{FIRST_ASKS, FIRST_GETS, RETRY_ASKS, RETRY_GETS};
 use growths::Refusing;
-use ivy_model::Fault;
+use ivy_model::{Call, Fault, Record, Reply};
 use ivy_node::Site;
 use std::alloc::{Allocator, Global};
 use std::process::Abort;
 use std::test::Fail;
 
-/// A node whose growths are refused, and its twin.
-#[derive(Drop)]
-struct Twins<A: Allocator> {
-    site: Site<A>,
-    twin: Site<A>,
+const EMPTY: &str = "node 0\n";
+
+const ADVANCES: &str = "node 0\nadvance r0\n";
+
+const AWAITS: &str = "node 0\nset r1 1\nawait r2 r0 r1\n";
+
+/// What happens to a node, with no growth refused.
+#[derive(Clone, Copy)]
+enum Step<'a> {
+    Turn,
+    Comes(Written<'a>),
+    /// This is its next string.
+    Sends(Written<'a>),
+}
+
+/// A turn of a node, or a delivery to it, in which growths are refused.
+#[derive(Clone, Copy)]
+struct Growing<'a> {
+    me: u8,
+    /// Its program is the last one of this text.
+    text: &'a str,
+    before: &'a [Step<'a>],
+    /// The string that comes. Where there is none, the node makes a turn.
+    comes: Option<Written<'a>>,
+    /// The string that it sends for it.
+    sends: Option<Written<'a>>,
+    /// What its program was answered after one more turn.
+    answers: &'a [Record],
+}
+
+fn make<A: Allocator + Copy>(alloc: A, site: &mut Site<A>, step: &Step) -> Result<bool, Fail> {
+    match step {
+        Step::Turn => Ok(take_turn(site).is_ok()),
+        Step::Comes(written) => {
+            let given = string(alloc, *written)?;
+            Ok(receive(site, &given).is_ok())
+        }
+        Step::Sends(written) => has_next(alloc, site, *written),
+    }
+}
+
+fn make_all<A: Allocator + Copy>(alloc: A, site: &mut Site<A>, steps: &[Step]) -> Result<(), Fail> {
+    for step in steps {
+        if !make(alloc, site, step)? {
+            return Err("not as it was before".into());
+        }
+    }
+    Ok(())
+}
+
+/// The node before growths are refused.
+fn begun<A: Allocator + Copy>(alloc: A, growing: &Growing) -> Result<Site<A>, Fail> {
+    let mut site = node_of(alloc, growing.me, growing.text)?;
+    make_all(alloc, &mut site, growing.before)?;
+    Ok(site)
 }
 
 /// Whether the nodes show the same, strings aside.
@@ -26,23 +80,9 @@ fn same_sites<A: Allocator + Copy>(one: &Site<A>, other: &Site<A>) -> bool {
         && one.events().len() == other.events().len()
 }
 
-/// Whether the next strings of the nodes are the same, or neither has one.
-fn same_next<A: Allocator + Copy>(one: &mut Site<A>, other: &mut Site<A>) -> bool {
-    match (one.take_frame(), other.take_frame()) {
-        (Some(one), Some(other)) => one.bytes() == other.bytes(),
-        (None, None) => true,
-        _ => false,
-    }
-}
-
-/// Whether the nodes show the same, with the string that each has at most.
-fn same_with_strings<A: Allocator + Copy>(one: &mut Site<A>, other: &mut Site<A>) -> bool {
-    same_sites(one, other) && same_next(one, other) && same_next(one, other)
-}
-
 /// A string comes to a node, or else it makes a turn.
-fn go_on<A: Allocator + Copy>(site: &mut Site<A>, string: Option<&[u8]>) -> Result<(), Fault> {
-    match string {
+fn go_on<A: Allocator + Copy>(site: &mut Site<A>, comes: Option<&[u8]>) -> Result<(), Fault> {
+    match comes {
         Some(bytes) => {
             receive(site, bytes)?;
         }
@@ -53,124 +93,279 @@ fn go_on<A: Allocator + Copy>(site: &mut Site<A>, string: Option<&[u8]>) -> Resu
     Ok(())
 }
 
-/// The node goes on with the n-th growth refused, and then makes a turn. Whether that growth was asked
-/// for.
-fn refused_at<A: Allocator + Copy>(
+/// Both go on, the first with the n-th growth refused, and once more where it was asked for. Whether it was.
+fn go_on_at<A: Allocator + Copy>(
     rt: &impl Abort,
     memory: &Refusing<Global>,
     n: u64,
-    twins: &mut Twins<A>,
-    string: Option<&[u8]>,
-) -> Result<bool, Fail> {
+    comes: Option<&[u8]>,
+    site: &mut Site<A>,
+    twin: &mut Site<A>,
+) -> bool {
     memory.refuse(n);
-    let fault = go_on(&mut twins.site, string).err();
+    let fault = go_on(site, comes).err();
     let met = is_met(rt, memory, n, fault);
     if met {
-        assert!(rt; same_sites(&twins.site, &twins.twin));
-        go_on(&mut twins.site, string)?;
+        assert!(rt; same_sites(site, twin), "growth {n}");
+        if comes.is_some() {
+            assert!(rt; take_turn(site) == take_turn(twin), "growth {n}");
+        }
+        assert_eq!(rt; go_on(site, comes), Ok(()), "growth {n}");
     }
-    go_on(&mut twins.twin, string)?;
-    assert!(rt; take_turn(&mut twins.site)? == take_turn(&mut twins.twin)?);
-    assert!(rt;
-        same_with_strings(&mut twins.site, &mut twins.twin),
-        "growth {n}"
-    );
+    assert_eq!(rt; go_on(twin, comes), Ok(()), "growth {n}");
+    met
+}
+
+/// Asserts what the node sent, and what its program was answered after one more turn.
+fn check_site<A: Allocator + Copy>(
+    rt: &impl Abort,
+    alloc: A,
+    site: &mut Site<A>,
+    growing: &Growing,
+) -> Result<(), Fail> {
+    if let Some(sends) = growing.sends {
+        assert!(rt; has_next(alloc, site, sends)?);
+    }
+    take_turn(site)?;
+    assert!(rt; site.take_frame().is_none());
+    assert!(rt; site.history() == growing.answers);
+    Ok(())
+}
+
+/// The n-th growth is refused. Whether it was asked for.
+fn refused_at(
+    rt: &impl Abort,
+    memory: &Refusing<Global>,
+    n: u64,
+    growing: &Growing,
+    comes: Option<&[u8]>,
+) -> Result<bool, Fail> {
+    let mut site = begun(memory, growing)?;
+    let mut twin = begun(memory, growing)?;
+    let met = go_on_at(rt, memory, n, comes, &mut site, &mut twin);
+    check_site(rt, memory, &mut site, growing)?;
+    check_site(rt, memory, &mut twin, growing)?;
+    assert!(rt; same_sites(&site, &twin), "growth {n}");
     Ok(met)
 }
 
-fn loading_twins<A: Allocator + Copy>(alloc: A) -> Result<Twins<A>, Fail> {
-    let site = loading(alloc)?;
-    let twin = loading(alloc)?;
-    Ok(Twins { site, twin })
+/// Refuses each growth in turn, until one is not asked for.
+fn refuse_each(
+    rt: &impl Abort,
+    memory: &Refusing<Global>,
+    growing: &Growing,
+    comes: Option<&[u8]>,
+) -> Result<(), Fail> {
+    for n in 1..MANY {
+        if !refused_at(rt, memory, n, growing, comes)? {
+            assert!(rt; n > 1);
+            return Ok(());
+        }
+    }
+    Err("no end of growths".into())
 }
 
-fn owning_twins<A: Allocator + Copy>(alloc: A) -> Result<Twins<A>, Fail> {
-    let site = owner(alloc, &PAIR)?;
-    let twin = owner(alloc, &PAIR)?;
-    Ok(Twins { site, twin })
-}
-
-fn asking_twins<A: Allocator + Copy>(alloc: A) -> Result<Twins<A>, Fail> {
-    let site = asking(alloc)?;
-    let twin = asking(alloc)?;
-    Ok(Twins { site, twin })
+fn growths_of(rt: &impl Abort, alloc: Global, growing: &Growing) -> Result<(), Fail> {
+    let memory = Refusing::new(alloc);
+    match growing.comes {
+        Some(written) => {
+            let given = string(alloc, written)?;
+            refuse_each(rt, &memory, growing, Some(&given))
+        }
+        None => refuse_each(rt, &memory, growing, None),
+    }
 }
 
 /// A load faults: the request waits to be put on the wire.
-fn turn_at(rt: &impl Abort, memory: &Refusing<Global>, n: u64) -> Result<bool, Fail> {
-    let mut twins = loading_twins(memory)?;
-    let met = refused_at(rt, memory, n, &mut twins, None)?;
-    Ok(met)
-}
-
-/// The request comes to the owner.
-fn request_at(rt: &impl Abort, memory: &Refusing<Global>, n: u64) -> Result<bool, Fail> {
-    let request = string(memory, REQUEST, &[])?;
-    let mut twins = owning_twins(memory)?;
-    let met = refused_at(rt, memory, n, &mut twins, Some(&request))?;
-    Ok(met)
-}
-
-/// The reply comes to the node that asked.
-fn reply_at(rt: &impl Abort, memory: &Refusing<Global>, n: u64) -> Result<bool, Fail> {
-    let reply = string(memory, REPLY, &ZEROS)?;
-    let mut twins = asking_twins(memory)?;
-    let met = refused_at(rt, memory, n, &mut twins, Some(&reply))?;
-    Ok(met)
-}
-
-/// The request goes to the owner once more.
-fn pulse_at(rt: &impl Abort, memory: &Refusing<Global>, n: u64) -> Result<bool, Fail> {
-    let mut site = asking(memory)?;
-    let mut twin = asking(memory)?;
-    let _ = site.take_frame();
-    let _ = twin.take_frame();
-    memory.refuse(n);
-    let fault = site.pulse(0).err();
-    let met = is_met(rt, memory, n, fault);
-    if met {
-        assert!(rt; same_sites(&site, &twin));
-        site.pulse(0)?;
-    }
-    twin.pulse(0)?;
-    assert!(rt; same_with_strings(&mut site, &mut twin), "growth {n}");
-    Ok(met)
-}
+const TURN: Growing = Growing {
+    me: 1,
+    text: LOADS,
+    before: &[Step::Turn],
+    comes: None,
+    sends: Some((REQUEST, None)),
+    answers: &[],
+};
 
 #[test]
 fn growths_of_a_turn(rt: HostRuntime) -> Result<(), Fail> {
-    let memory = Refusing::new(rt.alloc());
-    for n in 1..MANY {
-        if !turn_at(&rt, &memory, n)? {
-            assert!(rt; n > 1);
-            return Ok(());
-        }
-    }
-    Err("no end of growths".into())
+    growths_of(&rt, rt.alloc(), &TURN)
 }
+
+/// The request comes to the owner.
+const REQUEST_COMES: Growing = Growing {
+    me: 0,
+    text: EMPTY,
+    before: &[],
+    comes: Some((REQUEST, None)),
+    sends: Some((REPLY, Some(0))),
+    answers: &[],
+};
 
 #[test]
 fn growths_of_a_request_that_comes(rt: HostRuntime) -> Result<(), Fail> {
-    let memory = Refusing::new(rt.alloc());
-    for n in 1..MANY {
-        if !request_at(&rt, &memory, n)? {
-            assert!(rt; n > 1);
-            return Ok(());
-        }
-    }
-    Err("no end of growths".into())
+    growths_of(&rt, rt.alloc(), &REQUEST_COMES)
 }
+
+const LOADED: [Record; 1] = [loaded!(1, 64, 0)];
+
+const ADVANCED: [Record; 1] = [Record {
+    node: 0,
+    call: Call::Advance { k: 0 },
+    reply: Reply::Done,
+}];
+
+const AWAITED: [Record; 1] = [Record {
+    node: 0,
+    call: Call::Await { k: 0, least: 1 },
+    reply: Reply::Value(1),
+}];
+
+/// Node 1 at its load, and once it asked for the page.
+const LOADING: [Step; 3] = [Step::Turn, Step::Turn, Step::Sends((REQUEST, None))];
+
+/// The reply comes to the node that asked.
+const REPLY_COMES: Growing = Growing {
+    me: 1,
+    text: LOADS,
+    before: &LOADING,
+    comes: Some((REPLY, Some(0))),
+    sends: None,
+    answers: &LOADED,
+};
 
 #[test]
 fn growths_of_a_reply_that_comes(rt: HostRuntime) -> Result<(), Fail> {
-    let memory = Refusing::new(rt.alloc());
-    for n in 1..MANY {
-        if !reply_at(&rt, &memory, n)? {
-            assert!(rt; n > 1);
-            return Ok(());
-        }
+    growths_of(&rt, rt.alloc(), &REPLY_COMES)
+}
+
+/// Node 0 advances a count of its own page.
+const ADVANCE: Growing = Growing {
+    me: 0,
+    text: ADVANCES,
+    before: &[],
+    comes: None,
+    sends: None,
+    answers: &ADVANCED,
+};
+
+#[test]
+fn growths_of_an_advance(rt: HostRuntime) -> Result<(), Fail> {
+    growths_of(&rt, rt.alloc(), &ADVANCE)
+}
+
+/// Node 1 asks for the page to advance its count.
+const ADVANCE_ASKS: Growing = Growing {
+    me: 1,
+    text: ADVANCES,
+    before: &[],
+    comes: None,
+    sends: Some((FIRST_ASKS, None)),
+    answers: &[],
+};
+
+#[test]
+fn growths_of_an_advance_that_asks(rt: HostRuntime) -> Result<(), Fail> {
+    growths_of(&rt, rt.alloc(), &ADVANCE_ASKS)
+}
+
+/// Node 0 is at an await that waits, and gives its page to node 1.
+const GIVING: [Step; 4] = [
+    Step::Turn,
+    Step::Turn,
+    Step::Comes((FIRST_ASKS, None)),
+    Step::Sends((FIRST_GETS, Some(0))),
+];
+
+/// Then it tries the await again, and asks for a copy.
+const WAITING: [Step; 6] = [
+    Step::Turn,
+    Step::Turn,
+    Step::Comes((FIRST_ASKS, None)),
+    Step::Sends((FIRST_GETS, Some(0))),
+    Step::Turn,
+    Step::Sends((RETRY_ASKS, None)),
+];
+
+/// The await is tried again, and asks for a copy.
+const AWAIT_TRIED: Growing = Growing {
+    me: 0,
+    text: AWAITS,
+    before: &GIVING,
+    comes: None,
+    sends: Some((RETRY_ASKS, None)),
+    answers: &[],
+};
+
+#[test]
+fn growths_of_an_await_tried_again(rt: HostRuntime) -> Result<(), Fail> {
+    growths_of(&rt, rt.alloc(), &AWAIT_TRIED)
+}
+
+/// The copy comes, and the count is high enough.
+const ANSWER_COMES: Growing = Growing {
+    me: 0,
+    text: AWAITS,
+    before: &WAITING,
+    comes: Some((RETRY_GETS, Some(1))),
+    sends: None,
+    answers: &AWAITED,
+};
+
+#[test]
+fn growths_of_an_answer_to_an_await(rt: HostRuntime) -> Result<(), Fail> {
+    growths_of(&rt, rt.alloc(), &ANSWER_COMES)
+}
+
+/// Node 1, whose request is on the wire.
+fn asking<A: Allocator + Copy>(alloc: A) -> Result<Site<A>, Fail>
+    ensures { IfOk result (λ site. (site.config.nodes ≡ 2) × (site.me ≡ 1)) }
+{
+    let mut site = node_of(alloc, 1, LOADS)?;
+    take_turn(&mut site)?;
+    take_turn(&mut site)?;
+    let _ = site.take_frame();
+    Ok(site)
+}
+
+/// Node 1 sends again what it keeps for node 0.
+fn pulse<A: Allocator + Copy>(site: &mut Site<A>) -> Result<(), Fault>
+    requires nodes { site.old.config.nodes ≡ 2 }
+    requires me { site.old.me ≡ 1 }
+    ensures { (site.new.config ≡ site.old.config) × (site.new.me ≡ site.old.me) }
+{
+    site.pulse(0)
+}
+
+/// The request goes to the owner once more.
+fn pulse_of<A: Allocator + Copy>(
+    rt: &impl Abort,
+    memory: &Refusing<Global>,
+    n: u64,
+    site: &mut Site<A>,
+) -> bool
+    requires nodes { site.old.config.nodes ≡ 2 }
+    requires me { site.old.me ≡ 1 }
+{
+    let before = site.events().len();
+    memory.refuse(n);
+    let fault = pulse(site).err();
+    let met = is_met(rt, memory, n, fault);
+    if met {
+        assert!(rt;
+            site.history().is_empty() && site.events().len() == before,
+            "growth {n}"
+        );
+        assert_eq!(rt; pulse(site), Ok(()), "growth {n}");
     }
-    Err("no end of growths".into())
+    met
+}
+
+fn pulse_at(rt: &impl Abort, memory: &Refusing<Global>, n: u64) -> Result<bool, Fail> {
+    let mut site = asking(memory)?;
+    let met = pulse_of(rt, memory, n, &mut site);
+    assert!(rt; has_next(memory, &mut site, (REQUEST, None))?, "growth {n}");
+    assert!(rt; site.take_frame().is_none(), "growth {n}");
+    Ok(met)
 }
 
 #[test]

@@ -1,6 +1,6 @@
 //! Each growth refused in turn where frames are written, read, sent and sent again, in the order checker
 //! and in a page table.
-use crate::common::{MANY, PAIR, REPLY, ZEROS, is_met, string};
+use crate::common::{MANY, PAIR, REPLY, is_met, string};
 use growths::Refusing;
 use ivy_link::Link;
 use ivy_model::{Call, Fault, Record, Reply, check_order};
@@ -11,6 +11,17 @@ use std::process::Abort;
 use std::test::Fail;
 
 const PAGE: [u8; 64] = [7; 64];
+
+/// A call whose growths are refused.
+#[derive(Clone, Copy)]
+enum Growing {
+    Encode,
+    Decode,
+    Send,
+    Pulse,
+    CheckOrder,
+    PageTable,
+}
 
 /// A page for node 1.
 fn message() -> Message<&'static [u8]> {
@@ -44,36 +55,12 @@ fn encode_at(rt: &impl Abort, memory: &Refusing<Global>, n: u64) -> Result<bool,
     Ok(is_met(rt, memory, n, fault))
 }
 
-#[test]
-fn growths_of_encode(rt: HostRuntime) -> Result<(), Fail> {
-    let memory = Refusing::new(rt.alloc());
-    for n in 1..MANY {
-        if !encode_at(&rt, &memory, n)? {
-            assert!(rt; n > 1);
-            return Ok(());
-        }
-    }
-    Err("no end of growths".into())
-}
-
 fn decode_at(rt: &impl Abort, memory: &Refusing<Global>, n: u64) -> Result<bool, Fail> {
-    let string = string(memory, REPLY, &ZEROS)?;
+    let string = string(memory, (REPLY, Some(0)))?;
     PAIR.check()?;
     memory.refuse(n);
     let fault = decode(memory, &PAIR, &string).err();
     Ok(is_met(rt, memory, n, fault))
-}
-
-#[test]
-fn growths_of_decode(rt: HostRuntime) -> Result<(), Fail> {
-    let memory = Refusing::new(rt.alloc());
-    for n in 1..MANY {
-        if !decode_at(&rt, &memory, n)? {
-            assert!(rt; n > 1);
-            return Ok(());
-        }
-    }
-    Err("no end of growths".into())
 }
 
 /// A refused message is sent later, under the number that it would have had.
@@ -96,18 +83,6 @@ fn send_at(rt: &impl Abort, memory: &Refusing<Global>, n: u64) -> Result<bool, F
     Ok(met)
 }
 
-#[test]
-fn growths_of_send(rt: HostRuntime) -> Result<(), Fail> {
-    let memory = Refusing::new(rt.alloc());
-    for n in 1..MANY {
-        if !send_at(&rt, &memory, n)? {
-            assert!(rt; n > 1);
-            return Ok(());
-        }
-    }
-    Err("no end of growths".into())
-}
-
 /// A refused pulse leaves all that is kept.
 fn pulse_at(rt: &impl Abort, memory: &Refusing<Global>, n: u64) -> Result<bool, Fail> {
     let mut link = Link::new(memory, 0, 2)?;
@@ -125,18 +100,6 @@ fn pulse_at(rt: &impl Abort, memory: &Refusing<Global>, n: u64) -> Result<bool, 
     Ok(met)
 }
 
-#[test]
-fn growths_of_pulse(rt: HostRuntime) -> Result<(), Fail> {
-    let memory = Refusing::new(rt.alloc());
-    for n in 1..MANY {
-        if !pulse_at(&rt, &memory, n)? {
-            assert!(rt; n > 1);
-            return Ok(());
-        }
-    }
-    Err("no end of growths".into())
-}
-
 fn check_order_at(rt: &impl Abort, memory: &Refusing<Global>, n: u64) -> Result<bool, Fail> {
     let block = Record {
         node: 1,
@@ -151,18 +114,6 @@ fn check_order_at(rt: &impl Abort, memory: &Refusing<Global>, n: u64) -> Result<
     Ok(met)
 }
 
-#[test]
-fn growths_of_check_order(rt: HostRuntime) -> Result<(), Fail> {
-    let memory = Refusing::new(rt.alloc());
-    for n in 1..MANY {
-        if !check_order_at(&rt, &memory, n)? {
-            assert!(rt; n > 1);
-            return Ok(());
-        }
-    }
-    Err("no end of growths".into())
-}
-
 fn page_table_at(rt: &impl Abort, memory: &Refusing<Global>, n: u64) -> Result<bool, Fail> {
     PAIR.check()?;
     memory.refuse(n);
@@ -170,14 +121,61 @@ fn page_table_at(rt: &impl Abort, memory: &Refusing<Global>, n: u64) -> Result<b
     Ok(is_met(rt, memory, n, fault))
 }
 
-#[test]
-fn growths_of_a_page_table(rt: HostRuntime) -> Result<(), Fail> {
-    let memory = Refusing::new(rt.alloc());
+/// The call with the n-th growth refused. Whether that growth was asked for.
+fn refused_at(
+    rt: &impl Abort,
+    memory: &Refusing<Global>,
+    n: u64,
+    growing: Growing,
+) -> Result<bool, Fail> {
+    match growing {
+        Growing::Encode => encode_at(rt, memory, n),
+        Growing::Decode => decode_at(rt, memory, n),
+        Growing::Send => send_at(rt, memory, n),
+        Growing::Pulse => pulse_at(rt, memory, n),
+        Growing::CheckOrder => check_order_at(rt, memory, n),
+        Growing::PageTable => page_table_at(rt, memory, n),
+    }
+}
+
+/// Refuses each growth in turn, until one is not asked for.
+fn growths_of(rt: &impl Abort, alloc: Global, growing: Growing) -> Result<(), Fail> {
+    let memory = Refusing::new(alloc);
     for n in 1..MANY {
-        if !page_table_at(&rt, &memory, n)? {
+        if !refused_at(rt, &memory, n, growing)? {
             assert!(rt; n > 1);
             return Ok(());
         }
     }
     Err("no end of growths".into())
+}
+
+#[test]
+fn growths_of_encode(rt: HostRuntime) -> Result<(), Fail> {
+    growths_of(&rt, rt.alloc(), Growing::Encode)
+}
+
+#[test]
+fn growths_of_decode(rt: HostRuntime) -> Result<(), Fail> {
+    growths_of(&rt, rt.alloc(), Growing::Decode)
+}
+
+#[test]
+fn growths_of_send(rt: HostRuntime) -> Result<(), Fail> {
+    growths_of(&rt, rt.alloc(), Growing::Send)
+}
+
+#[test]
+fn growths_of_pulse(rt: HostRuntime) -> Result<(), Fail> {
+    growths_of(&rt, rt.alloc(), Growing::Pulse)
+}
+
+#[test]
+fn growths_of_check_order(rt: HostRuntime) -> Result<(), Fail> {
+    growths_of(&rt, rt.alloc(), Growing::CheckOrder)
+}
+
+#[test]
+fn growths_of_a_page_table(rt: HostRuntime) -> Result<(), Fail> {
+    growths_of(&rt, rt.alloc(), Growing::PageTable)
 }

@@ -3,11 +3,9 @@
 //! lead to: turns in which it faults, page requests at the owner and put off, pages with and without copies,
 //! copies that are ended at once and once they came, acknowledgements, the last of them and others, and seven
 //! requests that are put off and then served in one event.
-ghost use Rattle.std.specs.Prelude.{◌≡◌, ◌<◌};
-
-use crate::common::{LOADS, MANY, PAIR, TRIO, deliver, has_loaded_zero, play, pulse, world};
+use crate::common::{LOADS, MANY, PAIR, TRIO, deliver, ended, loaded, play, pulse, shows, world};
 use crate::eight_nodes::{
-    ALL_STORE, EIGHT, ONE_STORES, put_off_by_a_writer, put_off_while_awaited,
+    ALL_STORE, EIGHT, ONE_STORES, PUT_OFF_WHILE_AWAITED, moves_of, put_off_by_a_writer,
 };
 use crate::stores::{
     LATE, LATE_MOVES, UPGRADE_OF_THREE, UPGRADE_OF_THREE_MOVES, UPGRADE_OF_TWO,
@@ -47,20 +45,17 @@ fn same_sent<A: Allocator + Copy>(one: &World<A>, other: &World<A>) -> bool {
             .all(|(one, other)| one.bytes() == other.bytes())
 }
 
-/// Whether a node shows the same in both worlds.
-fn same_node<A: Allocator + Copy>(one: &World<A>, other: &World<A>, node: u64) -> bool
-    requires one { node < one.now.config.nodes }
-    requires other { node < other.now.config.nodes }
-{
-    one.history(node) == other.history(node)
+/// Whether a node of two nodes or more shows the same in both worlds.
+fn same_node<A: Allocator + Copy>(one: &World<A>, other: &World<A>, node: u64) -> bool {
+    node < one.nodes()
+        && node < other.nodes()
+        && one.history(node) == other.history(node)
         && one.output(node) == other.output(node)
         && one.ended(node) == other.ended(node)
 }
 
 /// Whether two worlds of the same configuration show the same.
-fn same_worlds<A: Allocator + Copy>(one: &World<A>, other: &World<A>) -> bool
-    requires { one.now.config ≡ other.now.config }
-{
+fn same_worlds<A: Allocator + Copy>(one: &World<A>, other: &World<A>) -> bool {
     for node in 0..one.nodes() {
         if !same_node(one, other, node) {
             return false;
@@ -71,7 +66,7 @@ fn same_worlds<A: Allocator + Copy>(one: &World<A>, other: &World<A>) -> bool
 
 /// Programs, and moves that lead them to their end.
 #[derive(Clone, Copy)]
-struct Run<'a> {
+struct Growing<'a> {
     config: Config,
     text: &'a str,
     moves: &'a [Move],
@@ -79,30 +74,57 @@ struct Run<'a> {
 
 /// Plays the moves in two worlds, in one of them with the n-th growth refused. Whether that growth was asked
 /// for.
-fn run_at(rt: &impl Abort, memory: &Refusing<Global>, n: u64, run: &Run) -> Result<bool, Fail> {
-    let mut refused = world(memory, run.config, run.text)?;
-    let mut twin = world(memory, run.config, run.text)?;
+fn refused_of<A: Allocator + Copy>(
+    rt: &impl Abort,
+    memory: &Refusing<Global>,
+    n: u64,
+    moves: &[Move],
+    refused: &mut World<A>,
+    twin: &mut World<A>,
+) -> bool {
     memory.refuse(n);
-    let answer = play(&mut refused, run.moves);
+    let answer = play(refused, moves);
     let met = memory.asked(n) >= n;
     memory.refuse(0);
     let Err((place, fault)) = answer else {
-        return Ok(met);
+        return met;
     };
     assert!(rt; met && fault == Fault::Memory, "growth {n}");
-    assert!(rt; play(&mut twin, &run.moves[..place]).is_ok());
-    assert!(rt; same_worlds(&refused, &twin), "growth {n}");
-    assert!(rt; play(&mut refused, &run.moves[place..]).is_ok());
-    assert!(rt; play(&mut twin, &run.moves[place..]).is_ok());
-    assert!(rt; same_worlds(&refused, &twin), "growth {n}");
-    Ok(true)
+    assert!(rt; play(twin, &moves[..place]).is_ok(), "growth {n}");
+    assert!(rt; same_worlds(refused, twin), "growth {n}");
+    check_rest(rt, &moves[place..], refused, twin);
+    true
 }
 
-/// Refuses each growth of a run in turn, until one is not asked for. How many were asked for.
-fn growths_of(rt: &impl Abort, memory: &Refusing<Global>, run: &Run) -> Result<u64, Fail> {
+/// Both worlds go on to the same end.
+fn check_rest<A: Allocator + Copy>(
+    rt: &impl Abort,
+    moves: &[Move],
+    refused: &mut World<A>,
+    twin: &mut World<A>,
+) {
+    assert!(rt; play(refused, moves).is_ok());
+    assert!(rt; play(twin, moves).is_ok());
+    assert!(rt; same_worlds(refused, twin));
+}
+
+fn refused_at(
+    rt: &impl Abort,
+    memory: &Refusing<Global>,
+    n: u64,
+    growing: &Growing,
+) -> Result<bool, Fail> {
+    let mut refused = world(memory, growing.config, growing.text)?;
+    let mut twin = world(memory, growing.config, growing.text)?;
+    Ok(refused_of(rt, memory, n, growing.moves, &mut refused, &mut twin))
+}
+
+/// Refuses each growth of a run in turn, until one is not asked for.
+fn growths_of(rt: &impl Abort, memory: &Refusing<Global>, growing: &Growing) -> Result<(), Fail> {
     for n in 1..MANY_IN_A_RUN {
-        if !run_at(rt, memory, n, run)? {
-            return Ok(n - 1);
+        if !refused_at(rt, memory, n, growing)? {
+            assert!(rt; n > 1);
+            return Ok(());
         }
     }
     Err("no end of growths".into())
@@ -111,63 +133,72 @@ fn growths_of(rt: &impl Abort, memory: &Refusing<Global>, run: &Run) -> Result<u
 #[test]
 fn growths_of_runs(rt: HostRuntime) -> Result<(), Fail> {
     let seven_put_off = put_off_by_a_writer(rt.alloc(), &[7, 0, 2, 3, 4, 5, 6])?;
-    let seven_copies = put_off_while_awaited(rt.alloc())?;
+    let seven_copies = moves_of(rt.alloc(), &PUT_OFF_WHILE_AWAITED)?;
     let memory = Refusing::new(rt.alloc());
-    for run in [
-        Run {
+    for growing in [
+        Growing {
             config: PAIR,
             text: LOADS,
             moves: &MOVES,
         },
-        Run {
+        Growing {
             config: PAIR,
             text: UPGRADE_OF_TWO,
             moves: &UPGRADE_OF_TWO_MOVES,
         },
-        Run {
+        Growing {
             config: TRIO,
             text: UPGRADE_OF_THREE,
             moves: &UPGRADE_OF_THREE_MOVES,
         },
-        Run {
+        Growing {
             config: TRIO,
             text: LATE,
             moves: &LATE_MOVES,
         },
-        Run {
+        Growing {
             config: EIGHT,
             text: ALL_STORE,
             moves: &seven_put_off,
         },
-        Run {
+        Growing {
             config: EIGHT,
             text: ONE_STORES,
             moves: &seven_copies,
         },
     ] {
-        assert!(rt; growths_of(&rt, &memory, &run)? > 0);
+        growths_of(&rt, &memory, &growing)?;
     }
     Ok(())
 }
 
 /// A pulse and the delivery of what it sends replace the delivery that was refused.
-fn replaced_at(rt: &impl Abort, memory: &Refusing<Global>, n: u64) -> Result<bool, Fail> {
-    let mut world = world(memory, PAIR, LOADS)?;
-    assert!(rt; play(&mut world, &[Move::Turn(1), Move::Turn(1)]).is_ok());
+fn replaced_of<A: Allocator + Copy>(
+    rt: &impl Abort,
+    memory: &Refusing<Global>,
+    n: u64,
+    world: &mut World<A>,
+) -> bool {
+    assert!(rt; play(world, &[Move::Turn(1), Move::Turn(1)]).is_ok());
     memory.refuse(n);
-    let answer = play(&mut world, &[deliver(0, 0)]);
+    let answer = play(world, &[deliver(0, 0)]);
     let met = memory.asked(n) >= n;
     memory.refuse(0);
     if !met {
         assert!(rt; answer.is_ok());
-        return Ok(false);
+        return false;
     }
     assert!(rt; answer == Err((0, Fault::Memory)) && world.sent().len() == 1);
-    assert!(rt; play(&mut world, &[pulse(1, 0), deliver(1, 0), deliver(2, 1)]).is_ok());
+    assert!(rt; play(world, &[pulse(1, 0), deliver(1, 0), deliver(2, 1)]).is_ok());
     assert!(rt; world.sent().len() == 3);
-    assert!(rt; play(&mut world, &[Move::Turn(1), Move::Turn(1)]).is_ok());
-    assert!(rt; has_loaded_zero(&world, 1));
-    Ok(true)
+    assert!(rt; play(world, &[Move::Turn(1), Move::Turn(1)]).is_ok());
+    assert!(rt; shows(world, &ended(1, &[loaded(1, 8, 64, 0)], &[0])));
+    true
+}
+
+fn replaced_at(rt: &impl Abort, memory: &Refusing<Global>, n: u64) -> Result<bool, Fail> {
+    let mut world = world(memory, PAIR, LOADS)?;
+    Ok(replaced_of(rt, memory, n, &mut world))
 }
 
 #[test]

@@ -5,8 +5,54 @@
 //! contract says: the bytes of the worked examples, and that a call can succeed, and go on after a refusal.
 #![tactic(auto)]
 
+/// A store that is done, in the value of a constant.
+#[cfg(test)]
+macro_rules! stored {
+    ($node:expr, $addr:expr, $value:expr) => {
+        ivy_model::Record {
+            node: $node,
+            call: ivy_model::Call::Store {
+                width: 8,
+                addr: $addr,
+                value: $value,
+            },
+            reply: ivy_model::Reply::Done,
+        }
+    };
+}
+
+/// A load that is answered a value, in the value of a constant.
+#[cfg(test)]
+macro_rules! loaded {
+    ($node:expr, $addr:expr, $value:expr) => {
+        ivy_model::Record {
+            node: $node,
+            call: ivy_model::Call::Load {
+                width: 8,
+                addr: $addr,
+            },
+            reply: ivy_model::Reply::Value($value),
+        }
+    };
+}
+
+/// What a node shows that has ended, in the value of a constant.
+#[cfg(test)]
+macro_rules! ended {
+    ($node:expr, $answers:expr, $printed:expr) => {
+        crate::common::Shown {
+            node: $node,
+            answers: $answers,
+            printed: $printed,
+            ended: true,
+        }
+    };
+}
+
 #[cfg(test)]
 mod common;
+#[cfg(test)]
+mod counts;
 #[cfg(test)]
 mod dynamic;
 #[cfg(test)]

@@ -1,150 +1,246 @@
 //! One node that is handed strings, well spelled, forged and broken.
+ghost use Rattle.std.specs.Prelude.{◌<◌};
+
 use crate::common::{
-    PAIR, REPLY, REQUEST, TRIO, ZEROS, asking, ends_of, owner, receive, string, take_turn,
+    LOADS, PAIR, REPLY, REQUEST, TRIO, Written, ends_of, has_next, node_of, owner, receive, string,
+    take_turn, take_turns,
 };
 use ivy_model::{Config, Fault};
 use ivy_node::{Site, Turn, Verdict};
 use ivy_wire::FrameKind;
-use std::alloc::Global;
+use std::alloc::Allocator;
 use std::process::Abort;
 use std::test::Fail;
 
-/// What the next string of a site is about, its source and its destination.
-fn next_frame(
-    alloc: Global,
-    config: &Config,
-    site: &mut Site<Global>,
-) -> Result<Option<(FrameKind, u8, u8)>, Fail> {
-    match site.take_frame() {
-        Some(sent) => Ok(Some(ends_of(alloc, config, sent.bytes())?)),
-        None => Ok(None),
-    }
-}
+/// A string, and how it is answered.
+type Row<'a> = (Written<'a>, Result<Verdict, Fault>);
 
 /// That each string is answered so, in order, by one site.
-fn answers(
+fn check_answers<A: Allocator + Copy>(
     rt: &impl Abort,
-    alloc: Global,
-    site: &mut Site<Global>,
-    rows: &[(&str, Result<Verdict, Fault>)],
+    alloc: A,
+    site: &mut Site<A>,
+    rows: &[Row],
 ) -> Result<(), Fail> {
-    for (words, answer) in rows {
-        let string = string(alloc, words, &[])?;
-        assert!(rt; receive(site, &string) == *answer, "{words}");
+    for (written, answer) in rows {
+        let given = string(alloc, *written)?;
+        assert!(rt; receive(site, &given) == *answer, "{}", written.0);
     }
+    Ok(())
+}
+
+/// What the next string of a site is about, its source and its destination.
+fn next_ends<A: Allocator + Copy>(
+    config: &Config,
+    site: &mut Site<A>,
+) -> Option<Result<(FrameKind, u8, u8), Fault>> {
+    let sent = site.take_frame()?;
+    Some(ends_of(config, sent.bytes()))
+}
+
+const REFUSED: [Row; 12] = [
+    (
+        (
+            "495601010100000d 0000000000000001 0000000000000000 01 0000000000000001 000000",
+            None,
+        ),
+        Err(Fault::ShortFrame),
+    ),
+    (
+        (
+            "495601010100000d 0000000000000001 0000000000000000 01 0000000000000001 0000000100",
+            None,
+        ),
+        Err(Fault::BadBody),
+    ),
+    (("", None), Err(Fault::ShortFrame)),
+    (
+        (
+            "485601010100000d 0000000000000001 0000000000000000 01 0000000000000001 00000001",
+            None,
+        ),
+        Err(Fault::BadMagic),
+    ),
+    (
+        (
+            "495602010100000d 0000000000000001 0000000000000000 01 0000000000000001 00000001",
+            None,
+        ),
+        Err(Fault::BadVersion),
+    ),
+    (
+        (
+            "4956010b0100000d 0000000000000001 0000000000000000 01 0000000000000001 00000001",
+            None,
+        ),
+        Err(Fault::BadKind),
+    ),
+    (
+        (
+            "495601010200000d 0000000000000001 0000000000000000 01 0000000000000001 00000001",
+            None,
+        ),
+        Err(Fault::BadNode),
+    ),
+    (
+        (
+            "495601010000000d 0000000000000001 0000000000000000 01 0000000000000001 00000001",
+            None,
+        ),
+        Err(Fault::BadNode),
+    ),
+    (
+        (
+            "495601010100000d 0000000000000001 0000000000000000 01 0000000000000001 00000002",
+            None,
+        ),
+        Err(Fault::BadBody),
+    ),
+    (
+        (
+            "495601010100000d 0000000000000001 0000000000000000 02 0000000000000001 00000001",
+            None,
+        ),
+        Err(Fault::BadBody),
+    ),
+    ((REQUEST, None), Ok(Verdict::Next)),
+    ((REQUEST, None), Ok(Verdict::Repeat)),
+];
+
+/// The rows at node 0 of a configuration, and then what its strings are about, its source and its destination,
+/// in the order in which they were made.
+fn check_owner<A: Allocator + Copy>(
+    rt: &impl Abort,
+    alloc: A,
+    config: &Config,
+    rows: &[Row],
+    sent: &[(FrameKind, u8, u8)],
+) -> Result<(), Fail> {
+    let mut site = owner(alloc, config)?;
+    check_site(rt, alloc, config, &mut site, rows, sent)
+}
+
+fn check_site<A: Allocator + Copy>(
+    rt: &impl Abort,
+    alloc: A,
+    config: &Config,
+    site: &mut Site<A>,
+    rows: &[Row],
+    sent: &[(FrameKind, u8, u8)],
+) -> Result<(), Fail> {
+    check_answers(rt, alloc, site, rows)?;
+    for ends in sent {
+        assert_eq!(rt; next_ends(config, site), Some(Ok(*ends)));
+    }
+    assert!(rt; site.take_frame().is_none());
     Ok(())
 }
 
 #[test]
 fn refused_strings(rt: HostRuntime) -> Result<(), Fail> {
-    let alloc = rt.alloc();
-    let mut site = owner(alloc, &PAIR)?;
-    let rows = [
-        (
-            "495601010100000d 0000000000000001 0000000000000000 01 0000000000000001 000000",
-            Err(Fault::ShortFrame),
-        ),
-        (
-            "495601010100000d 0000000000000001 0000000000000000 01 0000000000000001 0000000100",
-            Err(Fault::BadBody),
-        ),
-        ("", Err(Fault::ShortFrame)),
-        (
-            "485601010100000d 0000000000000001 0000000000000000 01 0000000000000001 00000001",
-            Err(Fault::BadMagic),
-        ),
-        (
-            "495602010100000d 0000000000000001 0000000000000000 01 0000000000000001 00000001",
-            Err(Fault::BadVersion),
-        ),
-        (
-            "4956010b0100000d 0000000000000001 0000000000000000 01 0000000000000001 00000001",
-            Err(Fault::BadKind),
-        ),
-        (
-            "495601010200000d 0000000000000001 0000000000000000 01 0000000000000001 00000001",
-            Err(Fault::BadNode),
-        ),
-        (
-            "495601010000000d 0000000000000001 0000000000000000 01 0000000000000001 00000001",
-            Err(Fault::BadNode),
-        ),
-        (
-            "495601010100000d 0000000000000001 0000000000000000 01 0000000000000001 00000002",
-            Err(Fault::BadBody),
-        ),
-        (
-            "495601010100000d 0000000000000001 0000000000000000 02 0000000000000001 00000001",
-            Err(Fault::BadBody),
-        ),
-        (REQUEST, Ok(Verdict::Next)),
-        (REQUEST, Ok(Verdict::Repeat)),
-    ];
-    answers(&rt, rt.alloc(), &mut site, &rows)?;
-    let replied = next_frame(alloc, &PAIR, &mut site)?;
-    assert!(rt; replied == Some((FrameKind::ReadRep, 0, 1)));
-    assert!(rt; site.take_frame().is_none());
-    Ok(())
+    check_owner(
+        &rt,
+        rt.alloc(),
+        &PAIR,
+        &REFUSED,
+        &[(FrameKind::ReadRep, 0, 1)],
+    )
 }
+
+/// A page that nobody asked for.
+const FORGED_PAGE: Written = (
+    "495601030100004d 0000000000000001 0000000000000000 00 0000000000000001 00000001 \
+     ffffffffffffffff ffffffffffffffff ffffffffffffffff ffffffffffffffff \
+     ffffffffffffffff ffffffffffffffff ffffffffffffffff ffffffffffffffff",
+    None,
+);
+
+const FORGED: [Row; 5] = [
+    (FORGED_PAGE, Ok(Verdict::Next)),
+    (FORGED_PAGE, Ok(Verdict::Repeat)),
+    (
+        (
+            "495601050100000d 0000000000000002 0000000000000000 01 0000000000000001 00000001",
+            None,
+        ),
+        Ok(Verdict::Next),
+    ),
+    (
+        (
+            "495601010100000d 0000000000000003 0000000000000000 00 0000000000000001 00000001",
+            None,
+        ),
+        Ok(Verdict::Next),
+    ),
+    (
+        (
+            "495601010100000d 0000000000000005 0000000000000000 01 0000000000000001 00000001",
+            None,
+        ),
+        Ok(Verdict::Ahead),
+    ),
+];
 
 /// Messages that fit no rule are taken in their order, and answered nothing.
 #[test]
 fn forged_messages(rt: HostRuntime) -> Result<(), Fail> {
-    let mut site = owner(rt.alloc(), &PAIR)?;
-    let page = "495601030100004d 0000000000000001 0000000000000000 00 0000000000000001 00000001";
-    let forged = string(rt.alloc(), page, &[255; 64])?;
-    assert!(rt; receive(&mut site, &forged) == Ok(Verdict::Next));
-    assert!(rt; receive(&mut site, &forged) == Ok(Verdict::Repeat));
+    check_owner(&rt, rt.alloc(), &PAIR, &FORGED, &[])
+}
+
+/// The strings of a site are taken out in the order in which they were made.
+#[test]
+fn order_of_strings(rt: HostRuntime) -> Result<(), Fail> {
+    let second = "495601010200000d 0000000000000001 0000000000000000 02 0000000000000001 00000001";
     let rows = [
-        (
-            "495601050100000d 0000000000000002 0000000000000000 01 0000000000000001 00000001",
-            Ok(Verdict::Next),
-        ),
-        (
-            "495601010100000d 0000000000000003 0000000000000000 00 0000000000000001 00000001",
-            Ok(Verdict::Next),
-        ),
-        (
-            "495601010100000d 0000000000000005 0000000000000000 01 0000000000000001 00000001",
-            Ok(Verdict::Ahead),
-        ),
+        ((second, None), Ok(Verdict::Next)),
+        ((REQUEST, None), Ok(Verdict::Next)),
     ];
-    answers(&rt, rt.alloc(), &mut site, &rows)?;
-    assert!(rt; site.take_frame().is_none());
+    let sent = [(FrameKind::ReadRep, 0, 2), (FrameKind::ReadRep, 0, 1)];
+    check_owner(&rt, rt.alloc(), &TRIO, &rows, &sent)
+}
+
+/// The request, with an acknowledgement of what was never sent. The reply answers it as it answers the request.
+fn check_forged<A: Allocator + Copy>(
+    rt: &impl Abort,
+    alloc: A,
+    site: &mut Site<A>,
+) -> Result<(), Fail> {
+    let forged = "495601010100000d 0000000000000001 0000000000000009 01 0000000000000001 00000001";
+    check_answers(rt, alloc, site, &[((forged, None), Ok(Verdict::Next))])?;
+    assert!(rt; has_next(alloc, site, (REPLY, Some(0)))?);
     Ok(())
 }
 
-/// An acknowledgement of what was never sent is ignored: a pulse sends the reply again, which acknowledges
-/// the request.
 #[test]
 fn forged_acknowledgement(rt: HostRuntime) -> Result<(), Fail> {
     let mut site = owner(rt.alloc(), &PAIR)?;
-    let rows = [(
-        "495601010100000d 0000000000000001 0000000000000009 01 0000000000000001 00000001",
-        Ok(Verdict::Next),
-    )];
-    answers(&rt, rt.alloc(), &mut site, &rows)?;
-    let first = string(rt.alloc(), REPLY, &ZEROS)?;
-    assert!(rt;
-        site.take_frame()
-            .is_some_and(|sent| sent.bytes() == first.as_slice())
-    );
-    Ok(())
+    check_forged(&rt, rt.alloc(), &mut site)
+}
+
+/// That each beginning of a string is too short.
+fn check_beginnings<A: Allocator + Copy>(rt: &impl Abort, site: &mut Site<A>, bytes: &[u8]) {
+    for len in 0..bytes.len() {
+        assert!(rt; receive(site, &bytes[..len]) == Err(Fault::ShortFrame));
+    }
+}
+
+/// Node 1 goes on to its end once the reply comes.
+fn ends_with<A: Allocator + Copy>(rt: &impl Abort, site: &mut Site<A>, reply: &[u8]) {
+    assert!(rt; receive(site, reply) == Ok(Verdict::Next));
+    assert!(rt; take_turn(site) == Ok(Turn::Moved));
+    assert!(rt; take_turn(site) == Ok(Turn::Moved));
+    assert!(rt; take_turn(site) == Ok(Turn::Ended));
+    assert!(rt; site.output() == [0].as_slice());
 }
 
 /// Each beginning of the reply is too short, and the reply itself carries out the load.
 #[test]
 fn beginnings_of_a_string(rt: HostRuntime) -> Result<(), Fail> {
-    let mut site = asking(rt.alloc())?;
-    let reply = string(rt.alloc(), REPLY, &ZEROS)?;
-    for len in 0..reply.len() {
-        assert!(rt; receive(&mut site, &reply[..len]) == Err(Fault::ShortFrame));
-    }
-    assert!(rt; receive(&mut site, &reply) == Ok(Verdict::Next));
-    assert!(rt; take_turn(&mut site) == Ok(Turn::Moved));
-    assert!(rt; take_turn(&mut site) == Ok(Turn::Moved));
-    assert!(rt; take_turn(&mut site) == Ok(Turn::Ended));
-    assert!(rt; site.output() == [0].as_slice());
+    let reply = string(rt.alloc(), (REPLY, Some(0)))?;
+    let mut site = node_of(rt.alloc(), 1, LOADS)?;
+    assert_eq!(rt; take_turns(&mut site, 2), Ok(()));
+    check_beginnings(&rt, &mut site, &reply);
+    ends_with(&rt, &mut site, &reply);
     Ok(())
 }
 
@@ -163,36 +259,42 @@ fn is_misspelled(answer: Result<Verdict, Fault>) -> bool {
     )
 }
 
-/// Each string that differs from the request in one bit is refused or taken, and the node goes on.
-#[test]
-fn altered_bits(rt: HostRuntime) -> Result<(), Fail> {
-    let request = string(rt.alloc(), REQUEST, &[])?;
-    for place in 0..request.len() {
-        for bit in 0..8u32 {
-            let mut altered = string(rt.alloc(), REQUEST, &[])?;
-            if let Some(byte) = altered.get_mut(place) {
-                *byte ^= 1 << bit;
-            }
-            let mut site = owner(rt.alloc(), &PAIR)?;
-            let answer = receive(&mut site, &altered);
-            assert!(rt; answer.is_ok() || is_misspelled(answer), "{place} {bit}");
-        }
+/// Turns one bit of the byte at this place.
+fn turn_bit(bytes: &mut [u8], place: usize, bit: u32)
+    requires { bit < 8 }
+{
+    if let Some(byte) = bytes.get_mut(place) {
+        *byte ^= 1 << bit;
+    }
+}
+
+/// Whether a new node 0 takes a string, or refuses it as one that spells no frame.
+fn is_judged<A: Allocator + Copy>(alloc: A, bytes: &[u8]) -> Result<bool, Fail> {
+    let mut site = owner(alloc, &PAIR)?;
+    let answer = receive(&mut site, bytes);
+    Ok(answer.is_ok() || is_misspelled(answer))
+}
+
+fn check_bits<A: Allocator + Copy>(
+    rt: &impl Abort,
+    alloc: A,
+    bytes: &mut [u8],
+    place: usize,
+) -> Result<(), Fail> {
+    for bit in 0..8 {
+        turn_bit(bytes, place, bit);
+        assert!(rt; is_judged(alloc, bytes)?, "{place} {bit}");
+        turn_bit(bytes, place, bit);
     }
     Ok(())
 }
 
-/// The strings of a site are taken out in the order in which they were made.
+/// Each string that differs from the request in one bit is refused or taken, and the node goes on.
 #[test]
-fn order_of_strings(rt: HostRuntime) -> Result<(), Fail> {
-    let alloc = rt.alloc();
-    let mut site = owner(alloc, &TRIO)?;
-    let second = "495601010200000d 0000000000000001 0000000000000000 02 0000000000000001 00000001";
-    let rows = [(second, Ok(Verdict::Next)), (REQUEST, Ok(Verdict::Next))];
-    answers(&rt, rt.alloc(), &mut site, &rows)?;
-    for dest in [2, 1] {
-        let next = next_frame(alloc, &TRIO, &mut site)?;
-        assert!(rt; next == Some((FrameKind::ReadRep, 0, dest)));
+fn altered_bits(rt: HostRuntime) -> Result<(), Fail> {
+    let mut request = string(rt.alloc(), (REQUEST, None))?;
+    for place in 0..request.len() {
+        check_bits(&rt, rt.alloc(), &mut request, place)?;
     }
-    assert!(rt; site.take_frame().is_none());
     Ok(())
 }

@@ -1,37 +1,9 @@
 //! Stores: to a page that the node owns, to one that others have copies of, and by several nodes at once.
-use crate::common::{PAIR, TRIO, ZEROS, are_sent, is_answered, is_sent, play, world};
-use ivy_model::{Call, Config, Record, Reply};
+use crate::common::{PAIR, Run, Shown, TRIO, Written, check_run, ended, loaded, refused, stored};
+use ivy_model::{Call, Config};
 use ivy_node::Move;
 use ivy_wire::FrameKind;
-use std::alloc::Allocator;
 use std::test::Fail;
-
-const NOTHING: &[u8] = &[];
-
-/// The bytes of a page whose first word is 11.
-const ELEVEN: [u8; 64] = [
-    0, 0, 0, 0, 0, 0, 0, 11, 0, 0, 0, 0, 0, 0, 0, 0, 0, 0, 0, 0, 0, 0, 0, 0, 0, 0, 0, 0, 0, 0, 0,
-    0, 0, 0, 0, 0, 0, 0, 0, 0, 0, 0, 0, 0, 0, 0, 0, 0, 0, 0, 0, 0, 0, 0, 0, 0, 0, 0, 0, 0, 0, 0, 0,
-    0,
-];
-
-/// A record of a store.
-fn stored(node: u8, width: u8, addr: u64, value: u64, reply: Reply) -> Record {
-    Record {
-        node,
-        call: Call::Store { width, addr, value },
-        reply,
-    }
-}
-
-/// A record of a load that was answered a value.
-fn loaded(node: u8, width: u8, addr: u64, value: u64) -> Record {
-    Record {
-        node,
-        call: Call::Load { width, addr },
-        reply: Reply::Value(value),
-    }
-}
 
 /// Each instruction of node 0 takes one turn, since node 0 owns every page.
 const LOCAL: &str = "node 0
@@ -55,25 +27,40 @@ print r3
 node 1
 ";
 
+/// A store of 258.
+fn storing(width: u8, addr: u64) -> Call {
+    Call::Store {
+        width,
+        addr,
+        value: 258,
+    }
+}
+
 #[test]
 fn local_stores(rt: HostRuntime) -> Result<(), Fail> {
-    let mut world = world(rt.alloc(), PAIR, LOCAL)?;
-    assert!(rt; play(&mut world, &[Move::Turn(0); 17]).is_ok());
     let records = [
-        stored(0, 8, 64, 7, Reply::Done),
+        stored(0, 8, 64, 7),
         loaded(0, 8, 64, 7),
-        stored(0, 1, 64, 258, Reply::Done),
+        stored(0, 1, 64, 258),
         loaded(0, 2, 64, 512),
         loaded(0, 8, 64, 144_115_188_075_855_879),
-        stored(0, 8, 121, 258, Reply::Refused(3)),
-        stored(0, 1, 128, 258, Reply::Refused(4)),
-        stored(0, 1, 0, 258, Reply::Refused(5)),
-        stored(0, 8, 129, 258, Reply::Refused(3)),
+        refused(0, storing(8, 121), 3),
+        refused(0, storing(1, 128), 4),
+        refused(0, storing(1, 0), 5),
+        refused(0, storing(8, 129), 3),
     ];
-    assert!(rt; is_answered(&world, 0, &records));
-    assert!(rt; world.output(0) == [144_115_188_075_855_879].as_slice());
-    assert!(rt; world.sent().is_empty() && world.ended(0));
-    Ok(())
+    check_run(
+        &rt,
+        rt.alloc(),
+        &Run {
+            config: PAIR,
+            text: LOCAL,
+            kinds: &[],
+            strings: &[],
+            nodes: &[ended(0, &records, &[144_115_188_075_855_879])],
+        },
+        &[(&[Move::Turn(0); 17], 0)],
+    )
 }
 
 /// Node 2 loads a word that node 1 stores.
@@ -108,62 +95,99 @@ pub(crate) const LATE_MOVES: [Move; 16] = [
     Move::Turn(2),
 ];
 
+const LATE_SENT: [(usize, Written); 7] = [
+    (
+        0,
+        (
+            "495601010201000d 0000000000000001 0000000000000000 02 0000000000000001 00000001",
+            None,
+        ),
+    ),
+    (
+        1,
+        (
+            "495601010100000d 0000000000000001 0000000000000000 02 0000000000000001 00000001",
+            None,
+        ),
+    ),
+    (
+        2,
+        (
+            "495601030002004d 0000000000000001 0000000000000000 02 0000000000000001 00000001",
+            Some(0),
+        ),
+    ),
+    (
+        3,
+        (
+            "495601020100000d 0000000000000002 0000000000000000 01 0000000000000001 00000001",
+            None,
+        ),
+    ),
+    (
+        4,
+        (
+            "495601040001004e 0000000000000001 0000000000000001 01 0000000000000001 00000001 04",
+            Some(0),
+        ),
+    ),
+    (
+        5,
+        (
+            "495601050102000d 0000000000000001 0000000000000001 01 0000000000000001 00000001",
+            None,
+        ),
+    ),
+    (
+        6,
+        (
+            "495601060201000d 0000000000000002 0000000000000001 01 0000000000000001 00000001",
+            None,
+        ),
+    ),
+];
+
 /// The copy for node 2 is late: the message that is to end it comes first, and waits for it.
 #[test]
 fn late_read_page(rt: HostRuntime) -> Result<(), Fail> {
-    let alloc = rt.alloc();
-    let mut world = world(alloc, TRIO, LATE)?;
-    assert!(rt; play(&mut world, &LATE_MOVES[..10]).is_ok());
-    assert!(rt; world.sent().len() == 6);
-    assert!(rt; play(&mut world, &LATE_MOVES[10..12]).is_ok());
-    assert!(rt; world.history(1).is_empty());
-    assert!(rt; play(&mut world, &LATE_MOVES[12..]).is_ok());
-    assert!(rt; is_answered(&world, 1, &[stored(1, 8, 64, 5, Reply::Done)]));
-    assert!(rt; is_answered(&world, 2, &[loaded(2, 8, 64, 0)]));
-    assert!(rt; world.sent().len() == 7);
-    for (index, words, page) in [
-        (
-            0,
-            "495601010201000d 0000000000000001 0000000000000000 02 0000000000000001 00000001",
-            NOTHING,
-        ),
-        (
-            1,
-            "495601010100000d 0000000000000001 0000000000000000 02 0000000000000001 00000001",
-            NOTHING,
-        ),
-        (
-            2,
-            "495601030002004d 0000000000000001 0000000000000000 02 0000000000000001 00000001",
-            ZEROS.as_slice(),
-        ),
-        (
-            3,
-            "495601020100000d 0000000000000002 0000000000000000 01 0000000000000001 00000001",
-            NOTHING,
-        ),
-        (
-            4,
-            "495601040001004e 0000000000000001 0000000000000001 01 0000000000000001 00000001 04",
-            ZEROS.as_slice(),
-        ),
-        (
-            5,
-            "495601050102000d 0000000000000001 0000000000000001 01 0000000000000001 00000001",
-            NOTHING,
-        ),
-        (
-            6,
-            "495601060201000d 0000000000000002 0000000000000001 01 0000000000000001 00000001",
-            NOTHING,
-        ),
-    ] {
-        assert!(rt;
-            is_sent(alloc, &world, index, words, page)?,
-            "string {index}"
-        );
-    }
-    Ok(())
+    check_run(
+        &rt,
+        rt.alloc(),
+        &Run {
+            config: TRIO,
+            text: LATE,
+            kinds: &[],
+            strings: &LATE_SENT,
+            nodes: &[
+                ended(1, &[stored(1, 8, 64, 5)], &[]),
+                ended(2, &[loaded(2, 8, 64, 0)], &[0]),
+            ],
+        },
+        &[(&LATE_MOVES[..10], 6), (&LATE_MOVES[10..], 7)],
+    )
+}
+
+/// The store has no answer before the last acknowledgement.
+#[test]
+fn store_that_waits(rt: HostRuntime) -> Result<(), Fail> {
+    let waits = Shown {
+        node: 1,
+        answers: &[],
+        printed: &[],
+        ended: false,
+    };
+    check_run(
+        &rt,
+        rt.alloc(),
+        &Run {
+            config: TRIO,
+            text: LATE,
+            kinds: &[],
+            strings: &[],
+            nodes: &[waits],
+        },
+        &[(&LATE_MOVES[..12], 7)],
+    )
 }
 
 /// Both nodes hold a copy, and then both store.
@@ -214,36 +238,39 @@ pub(crate) const UPGRADE_OF_TWO_MOVES: [Move; 24] = [
 /// Node 1 gives up its copy while it waits for the page, which comes with what node 0 stored.
 #[test]
 fn upgrade_race_of_two(rt: HostRuntime) -> Result<(), Fail> {
-    let alloc = rt.alloc();
-    let mut world = world(alloc, PAIR, UPGRADE_OF_TWO)?;
-    assert!(rt; play(&mut world, &UPGRADE_OF_TWO_MOVES).is_ok());
-    let sent = [
-        (FrameKind::ReadReq, 1, 0),
-        (FrameKind::ReadRep, 0, 1),
-        (FrameKind::Inval, 0, 1),
-        (FrameKind::WriteReq, 1, 0),
-        (FrameKind::InvalAck, 1, 0),
-        (FrameKind::WriteRep, 0, 1),
-        (FrameKind::ReadReq, 0, 1),
-        (FrameKind::ReadRep, 1, 0),
-    ];
-    assert!(rt; are_sent(alloc, &PAIR, &world, &sent)?);
     let given =
         "495601040001004e 0000000000000003 0000000000000002 01 0000000000000002 00000001 00";
-    assert!(rt; is_sent(alloc, &world, 5, given, &ELEVEN)?);
     let zero = [
         loaded(0, 8, 64, 0),
-        stored(0, 8, 64, 11, Reply::Done),
+        stored(0, 8, 64, 11),
         loaded(0, 8, 64, 22),
     ];
-    assert!(rt; is_answered(&world, 0, &zero) && world.ended(0));
     let one = [
         loaded(1, 8, 64, 0),
-        stored(1, 8, 64, 22, Reply::Done),
+        stored(1, 8, 64, 22),
         loaded(1, 8, 64, 22),
     ];
-    assert!(rt; is_answered(&world, 1, &one) && world.ended(1));
-    Ok(())
+    check_run(
+        &rt,
+        rt.alloc(),
+        &Run {
+            config: PAIR,
+            text: UPGRADE_OF_TWO,
+            kinds: &[
+                (FrameKind::ReadReq, 1, 0),
+                (FrameKind::ReadRep, 0, 1),
+                (FrameKind::Inval, 0, 1),
+                (FrameKind::WriteReq, 1, 0),
+                (FrameKind::InvalAck, 1, 0),
+                (FrameKind::WriteRep, 0, 1),
+                (FrameKind::ReadReq, 0, 1),
+                (FrameKind::ReadRep, 1, 0),
+            ],
+            strings: &[(5, (given, Some(11)))],
+            nodes: &[ended(0, &zero, &[22]), ended(1, &one, &[22])],
+        },
+        &[(&UPGRADE_OF_TWO_MOVES, 8)],
+    )
 }
 
 /// Node 0 loads last what two nodes stored, which both held a copy before.
@@ -297,40 +324,64 @@ pub(crate) const UPGRADE_OF_THREE_MOVES: [Move; 30] = [
     Move::Turn(0),
 ];
 
+const UPGRADE_OF_THREE_KINDS: [(FrameKind, u8, u8); 14] = [
+    (FrameKind::ReadReq, 1, 0),
+    (FrameKind::ReadRep, 0, 1),
+    (FrameKind::ReadReq, 2, 1),
+    (FrameKind::ReadReq, 1, 0),
+    (FrameKind::ReadRep, 0, 2),
+    (FrameKind::WriteReq, 1, 0),
+    (FrameKind::WriteReq, 2, 1),
+    (FrameKind::WriteRep, 0, 1),
+    (FrameKind::Inval, 1, 2),
+    (FrameKind::InvalAck, 2, 1),
+    (FrameKind::WriteRep, 1, 2),
+    (FrameKind::ReadReq, 0, 1),
+    (FrameKind::ReadReq, 1, 2),
+    (FrameKind::ReadRep, 2, 0),
+];
+
+/// The page as it comes to node 1 and then to node 2.
+const UPGRADE_OF_THREE_SENT: [(usize, Written); 2] = [
+    (
+        7,
+        (
+            "495601040001004e 0000000000000002 0000000000000002 01 0000000000000002 00000001 04",
+            Some(0),
+        ),
+    ),
+    (
+        10,
+        (
+            "495601040102004e 0000000000000002 0000000000000002 02 0000000000000002 00000001 00",
+            Some(11),
+        ),
+    ),
+];
+
+/// Both nodes store over the copy that they loaded from, and node 2 is the last.
+pub(crate) const UPGRADE_SHOWN: [Shown; 3] = [
+    ended!(0, &[loaded!(0, 64, 22)], &[22]),
+    ended!(1, &[loaded!(1, 64, 0), stored!(1, 64, 11)], &[]),
+    ended!(2, &[loaded!(2, 64, 0), stored!(2, 64, 22)], &[]),
+];
+
+const UPGRADE_OF_THREE_RUN: Run = Run {
+    config: TRIO,
+    text: UPGRADE_OF_THREE,
+    kinds: &UPGRADE_OF_THREE_KINDS,
+    strings: &UPGRADE_OF_THREE_SENT,
+    nodes: &UPGRADE_SHOWN,
+};
+
 #[test]
 fn upgrade_race_of_three(rt: HostRuntime) -> Result<(), Fail> {
-    let alloc = rt.alloc();
-    let mut world = world(alloc, TRIO, UPGRADE_OF_THREE)?;
-    assert!(rt; play(&mut world, &UPGRADE_OF_THREE_MOVES).is_ok());
-    let sent = [
-        (FrameKind::ReadReq, 1, 0),
-        (FrameKind::ReadRep, 0, 1),
-        (FrameKind::ReadReq, 2, 1),
-        (FrameKind::ReadReq, 1, 0),
-        (FrameKind::ReadRep, 0, 2),
-        (FrameKind::WriteReq, 1, 0),
-        (FrameKind::WriteReq, 2, 1),
-        (FrameKind::WriteRep, 0, 1),
-        (FrameKind::Inval, 1, 2),
-        (FrameKind::InvalAck, 2, 1),
-        (FrameKind::WriteRep, 1, 2),
-        (FrameKind::ReadReq, 0, 1),
-        (FrameKind::ReadReq, 1, 2),
-        (FrameKind::ReadRep, 2, 0),
-    ];
-    assert!(rt; are_sent(alloc, &TRIO, &world, &sent)?);
-    let first =
-        "495601040001004e 0000000000000002 0000000000000002 01 0000000000000002 00000001 04";
-    assert!(rt; is_sent(alloc, &world, 7, first, &ZEROS)?);
-    let second =
-        "495601040102004e 0000000000000002 0000000000000002 02 0000000000000002 00000001 00";
-    assert!(rt; is_sent(alloc, &world, 10, second, &ELEVEN)?);
-    let one = [loaded(1, 8, 64, 0), stored(1, 8, 64, 11, Reply::Done)];
-    assert!(rt; is_answered(&world, 1, &one));
-    let two = [loaded(2, 8, 64, 0), stored(2, 8, 64, 22, Reply::Done)];
-    assert!(rt; is_answered(&world, 2, &two));
-    assert!(rt; is_answered(&world, 0, &[loaded(0, 8, 64, 22)]));
-    Ok(())
+    check_run(
+        &rt,
+        rt.alloc(),
+        &UPGRADE_OF_THREE_RUN,
+        &[(&UPGRADE_OF_THREE_MOVES, 14)],
+    )
 }
 
 /// Each node stores to its own word and then loads the other's. Node 0 manages the page of 128, node 1 that
@@ -426,28 +477,29 @@ const STORES_FIRST: [Move; 21] = [
     Move::Turn(1),
 ];
 
-/// What both nodes print under these moves, of one value each.
-fn buffered<A: Allocator + Copy>(alloc: A, moves: &[Move]) -> Result<(u64, u64), Fail> {
-    let three_pages = Config { pages: 3, ..PAIR };
-    let mut world = world(alloc, three_pages, BUFFERING)?;
-    if play(&mut world, moves).is_err() || !world.ended(0) || !world.ended(1) {
-        return Err("it did not come to its end".into());
-    }
-    match (world.output(0), world.output(1)) {
-        ([zero], [one]) => Ok((*zero, *one)),
-        _ => Err("not one value each".into()),
-    }
-}
-
 /// In no order do both nodes load 0.
 #[test]
 fn store_buffering(rt: HostRuntime) -> Result<(), Fail> {
-    for (moves, loaded) in [
-        (NODE_0_FIRST.as_slice(), (0, 1)),
-        (NODE_1_FIRST.as_slice(), (1, 0)),
-        (STORES_FIRST.as_slice(), (1, 1)),
+    for (moves, sent, zero, one) in [
+        (NODE_0_FIRST.as_slice(), 4, 0, 1),
+        (NODE_1_FIRST.as_slice(), 8, 1, 0),
+        (STORES_FIRST.as_slice(), 6, 1, 1),
     ] {
-        assert!(rt; buffered(rt.alloc(), moves)? == loaded);
+        check_run(
+            &rt,
+            rt.alloc(),
+            &Run {
+                config: Config { pages: 3, ..PAIR },
+                text: BUFFERING,
+                kinds: &[],
+                strings: &[],
+                nodes: &[
+                    ended(0, &[stored(0, 8, 64, 1), loaded(0, 8, 128, zero)], &[zero]),
+                    ended(1, &[stored(1, 8, 128, 1), loaded(1, 8, 64, one)], &[one]),
+                ],
+            },
+            &[(moves, sent)],
+        )?;
     }
     Ok(())
 }

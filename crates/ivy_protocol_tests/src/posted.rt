@@ -1,0 +1,133 @@
+//! What tests of one node's memory give it to post to.
+ghost use Rattle.std.specs.Prelude.{◌≡◌, []};
+
+use ivy_model::{Config, Fault};
+use ivy_wire::{Message, Page, Parcel, Post};
+use std::alloc::Global;
+use std::marker::Model;
+
+/// Keeps the messages of a node, in order, or refuses them.
+#[derive(Drop)]
+pub(crate) struct Posted {
+    alloc: Global,
+    config: Config,
+    node: u8,
+    parcels: Vec<Parcel<Page<Global>>, Global>,
+    is_full: bool,
+}
+
+impl Model for Posted {
+    ghost use Rattle.std.specs.Prelude.{ℕ, List};
+    ghost use Rattle.ivy_model.specs.declared.Config as declared;
+    ghost use Rattle.ivy_wire.specs.Data as wire;
+
+    ghost Value = { declared.Config × ℕ × List wire.Parcel };
+
+    ghost view = { λ p. (p.config, p.node, p.parcels.items) };
+}
+
+impl Posted {
+    /// None so far.
+    pub(crate) fn new(alloc: Global, config: Config, node: u8) -> Posted
+        ensures { result ≡ (config, node, []) }
+    {
+        Posted {
+            alloc,
+            config,
+            node,
+            parcels: Vec::new(alloc),
+            is_full: false,
+        }
+    }
+
+    pub(crate) fn node(&self) -> u8
+        ensures { result ≡ self.now.1 }
+    {
+        self.node
+    }
+
+    pub(crate) fn parcels(&self) -> &[Parcel<Page<Global>>]
+        ensures { result.now ≡ self.now.2 }
+    {
+        &self.parcels
+    }
+
+    /// From now on messages are refused, or taken.
+    pub(crate) fn refuse(&mut self, is_full: bool)
+        ensures { self.new ≡ self.old }
+    {
+        self.is_full = is_full;
+    }
+
+    /// Whether this is the message that was posted at this place, from 0.
+    pub(crate) fn has_at(&self, index: usize, wanted: &Parcel<&[u8]>) -> bool {
+        match self.parcels.get(index) {
+            Some(parcel) => {
+                parcel.source == wanted.source
+                    && parcel.dest == wanted.dest
+                    && parcel.message.lent() == wanted.message
+            }
+            None => false,
+        }
+    }
+
+    /// Whether these are all messages that were posted, in order.
+    pub(crate) fn are(&self, wanted: &[Parcel<&[u8]>]) -> bool {
+        for (index, parcel) in wanted.iter().enumerate() {
+            if !self.has_at(index, parcel) {
+                return false;
+            }
+        }
+        self.parcels.len() == wanted.len()
+    }
+}
+
+impl Post for Posted {
+    ghost use Rattle.std.specs.Prelude.{◌≡◌, ◌≢◌, [], ◌++◌, refl};
+    ghost use Rattle.std.proofs.Common.{ap, append-nil};
+    ghost use Rattle.ivy_model.specs.declared.Fault.TheVariants.{Memory};
+
+    ghost config = { λ p. p.0 };
+
+    ghost node = { λ p. p.1 };
+
+    ghost takes = { λ p parcels. Unit {0} };
+
+    ghost after = { λ p parcels. (p.0, p.1, p.2 ++ parcels) };
+
+    ghost refuses = { λ p parcels fault. (parcels ≢ []) × (fault ≡ Memory) };
+
+    fn post(&mut self, parcels: &[Parcel<&[u8]>]) -> Result<(), Fault> {
+        if parcels.is_empty() {
+            return Ok(());
+        }
+        if self.is_full {
+            return Err(Fault::Memory);
+        }
+        let mut taken = Vec::new(self.alloc);
+        for parcel in parcels {
+            taken.push(Parcel {
+                source: parcel.source,
+                dest: parcel.dest,
+                message: parcel.message.owned(self.alloc)?,
+            })?;
+        }
+        self.parcels.append(&mut taken)?;
+        Ok(())
+    }
+
+    ghost takes_none = { λ p. tt };
+
+    ghost after_none = { λ p. ap (λ xs. (p.0, p.1, xs)) (append-nil p.2) };
+
+    ghost refuses_none = { λ p fault why. why.0 refl };
+}
+
+/// A message from a node to another.
+pub(crate) fn parcel(source: u8, dest: u8, message: Message<&[u8]>) -> Parcel<&[u8]> {
+    Parcel {
+        source,
+        dest,
+        message,
+    }
+}

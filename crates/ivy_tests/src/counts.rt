@@ -1,0 +1,474 @@
+//! Counts: nodes that advance them and wait for them. A count is a word of page 0, so a node reads and writes
+//! it where it has that page, and faults for it as for any other.
+use crate::common::{
+    PAIR, Run, Shown, Stage, Written, check_run, ended, has_next, loaded, node_of, receive,
+    refused, stored, string, take_turns,
+};
+use ivy_model::{Call, Record, Reply};
+use ivy_node::{Move, Site, Verdict};
+use std::alloc::Allocator;
+use std::process::Abort;
+use std::test::Fail;
+
+/// An advance of count 0, which is done.
+pub(crate) fn advanced(node: u8) -> Record {
+    let call = Call::Advance { k: 0 };
+    let reply = Reply::Done;
+    Record { node, call, reply }
+}
+
+/// An await of count 0, which is answered a value.
+pub(crate) fn awaited(node: u8, least: u64, value: u64) -> Record {
+    let call = Call::Await { k: 0, least };
+    let reply = Reply::Value(value);
+    Record { node, call, reply }
+}
+
+/// A read of a count, which is answered a value.
+fn counted(node: u8, k: u64, value: u64) -> Record {
+    let call = Call::Count { k };
+    let reply = Reply::Value(value);
+    Record { node, call, reply }
+}
+
+/// Node 1 stores and then advances count 0. Node 0 awaits that, and then loads.
+const NOTICE: &str = "node 0
+set r1 1
+await r2 r0 r1
+set r1 64
+load 8 r3 r1
+print r3
+node 1
+set r1 64
+set r2 9
+store 8 r1 r2
+advance r0
+";
+
+/// Node 1 goes to its end first.
+const NOTICE_MOVES: [Move; 21] = [
+    Move::Turn(1),
+    Move::Turn(1),
+    Move::Turn(1),
+    Move::Deliver { index: 0, to: 0 },
+    Move::Deliver { index: 1, to: 1 },
+    Move::Turn(1),
+    Move::Turn(1),
+    Move::Deliver { index: 2, to: 0 },
+    Move::Deliver { index: 3, to: 1 },
+    Move::Turn(1),
+    Move::Turn(0),
+    Move::Turn(0),
+    Move::Deliver { index: 4, to: 1 },
+    Move::Deliver { index: 5, to: 0 },
+    Move::Turn(0),
+    Move::Turn(0),
+    Move::Turn(0),
+    Move::Deliver { index: 6, to: 1 },
+    Move::Deliver { index: 7, to: 0 },
+    Move::Turn(0),
+    Move::Turn(0),
+];
+
+/// Each string of the notice once more, late.
+const NOTICE_AGAIN: [Move; 8] = [
+    Move::Deliver { index: 0, to: 0 },
+    Move::Deliver { index: 1, to: 1 },
+    Move::Deliver { index: 2, to: 0 },
+    Move::Deliver { index: 3, to: 1 },
+    Move::Deliver { index: 4, to: 1 },
+    Move::Deliver { index: 5, to: 0 },
+    Move::Deliver { index: 6, to: 1 },
+    Move::Deliver { index: 7, to: 0 },
+];
+
+/// Node 1 asks for page 1 to store, and is given it.
+const STORE_ASKS: &str =
+    "495601020100000d 0000000000000001 0000000000000000 01 0000000000000001 00000001";
+
+const STORE_GETS: &str =
+    "495601040001004e 0000000000000001 0000000000000000 01 0000000000000001 00000001 00";
+
+/// It asks for page 0 to advance, and is given it.
+const ADVANCE_ASKS: &str =
+    "495601020100000d 0000000000000002 0000000000000001 01 0000000000000002 00000000";
+
+const ADVANCE_GETS: &str =
+    "495601040001004e 0000000000000002 0000000000000001 01 0000000000000002 00000000 00";
+
+/// Node 0 asks for a copy of page 0 to await, and is given it.
+const AWAIT_ASKS: &str =
+    "495601010001000d 0000000000000003 0000000000000002 00 0000000000000001 00000000";
+
+const AWAIT_GETS: &str =
+    "495601030100004d 0000000000000003 0000000000000002 00 0000000000000001 00000000";
+
+/// It asks for a copy of page 1 to load, and is given it.
+const LOAD_ASKS: &str =
+    "495601010001000d 0000000000000004 0000000000000003 00 0000000000000002 00000001";
+
+const LOAD_GETS: &str =
+    "495601030100004d 0000000000000004 0000000000000003 00 0000000000000002 00000001";
+
+const NOTICE_SENT: [(usize, Written); 8] = [
+    (0, (STORE_ASKS, None)),
+    (1, (STORE_GETS, Some(0))),
+    (2, (ADVANCE_ASKS, None)),
+    (3, (ADVANCE_GETS, Some(0))),
+    (4, (AWAIT_ASKS, None)),
+    (5, (AWAIT_GETS, Some(1))),
+    (6, (LOAD_ASKS, None)),
+    (7, (LOAD_GETS, Some(9))),
+];
+
+/// Asserts the strings, the replies and what is printed of the notice under these moves.
+fn check_notice<A: Allocator + Copy>(
+    rt: &impl Abort,
+    alloc: A,
+    stages: &[Stage],
+) -> Result<(), Fail> {
+    check_run(
+        rt,
+        alloc,
+        &Run {
+            config: PAIR,
+            text: NOTICE,
+            kinds: &[],
+            strings: &NOTICE_SENT,
+            nodes: &[
+                ended(0, &[awaited(0, 1, 1), loaded(0, 8, 64, 9)], &[9]),
+                ended(1, &[stored(1, 8, 64, 9), advanced(1)], &[]),
+            ],
+        },
+        stages,
+    )
+}
+
+#[test]
+fn store_then_advance(rt: HostRuntime) -> Result<(), Fail> {
+    check_notice(&rt, rt.alloc(), &[(&NOTICE_MOVES, 8)])
+}
+
+/// The moves with each delivery made three times in a row.
+fn thrice<A: Allocator>(alloc: A, moves: &[Move]) -> Result<Vec<Move, A>, Fail> {
+    let mut all = Vec::new(alloc);
+    for step in moves {
+        all.push(*step)?;
+        if let Move::Deliver { .. } = step {
+            all.push(*step)?;
+            all.push(*step)?;
+        }
+    }
+    Ok(all)
+}
+
+/// Repeats change nothing: the strings and the replies are the same.
+#[test]
+fn every_string_thrice(rt: HostRuntime) -> Result<(), Fail> {
+    let moves = thrice(rt.alloc(), &NOTICE_MOVES)?;
+    check_notice(&rt, rt.alloc(), &[(&moves, 8), (&NOTICE_AGAIN, 8)])
+}
+
+/// A string comes to a node three times in a row. Whether it is new and then a repeat, twice.
+fn is_once_new<A: Allocator + Copy>(
+    alloc: A,
+    site: &mut Site<A>,
+    written: Written,
+) -> Result<bool, Fail> {
+    let given = string(alloc, written)?;
+    Ok(
+        receive(site, &given) == Ok(Verdict::Next)
+            && receive(site, &given) == Ok(Verdict::Repeat)
+            && receive(site, &given) == Ok(Verdict::Repeat),
+    )
+}
+
+/// A node makes so many turns and asks for a page, which comes three times.
+fn gets_thrice<A: Allocator + Copy>(
+    rt: &impl Abort,
+    alloc: A,
+    site: &mut Site<A>,
+    turns: u64,
+    asks: &str,
+    gets: &str,
+) -> Result<(), Fail> {
+    take_turns(site, turns)?;
+    assert!(rt; has_next(alloc, site, (asks, None))?);
+    assert!(rt; is_once_new(alloc, site, (gets, Some(0)))?);
+    Ok(())
+}
+
+fn gets_both_thrice<A: Allocator + Copy>(
+    rt: &impl Abort,
+    alloc: A,
+    site: &mut Site<A>,
+) -> Result<(), Fail> {
+    gets_thrice(rt, alloc, site, 3, STORE_ASKS, STORE_GETS)?;
+    gets_thrice(rt, alloc, site, 2, ADVANCE_ASKS, ADVANCE_GETS)?;
+    take_turns(site, 1)?;
+    assert!(rt; site.take_frame().is_none() && site.ended());
+    assert!(rt; site.history() == [stored(1, 8, 64, 9), advanced(1)].as_slice());
+    Ok(())
+}
+
+/// Both pages come to node 1 three times, and it asks and is answered as if they came once.
+#[test]
+fn pages_given_thrice(rt: HostRuntime) -> Result<(), Fail> {
+    let mut site = node_of(rt.alloc(), 1, NOTICE)?;
+    gets_both_thrice(&rt, rt.alloc(), &mut site)
+}
+
+/// Makes so many turns of node 0, which sends nothing. Asserts what it shows.
+fn check_alone<A: Allocator + Copy>(
+    rt: &impl Abort,
+    alloc: A,
+    text: &str,
+    turns: &[Move],
+    zero: Shown,
+) -> Result<(), Fail> {
+    check_run(
+        rt,
+        alloc,
+        &Run {
+            config: PAIR,
+            text,
+            kinds: &[],
+            strings: &[],
+            nodes: &[zero],
+        },
+        &[(turns, 0)],
+    )
+}
+
+const WAITS: &str = "node 0
+await r2 r0 r0
+advance r0
+set r1 1
+await r2 r0 r1
+set r1 2
+await r2 r0 r1
+print r2
+node 1
+";
+
+/// A count that is high enough is answered at once. The last await has no answer in any turn.
+#[test]
+fn await_that_waits(rt: HostRuntime) -> Result<(), Fail> {
+    let records = [awaited(0, 0, 0), advanced(0), awaited(0, 1, 1)];
+    let waits = Shown {
+        ended: false,
+        ..ended(0, &records, &[])
+    };
+    check_alone(&rt, rt.alloc(), WAITS, &[Move::Turn(0); 24], waits)
+}
+
+/// Pages of 64 bytes have the counts 0 to 7.
+const NO_COUNT: &str = "node 0
+set r1 8
+set r2 5
+count r2 r1
+status r3
+print r3
+advance r1
+await r2 r1 r0
+status r3
+print r3
+print r2
+set r1 7
+count r2 r1
+print r2
+status r3
+print r3
+node 1
+";
+
+#[test]
+fn no_such_count(rt: HostRuntime) -> Result<(), Fail> {
+    let records = [
+        refused(0, Call::Count { k: 8 }, 6),
+        refused(0, Call::Advance { k: 8 }, 6),
+        refused(0, Call::Await { k: 8, least: 0 }, 6),
+        counted(0, 7, 0),
+    ];
+    let zero = ended(0, &records, &[6, 6, 5, 0, 0]);
+    check_alone(&rt, rt.alloc(), NO_COUNT, &[Move::Turn(0); 15], zero)
+}
+
+const WIDTHS: &str = "node 0
+set r1 64
+set r2 258
+store 1 r1 r2
+load 2 r3 r1
+print r3
+load 8 r3 r1
+print r3
+node 1
+";
+
+/// A store keeps the low bytes of its value, and the first byte of a word is its highest.
+#[test]
+fn big_endian_widths(rt: HostRuntime) -> Result<(), Fail> {
+    let records = [
+        stored(0, 1, 64, 258),
+        loaded(0, 2, 64, 512),
+        loaded(0, 8, 64, 144_115_188_075_855_872),
+    ];
+    let zero = ended(0, &records, &[512, 144_115_188_075_855_872]);
+    check_alone(&rt, rt.alloc(), WIDTHS, &[Move::Turn(0); 7], zero)
+}
+
+/// Node 1 asks for page 0, for the first of its calls, and is given it.
+pub(crate) const FIRST_ASKS: &str =
+    "495601020100000d 0000000000000001 0000000000000000 01 0000000000000001 00000000";
+
+pub(crate) const FIRST_GETS: &str =
+    "495601040001004e 0000000000000001 0000000000000000 01 0000000000000001 00000000 00";
+
+/// Node 0, which gave page 0 away, asks for a copy of it, for the first of its calls, and is given it.
+pub(crate) const RETRY_ASKS: &str =
+    "495601010001000d 0000000000000002 0000000000000001 00 0000000000000001 00000000";
+
+pub(crate) const RETRY_GETS: &str =
+    "495601030100004d 0000000000000002 0000000000000001 00 0000000000000001 00000000";
+
+/// Node 0 awaits both advances of node 1.
+const WAKES: &str = "node 0
+set r1 2
+await r2 r0 r1
+print r2
+node 1
+advance r0
+advance r0
+";
+
+/// The await begins while page 0 is still at node 0, is tried again on a copy after the first advance, and again
+/// after the second, which ended that copy.
+const WAKES_MOVES: [Move; 19] = [
+    Move::Turn(0),
+    Move::Turn(0),
+    Move::Turn(1),
+    Move::Deliver { index: 0, to: 0 },
+    Move::Deliver { index: 1, to: 1 },
+    Move::Turn(0),
+    Move::Turn(1),
+    Move::Deliver { index: 2, to: 1 },
+    Move::Deliver { index: 3, to: 0 },
+    Move::Turn(0),
+    Move::Turn(1),
+    Move::Deliver { index: 4, to: 0 },
+    Move::Deliver { index: 5, to: 1 },
+    Move::Turn(1),
+    Move::Turn(0),
+    Move::Deliver { index: 6, to: 1 },
+    Move::Deliver { index: 7, to: 0 },
+    Move::Turn(0),
+    Move::Turn(0),
+];
+
+const WAKES_SENT: [(usize, Written); 8] = [
+    (0, (FIRST_ASKS, None)),
+    (1, (FIRST_GETS, Some(0))),
+    (2, (RETRY_ASKS, None)),
+    (3, (RETRY_GETS, Some(1))),
+    (
+        4,
+        (
+            "495601050100000d 0000000000000003 0000000000000002 01 0000000000000002 00000000",
+            None,
+        ),
+    ),
+    (
+        5,
+        (
+            "495601060001000d 0000000000000003 0000000000000002 01 0000000000000002 00000000",
+            None,
+        ),
+    ),
+    (
+        6,
+        (
+            "495601010001000d 0000000000000004 0000000000000003 00 0000000000000001 00000000",
+            None,
+        ),
+    ),
+    (
+        7,
+        (
+            "495601030100004d 0000000000000004 0000000000000003 00 0000000000000001 00000000",
+            Some(2),
+        ),
+    ),
+];
+
+/// Each time the await asks for a copy it is call 1 of node 0.
+#[test]
+fn await_tried_again(rt: HostRuntime) -> Result<(), Fail> {
+    check_run(
+        &rt,
+        rt.alloc(),
+        &Run {
+            config: PAIR,
+            text: WAKES,
+            kinds: &[],
+            strings: &WAKES_SENT,
+            nodes: &[
+                ended(0, &[awaited(0, 2, 2)], &[2]),
+                ended(1, &[advanced(1), advanced(1)], &[]),
+            ],
+        },
+        &[(&WAKES_MOVES, 8)],
+    )
+}
+
+/// Node 1 advances and reads a count, and advances it again.
+const FULL: &str = "node 0
+node 1
+advance r0
+count r1 r0
+print r1
+advance r0
+status r2
+print r2
+";
+
+/// Node 1 asks for the page, which comes with a full count, and goes on to its end.
+fn gets_full<A: Allocator + Copy>(
+    rt: &impl Abort,
+    alloc: A,
+    site: &mut Site<A>,
+) -> Result<(), Fail> {
+    take_turns(site, 1)?;
+    assert!(rt; has_next(alloc, site, (FIRST_ASKS, None))?);
+    let given = string(alloc, (FIRST_GETS, Some(u64::MAX)))?;
+    assert!(rt; receive(site, &given) == Ok(Verdict::Next));
+    take_turns(site, 6)?;
+    Ok(())
+}
+
+/// Another node asks for a copy of the page, whose count is full still.
+fn gives_full<A: Allocator + Copy>(
+    rt: &impl Abort,
+    alloc: A,
+    site: &mut Site<A>,
+) -> Result<(), Fail> {
+    let asked = string(alloc, (RETRY_ASKS, None))?;
+    assert!(rt; receive(site, &asked) == Ok(Verdict::Next));
+    assert!(rt; has_next(alloc, site, (RETRY_GETS, Some(u64::MAX)))?);
+    Ok(())
+}
+
+fn is_full<A: Allocator + Copy>(rt: &impl Abort, alloc: A, site: &mut Site<A>) -> Result<(), Fail> {
+    gets_full(rt, alloc, site)?;
+    let refused = refused(1, Call::Advance { k: 0 }, 7);
+    let records = [refused, counted(1, 0, 18_446_744_073_709_551_615), refused];
+    assert!(rt; site.history() == records.as_slice() && site.ended());
+    assert!(rt; site.output() == [18_446_744_073_709_551_615, 7].as_slice());
+    gives_full(rt, alloc, site)
+}
+
+/// The page is forged: its count is full. Nothing changes, neither where the page comes nor where it is at hand.
+#[test]
+fn full_count(rt: HostRuntime) -> Result<(), Fail> {
+    let mut site = node_of(rt.alloc(), 1, FULL)?;
+    is_full(&rt, rt.alloc(), &mut site)
+}
