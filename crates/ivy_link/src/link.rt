@@ -154,7 +154,7 @@ impl<A: Allocator + Copy> Link<A> {
     /// needed.
     ///
     /// It makes no frames. A caller that has more to do before the messages count as sent, such as to
-    /// spell their frames, takes these from [`Link::frames`] first, and calls this with the same parcels
+    /// spell their frames, takes these from [`Link::frame`] first, and calls this with the same parcels
     /// last.
     pub fn keep(&mut self, parcels: &[Parcel<&[u8]>]) -> Result<(), Fault>
         requires within { AreWithin self.old (map owned_parcel parcels.now) }

@@ -6,7 +6,7 @@ ghost use Rattle.ivy_wire.specs.Spelling.{FitsMessage};
 use crate::posted::{Posted, parcel};
 use ivy_fixed::FixedManager;
 use ivy_memory::{Answer, Memory};
-use ivy_model::{Call, Config, Kind, Reply};
+use ivy_model::{Call, Config, Fault, Kind, Reply};
 use ivy_wire::{Content, Message};
 use std::alloc::Global;
 use std::marker::Model;
@@ -275,7 +275,7 @@ fn is_busy(rt: &impl Abort, node: &mut Node) -> Result<(), Fail> {
     assert_eq!(rt; node.begins(Call::Alloc { size: 8 }, 2), Err(Fault::Busy));
     node.deliver(1, write_request(1, 7))?;
     assert_eq!(rt; node.begins(Call::Advance { k: 0 }, 2), Err(Fault::Busy));
-    assert!(rt; node.has_posted(&[parcel(0, 1, whole(1, 7))]));
+    assert!(rt; node.posted.are(&[parcel(0, 1, whole(1, 7))]));
     assert_eq!(rt; node.memory.asked(), Some(Call::Await { k: 0, least: 1 }));
     Ok(())
 }
