@@ -77,7 +77,8 @@ impl Node {
         requires width { HasWidth call }
         requires number { 1 ≤ number }
     {
-        self.memory.begin(call, number, &mut self.posted)
+        let answer = self.memory.begin(call, number, &mut self.posted)?;
+        Ok(answer)
     }
 
     /// The call of this number is asked for its reply.

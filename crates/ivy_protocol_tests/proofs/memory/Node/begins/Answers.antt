@@ -1,12 +1,11 @@
 use Rattle.std.proofs.Common.{ap, sym, ◌∙◌}
-use Rattle.ivy_model.specs.declared.Call.TheVariants.{Await}
 use Rattle.ivy_fixed.specs.Fixed.{fixed_ops}
 use Rattle.ivy_memory.proofs.Tame.{call-same}
-use Rattle.ivy_protocol_tests.proofs.memory.Node.awaits.Goals as goal
+use Rattle.ivy_protocol_tests.proofs.memory.Node.begins.Goals as goal
 
 pub invariant_of-self-2 : goal.invariant_of-self-2
 invariant_of-self-2 c =
-    let same = call-same fixed_ops c.self.inside.memory (Await 0 c.args.least) c.args.number in (
+    let same = call-same fixed_ops c.self.inside.memory c.args.call c.args.number in (
       ap (λ x. x.coherence.config) c.in_ok-answer.ensures.ok ∙ same.config ∙ c.self.invariant.0,
       ap (λ p. p.0) c.in_ok-answer.ensures.posted ∙ c.self.invariant.1,
       ap (λ p. p.1) c.in_ok-answer.ensures.posted ∙ c.self.invariant.2 ∙ sym same.me ∙ sym (ap (λ x. x.coherence.me) c.in_ok-answer.ensures.ok),
