@@ -2,14 +2,13 @@
 ghost use Rattle.std.specs.Prelude.{◌≡◌, OnOk};
 ghost use Rattle.ivy_model.specs.Config.{IsConfig};
 ghost use Rattle.ivy_node.specs.Runs.{IsReached};
-ghost use Rattle.ivy.specs.Simulated.{DrawnTo, seeded};
+ghost use Rattle.ivy.specs.Simulated.{DrawnTo};
+ghost use Rattle.ivy_texts.specs.Drawn.{seeded};
 
 use crate::moves::make;
 use ivy_model::{Config, Fault};
 use ivy_node::World;
-use ivy_texts::draw;
-use rand_core::SeedableRng;
-use rand_pcg::Lcg64Xsh32;
+use ivy_texts::{draw, generator_of};
 use std::alloc::Allocator;
 
 /// Makes so many moves, which the generator of a seed draws, up to the first that is refused [1, 17, 19].
@@ -26,7 +25,7 @@ pub fn run_drawn<A: Allocator + Copy>(
 {
     // The strings that were sent already are long enough to be read.
     world.keeps();
-    let mut generator = Lcg64Xsh32::seed_from_u64(seed);
+    let mut generator = generator_of(seed);
     for _made in 0..moves {
         let step = draw(&mut generator, config.nodes, world.sent());
         make(world, step)?;

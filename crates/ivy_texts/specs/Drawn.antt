@@ -1,10 +1,15 @@
 -- Drawn moves: what a generator's next words make of the strings that were sent.
 use Rattle.std.specs.Prelude.{ℕ, ◌+◌, ◌-◌, ◌%◌, List, length, min, nat_lt, slice_get, Option, Some, None, if◌then◌else◌}
+use Rattle.rand_core.specs.Pcg32Seed.{pcg32_seed}
 use Rattle.rand_pcg.specs.Lcg.{Lcg}
-use Rattle.rand_pcg.specs.Pcg.{pcg32}
+use Rattle.rand_pcg.specs.Pcg.{pcg32, pcg32_of_seed}
 use Rattle.ivy_wire.specs.Faults.{dest_at}
 use Rattle.ivy_ether.specs.declared.Move.{Move}
 use Rattle.ivy_ether.specs.declared.Move.TheVariants.{Turn, Deliver, Pulse}
+
+-- the generator of a seed, whose sixteen bytes are made of the number as Rust's `seed_from_u64` does
+abbrev pub seeded : ℕ → Lcg
+seeded seed = pcg32_of_seed (pcg32_seed 16 seed)
 
 -- the next word of a generator, and the generator after it
 abbrev pub word_of : Lcg → ℕ

@@ -1,9 +1,10 @@
 //! Moves that a generator of random numbers draws.
 ghost use Rattle.std.specs.Prelude.{◌≡◌, ◌^◌, ◌≤◌, ◌<◌, All, length};
-ghost use Rattle.ivy_texts.specs.Drawn.{drawn, delivery, other_at};
+ghost use Rattle.ivy_texts.specs.Drawn.{seeded, drawn, delivery, other_at};
 
 use ivy_ether::Move;
 use ivy_wire::Bytes;
+use rand_core::SeedableRng;
 use rand_core::utils::NextWord;
 use rand_pcg::Lcg64Xsh32;
 use std::alloc::Allocator;
@@ -13,6 +14,14 @@ const REACH: usize = 64;
 
 /// The byte of a string that names its destination.
 const DEST: usize = 5;
+
+/// The generator of a seed: the one of O'Neill's PCG family that Rust's `rand_pcg` has, as its `seed_from_u64` makes it.
+/// It takes no memory.
+pub fn generator_of(seed: u64) -> Lcg64Xsh32
+    ensures { result ≡ seeded seed }
+{
+    Lcg64Xsh32::seed_from_u64(seed)
+}
 
 /// The node at a place among all but this one.
 fn other_at(node: u64, place: u64) -> u64

@@ -9,7 +9,7 @@ mod order;
 mod print;
 mod schedule;
 
-pub use drawn::draw;
+pub use drawn::{draw, generator_of};
 pub use order::{Order, Sizes, parse_order};
 pub use print::{
     CallText, Decimal, MoveText, RecordText, ReplyText, kind_name, print_end, print_output,

@@ -3,10 +3,8 @@
 ghost use Rattle.std.specs.Prelude.{◌≤◌, All, IfOk, length};
 
 use ivy_ether::Move;
-use ivy_texts::draw;
+use ivy_texts::{draw, generator_of};
 use ivy_wire::Bytes;
-use rand_core::SeedableRng;
-use rand_pcg::Lcg64Xsh32;
 use std::alloc::Global;
 use std::process::Abort;
 use std::test::Fail;
@@ -24,7 +22,7 @@ fn check<R: Abort>(rt: &R, seed: u64, nodes: u8, sent: &[Bytes<Global>], moves: 
     requires nodes { 2 ≤ nodes }
     requires strings { All (λ string. 24 ≤ length string) sent.now }
 {
-    let mut generator = Lcg64Xsh32::seed_from_u64(seed);
+    let mut generator = generator_of(seed);
     for step in moves {
         assert_eq!(rt; draw(&mut generator, nodes, sent), *step);
     }

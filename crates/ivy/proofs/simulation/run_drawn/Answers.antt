@@ -1,8 +1,8 @@
 use Rattle.std.proofs.Common.{◌≡◌, ◌+◌, ◌≤◌, All, List, ℕ, [], ◌∷◌, length, subst, sym, ◌∙◌, refl, arith}
 use Rattle.ivy_host.specs.Holding.{AllSpell}
 use Rattle.ivy_node.specs.Runs.{IsLedTo}
-use Rattle.ivy_texts.specs.Drawn.{drawn}
-use Rattle.ivy.specs.Simulated.{DrawnTo, seeded}
+use Rattle.ivy_texts.specs.Drawn.{seeded, drawn}
+use Rattle.ivy.specs.Simulated.{DrawnTo}
 use Rattle.ivy_texts.proofs.Drawing.{long_strings}
 use Rattle.ivy.proofs.Simulating.{drawn-on}
 use Rattle.ivy.proofs.simulation.run_drawn.Goals as goal

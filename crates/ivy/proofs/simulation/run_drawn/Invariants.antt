@@ -1,6 +1,6 @@
 use Rattle.std.proofs.Common.{◌≡◌}
 use Rattle.ivy_host.specs.Holding.{AllSpell}
-use Rattle.ivy.specs.Simulated.{seeded}
+use Rattle.ivy_texts.specs.Drawn.{seeded}
 use Rattle.ivy.proofs.Simulating.{IsDrawnSince}
 use Rattle.ivy.proofs.simulation.run_drawn.Given as goal
 
