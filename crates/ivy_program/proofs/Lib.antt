@@ -3,3 +3,7 @@ pub mod Places
 pub mod Drafts
 pub mod Cuts
 pub mod Ends
+pub mod Names
+pub mod Least
+pub mod Zips
+pub mod Jumps
