@@ -6,4 +6,6 @@ pub mod Ends
 pub mod Names
 pub mod Least
 pub mod Zips
+pub mod Lasts
+pub mod Drawn
 pub mod Jumps

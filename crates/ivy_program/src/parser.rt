@@ -172,6 +172,9 @@ impl<A: Allocator + Copy> Draft<A> {
 
     /// The program, or the first line that jumps to an unknown name [1].
     fn program(&self) -> Result<Result<Program<A>, LineNumber>, Fault>
+        ensures program { IfOk result (λ read. IfOk read (λ p. p ≡ program_of self.now)) }
+        ensures whole { IfOk result (λ read. IfOk read (λ _. (n : ℕ) → ¬ HasLost self.now n)) }
+        ensures lost { IfOk result (λ read. IfErr read (λ n. IsLeast (HasLost self.now) (Some n))) }
         ensures sound { IfOk result (λ read. IfOk read IsProgram) }
         ensures want { IsOkUnless result Memory }
     {
@@ -233,28 +236,31 @@ impl<A: Allocator + Copy> Parser<A> {
 
     /// Takes in a label of the last program. False where there is none, or the name is there already.
     fn label(&mut self, name: Name, number: LineNumber) -> Result<bool, Fault>
+        ensures labelled { IfOk result (λ ok. Changes ok self.old (joined self.old number (Some (Line.Label name))) self.new) }
         ensures want { IsOkUnless result Memory }
     {
-        let Some(draft) = self.drafts.last_mut() else {
+        let Some(last) = self.drafts.len().checked_sub(1) else {
             return Ok(false);
         };
-        draft.label(name)
+        self.drafts[last].label(name)
     }
 
     /// Takes in an instruction of the last program. False where there is none, or it is full.
     fn add(&mut self, number: LineNumber, action: Action) -> Result<bool, Fault>
         requires { has_place action ≡ false }
+        ensures added { IfOk result (λ ok. Changes ok self.old (joined self.old number (Some (Line.Does action))) self.new) }
         ensures want { IsOkUnless result Memory }
     {
-        let Some(draft) = self.drafts.last_mut() else {
+        let Some(last) = self.drafts.len().checked_sub(1) else {
             return Ok(false);
         };
-        draft.add(Numbered { number, action })
+        self.drafts[last].add(Numbered { number, action })
     }
 
     /// Takes in one line. False where it is at fault.
     fn take(&mut self, number: LineNumber, line: Line) -> Result<bool, Fault>
         requires { knows_place line ≡ false }
+        ensures taken { IfOk result (λ ok. Changes ok self.old (joined self.old number (Some line)) self.new) }
         ensures want { IsOkUnless result Memory }
     {
         match line {
