@@ -1,15 +1,18 @@
 -- The instructions of a part and the programs of all, as far as they were made.
-use Rattle.std.proofs.Common.{◌≡◌, ◌∙◌, ◌⊎◌, ℕ, ◌+◌, ◌<◌, ◌≤◌, List, [], ◌∷◌, ◌++◌, Option, Some, None, length, take, get_or, map, All, refl, sym, ap, subst, length-append, arith}
+use Rattle.std.proofs.Common.{◌≡◌, ◌∙◌, ◌⊎◌, inl, inr, ⊎_elim, ℕ, ◌+◌, ◌<◌, ◌≤◌, List, [], ◌∷◌, ◌++◌, Option, Some, None, length, take, get_or, map, All, refl, sym, ap, subst, arith}
 use Rattle.std.specs.List.{filter_map}
-use Rattle.std.proofs.lemmas.List.{take_more, map_push, length_push}
-use Rattle.std.proofs.lemmas.List.Elements.{All-push}
+use Rattle.std.proofs.lemmas.List.{take_more, take_all, map_push, length_push}
+use Rattle.std.proofs.lemmas.List.Elements.{All-push, All-nil}
+use Rattle.ivy_model.specs.declared.Fault.TheVariants.{ProgramFault}
 use Rattle.ivy_program.specs.declared.line.Line.{Line}
 use Rattle.ivy_program.specs.declared.parser.Label.{Label}
 use Rattle.ivy_program.specs.declared.parser.Numbered.{Numbered}
 use Rattle.ivy_program.specs.declared.instruction.Instruction.{Instruction}
 use Rattle.ivy_program.specs.Instructions.{IsProgram, NamesRegisters, JumpsWithin}
 use Rattle.ivy_program.specs.Parts.{Part}
-use Rattle.ivy_program.specs.Readings.{HasLost, IsLeast, IsLost, IsOutOfOrder, IsReadAs, LosesIn, lesser, program_of, resolved}
+use Rattle.ivy_program.specs.Readings.{HasLost, IsAtFault, IsLeast, IsLost, IsOutOfOrder, IsReadAs, LosesIn, lesser, parts_of, program_of, resolved}
+use Rattle.ivy_program.specs.Texts.{IsFaultOf, SpellsPrograms}
+use Rattle.ivy_program.proofs.Least.{least_same}
 use Rattle.ivy_program.proofs.Jumps.{filter_map-found, filter_map-none, lost_more, lost_same, part_lost, part_same}
 
 -- the instructions of so many lines, but for those that jump to unknown names
@@ -83,3 +86,34 @@ module _ (parts : List Part) (first : Option ℕ) (i : ℕ) (x : Part) (l : i < 
         (subst (λ t. IsLeast (λ m. IsOutOfOrder lines m ⊎ IsLost t m) (Some (lesser o n))) (sym on)
         (part_lost (take i parts) x (IsOutOfOrder lines) o (d.fault lines a) n k));
   }
+
+-- no part is made yet
+pub none_made : (parts : List Part) (first : Option ℕ) → IsMade parts first 0 [] first
+none_made parts first = record {
+  few = omega arith;
+  each = All-nil IsProgram;
+  same = λ z. refl;
+  fault = λ lines a. least_same (IsOutOfOrder lines) (λ n. IsOutOfOrder lines n ⊎ IsLost [] n) first a.1
+      (λ m q. inl q)
+      (λ m q. ⊎_elim (λ b. b) (λ b. absurd (omega (arith, b.1.1))) q);
+}
+
+module _ (parts : List Part) (first : Option ℕ) (i : ℕ) (end : length parts ≤ i)
+    (items : List (List Instruction)) (o : Option ℕ) (d : IsMade parts first i items o)
+    (lines : List (Option Line)) (a : IsReadAs lines parts first) where
+  whole : take i parts ≡ parts_of lines
+  whole = take_all i parts end ∙ a.0
+
+  least_fault : IsLeast (IsAtFault lines) o
+  least_fault = subst (λ t. IsLeast (λ n. IsOutOfOrder lines n ⊎ IsLost t n) o) whole (d.fault lines a)
+
+  -- all parts are made, and no line is at fault
+  pub all_made : o ≡ None → SpellsPrograms lines items
+  all_made e = record {
+    faultless = subst (IsLeast (IsAtFault lines)) e least_fault;
+    same = d.same e ∙ ap (map program_of) whole;
+  }
+
+  -- all parts are seen, and this line is the least at fault
+  pub fault_found : (n : ℕ) → o ≡ Some n → 1 ≤ n → IsFaultOf lines (ProgramFault n)
+  fault_found n e l = inr (n, l, subst (IsLeast (IsAtFault lines)) e least_fault, refl)

@@ -9,3 +9,5 @@ pub mod Zips
 pub mod Lasts
 pub mod Drawn
 pub mod Jumps
+pub mod Orders
+pub mod Unique

@@ -28,12 +28,17 @@ abbrev pub IsFaultOf : List (Option Line) → Fault → Type 0
 IsFaultOf lines f = (f ≡ Memory)
     ⊎ ((line : ℕ) × (1 ≤ line) × IsLeast (IsAtFault lines) (Some line) × (f ≡ ProgramFault line))
 
+-- what each line of the text says, and it says nothing else
+pub record IsOnlyReading (text : List ℕ) (read : List (Option Line)) : Type 0 where
+  pub each : AllZip IsReading (lines text) read
+  pub only : (other : List (Option Line)) → AllZip IsReading (lines text) other → other ≡ read
+
 -- the programs that the text spells
 abbrev pub SpellsText : List ℕ → List (List Instruction) → Type 0
-SpellsText text programs = (read : List (Option Line)) × AllZip IsReading (lines text) read
+SpellsText text programs = (read : List (Option Line)) × IsOnlyReading text read
     × SpellsPrograms read programs
 
 -- memory was refused, or this is the least line of the text that is at fault
 abbrev pub IsFaultOfText : List ℕ → Fault → Type 0
 IsFaultOfText text f = (f ≡ Memory)
-    ⊎ ((read : List (Option Line)) × AllZip IsReading (lines text) read × IsFaultOf read f)
+    ⊎ ((read : List (Option Line)) × IsOnlyReading text read × IsFaultOf read f)

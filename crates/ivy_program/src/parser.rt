@@ -1,13 +1,11 @@
 ghost use Rattle.std.specs.Prelude.{◌≡◌, ◌≤◌, ◌<◌, ◌+◌, ◌^◌, ℕ, List, [], Option, Some, length, All, IfOk, IfErr, OnErr, IfSome, IfNone, IsOkUnless, false};
-ghost use Rattle.std.specs.List.{AllZip};
 ghost use Rattle.ivy_program.specs.declared.line.Line.{Line};
-ghost use Rattle.std.specs.Str.Lines.{lines};
 ghost use Rattle.ivy_model.specs.declared.Fault.TheVariants.{Memory};
 ghost use Rattle.ivy_program.specs.Drafts.{AreInside, IsByLabel, has_place, knows_place};
 ghost use Rattle.ivy_program.specs.Instructions.{IsProgram, NamesRegisters, JumpsWithin};
 ghost use Rattle.ivy_program.specs.Parts.{joined, labelled, lengthened, place_of};
-ghost use Rattle.ivy_program.specs.Readings.{Changes, HasLost, IsLeast, IsLost, IsOutOfOrder, IsReadAs, IsReading, lesser, parts_of, program_of, resolved};
-ghost use Rattle.ivy_program.specs.Texts.{ArePrograms, IsFaultOf, IsFaultOfText, IsRefusal, SpellsPrograms, SpellsText};
+ghost use Rattle.ivy_program.specs.Readings.{Changes, HasLost, IsLeast, IsLost, IsOutOfOrder, IsReadAs, lesser, parts_of, program_of, resolved};
+ghost use Rattle.ivy_program.specs.Texts.{ArePrograms, IsFaultOf, IsFaultOfText, IsOnlyReading, IsRefusal, SpellsPrograms, SpellsText};
 
 use crate::instruction::Instruction;
 use crate::line::{Action, Line, Name};
@@ -274,7 +272,10 @@ impl<A: Allocator + Copy> Parser<A> {
     /// Takes in all lines of a text, and says which is the first at fault.
     fn take_all(&mut self, lines: &[Option<Line>]) -> Result<Option<LineNumber>, Fault>
         requires room { length lines.now < 2 ^ 64 }
+        requires first { self.old ≡ [] }
         requires plain { All IsByLabel lines.now }
+        ensures parts { IfOk result (λ _. self.new ≡ parts_of lines.now) }
+        ensures fault { IfOk result (IsLeast (IsOutOfOrder lines.now)) }
         ensures want { IsOkUnless result Memory }
     {
         let mut at_fault = None;
@@ -294,7 +295,9 @@ impl<A: Allocator + Copy> Parser<A> {
     /// The programs of the lines, where none was at fault and each jump finds its label [1, 20].
     fn finish(self, out_of_order: Option<LineNumber>) -> Result<Vec<Program<A>, A>, Fault>
         ensures programs { IfOk result (λ programs. ArePrograms programs.items) }
+        ensures spelled { IfOk result (λ programs. (lines : List (Option Line)) → IsReadAs lines self out_of_order → SpellsPrograms lines programs.items) }
         ensures refused { IfErr result IsRefusal }
+        ensures fault { IfErr result (λ f. (lines : List (Option Line)) → IsReadAs lines self out_of_order → IsFaultOf lines f) }
     {
         let mut at_fault = out_of_order;
         let mut programs = Vec::new(self.alloc);
@@ -313,7 +316,7 @@ impl<A: Allocator + Copy> Parser<A> {
 
 /// What the lines of a text say, in order, with none for a line that says nothing by its words.
 fn read_lines<A: Allocator + Copy>(alloc: A, text: &str) -> Result<Vec<Option<Line>, A>, Fault>
-    ensures read { IfOk result (λ read. AllZip IsReading (lines text.now) read.items) }
+    ensures read { IfOk result (λ read. IsOnlyReading text.now read.items) }
     ensures plain { IfOk result (λ read. All IsByLabel read.items) }
     ensures want { IsOkUnless result Memory }
 {
@@ -330,7 +333,9 @@ fn read_lines<A: Allocator + Copy>(alloc: A, text: &str) -> Result<Vec<Option<Li
 /// The line at fault is the least one, counted from 1.
 pub fn parse<A: Allocator + Copy>(alloc: A, text: &str) -> Result<Vec<Program<A>, A>, Fault>
     ensures programs { IfOk result (λ programs. ArePrograms programs.items) }
+    ensures spelled { IfOk result (λ programs. SpellsText text.now programs.items) }
     ensures refused { IfErr result IsRefusal }
+    ensures fault { IfErr result (IsFaultOfText text.now) }
 {
     let lines = read_lines(alloc, text)?;
     let mut parser = Parser::new(alloc);

@@ -11,6 +11,7 @@ use Rattle.ivy_program.specs.Drafts.{IsByLabel, knows_place}
 use Rattle.ivy_program.specs.Lines.{Spells}
 use Rattle.ivy_program.specs.Readings.{IsReading}
 use Rattle.ivy_program.specs.Words.{words_of}
+use Rattle.ivy_program.proofs.Unique.{readings_same}
 use Rattle.ivy_program.proofs.Zips.{zip_push}
 use Rattle.ivy_program.proofs.parser.read_lines.Goals as goal
 
@@ -39,4 +40,9 @@ loop-line-preserved g c =
 pub returns-clause-read : goal.returns-clause-read
 returns-clause-read g c =
     let t = YieldsList-end (YieldsList-from_lines c.args.text.now cc) c.loop-line.yielded _ c.loop-line.yielded_by _ _ c.in-None.is c.next.ensures.steps in
-    subst (λ l. AllZip IsReading l c.loop-line.read.items) t.0 c.loop-line.invariant.read
+    let each : AllZip IsReading (lines c.args.text.now) c.loop-line.read.items =
+    subst (λ l. AllZip IsReading l c.loop-line.read.items) t.0 c.loop-line.invariant.read in
+    record {
+      each = each;
+      only = λ other h. readings_same (lines c.args.text.now) other c.loop-line.read.items h each;
+    }

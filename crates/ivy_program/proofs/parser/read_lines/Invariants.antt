@@ -1,5 +1,5 @@
 -- The lines so far are read, and none knows its place.
-use Rattle.std.proofs.Common.{◌≡◌, map, All}
+use Rattle.std.proofs.Common.{map, All}
 use Rattle.std.specs.List.{AllZip}
 use Rattle.ivy_program.specs.Drafts.{IsByLabel}
 use Rattle.ivy_program.specs.Readings.{IsReading}

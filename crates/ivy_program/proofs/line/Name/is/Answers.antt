@@ -1,5 +1,5 @@
 -- The bytes of a name are its letters with zeros behind them.
-use Rattle.std.proofs.Common.{◌≡◌, ◌∙◌, ap}
+use Rattle.std.proofs.Common.{◌∙◌}
 use Rattle.ivy_program.specs.Names.{same_name}
 use Rattle.ivy_program.proofs.Names.{same-padded}
 use Rattle.ivy_program.proofs.line.Name.is.Goals as goal

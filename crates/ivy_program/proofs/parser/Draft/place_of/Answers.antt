@@ -1,5 +1,5 @@
 -- The labels after one of another name are left, and the first of the name has the place.
-use Rattle.std.proofs.Common.{◌≡◌, ◌∙◌, ◌+◌, ◌<◌, true, length, drop, sym, ap, subst, rules, arith}
+use Rattle.std.proofs.Common.{◌≡◌, ◌∙◌, ◌+◌, drop, sym, ap, subst, arith}
 use Rattle.ivy_program.specs.Parts.{place_of}
 use Rattle.ivy_program.proofs.Jumps.{place_skipped, place_met, place_missed}
 use Rattle.ivy_program.proofs.parser.Draft.place_of.Goals as goal
