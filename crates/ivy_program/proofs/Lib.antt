@@ -3,3 +3,11 @@ pub mod Places
 pub mod Drafts
 pub mod Cuts
 pub mod Ends
+pub mod Names
+pub mod Least
+pub mod Zips
+pub mod Lasts
+pub mod Drawn
+pub mod Jumps
+pub mod Orders
+pub mod Unique

@@ -1,8 +1,11 @@
 -- Programs as they are read.
-use Rattle.std.specs.Prelude.{ℕ, ◌≤◌, Bool, true, false, List, All}
-use Rattle.ivy_program.specs.declared.parser.Action.{Action}
-use Rattle.ivy_program.specs.declared.parser.Action.TheVariants.{Plain}
+use Rattle.std.specs.Prelude.{ℕ, ◌≤◌, ◌≡◌, Bool, true, false, List, length, All, Option, Some, None}
+use Rattle.ivy_program.specs.declared.line.Action.{Action}
+use Rattle.ivy_program.specs.declared.line.Action.TheVariants.{Plain}
+use Rattle.ivy_program.specs.declared.line.Line.{Line}
+use Rattle.ivy_program.specs.declared.line.Line.TheVariants.{Does}
 use Rattle.ivy_program.specs.declared.parser.Label.{Label}
+use Rattle.ivy_program.specs.declared.parser.Numbered.{Numbered}
 use Rattle.ivy_program.specs.declared.instruction.Instruction.{Instruction}
 use Rattle.ivy_program.specs.declared.instruction.Instruction.TheVariants.{Jump, JumpIfZero}
 
@@ -19,3 +22,17 @@ is_jump _ = false
 abbrev pub has_place : Action → Bool
 has_place (Plain instruction) = is_jump instruction
 has_place _ = false
+
+abbrev pub knows_place : Line → Bool
+knows_place (Does action) = has_place action
+knows_place _ = false
+
+abbrev pub IsByLabel : Option Line → Type 0
+IsByLabel (Some line) = knows_place line ≡ false
+IsByLabel None = Unit {0}
+
+-- there are at most 4,096 lines, no jump knows its place, and the labels are inside
+pub record IsSound (lines : List Numbered) (labels : List Label) : Type 0 where
+  pub short : length lines ≤ 4096
+  pub by_label : All (λ line. has_place line.action ≡ false) lines
+  pub inside : AreInside (length lines) labels

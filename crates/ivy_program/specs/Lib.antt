@@ -6,5 +6,9 @@ pub mod Runs
 pub mod Numbers
 pub mod Words
 pub mod Operands
+pub mod Lines
+pub mod Readings
 pub mod Texts
 pub mod Drafts
+pub mod Names
+pub mod Parts

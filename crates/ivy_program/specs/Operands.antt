@@ -1,5 +1,5 @@
 -- The words of the operands of an instruction.
-use Rattle.std.specs.Prelude.{◌≡◌, ℕ, ◌+◌, ◌-◌, ◌≤◌, ◌||◌, nat_lt, Bool, IsTrue, List, [], ◌∷◌, length, ◌++◌, drop, replicate, slice_index, codes, if◌then◌else◌}
+use Rattle.std.specs.Prelude.{◌≡◌, ℕ, ◌+◌, ◌-◌, ◌≤◌, ◌||◌, nat_lt, Bool, IsTrue, List, [], ◌∷◌, length, ◌++◌, drop, replicate, filter, slice_index, codes, if◌then◌else◌}
 use Rattle.std.specs.List.{list_all}
 use Rattle.std.specs.Char.{is_ascii_lowercase, is_ascii_digit}
 use Rattle.std.specs.Str.Parse.{digits_value}
@@ -31,6 +31,10 @@ pub record IsName (word : List ℕ) : Type 0 where
   pub first : IsTrue (is_ascii_lowercase (slice_index word 0))
   pub all : IsTrue (list_all is_name_byte word)
   pub short : length word ≤ 16
+
+-- the bytes in front of the zeros that fill them up
+abbrev pub letters_of : List ℕ → List ℕ
+letters_of bytes = filter (λ b. nat_lt 0 b) bytes
 
 -- 16 bytes: those of the word in place of the first zeros
 abbrev pub padded : List ℕ → List ℕ

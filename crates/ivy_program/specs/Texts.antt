@@ -1,9 +1,13 @@
 -- What is said of the text of programs.
-use Rattle.std.specs.Prelude.{◌≡◌, ◌⊎◌, ℕ, ◌≤◌, List, length, All}
+use Rattle.std.specs.Prelude.{◌≡◌, ◌⊎◌, ℕ, ◌≤◌, List, length, map, All, Option, Some, None}
+use Rattle.std.specs.List.{AllZip}
+use Rattle.std.specs.Str.Lines.{lines}
 use Rattle.ivy_model.specs.declared.Fault.{Fault}
 use Rattle.ivy_model.specs.declared.Fault.TheVariants.{Memory, ProgramFault}
 use Rattle.ivy_program.specs.declared.instruction.Instruction.{Instruction}
+use Rattle.ivy_program.specs.declared.line.Line.{Line}
 use Rattle.ivy_program.specs.Instructions.{IsProgram}
+use Rattle.ivy_program.specs.Readings.{IsAtFault, IsLeast, IsReading, parts_of, program_of}
 
 -- memory was refused, or a line, counted from 1, is at fault
 abbrev pub IsRefusal : Fault → Type 0
@@ -13,3 +17,28 @@ IsRefusal f = (f ≡ Memory) ⊎ ((line : ℕ) × (1 ≤ line) × (f ≡ Program
 pub record ArePrograms (programs : List (List Instruction)) : Type 0 where
   pub few : length programs ≤ 32
   pub each : All IsProgram programs
+
+-- no line is at fault, and these are the programs
+pub record SpellsPrograms (lines : List (Option Line)) (programs : List (List Instruction)) : Type 0 where
+  pub faultless : IsLeast (IsAtFault lines) None
+  pub same : programs ≡ map program_of (parts_of lines)
+
+-- memory was refused, or this is the least line at fault, counted from 1
+abbrev pub IsFaultOf : List (Option Line) → Fault → Type 0
+IsFaultOf lines f = (f ≡ Memory)
+    ⊎ ((line : ℕ) × (1 ≤ line) × IsLeast (IsAtFault lines) (Some line) × (f ≡ ProgramFault line))
+
+-- what each line of the text says, and it says nothing else
+pub record IsOnlyReading (text : List ℕ) (read : List (Option Line)) : Type 0 where
+  pub each : AllZip IsReading (lines text) read
+  pub only : (other : List (Option Line)) → AllZip IsReading (lines text) other → other ≡ read
+
+-- the programs that the text spells
+abbrev pub SpellsText : List ℕ → List (List Instruction) → Type 0
+SpellsText text programs = (read : List (Option Line)) × IsOnlyReading text read
+    × SpellsPrograms read programs
+
+-- memory was refused, or this is the least line of the text that is at fault
+abbrev pub IsFaultOfText : List ℕ → Fault → Type 0
+IsFaultOfText text f = (f ≡ Memory)
+    ⊎ ((read : List (Option Line)) × IsOnlyReading text read × IsFaultOf read f)

@@ -4,6 +4,7 @@
 #![tactic(auto)]
 
 mod instruction;
+mod line;
 mod machine;
 mod parser;
 mod program;

@@ -1,24 +1,22 @@
-ghost use Rattle.std.specs.Prelude.{◌≡◌, ◌≢◌, ◌≤◌, ◌<◌, ◌+◌, ◌^◌, ℕ, [], length, All, IfOk, IfErr, OnErr, IfSome, IfNone, IsOkUnless, false};
+ghost use Rattle.std.specs.Prelude.{◌≡◌, ◌≤◌, ◌<◌, ◌+◌, ◌^◌, ℕ, List, [], Option, Some, length, All, IfOk, IfErr, OnErr, IfSome, IfNone, IsOkUnless, false};
+ghost use Rattle.ivy_program.specs.declared.line.Line.{Line};
 ghost use Rattle.ivy_model.specs.declared.Fault.TheVariants.{Memory};
-ghost use Rattle.ivy_program.specs.Drafts.{AreInside, is_jump, has_place};
+ghost use Rattle.ivy_program.specs.Drafts.{AreInside, IsByLabel, has_place, knows_place};
 ghost use Rattle.ivy_program.specs.Instructions.{IsProgram, NamesRegisters, JumpsWithin};
-ghost use Rattle.ivy_program.specs.Operands.{register_word, operation_word, IsWidthWord, IsName, padded};
-ghost use Rattle.ivy_program.specs.declared.instruction.Operation.{Operation};
-ghost use Rattle.ivy_program.specs.declared.instruction.Width.{Width};
-ghost use Rattle.ivy_program.specs.Texts.{ArePrograms, IsRefusal};
+ghost use Rattle.ivy_program.specs.Parts.{joined, labelled, lengthened, place_of};
+ghost use Rattle.ivy_program.specs.Readings.{Changes, HasLost, IsLeast, IsLost, IsOutOfOrder, IsReadAs, lesser, parts_of, program_of, resolved};
+ghost use Rattle.ivy_program.specs.Texts.{ArePrograms, IsFaultOf, IsFaultOfText, IsOnlyReading, IsRefusal, SpellsPrograms, SpellsText};
 
-use crate::instruction::{Instruction, Operation, Register, Width};
+use crate::instruction::Instruction;
+use crate::line::{Action, Line, Name};
 use crate::program::{MOST_INSTRUCTIONS, Program};
-use crate::words::{parse_number, words_of};
+use crate::words::words_of;
 use ivy_model::Fault;
 use std::alloc::Allocator;
 use std::marker::Model;
 
 /// The most programs that a text can have.
 const MOST_PROGRAMS: usize = 32;
-
-/// The most letters and digits that the name of a label has.
-const MOST_LETTERS: usize = 16;
 
 /// The number of a line, counted from 1.
 #[derive(Clone, Copy, PartialEq, Eq)]
@@ -27,6 +25,8 @@ struct LineNumber {
 }
 
 impl Model for LineNumber {
+    ghost use Rattle.std.specs.Prelude.{◌≤◌, ℕ};
+
     ghost Value = { ℕ };
 
     ghost view = { λ l. l.number };
@@ -56,55 +56,20 @@ impl LineNumber {
 }
 
 /// The least of the lines at fault.
-fn least(known: Option<LineNumber>, line: LineNumber) -> LineNumber {
+fn least(known: Option<LineNumber>, line: LineNumber) -> LineNumber
+    ensures { result ≡ lesser known line }
+{
     match known {
         Some(other) if other.get() < line.get() => other,
         _ => line,
     }
 }
 
-/// The name of a label: 1 to 16 small letters and digits, the first a letter; zeros fill it up.
-#[derive(Clone, Copy, PartialEq, Eq)]
-struct Name {
-    letters: [u8; MOST_LETTERS],
-}
-
-impl Name {
-    /// The name that a word is, if it is one.
-    fn new(word: &str) -> Option<Name>
-        ensures found { IfSome result (λ name. IsName word.now × (name.letters ≡ padded word.now)) }
-        ensures none { IfNone result (¬ IsName word.now) }
-    {
-        let bytes = word.as_bytes();
-        let [first, ..] = *bytes else {
-            return None;
-        };
-        let named = bytes
-            .iter()
-            .all(|b| b.is_ascii_lowercase() || b.is_ascii_digit());
-        if !first.is_ascii_lowercase() || !named || bytes.len() > MOST_LETTERS {
-            return None;
-        }
-        let mut letters = [0; MOST_LETTERS];
-        letters[..bytes.len()].copy_from_slice(bytes);
-        Some(Name { letters })
-    }
-}
-
-/// What a line of a program does. A jump names its label, which may come later.
-#[derive(Clone, Copy)]
-enum Action {
-    Plain(Instruction),
-    Jump(Name),
-    JumpIfZero(Register, Name),
-}
-
 /// A line of a program that does something.
 #[derive(Clone, Copy)]
-struct Line {
+struct Numbered {
     number: LineNumber,
     action: Action,
-    ghost by_label: { has_place action ≡ false },
 }
 
 /// A name for the instruction at a place.
@@ -114,134 +79,29 @@ struct Label {
     place: usize,
 }
 
-/// The register that a word names.
-fn parse_register(word: &str) -> Option<Register>
-    ensures found { IfSome result (λ r. word.now ≡ register_word r) }
-    ensures none { IfNone result ((r : ℕ) → r < 16 → word.now ≢ register_word r) }
-{
-    match *word.as_bytes() {
-        [b'r', digit @ b'0'..=b'9'] => Register::new(digit - b'0'),
-        [b'r', b'1', digit @ b'0'..=b'5'] => Register::new(10 + (digit - b'0')),
-        _ => None,
-    }
-}
-
-/// The width that a word is the number of.
-fn parse_width(word: &str) -> Option<Width>
-    ensures found { IfSome result (λ w. IsWidthWord word.now w) }
-    ensures none { IfNone result ((w : Width) → ¬ IsWidthWord word.now w) }
-{
-    match parse_number(word)? {
-        1 => Some(Width::One),
-        2 => Some(Width::Two),
-        4 => Some(Width::Four),
-        8 => Some(Width::Eight),
-        _ => None,
-    }
-}
-
-fn parse_operation(word: &str) -> Option<Operation>
-    ensures found { IfSome result (λ o. word.now ≡ operation_word o) }
-    ensures none { IfNone result ((o : Operation) → word.now ≢ operation_word o) }
-{
-    match word {
-        "add" => Some(Operation::Add),
-        "sub" => Some(Operation::Sub),
-        "mul" => Some(Operation::Mul),
-        _ => None,
-    }
-}
-
-/// The instruction of a line that calls the memory, where its words are one.
-fn parse_call(words: &[&str]) -> Option<Instruction>
-    ensures { IfSome result (λ i. is_jump i ≡ false) }
-{
-    Some(match *words {
-        ["load", width, to, addr] => Instruction::Load {
-            width: parse_width(width)?,
-            to: parse_register(to)?,
-            addr: parse_register(addr)?,
-        },
-        ["store", width, addr, from] => Instruction::Store {
-            width: parse_width(width)?,
-            addr: parse_register(addr)?,
-            from: parse_register(from)?,
-        },
-        ["count", to, count] => Instruction::Count {
-            to: parse_register(to)?,
-            count: parse_register(count)?,
-        },
-        ["advance", count] => Instruction::Advance {
-            count: parse_register(count)?,
-        },
-        ["await", to, count, least] => Instruction::Await {
-            to: parse_register(to)?,
-            count: parse_register(count)?,
-            least: parse_register(least)?,
-        },
-        _ => return None,
-    })
-}
-
-/// The instruction of a line that neither calls the memory nor names a label, where its words are
-/// one.
-fn parse_local(words: &[&str]) -> Option<Instruction>
-    ensures { IfSome result (λ i. is_jump i ≡ false) }
-{
-    Some(match *words {
-        ["set", to, value] => Instruction::Set {
-            to: parse_register(to)?,
-            value: parse_number(value)?,
-        },
-        ["mov", to, from] => Instruction::Move {
-            to: parse_register(to)?,
-            from: parse_register(from)?,
-        },
-        ["status", to] => Instruction::Status {
-            to: parse_register(to)?,
-        },
-        ["print", from] => Instruction::Print {
-            from: parse_register(from)?,
-        },
-        ["stop"] => Instruction::Stop,
-        [operation, to, left, right] => Instruction::Compute {
-            operation: parse_operation(operation)?,
-            to: parse_register(to)?,
-            left: parse_register(left)?,
-            right: parse_register(right)?,
-        },
-        _ => return None,
-    })
-}
-
-/// What a line does, where its words are an instruction.
-fn parse_action(words: &[&str]) -> Option<Action>
-    ensures { IfSome result (λ a. has_place a ≡ false) }
-{
-    match *words {
-        ["jump", label] => Some(Action::Jump(Name::new(label)?)),
-        ["jumpz", from, label] => {
-            Some(Action::JumpIfZero(parse_register(from)?, Name::new(label)?))
-        }
-        ["load" | "store" | "count" | "advance" | "await", ..] => {
-            Some(Action::Plain(parse_call(words)?))
-        }
-        _ => Some(Action::Plain(parse_local(words)?)),
-    }
-}
-
 /// The program of a node as far as it was read: its lines, and its labels by their places.
 #[derive(Drop)]
 struct Draft<A: Allocator> {
     alloc: A,
-    lines: Vec<Line, A>,
+    lines: Vec<Numbered, A>,
     labels: Vec<Label, A>,
-    ghost short: { length lines.items ≤ 4096 },
-    ghost inside: { AreInside (length lines.items) labels.items },
+}
+
+impl<A: Allocator> Model for Draft<A> {
+    ghost use Rattle.ivy_program.specs.Drafts.{IsSound};
+    ghost use Rattle.ivy_program.specs.Parts.{Part};
+
+    ghost Value = { Part };
+
+    ghost view = { λ d. record { lines = d.lines.items; labels = d.labels.items } };
+
+    ghost invariant = { λ d. IsSound d.lines.items d.labels.items };
 }
 
 impl<A: Allocator + Copy> Draft<A> {
-    fn new(alloc: A) -> Draft<A> {
+    fn new(alloc: A) -> Draft<A>
+        ensures { result ≡ record { lines = []; labels = [] } }
+    {
         Draft {
             alloc,
             lines: Vec::new(alloc),
@@ -250,9 +110,10 @@ impl<A: Allocator + Copy> Draft<A> {
     }
 
     /// Adds a line. False where the program is full.
-    #[tactic(auto, using(crate::proofs::Drafts::inside_on))]
-    fn add(&mut self, line: Line) -> Result<bool, Fault>
-        ensures { IsOkUnless result Memory }
+    fn add(&mut self, line: Numbered) -> Result<bool, Fault>
+        requires { has_place line.action ≡ false }
+        ensures added { IfOk result (λ ok. Changes ok self.old (lengthened self.old line) self.new) }
+        ensures want { IsOkUnless result Memory }
     {
         if self.lines.len() >= MOST_INSTRUCTIONS {
             return Ok(false);
@@ -261,13 +122,11 @@ impl<A: Allocator + Copy> Draft<A> {
         Ok(true)
     }
 
-    /// Names the next instruction. False where that is no name, or is one already.
-    fn label(&mut self, word: &str) -> Result<bool, Fault>
-        ensures { IsOkUnless result Memory }
+    /// Names the next instruction. False where the name is there already.
+    fn label(&mut self, name: Name) -> Result<bool, Fault>
+        ensures added { IfOk result (λ ok. Changes ok self.old (labelled self.old name (place_of self.old.labels name)) self.new) }
+        ensures want { IsOkUnless result Memory }
     {
-        let Some(name) = Name::new(word) else {
-            return Ok(false);
-        };
         if self.place_of(name).is_some() {
             return Ok(false);
         }
@@ -278,10 +137,11 @@ impl<A: Allocator + Copy> Draft<A> {
 
     /// The place that has this name.
     fn place_of(&self, name: Name) -> Option<usize>
-        ensures { IfSome result (λ place. place ≤ length self.now.lines.items) }
+        ensures found { result ≡ place_of self.now.labels name }
+        ensures inside { IfSome result (λ place. place ≤ length self.now.lines) }
     {
         for label in &self.labels {
-            if label.name == name {
+            if label.name.is(name) {
                 return Some(label.place);
             }
         }
@@ -292,8 +152,9 @@ impl<A: Allocator + Copy> Draft<A> {
     #[tactic(auto, using(crate::proofs::Drafts::nowhere))]
     fn resolve(&self, action: Action) -> Option<Instruction>
         requires { has_place action ≡ false }
+        ensures found { result ≡ resolved self.now.labels action }
         ensures named { IfSome result NamesRegisters }
-        ensures inside { IfSome result (JumpsWithin (length self.now.lines.items)) }
+        ensures inside { IfSome result (JumpsWithin (length self.now.lines)) }
     {
         match action {
             Action::Plain(instruction) => Some(instruction),
@@ -309,89 +170,136 @@ impl<A: Allocator + Copy> Draft<A> {
 
     /// The program, or the first line that jumps to an unknown name [1].
     fn program(&self) -> Result<Result<Program<A>, LineNumber>, Fault>
+        ensures program { IfOk result (λ read. IfOk read (λ p. p ≡ program_of self.now)) }
+        ensures whole { IfOk result (λ read. IfOk read (λ _. (n : ℕ) → ¬ HasLost self.now n)) }
+        ensures lost { IfOk result (λ read. IfErr read (λ n. IsLeast (HasLost self.now) (Some n))) }
         ensures sound { IfOk result (λ read. IfOk read IsProgram) }
         ensures want { IsOkUnless result Memory }
     {
         let mut instructions = Vec::new(self.alloc);
+        let mut lost = None;
         for line in &self.lines {
-            let Some(instruction) = self.resolve(line.action) else {
-                return Ok(Err(line.number));
-            };
-            instructions.push(instruction)?;
+            match self.resolve(line.action) {
+                Some(instruction) => instructions.push(instruction)?,
+                None => lost = Some(least(lost, line.number)),
+            }
         }
-        Ok(Ok(Program::new(self.alloc, instructions)))
+        match lost {
+            Some(number) => Ok(Err(number)),
+            None => Ok(Ok(Program::new(self.alloc, instructions))),
+        }
     }
 }
 
-/// The programs of the lines read so far, and the least of these lines that is at fault.
+/// The programs of the lines read so far.
 #[derive(Drop)]
 struct Parser<A: Allocator> {
     alloc: A,
     drafts: Vec<Draft<A>, A>,
-    at_fault: Option<LineNumber>,
-    ghost few: { length drafts.items ≤ 32 },
+}
+
+impl<A: Allocator> Model for Parser<A> {
+    ghost use Rattle.std.specs.Prelude.{◌≤◌, List, length};
+    ghost use Rattle.ivy_program.specs.Parts.{Part};
+
+    ghost Value = { List Part };
+
+    ghost view = { λ p. p.drafts.items };
+
+    ghost invariant = { λ p. length p.drafts.items ≤ 32 };
 }
 
 impl<A: Allocator + Copy> Parser<A> {
-    fn new(alloc: A) -> Parser<A> {
+    fn new(alloc: A) -> Parser<A>
+        ensures { result ≡ [] }
+    {
         Parser {
             alloc,
             drafts: Vec::new(alloc),
-            at_fault: None,
         }
     }
 
-    /// Starts the program of the next node. False where the word is not its number.
-    fn start(&mut self, node: &str) -> Result<bool, Fault>
-        ensures { IsOkUnless result Memory }
+    /// Starts the program of the next node. False where that is another one.
+    fn start(&mut self, node: u64, number: LineNumber) -> Result<bool, Fault>
+        ensures started { IfOk result (λ ok. Changes ok self.old (joined self.old number (Some (Line.Node node))) self.new) }
+        ensures want { IsOkUnless result Memory }
     {
         let started = self.drafts.len();
-        if started >= MOST_PROGRAMS || parse_number(node) != Some(started as u64) {
+        if started >= MOST_PROGRAMS || node != started as u64 {
             return Ok(false);
         }
         self.drafts.push(Draft::new(self.alloc))?;
         Ok(true)
     }
 
-    /// Takes in a line of the last program. False where there is none, or the line is at fault.
-    fn add(&mut self, number: LineNumber, words: &[&str]) -> Result<bool, Fault>
-        ensures { IsOkUnless result Memory }
+    /// Takes in a label of the last program. False where there is none, or the name is there already.
+    fn label(&mut self, name: Name, number: LineNumber) -> Result<bool, Fault>
+        ensures labelled { IfOk result (λ ok. Changes ok self.old (joined self.old number (Some (Line.Label name))) self.new) }
+        ensures want { IsOkUnless result Memory }
     {
         let Some(last) = self.drafts.len().checked_sub(1) else {
             return Ok(false);
         };
-        let draft = &mut self.drafts[last];
-        match *words {
-            ["label", name] => draft.label(name),
-            _ => match parse_action(words) {
-                Some(action) => draft.add(Line { number, action }),
-                None => Ok(false),
-            },
-        }
+        self.drafts[last].label(name)
+    }
+
+    /// Takes in an instruction of the last program. False where there is none, or it is full.
+    fn add(&mut self, number: LineNumber, action: Action) -> Result<bool, Fault>
+        requires { has_place action ≡ false }
+        ensures added { IfOk result (λ ok. Changes ok self.old (joined self.old number (Some (Line.Does action))) self.new) }
+        ensures want { IsOkUnless result Memory }
+    {
+        let Some(last) = self.drafts.len().checked_sub(1) else {
+            return Ok(false);
+        };
+        self.drafts[last].add(Numbered { number, action })
     }
 
     /// Takes in one line. False where it is at fault.
-    fn take(&mut self, number: LineNumber, words: &[&str]) -> Result<bool, Fault>
-        ensures { IsOkUnless result Memory }
+    fn take(&mut self, number: LineNumber, line: Line) -> Result<bool, Fault>
+        requires { knows_place line ≡ false }
+        ensures taken { IfOk result (λ ok. Changes ok self.old (joined self.old number (Some line)) self.new) }
+        ensures want { IsOkUnless result Memory }
     {
-        match *words {
-            [] => Ok(true),
-            ["node", node] => self.start(node),
-            _ => self.add(number, words),
+        match line {
+            Line::Blank => Ok(true),
+            Line::Node(node) => self.start(node, number),
+            Line::Label(name) => self.label(name, number),
+            Line::Does(action) => self.add(number, action),
         }
     }
 
-    /// Notes that a line is at fault.
-    fn blame(&mut self, line: LineNumber) {
-        self.at_fault = Some(least(self.at_fault, line));
+    /// Takes in all lines of a text, and says which is the first at fault.
+    fn take_all(&mut self, lines: &[Option<Line>]) -> Result<Option<LineNumber>, Fault>
+        requires room { length lines.now < 2 ^ 64 }
+        requires first { self.old ≡ [] }
+        requires plain { All IsByLabel lines.now }
+        ensures parts { IfOk result (λ _. self.new ≡ parts_of lines.now) }
+        ensures fault { IfOk result (IsLeast (IsOutOfOrder lines.now)) }
+        ensures want { IsOkUnless result Memory }
+    {
+        let mut at_fault = None;
+        for (before, line) in lines.iter().enumerate() {
+            let number = LineNumber::after(before);
+            let taken = match *line {
+                Some(line) => self.take(number, line)?,
+                None => false,
+            };
+            if !taken {
+                at_fault = Some(least(at_fault, number));
+            }
+        }
+        Ok(at_fault)
     }
 
-    /// The programs of the lines, where each jump finds its label [1, 20].
-    fn finish(self) -> Result<Vec<Program<A>, A>, Fault>
+    /// The programs of the lines, where none was at fault and each jump finds its label [1, 20].
+    fn finish(self, out_of_order: Option<LineNumber>) -> Result<Vec<Program<A>, A>, Fault>
         ensures programs { IfOk result (λ programs. ArePrograms programs.items) }
+        ensures spelled { IfOk result (λ programs. (lines : List (Option Line)) → IsReadAs lines self out_of_order → SpellsPrograms lines programs.items) }
         ensures refused { IfErr result IsRefusal }
+        ensures fault { IfErr result (λ f. (lines : List (Option Line)) → IsReadAs lines self out_of_order → IsFaultOf lines f) }
     {
-        let mut at_fault = self.at_fault;
+        let mut at_fault = out_of_order;
         let mut programs = Vec::new(self.alloc);
         for draft in &self.drafts {
             match draft.program()? {
@@ -406,20 +314,31 @@ impl<A: Allocator + Copy> Parser<A> {
     }
 }
 
+/// What the lines of a text say, in order, with none for a line that says nothing by its words.
+fn read_lines<A: Allocator + Copy>(alloc: A, text: &str) -> Result<Vec<Option<Line>, A>, Fault>
+    ensures read { IfOk result (λ read. IsOnlyReading text.now read.items) }
+    ensures plain { IfOk result (λ read. All IsByLabel read.items) }
+    ensures want { IsOkUnless result Memory }
+{
+    let mut read = Vec::new(alloc);
+    for line in text.lines() {
+        let words = words_of(alloc, line)?;
+        read.push(Line::read(&words))?;
+    }
+    Ok(read)
+}
+
 /// The programs of a text, at most 32, of the nodes 0, 1, 2 and so on [1, 20].
 ///
 /// The line at fault is the least one, counted from 1.
 pub fn parse<A: Allocator + Copy>(alloc: A, text: &str) -> Result<Vec<Program<A>, A>, Fault>
     ensures programs { IfOk result (λ programs. ArePrograms programs.items) }
+    ensures spelled { IfOk result (λ programs. SpellsText text.now programs.items) }
     ensures refused { IfErr result IsRefusal }
+    ensures fault { IfErr result (IsFaultOfText text.now) }
 {
+    let lines = read_lines(alloc, text)?;
     let mut parser = Parser::new(alloc);
-    for (before, line) in text.split_inclusive('\n').enumerate() {
-        let number = LineNumber::after(before);
-        let words = words_of(alloc, line)?;
-        if !parser.take(number, &words)? {
-            parser.blame(number);
-        }
-    }
-    parser.finish()
+    let at_fault = parser.take_all(&lines)?;
+    parser.finish(at_fault)
 }

@@ -1,11 +1,6 @@
--- The instructions so far are those of the lines so far, and are sound.
-use Rattle.std.proofs.Common.{◌≡◌, length, All}
-use Rattle.ivy_program.specs.Instructions.{NamesRegisters, JumpsWithin}
+-- The instructions so far are those of the lines so far, but for the lines that jump to unknown names.
+use Rattle.ivy_program.proofs.Drawn.{IsDrawn}
 use Rattle.ivy_program.proofs.parser.Draft.program.Given as goal
 
 abbrev pub invariant-loop-line : goal.invariant-loop-line
-invariant-loop-line g l = record {
-  count : length l.instructions.items ≡ l.line-index;
-  named : All NamesRegisters l.instructions.items;
-  inside : All (JumpsWithin (length l.self.lines.items)) l.instructions.items;
-}
+invariant-loop-line g l = IsDrawn l.self.lines l.self.labels l.line-index l.instructions.items l.lost

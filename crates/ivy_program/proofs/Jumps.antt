@@ -1,0 +1,85 @@
+-- The places of labels, and jumps to names that a program does not have.
+use Rattle.std.proofs.Common.{◌≡◌, ◌∙◌, ◌⊎◌, inl, inr, ⊎_elim, ℕ, ◌+◌, ◌<◌, ◌≤◌, true, false, cond, List, [], ◌∷◌, ◌++◌, Option, Some, None, length, drop, get_or, refl, sym, ap, subst, arith}
+use Rattle.std.specs.List.{filter_map, cons_option}
+use Rattle.std.proofs.lemmas.List.{at_drop_more, at_drop_all, append-nil}
+use Rattle.std.proofs.lemmas.List.Elements.{filter_map-append, Contains-push, Contains-push_cases, Contains-append_left}
+use Rattle.ivy_program.specs.declared.parser.Label.{Label}
+use Rattle.ivy_program.specs.declared.parser.Numbered.{Numbered}
+use Rattle.ivy_program.specs.declared.instruction.Instruction.{Instruction}
+use Rattle.ivy_program.specs.Names.{same_name}
+use Rattle.ivy_program.specs.Parts.{Part, place_of}
+use Rattle.ivy_program.specs.Readings.{HasLost, IsLeast, IsLost, LosesIn, lesser, resolved}
+use Rattle.ivy_program.proofs.Least.{least_same, least_join}
+
+-- a label of another name is passed over
+pub place_skipped : (ls : List Label) (name : List ℕ) (i : ℕ) (x : Label) → i < length ls → x ≡ get_or ls i x
+    → same_name x.name name ≡ false → place_of (drop i ls) name ≡ place_of (drop (i + 1) ls) name
+place_skipped ls name i x l e h =
+    at_drop_more (λ t. place_of t name) ls i x l
+    ∙ ap (λ y. cond (same_name y.name name) (Some y.place) (place_of (drop (i + 1) ls) name)) (sym e)
+    ∙ ap (λ b. cond b (Some x.place) (place_of (drop (i + 1) ls) name)) h
+
+-- the first label of the name has its place
+pub place_met : (ls : List Label) (name : List ℕ) (i : ℕ) (x : Label) → i < length ls → x ≡ get_or ls i x
+    → same_name x.name name ≡ true → place_of (drop i ls) name ≡ Some x.place
+place_met ls name i x l e h =
+    at_drop_more (λ t. place_of t name) ls i x l
+    ∙ ap (λ y. cond (same_name y.name name) (Some y.place) (place_of (drop (i + 1) ls) name)) (sym e)
+    ∙ ap (λ b. cond b (Some x.place) (place_of (drop (i + 1) ls) name)) h
+
+pub place_missed : (ls : List Label) (name : List ℕ) (i : ℕ) → length ls ≤ i → place_of (drop i ls) name ≡ None
+place_missed ls name i h = at_drop_all (λ t. place_of t name) ls i h
+
+module _ {X Y : Type 0} (f : X → Option Y) where
+  pub filter_map-found : (xs : List X) (x : X) (y : Y) → f x ≡ Some y → filter_map f (xs ++ x ∷ []) ≡ filter_map f xs ++ y ∷ []
+  filter_map-found xs x y h = filter_map-append f xs (x ∷ []) ∙ ap (λ o. filter_map f xs ++ cons_option o []) h
+
+  pub filter_map-none : (xs : List X) (x : X) → f x ≡ None → filter_map f (xs ++ x ∷ []) ≡ filter_map f xs
+  filter_map-none xs x h =
+      filter_map-append f xs (x ∷ []) ∙ ap (λ o. filter_map f xs ++ cons_option o []) h ∙ append-nil (filter_map f xs)
+
+module _ (labels : List Label) (xs : List Numbered) (x : Numbered) where
+  grown : (m : ℕ) → LosesIn labels xs m → LosesIn labels (xs ++ x ∷ []) m
+  grown m h = (h.0, Contains-append_left xs (x ∷ []) h.0 h.1, h.2, h.3)
+
+  -- one more line that loses its jump
+  pub lost_more : (o : Option ℕ) → IsLeast (LosesIn labels xs) o → resolved labels x.action ≡ None
+      → IsLeast (LosesIn labels (xs ++ x ∷ [])) (Some (lesser o x.number))
+  lost_more o h e =
+      least_join (LosesIn labels xs) (λ m. m ≡ x.number) (LosesIn labels (xs ++ x ∷ [])) x.number refl
+      (λ m k. omega arith)
+      (λ m k. ⊎_elim (λ a. inl (k.0, a, k.2, k.3)) (λ b. inr (sym k.2 ∙ ap (λ y. y.number) (sym b))) (Contains-push_cases xs x k.0 k.1))
+      grown
+      (λ m k. (x, Contains-push xs x, sym k, e))
+      o h
+
+  -- one more that does not
+  pub lost_same : (o : Option ℕ) (i : Instruction) → IsLeast (LosesIn labels xs) o → resolved labels x.action ≡ Some i
+      → IsLeast (LosesIn labels (xs ++ x ∷ [])) o
+  lost_same o i h e =
+      least_same (LosesIn labels xs) (LosesIn labels (xs ++ x ∷ [])) o h grown
+      (λ m k. ⊎_elim (λ a. (k.0, a, k.2, k.3)) (λ b. let q : resolved labels x.action ≡ None = ap (λ y. resolved labels y.action) b ∙ k.3 in absurd (cc)) (Contains-push_cases xs x k.0 k.1))
+
+module _ (ps : List Part) (p : Part) where
+  kept : (m : ℕ) → IsLost ps m → IsLost (ps ++ p ∷ []) m
+  kept m h = (h.0, Contains-append_left ps (p ∷ []) h.0 h.1, h.2)
+
+  parted : (m : ℕ) → IsLost (ps ++ p ∷ []) m → IsLost ps m ⊎ HasLost p m
+  parted m h = ⊎_elim (λ a. inl (h.0, a, h.2)) (λ b. inr (subst (λ q. HasLost q m) (sym b) h.2)) (Contains-push_cases ps p h.0 h.1)
+
+  module _ (O : ℕ → Type 0) (o : Option ℕ) (h : IsLeast (λ n. O n ⊎ IsLost ps n) o) where
+    -- one more part that loses a jump
+    pub part_lost : (n : ℕ) → IsLeast (HasLost p) (Some n) → IsLeast (λ n. O n ⊎ IsLost (ps ++ p ∷ []) n) (Some (lesser o n))
+    part_lost n k =
+        least_join (λ n. O n ⊎ IsLost ps n) (HasLost p) (λ n. O n ⊎ IsLost (ps ++ p ∷ []) n) n k.0 k.1
+        (λ m q. ⊎_elim (λ a. inl (inl a)) (λ b. ⊎_elim (λ c. inl (inr c)) (λ d. inr d) (parted m b)) q)
+        (λ m q. ⊎_elim (λ a. inl a) (λ b. inr (kept m b)) q)
+        (λ m q. inr (p, Contains-push ps p, q))
+        o h
+
+    -- one more that does not
+    pub part_same : ((n : ℕ) → ¬ HasLost p n) → IsLeast (λ n. O n ⊎ IsLost (ps ++ p ∷ []) n) o
+    part_same k =
+        least_same (λ n. O n ⊎ IsLost ps n) (λ n. O n ⊎ IsLost (ps ++ p ∷ []) n) o h
+        (λ m q. ⊎_elim (λ a. inl a) (λ b. inr (kept m b)) q)
+        (λ m q. ⊎_elim (λ a. inl a) (λ b. ⊎_elim (λ c. inr c) (λ d. absurd (k m d)) (parted m b)) q)

@@ -1,0 +1,46 @@
+-- The letters of a name, and the zeros behind them.
+use Rattle.std.proofs.Common.{◌≡◌, ◌∙◌, ℕ, suc, zero, ◌-◌, ◌&&◌, Bool, true, false, List, [], ◌∷◌, ◌++◌, length, drop, replicate, nat_lt, nat_eq, cond, ap, refl, sym, arith}
+use Rattle.std.specs.List.{list_all}
+use Rattle.std.proofs.lemmas.List.{drop-replicate, append-nil}
+use Rattle.std.proofs.lemmas.List.Elements.{filter-append}
+use Rattle.std.proofs.lemmas.Bool.Decides.{nat_tests}
+use Rattle.std.specs.Cmp.Lexicographic.{same_text, other_text, pointwise}
+use Rattle.ivy_program.specs.Names.{same_name}
+use Rattle.ivy_program.specs.Operands.{is_name_byte, letters_of, padded}
+
+both : (a b : Bool) → (a && b) ≡ true → (a ≡ true) × (b ≡ true)
+both true b h = (refl, h)
+both false b h = cc
+
+byte_positive : (b : ℕ) → is_name_byte b ≡ true → nat_lt 0 b ≡ true
+byte_positive b h = grind (arith, nat_tests)
+
+letters_kept : (word : List ℕ) → list_all is_name_byte word ≡ true → letters_of word ≡ word
+letters_kept [] h = refl
+letters_kept (b ∷ word) h =
+    let k = both (is_name_byte b) (list_all is_name_byte word) h in
+    ap (λ c. cond c (b ∷ letters_of word) (letters_of word)) (byte_positive b k.0)
+    ∙ ap (λ l. b ∷ l) (letters_kept word k.1)
+
+zeros_gone : (n : ℕ) → letters_of (replicate n 0) ≡ []
+zeros_gone zero = refl
+zeros_gone (suc n) = zeros_gone n
+
+-- the letters of the 16 bytes of a name are the name
+pub letters-padded : (word : List ℕ) → list_all is_name_byte word ≡ true → letters_of (padded word) ≡ word
+letters-padded word h =
+    filter-append (λ b. nat_lt 0 b) word (drop (length word) (replicate 16 0))
+    ∙ ap (λ l. letters_of word ++ letters_of l) (drop-replicate (length word) 16 0)
+    ∙ ap (λ l. letters_of word ++ l) (zeros_gone (16 - length word))
+    ∙ append-nil (letters_of word) ∙ letters_kept word h
+
+module _ (a b : List ℕ) (p : a ≡ padded (letters_of a)) (q : b ≡ padded (letters_of b)) where
+  told : (r s : Bool) → r ≡ pointwise nat_eq a b → s ≡ same_name (letters_of a) (letters_of b) → r ≡ s
+  told true true h k = refl
+  told false false h k = refl
+  told true false h k = absurd (other_text (letters_of a) (letters_of b) k (ap letters_of (same_text a b h)))
+  told false true h k = absurd (other_text a b h (p ∙ ap padded (same_text (letters_of a) (letters_of b) k) ∙ sym q))
+
+  -- two names are the same where their 16 bytes are
+  pub same-padded : pointwise nat_eq a b ≡ same_name (letters_of a) (letters_of b)
+  same-padded = told (pointwise nat_eq a b) (same_name (letters_of a) (letters_of b)) refl refl

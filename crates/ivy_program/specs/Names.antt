@@ -1,0 +1,7 @@
+-- Whether two names are the same.
+use Rattle.std.specs.Prelude.{ℕ, nat_eq, Bool, List}
+use lib.Pointwise.{pointwise}
+
+-- place by place
+abbrev pub same_name : List ℕ → List ℕ → Bool
+same_name a b = pointwise nat_eq a b
