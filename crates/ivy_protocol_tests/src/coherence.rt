@@ -1,14 +1,12 @@
 //! Faults and requests at one of three nodes, under managing nodes.
-ghost use Rattle.std.specs.Prelude.{◌≡◌, ◌<◌, ◌≤◌, length};
-ghost use Rattle.ivy_wire.specs.Lent.{owned_message};
-ghost use Rattle.ivy_wire.specs.Spelling.{FitsMessage};
+ghost use Rattle.ivy_pagetable.specs.Words.{IsWord};
 
-use crate::posted::{Posted, parcel};
+use crate::letters::{Bytes, Letter, Said, message, received};
+use crate::posted::Posted;
 use ivy_coherence::{Coherence, Need};
 use ivy_fixed::FixedManager;
 use ivy_model::{Config, Kind};
 use ivy_pagetable::{Out, Word};
-use ivy_wire::{Content, Message};
 use std::alloc::Global;
 use std::marker::Model;
 use std::process::Abort;
@@ -22,10 +20,17 @@ const TRIO: Config = Config {
     manager: Kind::Fixed,
 };
 
-/// Pages of zeros, and of ones.
-static ZEROS: [u8; 64] = [0; 64];
+/// The first word of a page is read, and 5 is written to it.
+const LOAD: Word = Word::Load {
+    width: 8,
+    offset: 0,
+};
 
-static ONES: [u8; 64] = [255; 64];
+const STORE: Word = Word::Store {
+    width: 8,
+    offset: 0,
+    value: 5,
+};
 
 /// One of the three nodes, and what it posts.
 #[derive(Drop)]
@@ -53,11 +58,31 @@ impl Model for Node {
     ghost invariant = { λ n. (n.coherence.config ≡ TRIO) × (n.posted.0 ≡ TRIO) × (n.posted.1 ≡ n.coherence.me) };
 }
 
+/// What happens to a node, or what it shows.
+enum Step {
+    /// Its program loads the first word of a page, or stores 5 in that of page 1: by the call of this number, once
+    /// its last answer was taken out. What that comes to.
+    Loads(u32, u64, Need),
+    Stores(u64, Need),
+    /// A message about page 1 comes from a node, and is taken or refused.
+    Comes(u8, Letter),
+    Refuses(u8, Letter),
+    /// Whether its messages are refused from now on.
+    IsFull(bool),
+    /// The answer that is there, left there or taken out.
+    Shows(Option<Out>),
+    Returns(Option<Out>),
+    /// So many messages were posted.
+    Posted(usize),
+    Breaches(u64),
+}
+
 impl Node {
-    fn new(alloc: Global, me: u8) -> Result<Node, Fail>
-        requires { me < 3 }
-    {
+    fn new(alloc: Global, me: u8) -> Result<Node, Fail> {
         TRIO.check()?;
+        if me >= TRIO.nodes {
+            return Err("no such node".into());
+        }
         let manager = FixedManager::new(alloc, &TRIO, me)?;
         Ok(Node {
             coherence: Coherence::new(alloc, &TRIO, me, manager)?,
@@ -65,353 +90,301 @@ impl Node {
         })
     }
 
-    /// The node's program loads the first word of a page, once its last answer was taken out.
-    fn load(&mut self, page: u32, call: u64) -> Result<Need, Fail>
-        requires page { page < 2 }
-        requires call { 1 ≤ call }
+    fn needs(&mut self, page: u32, word: Word, call: u64) -> Result<Need, Fail>
+        requires { IsWord 64 word }
     {
-        if self.coherence.answer().is_some() {
-            return Err("an answer waits".into());
+        if page >= TRIO.pages || call == 0 || self.coherence.answer().is_some() {
+            return Err("no such access".into());
         }
-        let word = Word::Load {
-            width: 8,
-            offset: 0,
-        };
         let need = self.coherence.need(page, word, call, &mut self.posted)?;
         Ok(need)
     }
 
-    /// The node's program stores 5 in the first word of page 1, once its last answer was taken out.
-    fn store(&mut self, call: u64) -> Result<Need, Fail>
-        requires call { 1 ≤ call }
-    {
-        if self.coherence.answer().is_some() {
-            return Err("an answer waits".into());
-        }
-        let word = Word::Store {
-            width: 8,
-            offset: 0,
-            value: 5,
-        };
-        let need = self.coherence.need(1, word, call, &mut self.posted)?;
-        Ok(need)
-    }
-
-    /// A message of another node comes.
-    fn deliver(&mut self, from: u8, message: Message<&[u8]>) -> Result<(), Fail>
-        requires from { from < 3 }
-        requires fits { FitsMessage TRIO (owned_message message) }
-    {
-        if from == self.posted.node() {
-            return Err("a message of the node itself".into());
-        }
-        self.coherence.handle(from, message, &mut self.posted)?;
-        Ok(())
-    }
-
-    /// Whether a message of another node is refused.
-    fn refuses(&mut self, from: u8, message: Message<&[u8]>) -> Result<bool, Fail>
-        requires from { from < 3 }
-        requires fits { FitsMessage TRIO (owned_message message) }
-    {
-        if from == self.posted.node() {
-            return Err("a message of the node itself".into());
-        }
+    /// Whether a message of another node is taken.
+    fn takes(&mut self, from: u8, letter: Letter) -> Result<bool, Fail> {
+        let message = received(&TRIO, from, self.posted.node(), message(1, letter))?;
         match self.coherence.handle(from, message, &mut self.posted) {
-            Ok(()) => Ok(false),
-            Err(_) => Ok(true),
+            Ok(()) => Ok(true),
+            Err(_) => Ok(false),
         }
     }
 
-    /// The answer that is there, taken out.
-    fn returned(&mut self) -> Option<Out> {
-        self.coherence.returned()
+    /// Whether the step goes as it says.
+    fn goes(&mut self, step: &Step) -> Result<bool, Fail> {
+        match step {
+            Step::Loads(page, call, need) => Ok(self.needs(*page, LOAD, *call)? == *need),
+            Step::Stores(call, need) => Ok(self.needs(1, STORE, *call)? == *need),
+            Step::Comes(from, letter) => Ok(self.takes(*from, *letter)?),
+            Step::Refuses(from, letter) => Ok(!self.takes(*from, *letter)?),
+            Step::IsFull(is_full) => {
+                self.posted.refuse(*is_full);
+                Ok(true)
+            }
+            Step::Shows(answer) => Ok(self.coherence.answer() == *answer),
+            Step::Returns(answer) => Ok(self.coherence.returned() == *answer),
+            Step::Posted(number) => Ok(self.posted.parcels().len() == *number),
+            Step::Breaches(number) => Ok(self.coherence.breaches() == *number),
+        }
     }
 }
 
-/// A request for a copy of page 1.
-fn request<'a>(origin: u8, call: u64) -> Message<&'a [u8]>
-    requires origin { origin < 3 }
-    requires call { 1 ≤ call }
-    ensures { FitsMessage TRIO (owned_message result) }
-{
-    Message {
-        origin,
-        call,
-        content: Content::ReadReq { page: 1 },
-    }
+/// The steps of a node, and all that it posts: each message with the node that it goes to.
+struct Scene<'a> {
+    me: u8,
+    steps: &'a [Step],
+    posted: &'a [(u8, Letter)],
 }
 
-/// A copy of page 1.
-fn copy<'a>(bytes: &'a [u8], origin: u8, call: u64) -> Message<&'a [u8]>
-    requires sized { length bytes.now ≡ 64 }
-    requires origin { origin < 3 }
-    requires call { 1 ≤ call }
-    ensures { FitsMessage TRIO (owned_message result) }
-{
-    Message {
-        origin,
-        call,
-        content: Content::ReadRep { page: 1, bytes },
+fn check_node(rt: &impl Abort, node: &mut Node, scene: &Scene) -> Result<(), Fail> {
+    for (index, step) in scene.steps.iter().enumerate() {
+        assert!(rt; node.goes(step)?, "step {index}");
     }
+    assert!(rt; node.posted.are(1, scene.posted));
+    assert_eq!(rt; node.coherence.config(), TRIO);
+    Ok(())
 }
 
-/// A request for page 1 itself.
-fn write_request<'a>(origin: u8, call: u64) -> Message<&'a [u8]>
-    requires origin { origin < 3 }
-    requires call { 1 ≤ call }
-    ensures { FitsMessage TRIO (owned_message result) }
-{
-    Message {
-        origin,
-        call,
-        content: Content::WriteReq { page: 1 },
-    }
-}
-
-/// Page 1 itself, and the nodes that have a copy.
-fn whole<'a>(copies: u8, origin: u8, call: u64) -> Message<&'a [u8]>
-    requires origin { origin < 3 }
-    requires call { 1 ≤ call }
-    requires copies { copies < 8 }
-    ensures { FitsMessage TRIO (owned_message result) }
-{
-    Message {
-        origin,
-        call,
-        content: Content::WriteRep {
-            page: 1,
-            copies,
-            bytes: &ZEROS,
-        },
-    }
-}
-
-/// The order of a node that is to write page 1, and what acknowledges it.
-fn order<'a>(origin: u8, call: u64) -> Message<&'a [u8]>
-    requires origin { origin < 3 }
-    requires call { 1 ≤ call }
-    ensures { FitsMessage TRIO (owned_message result) }
-{
-    Message {
-        origin,
-        call,
-        content: Content::Inval { page: 1 },
-    }
-}
-
-fn acknowledgement<'a>(origin: u8, call: u64) -> Message<&'a [u8]>
-    requires origin { origin < 3 }
-    requires call { 1 ≤ call }
-    ensures { FitsMessage TRIO (owned_message result) }
-{
-    Message {
-        origin,
-        call,
-        content: Content::InvalAck { page: 1 },
-    }
+fn check(rt: &impl Abort, alloc: Global, scene: &Scene) -> Result<(), Fail> {
+    let mut node = Node::new(alloc, scene.me)?;
+    check_node(rt, &mut node, scene)
 }
 
 /// A node without a copy asks the managing node, and its entry is locked then.
 #[test]
 fn a_read_fault(rt: HostRuntime) -> Result<(), Fail> {
-    let mut node = Node::new(rt.alloc(), 2)?;
-    faults_to_read(&rt, &mut node)?;
-    Ok(())
+    check(&rt, rt.alloc(), &READ_FAULT)
 }
 
-fn faults_to_read(rt: &impl Abort, node: &mut Node) -> Result<(), Fail> {
-    assert_eq!(rt; node.coherence.config(), TRIO);
-    assert_eq!(rt; node.load(1, 1)?, Need::Started);
-    assert_eq!(rt; node.load(0, 2)?, Need::Busy);
-    assert!(rt; node.posted.are(&[parcel(2, 1, request(2, 1))]));
-    assert_eq!(rt; node.returned(), None);
-    Ok(())
-}
+const READ_FAULT: Scene = Scene {
+    me: 2,
+    steps: &[
+        Step::Loads(1, 1, Need::Started),
+        Step::Loads(0, 2, Need::Busy),
+        Step::Returns(None),
+    ],
+    posted: &[(1, (Said::Request, 2, 1))],
+};
 
 /// The owner answers with the page's bytes, and reads on without asking.
 #[test]
 fn an_owner_answers(rt: HostRuntime) -> Result<(), Fail> {
-    let mut node = Node::new(rt.alloc(), 0)?;
-    answers(&rt, &mut node)?;
-    Ok(())
+    check(&rt, rt.alloc(), &OWNER_ANSWERS)
 }
 
-fn answers(rt: &impl Abort, node: &mut Node) -> Result<(), Fail> {
-    node.deliver(1, request(2, 7))?;
-    assert!(rt; node.posted.are(&[parcel(0, 2, copy(&ZEROS, 2, 7))]));
-    assert_eq!(rt; node.load(1, 1)?, Need::Have(Out::Value(0)));
-    assert_eq!(rt; node.coherence.breaches(), 0);
-    Ok(())
-}
+const OWNER_ANSWERS: Scene = Scene {
+    me: 0,
+    steps: &[
+        Step::Comes(1, (Said::Request, 2, 7)),
+        Step::Posted(1),
+        Step::Loads(1, 1, Need::Have(Out::Value(0))),
+        Step::Breaches(0),
+    ],
+    posted: &[(2, (Said::Copy(Bytes::Zeros), 2, 7))],
+};
 
 /// The managing node sends a request on to the owner, and it stays a request of the node that asked.
 #[test]
 fn a_request_goes_on(rt: HostRuntime) -> Result<(), Fail> {
-    let mut node = Node::new(rt.alloc(), 1)?;
-    sends_on(&rt, &mut node)?;
-    Ok(())
+    check(&rt, rt.alloc(), &GOES_ON)
 }
 
-fn sends_on(rt: &impl Abort, node: &mut Node) -> Result<(), Fail> {
-    node.deliver(2, request(2, 7))?;
-    assert!(rt; node.posted.are(&[parcel(1, 0, request(2, 7))]));
-    Ok(())
-}
+const GOES_ON: Scene = Scene {
+    me: 1,
+    steps: &[Step::Comes(2, (Said::Request, 2, 7))],
+    posted: &[(0, (Said::Request, 2, 7))],
+};
 
 /// Requests at a locked entry are put off, eight at most. Once the copy came they go on in their order,
 /// and the word that waited has read the copy.
 #[test]
 fn requests_at_a_locked_entry(rt: HostRuntime) -> Result<(), Fail> {
-    let mut node = Node::new(rt.alloc(), 1)?;
-    puts_off(&rt, &mut node)?;
-    Ok(())
+    check(&rt, rt.alloc(), &LOCKED)
 }
 
-fn puts_off(rt: &impl Abort, node: &mut Node) -> Result<(), Fail> {
-    assert_eq!(rt; node.load(1, 3)?, Need::Started);
-    for call in 1..10u64 {
-        node.deliver(2, request(2, call))?;
-    }
-    assert!(rt; node.posted.are(&[parcel(1, 0, request(1, 3))]));
-    assert_eq!(rt; node.coherence.breaches(), 1);
-    node.deliver(0, copy(&ONES, 1, 3))?;
-    assert_eq!(rt; node.posted.parcels().len(), 9);
-    for call in 1..9u64 {
-        assert!(rt;
-            node.posted
-                .has_at(call as usize, &parcel(1, 0, request(2, call)))
-        );
-    }
-    let answer = Some(Out::Value(u64::MAX));
-    assert_eq!(rt; node.coherence.answer(), answer);
-    assert_eq!(rt; node.returned(), answer);
-    assert_eq!(rt; node.returned(), None);
-    assert_eq!(rt; node.load(1, 4)?, Need::Have(Out::Value(u64::MAX)));
-    Ok(())
-}
+const LOCKED: Scene = Scene {
+    me: 1,
+    steps: &[
+        Step::Loads(1, 3, Need::Started),
+        Step::Comes(2, (Said::Request, 2, 1)),
+        Step::Comes(2, (Said::Request, 2, 2)),
+        Step::Comes(2, (Said::Request, 2, 3)),
+        Step::Comes(2, (Said::Request, 2, 4)),
+        Step::Comes(2, (Said::Request, 2, 5)),
+        Step::Comes(2, (Said::Request, 2, 6)),
+        Step::Comes(2, (Said::Request, 2, 7)),
+        Step::Comes(2, (Said::Request, 2, 8)),
+        Step::Breaches(0),
+        Step::Comes(2, (Said::Request, 2, 9)),
+        Step::Posted(1),
+        Step::Breaches(1),
+        Step::Comes(0, (Said::Copy(Bytes::Ones), 1, 3)),
+        Step::Posted(9),
+        Step::Shows(Some(Out::Value(u64::MAX))),
+        Step::Returns(Some(Out::Value(u64::MAX))),
+        Step::Returns(None),
+        Step::Loads(1, 4, Need::Have(Out::Value(u64::MAX))),
+    ],
+    posted: &[
+        (0, (Said::Request, 1, 3)),
+        (0, (Said::Request, 2, 1)),
+        (0, (Said::Request, 2, 2)),
+        (0, (Said::Request, 2, 3)),
+        (0, (Said::Request, 2, 4)),
+        (0, (Said::Request, 2, 5)),
+        (0, (Said::Request, 2, 6)),
+        (0, (Said::Request, 2, 7)),
+        (0, (Said::Request, 2, 8)),
+    ],
+};
 
 /// A copy that no word waits for, a copy for another call, and a request that names this node as the one
 /// that asks: each is one breach, and changes nothing else.
 #[test]
 fn forged_messages(rt: HostRuntime) -> Result<(), Fail> {
-    let mut node = Node::new(rt.alloc(), 2)?;
-    is_sent_forged(&rt, &mut node)?;
-    Ok(())
+    check(&rt, rt.alloc(), &FORGED)
 }
 
-fn is_sent_forged(rt: &impl Abort, node: &mut Node) -> Result<(), Fail> {
-    node.deliver(0, copy(&ONES, 2, 1))?;
-    assert_eq!(rt; node.coherence.breaches(), 1);
-    assert_eq!(rt; node.load(1, 2)?, Need::Started);
-    node.deliver(0, copy(&ONES, 2, 1))?;
-    assert_eq!(rt; node.coherence.breaches(), 2);
-    node.deliver(1, request(2, 2))?;
-    assert_eq!(rt; node.coherence.breaches(), 3);
-    assert_eq!(rt; node.coherence.answer(), None);
-    assert!(rt; node.posted.are(&[parcel(2, 1, request(2, 2))]));
-    Ok(())
-}
+const FORGED: Scene = Scene {
+    me: 2,
+    steps: &[
+        Step::Comes(0, (Said::Copy(Bytes::Ones), 2, 1)),
+        Step::Breaches(1),
+        Step::Loads(1, 2, Need::Started),
+        Step::Comes(0, (Said::Copy(Bytes::Ones), 2, 1)),
+        Step::Breaches(2),
+        Step::Comes(1, (Said::Request, 2, 2)),
+        Step::Breaches(3),
+        Step::Shows(None),
+    ],
+    posted: &[(1, (Said::Request, 2, 2))],
+};
 
 /// A node without the page asks for it. The page comes with a node that has a copy; once that gave it up the
 /// word is carried out, and the request that was put off is served with the bytes as they are then.
 #[test]
 fn a_write_fault(rt: HostRuntime) -> Result<(), Fail> {
-    let mut node = Node::new(rt.alloc(), 2)?;
-    faults_to_write(&rt, &mut node)?;
-    Ok(())
+    check(&rt, rt.alloc(), &WRITE_FAULT)
 }
 
-fn faults_to_write(rt: &impl Abort, node: &mut Node) -> Result<(), Fail> {
-    assert_eq!(rt; node.store(4)?, Need::Started);
-    node.deliver(0, whole(2, 2, 4))?;
-    assert!(rt; node.posted.are(&[parcel(2, 1, write_request(2, 4)), parcel(2, 1, order(2, 4))]));
-    node.deliver(1, request(1, 9))?;
-    assert_eq!(rt; node.coherence.answer(), None);
-    node.deliver(1, acknowledgement(2, 4))?;
-    assert_eq!(rt; node.returned(), Some(Out::Done));
-    assert_eq!(rt; node.posted.parcels().len(), 3);
-    assert_eq!(rt; node.load(1, 5)?, Need::Have(Out::Value(5)));
-    assert_eq!(rt; node.coherence.breaches(), 0);
-    Ok(())
-}
+const WRITE_FAULT: Scene = Scene {
+    me: 2,
+    steps: &[
+        Step::Stores(4, Need::Started),
+        Step::Posted(1),
+        Step::Comes(0, (Said::Whole(2, Bytes::Zeros), 2, 4)),
+        Step::Posted(2),
+        Step::Comes(1, (Said::Request, 1, 9)),
+        Step::Shows(None),
+        Step::Posted(2),
+        Step::Comes(1, (Said::Acknowledgement, 2, 4)),
+        Step::Returns(Some(Out::Done)),
+        Step::Posted(3),
+        Step::Loads(1, 5, Need::Have(Out::Value(5))),
+        Step::Breaches(0),
+    ],
+    posted: &[
+        (1, (Said::WriteRequest, 2, 4)),
+        (1, (Said::Order, 2, 4)),
+        (1, (Said::Copy(Bytes::Stored), 1, 9)),
+    ],
+};
 
 /// The owner gives the page up with the nodes that have a copy, and has nothing of it then.
 #[test]
 fn an_owner_gives_the_page(rt: HostRuntime) -> Result<(), Fail> {
-    let mut node = Node::new(rt.alloc(), 0)?;
-    gives_the_page(&rt, &mut node)?;
-    Ok(())
+    check(&rt, rt.alloc(), &OWNER_GIVES)
 }
 
-fn gives_the_page(rt: &impl Abort, node: &mut Node) -> Result<(), Fail> {
-    node.deliver(1, request(1, 7))?;
-    node.deliver(1, write_request(2, 8))?;
-    assert!(rt; node.posted.has_at(1, &parcel(0, 2, whole(2, 2, 8))));
-    assert_eq!(rt; node.load(1, 1)?, Need::Started);
-    assert!(rt; node.posted.has_at(2, &parcel(0, 1, request(0, 1))));
-    Ok(())
-}
+const OWNER_GIVES: Scene = Scene {
+    me: 0,
+    steps: &[
+        Step::Comes(1, (Said::Request, 1, 7)),
+        Step::Comes(1, (Said::WriteRequest, 2, 8)),
+        Step::Posted(2),
+        Step::Loads(1, 1, Need::Started),
+    ],
+    posted: &[
+        (1, (Said::Copy(Bytes::Zeros), 1, 7)),
+        (2, (Said::Whole(2, Bytes::Zeros), 2, 8)),
+        (1, (Said::Request, 0, 1)),
+    ],
+};
 
 /// An owner that shares its page tells the others to give their copies up before it stores.
 #[test]
 fn an_owner_stores(rt: HostRuntime) -> Result<(), Fail> {
-    let mut node = Node::new(rt.alloc(), 0)?;
-    stores(&rt, &mut node)?;
-    Ok(())
+    check(&rt, rt.alloc(), &OWNER_STORES)
 }
 
-fn stores(rt: &impl Abort, node: &mut Node) -> Result<(), Fail> {
-    node.deliver(1, request(1, 7))?;
-    node.deliver(1, request(2, 7))?;
-    assert_eq!(rt; node.store(1)?, Need::Started);
-    assert!(rt; node.posted.has_at(2, &parcel(0, 1, order(0, 1))));
-    assert!(rt; node.posted.has_at(3, &parcel(0, 2, order(0, 1))));
-    node.deliver(2, acknowledgement(0, 1))?;
-    assert_eq!(rt; node.coherence.answer(), None);
-    node.deliver(1, acknowledgement(0, 1))?;
-    assert_eq!(rt; node.returned(), Some(Out::Done));
-    assert_eq!(rt; node.load(1, 2)?, Need::Have(Out::Value(5)));
-    Ok(())
-}
+const OWNER_STORES: Scene = Scene {
+    me: 0,
+    steps: &[
+        Step::Comes(1, (Said::Request, 1, 7)),
+        Step::Comes(1, (Said::Request, 2, 7)),
+        Step::Stores(1, Need::Started),
+        Step::Posted(4),
+        Step::Comes(2, (Said::Acknowledgement, 0, 1)),
+        Step::Shows(None),
+        Step::Comes(1, (Said::Acknowledgement, 0, 1)),
+        Step::Returns(Some(Out::Done)),
+        Step::Loads(1, 2, Need::Have(Out::Value(5))),
+    ],
+    posted: &[
+        (1, (Said::Copy(Bytes::Zeros), 1, 7)),
+        (2, (Said::Copy(Bytes::Zeros), 2, 7)),
+        (1, (Said::Order, 0, 1)),
+        (2, (Said::Order, 0, 1)),
+    ],
+};
 
 /// A copy is given up when the node that is to write says so; one that is still awaited, once it came.
 #[test]
 fn copies_given_up(rt: HostRuntime) -> Result<(), Fail> {
-    let mut node = Node::new(rt.alloc(), 2)?;
-    gives_copies_up(&rt, &mut node)?;
-    Ok(())
+    check(&rt, rt.alloc(), &GIVEN_UP)
 }
 
-fn gives_copies_up(rt: &impl Abort, node: &mut Node) -> Result<(), Fail> {
-    assert_eq!(rt; node.load(1, 1)?, Need::Started);
-    node.deliver(1, order(1, 6))?;
-    assert!(rt; node.posted.are(&[parcel(2, 1, request(2, 1))]));
-    node.deliver(0, copy(&ONES, 2, 1))?;
-    assert_eq!(rt; node.returned(), Some(Out::Value(u64::MAX)));
-    assert!(rt; node.posted.has_at(1, &parcel(2, 1, acknowledgement(1, 6))));
-    assert_eq!(rt; node.load(1, 2)?, Need::Started);
-    Ok(())
-}
+const GIVEN_UP: Scene = Scene {
+    me: 2,
+    steps: &[
+        Step::Loads(1, 1, Need::Started),
+        Step::Comes(1, (Said::Order, 1, 6)),
+        Step::Posted(1),
+        Step::Comes(0, (Said::Copy(Bytes::Ones), 2, 1)),
+        Step::Returns(Some(Out::Value(u64::MAX))),
+        Step::Posted(2),
+        Step::Loads(1, 2, Need::Started),
+    ],
+    posted: &[
+        (1, (Said::Request, 2, 1)),
+        (1, (Said::Acknowledgement, 1, 6)),
+        (1, (Said::Request, 2, 2)),
+    ],
+};
 
 /// Where a post refuses what the last acknowledgement brings about, all is as it was.
 #[test]
 fn a_refused_acknowledgement(rt: HostRuntime) -> Result<(), Fail> {
-    let mut node = Node::new(rt.alloc(), 0)?;
-    is_refused(&rt, &mut node)?;
-    Ok(())
+    check(&rt, rt.alloc(), &REFUSED)
 }
 
-fn is_refused(rt: &impl Abort, node: &mut Node) -> Result<(), Fail> {
-    node.deliver(1, request(1, 7))?;
-    assert_eq!(rt; node.store(1)?, Need::Started);
-    node.deliver(2, request(2, 3))?;
-    node.posted.refuse(true);
-    assert!(rt; node.refuses(1, acknowledgement(0, 1))?);
-    assert_eq!(rt; node.coherence.answer(), None);
-    node.posted.refuse(false);
-    node.deliver(1, acknowledgement(0, 1))?;
-    assert_eq!(rt; node.returned(), Some(Out::Done));
-    assert_eq!(rt; node.posted.parcels().len(), 3);
-    Ok(())
-}
+const REFUSED: Scene = Scene {
+    me: 0,
+    steps: &[
+        Step::Comes(1, (Said::Request, 1, 7)),
+        Step::Stores(1, Need::Started),
+        Step::Comes(2, (Said::Request, 2, 3)),
+        Step::IsFull(true),
+        Step::Refuses(1, (Said::Acknowledgement, 0, 1)),
+        Step::Shows(None),
+        Step::IsFull(false),
+        Step::Posted(2),
+        Step::Comes(1, (Said::Acknowledgement, 0, 1)),
+        Step::Returns(Some(Out::Done)),
+        Step::Posted(3),
+    ],
+    posted: &[
+        (1, (Said::Copy(Bytes::Zeros), 1, 7)),
+        (1, (Said::Order, 0, 1)),
+        (2, (Said::Copy(Bytes::Stored), 2, 3)),
+    ],
+};

@@ -15,7 +15,11 @@ mod fixed;
 #[cfg(test)]
 mod host;
 #[cfg(test)]
+mod letters;
+#[cfg(test)]
 mod link;
+#[cfg(test)]
+mod managers;
 #[cfg(test)]
 mod memory;
 #[cfg(test)]

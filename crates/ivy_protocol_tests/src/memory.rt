@@ -1,13 +1,11 @@
-ghost use Rattle.std.specs.Prelude.{◌≡◌, ◌<◌, ◌≤◌, length};
+//! Calls at one of two nodes, under managing nodes.
 ghost use Rattle.ivy_model.specs.Legal.{HasWidth};
-ghost use Rattle.ivy_wire.specs.Lent.{owned_message};
-ghost use Rattle.ivy_wire.specs.Spelling.{FitsMessage};
 
-use crate::posted::{Posted, parcel};
+use crate::letters::{Bytes, Letter, Said, message, received};
+use crate::posted::Posted;
 use ivy_fixed::FixedManager;
 use ivy_memory::{Answer, Memory};
 use ivy_model::{Call, Config, Fault, Kind, Reply};
-use ivy_wire::{Content, Message};
 use std::alloc::Global;
 use std::marker::Model;
 use std::process::Abort;
@@ -20,11 +18,6 @@ const PAIR: Config = Config {
     page_size: 64,
     manager: Kind::Fixed,
 };
-
-/// A page of counts at 0, and one of counts at their greatest value.
-static ZEROS: [u8; 64] = [0; 64];
-
-static FULL: [u8; 64] = [255; 64];
 
 /// One of the two nodes, and what it posts.
 #[derive(Drop)]
@@ -52,11 +45,35 @@ impl Model for Node {
     ghost invariant = { λ n. (n.memory.coherence.config ≡ PAIR) × (n.posted.0 ≡ PAIR) × (n.posted.1 ≡ n.memory.coherence.me) };
 }
 
+/// What a call comes to.
+type Outcome = Result<Answer, Fault>;
+
+/// What happens to a node, or what it shows.
+enum Step {
+    /// Its program makes a call, the one of this number: awaits that count 0 is at least this, reads or advances a
+    /// count, or wants a block of 8 bytes. What that comes to.
+    Awaits(u64, u64, Outcome),
+    Reads(u64, u64, Outcome),
+    Advances(u64, u64, Outcome),
+    Allocates(u64, Outcome),
+    /// The call of this number is asked for its reply.
+    Polls(u64, Outcome),
+    /// A message about page 0 comes from the other node.
+    Comes(u8, Letter),
+    /// Whether its messages are refused from now on.
+    IsFull(bool),
+    /// So many messages were posted.
+    Posted(usize),
+    /// The call in progress.
+    Asked(Option<Call>),
+}
+
 impl Node {
-    fn new(alloc: Global, me: u8) -> Result<Node, Fail>
-        requires { me < 2 }
-    {
+    fn new(alloc: Global, me: u8) -> Result<Node, Fail> {
         PAIR.check()?;
+        if me >= PAIR.nodes {
+            return Err("no such node".into());
+        }
         let manager = FixedManager::new(alloc, &PAIR, me)?;
         Ok(Node {
             memory: Memory::new(alloc, &PAIR, me, manager)?,
@@ -64,231 +81,187 @@ impl Node {
         })
     }
 
-    /// The node's program awaits that count 0 is at least this, by the call of this number.
-    fn awaits(&mut self, least: u64, number: u64) -> Result<Answer, Fail>
-        requires { 1 ≤ number }
+    /// Whether a call comes to this.
+    fn begins(&mut self, call: Call, number: u64, outcome: Outcome) -> Result<bool, Fail>
+        requires { HasWidth call }
     {
-        let answer = self.begins(Call::Await { k: 0, least }, number)?;
-        Ok(answer)
+        if number == 0 {
+            return Err("calls are numbered from 1".into());
+        }
+        match self.memory.begin(call, number, &mut self.posted) {
+            Ok(answer) => Ok(outcome == Ok(answer)),
+            Err(fault) => Ok(outcome == Err(fault)),
+        }
     }
 
-    /// The node's program makes this call, the one of this number.
-    fn begins(&mut self, call: Call, number: u64) -> Result<Answer, Fault>
-        requires width { HasWidth call }
-        requires number { 1 ≤ number }
-    {
-        let answer = self.memory.begin(call, number, &mut self.posted)?;
-        Ok(answer)
-    }
-
-    /// The call of this number is asked for its reply.
-    fn polls(&mut self, number: u64) -> Result<Answer, Fail>
-        requires { 1 ≤ number }
-    {
-        let answer = self.memory.poll_reply(number, &mut self.posted)?;
-        Ok(answer)
-    }
-
-    /// Whether the call of this number is refused its reply.
-    fn is_refused(&mut self, number: u64) -> bool
-        requires { 1 ≤ number }
-    {
+    /// Whether the reply of the call comes to this.
+    fn polls(&mut self, number: u64, outcome: Outcome) -> Result<bool, Fail> {
+        if number == 0 {
+            return Err("calls are numbered from 1".into());
+        }
         match self.memory.poll_reply(number, &mut self.posted) {
-            Ok(_) => false,
-            Err(_) => true,
+            Ok(answer) => Ok(outcome == Ok(answer)),
+            Err(fault) => Ok(outcome == Err(fault)),
         }
     }
 
     /// A message of the other node comes.
-    fn deliver(&mut self, from: u8, message: Message<&[u8]>) -> Result<(), Fail>
-        requires from { from < 2 }
-        requires fits { FitsMessage PAIR (owned_message message) }
-    {
-        if from == self.posted.node() {
-            return Err("a message of the node itself".into());
-        }
+    fn deliver(&mut self, from: u8, letter: Letter) -> Result<(), Fail> {
+        let message = received(&PAIR, from, self.posted.node(), message(0, letter))?;
         self.memory.handle(from, message, &mut self.posted)?;
         Ok(())
     }
-}
 
-/// A request for a copy of page 0.
-fn request<'a>(origin: u8, call: u64) -> Message<&'a [u8]>
-    requires origin { origin < 2 }
-    requires call { 1 ≤ call }
-    ensures { FitsMessage PAIR (owned_message result) }
-{
-    Message {
-        origin,
-        call,
-        content: Content::ReadReq { page: 0 },
+    /// Whether the step goes as it says.
+    fn goes(&mut self, step: &Step) -> Result<bool, Fail> {
+        match step {
+            Step::Awaits(least, number, outcome) => {
+                let call = Call::Await {
+                    k: 0,
+                    least: *least,
+                };
+                self.begins(call, *number, *outcome)
+            }
+            Step::Reads(k, number, outcome) => self.begins(
+                Call::Count { k: *k },
+                *number,
+                *outcome,
+            ),
+            Step::Advances(k, number, outcome) => {
+                self.begins(Call::Advance { k: *k }, *number, *outcome)
+            }
+            Step::Allocates(number, outcome) => {
+                self.begins(Call::Alloc { size: 8 }, *number, *outcome)
+            }
+            Step::Polls(number, outcome) => self.polls(*number, *outcome),
+            Step::Comes(from, letter) => {
+                self.deliver(*from, *letter)?;
+                Ok(true)
+            }
+            Step::IsFull(is_full) => {
+                self.posted.refuse(*is_full);
+                Ok(true)
+            }
+            Step::Posted(number) => Ok(self.posted.parcels().len() == *number),
+            Step::Asked(call) => Ok(self.memory.asked() == *call),
+        }
     }
 }
 
-/// A copy of page 0.
-fn copy<'a>(bytes: &'a [u8], origin: u8, call: u64) -> Message<&'a [u8]>
-    requires sized { length bytes.now ≡ 64 }
-    requires origin { origin < 2 }
-    requires call { 1 ≤ call }
-    ensures { FitsMessage PAIR (owned_message result) }
-{
-    Message {
-        origin,
-        call,
-        content: Content::ReadRep { page: 0, bytes },
-    }
+/// The steps of a node, and all that it posts: each message with the node that it goes to.
+struct Scene<'a> {
+    me: u8,
+    steps: &'a [Step],
+    posted: &'a [(u8, Letter)],
 }
 
-/// A request for page 0 itself, and its answer.
-fn write_request<'a>(origin: u8, call: u64) -> Message<&'a [u8]>
-    requires origin { origin < 2 }
-    requires call { 1 ≤ call }
-    ensures { FitsMessage PAIR (owned_message result) }
-{
-    Message {
-        origin,
-        call,
-        content: Content::WriteReq { page: 0 },
+fn check_node(rt: &impl Abort, node: &mut Node, scene: &Scene) -> Result<(), Fail> {
+    for (index, step) in scene.steps.iter().enumerate() {
+        assert!(rt; node.goes(step)?, "step {index}");
     }
+    assert!(rt; node.posted.are(0, scene.posted));
+    Ok(())
 }
 
-fn whole<'a>(origin: u8, call: u64) -> Message<&'a [u8]>
-    requires origin { origin < 2 }
-    requires call { 1 ≤ call }
-    ensures { FitsMessage PAIR (owned_message result) }
-{
-    Message {
-        origin,
-        call,
-        content: Content::WriteRep {
-            page: 0,
-            copies: 0,
-            bytes: &ZEROS,
-        },
-    }
+fn check(rt: &impl Abort, alloc: Global, scene: &Scene) -> Result<(), Fail> {
+    let mut node = Node::new(alloc, scene.me)?;
+    check_node(rt, &mut node, scene)
 }
 
-/// The order of a node that is to write page 0, and what acknowledges it.
-fn order<'a>(origin: u8, call: u64) -> Message<&'a [u8]>
-    requires origin { origin < 2 }
-    requires call { 1 ≤ call }
-    ensures { FitsMessage PAIR (owned_message result) }
-{
-    Message {
-        origin,
-        call,
-        content: Content::Inval { page: 0 },
-    }
-}
+/// The reply of a count at 0, and of one at its greatest value.
+const ZERO: Outcome = Ok(Answer::Given(Reply::Value(0)));
 
-fn acknowledgement<'a>(origin: u8, call: u64) -> Message<&'a [u8]>
-    requires origin { origin < 2 }
-    requires call { 1 ≤ call }
-    ensures { FitsMessage PAIR (owned_message result) }
-{
-    Message {
-        origin,
-        call,
-        content: Content::InvalAck { page: 0 },
-    }
-}
+const MOST: Outcome = Ok(Answer::Given(Reply::Value(u64::MAX)));
 
 /// An awaited count comes too low. The word is tried again without an answer, and nothing is posted; once the
 /// copy is given up it faults again, under the same number; and the next copy has the count.
 #[test]
 fn an_await_without_a_copy(rt: HostRuntime) -> Result<(), Fail> {
-    let mut node = Node::new(rt.alloc(), 1)?;
-    waits_for_a_copy(&rt, &mut node)?;
-    faults_again(&rt, &mut node)?;
-    Ok(())
+    check(&rt, rt.alloc(), &WITHOUT_A_COPY)
 }
 
-fn waits_for_a_copy(rt: &impl Abort, node: &mut Node) -> Result<(), Fail> {
-    assert_eq!(rt; node.awaits(1, 3)?, Answer::Awaited);
-    assert_eq!(rt; node.polls(3)?, Answer::Unserved);
-    assert!(rt; node.posted.are(&[parcel(1, 0, request(1, 3))]));
-    node.deliver(0, copy(&ZEROS, 1, 3))?;
-    assert_eq!(rt; node.polls(3)?, Answer::Unserved);
-    assert_eq!(rt; node.polls(3)?, Answer::Unserved);
-    assert_eq!(rt; node.posted.parcels().len(), 1);
-    assert_eq!(rt; node.memory.asked(), Some(Call::Await { k: 0, least: 1 }));
-    Ok(())
-}
-
-fn faults_again(rt: &impl Abort, node: &mut Node) -> Result<(), Fail> {
-    node.deliver(0, order(0, 9))?;
-    node.posted.refuse(true);
-    assert!(rt; node.is_refused(3));
-    node.posted.refuse(false);
-    assert_eq!(rt; node.polls(3)?, Answer::Awaited);
-    assert_eq!(rt; node.polls(3)?, Answer::Unserved);
-    let posted = [
-        parcel(1, 0, request(1, 3)),
-        parcel(1, 0, acknowledgement(0, 9)),
-        parcel(1, 0, request(1, 3)),
-    ];
-    assert!(rt; node.posted.are(&posted));
-    node.deliver(0, copy(&FULL, 1, 3))?;
-    let reply = Reply::Value(u64::MAX);
-    assert_eq!(rt; node.polls(3)?, Answer::Given(reply));
-    assert_eq!(rt; node.memory.asked(), None);
-    assert_eq!(rt; node.polls(4)?, Answer::Unserved);
-    assert_eq!(rt; node.awaits(u64::MAX, 4)?, Answer::Given(reply));
-    Ok(())
-}
+const WITHOUT_A_COPY: Scene = Scene {
+    me: 1,
+    steps: &[
+        Step::Awaits(1, 3, Ok(Answer::Awaited)),
+        Step::Polls(3, Ok(Answer::Unserved)),
+        Step::Posted(1),
+        Step::Comes(0, (Said::Copy(Bytes::Zeros), 1, 3)),
+        Step::Polls(3, Ok(Answer::Unserved)),
+        Step::Polls(3, Ok(Answer::Unserved)),
+        Step::Posted(1),
+        Step::Asked(Some(Call::Await { k: 0, least: 1 })),
+        Step::Comes(0, (Said::Order, 0, 9)),
+        Step::IsFull(true),
+        Step::Polls(3, Err(Fault::Memory)),
+        Step::IsFull(false),
+        Step::Polls(3, Ok(Answer::Awaited)),
+        Step::Polls(3, Ok(Answer::Unserved)),
+        Step::Posted(3),
+        Step::Comes(0, (Said::Copy(Bytes::Ones), 1, 3)),
+        Step::Polls(3, MOST),
+        Step::Asked(None),
+        Step::Polls(4, Ok(Answer::Unserved)),
+        Step::Awaits(u64::MAX, 4, MOST),
+    ],
+    posted: &[
+        (0, (Said::Request, 1, 3)),
+        (0, (Said::Acknowledgement, 0, 9)),
+        (0, (Said::Request, 1, 3)),
+    ],
+};
 
 /// The owner awaits a count that is too low yet, and asks nobody until it has given the page away.
 #[test]
 fn an_await_of_the_owner(rt: HostRuntime) -> Result<(), Fail> {
-    let mut node = Node::new(rt.alloc(), 0)?;
-    owner_waits(&rt, &mut node)?;
-    Ok(())
+    check(&rt, rt.alloc(), &OWNER_AWAITS)
 }
 
-fn owner_waits(rt: &impl Abort, node: &mut Node) -> Result<(), Fail> {
-    assert_eq!(rt; node.awaits(0, 1)?, Answer::Given(Reply::Value(0)));
-    assert_eq!(rt; node.awaits(5, 2)?, Answer::Awaited);
-    assert_eq!(rt; node.polls(2)?, Answer::Unserved);
-    assert!(rt; node.posted.are(&[]));
-    node.deliver(1, write_request(1, 7))?;
-    assert_eq!(rt; node.polls(2)?, Answer::Awaited);
-    let posted = [parcel(0, 1, whole(1, 7)), parcel(0, 1, request(0, 2))];
-    assert!(rt; node.posted.are(&posted));
-    node.deliver(1, copy(&FULL, 0, 2))?;
-    assert_eq!(rt; node.polls(2)?, Answer::Given(Reply::Value(u64::MAX)));
-    Ok(())
-}
+const OWNER_AWAITS: Scene = Scene {
+    me: 0,
+    steps: &[
+        Step::Awaits(0, 1, ZERO),
+        Step::Awaits(5, 2, Ok(Answer::Awaited)),
+        Step::Polls(2, Ok(Answer::Unserved)),
+        Step::Posted(0),
+        Step::Comes(1, (Said::WriteRequest, 1, 7)),
+        Step::Polls(2, Ok(Answer::Awaited)),
+        Step::Posted(2),
+        Step::Comes(1, (Said::Copy(Bytes::Ones), 0, 2)),
+        Step::Polls(2, MOST),
+    ],
+    posted: &[
+        (1, (Said::Whole(0, Bytes::Zeros), 1, 7)),
+        (1, (Said::Request, 0, 2)),
+    ],
+};
 
 /// A call beside one in progress is refused with 18, be it one that hits, is refused or wants to post, and the one
 /// in progress goes on.
 #[test]
 fn a_call_beside_another(rt: HostRuntime) -> Result<(), Fail> {
-    let mut node = Node::new(rt.alloc(), 0)?;
-    is_busy(&rt, &mut node)?;
-    goes_on(&rt, &mut node)?;
-    Ok(())
+    check(&rt, rt.alloc(), &BESIDE_ANOTHER)
 }
 
-fn is_busy(rt: &impl Abort, node: &mut Node) -> Result<(), Fail> {
-    assert_eq!(rt; node.awaits(1, 1)?, Answer::Awaited);
-    assert_eq!(rt; node.begins(Call::Count { k: 0 }, 1), Err(Fault::Busy));
-    assert_eq!(rt; node.begins(Call::Count { k: 8 }, 2), Err(Fault::Busy));
-    assert_eq!(rt; node.begins(Call::Alloc { size: 8 }, 2), Err(Fault::Busy));
-    node.deliver(1, write_request(1, 7))?;
-    assert_eq!(rt; node.begins(Call::Advance { k: 0 }, 2), Err(Fault::Busy));
-    assert!(rt; node.posted.are(&[parcel(0, 1, whole(1, 7))]));
-    assert_eq!(rt; node.memory.asked(), Some(Call::Await { k: 0, least: 1 }));
-    Ok(())
-}
-
-fn goes_on(rt: &impl Abort, node: &mut Node) -> Result<(), Fail> {
-    assert_eq!(rt; node.polls(1)?, Answer::Awaited);
-    assert_eq!(rt; node.begins(Call::Count { k: 0 }, 2), Err(Fault::Busy));
-    node.deliver(1, copy(&FULL, 0, 1))?;
-    assert_eq!(rt; node.polls(1)?, Answer::Given(Reply::Value(u64::MAX)));
-    assert_eq!(rt;
-        node.begins(Call::Count { k: 8 }, 2),
-        Ok(Answer::Given(Reply::Refused(6)))
-    );
-    Ok(())
-}
+const BESIDE_ANOTHER: Scene = Scene {
+    me: 0,
+    steps: &[
+        Step::Awaits(1, 1, Ok(Answer::Awaited)),
+        Step::Reads(0, 1, Err(Fault::Busy)),
+        Step::Reads(8, 2, Err(Fault::Busy)),
+        Step::Allocates(2, Err(Fault::Busy)),
+        Step::Comes(1, (Said::WriteRequest, 1, 7)),
+        Step::Advances(0, 2, Err(Fault::Busy)),
+        Step::Posted(1),
+        Step::Asked(Some(Call::Await { k: 0, least: 1 })),
+        Step::Polls(1, Ok(Answer::Awaited)),
+        Step::Reads(0, 2, Err(Fault::Busy)),
+        Step::Comes(1, (Said::Copy(Bytes::Ones), 0, 1)),
+        Step::Polls(1, MOST),
+        Step::Reads(8, 2, Ok(Answer::Given(Reply::Refused(6)))),
+    ],
+    posted: &[
+        (1, (Said::Whole(0, Bytes::Zeros), 1, 7)),
+        (1, (Said::Request, 0, 1)),
+    ],
+};

@@ -1,6 +1,7 @@
 //! What tests of one node's memory give it to post to.
 ghost use Rattle.std.specs.Prelude.{◌≡◌, []};
 
+use crate::letters::{Letter, message};
 use ivy_model::{Config, Fault};
 use ivy_wire::{Message, Page, Parcel, Post};
 use std::alloc::Global;
@@ -59,22 +60,11 @@ impl Posted {
         self.is_full = is_full;
     }
 
-    /// Whether this is the message that was posted at this place, from 0.
-    pub(crate) fn has_at(&self, index: usize, wanted: &Parcel<&[u8]>) -> bool {
-        match self.parcels.get(index) {
-            Some(parcel) => {
-                parcel.source == wanted.source
-                    && parcel.dest == wanted.dest
-                    && parcel.message.lent() == wanted.message
-            }
-            None => false,
-        }
-    }
-
-    /// Whether these are all messages that were posted, in order.
-    pub(crate) fn are(&self, wanted: &[Parcel<&[u8]>]) -> bool {
-        for (index, parcel) in wanted.iter().enumerate() {
-            if !self.has_at(index, parcel) {
+    /// Whether these are all messages that were posted, in order: each about this page, with the node that it
+    /// went to.
+    pub(crate) fn are(&self, page: u32, wanted: &[(u8, Letter)]) -> bool {
+        for (parcel, (dest, letter)) in self.parcels.iter().zip(wanted) {
+            if !is_parcel(parcel, self.node, *dest, message(page, *letter)) {
                 return false;
             }
         }
@@ -123,11 +113,6 @@ impl Post for Posted {
     ghost refuses_none = { λ p fault why. why.0 refl };
 }
 
-/// A message from a node to another.
-pub(crate) fn parcel(source: u8, dest: u8, message: Message<&[u8]>) -> Parcel<&[u8]> {
-    Parcel {
-        source,
-        dest,
-        message,
-    }
+fn is_parcel(parcel: &Parcel<Page<Global>>, source: u8, dest: u8, wanted: Message<&[u8]>) -> bool {
+    parcel.source == source && parcel.dest == dest && parcel.message.lent() == wanted
 }

@@ -1,12 +1,11 @@
 use Rattle.std.proofs.Common.{ap, sym, ◌∙◌}
-use Rattle.ivy_pagetable.specs.declared.Word.TheVariants.{Store}
 use Rattle.ivy_fixed.specs.Fixed.{fixed_ops}
 use Rattle.ivy_coherence.proofs.Same.{begun-same}
-use Rattle.ivy_protocol_tests.proofs.coherence.Node.store.Goals as goal
+use Rattle.ivy_protocol_tests.proofs.coherence.Node.needs.Goals as goal
 
 pub invariant_of-self-2 : goal.invariant_of-self-2
 invariant_of-self-2 c =
-    let same = begun-same fixed_ops c.self.inside.coherence 1 (Store 8 0 5) c.args.call in (
+    let same = begun-same fixed_ops c.self.inside.coherence c.args.page c.args.word c.args.call in (
       ap (λ x. x.config) c.in_ok-need.ensures.ok ∙ same.config ∙ c.self.invariant.0,
       ap (λ p. p.0) c.in_ok-need.ensures.posted ∙ c.self.invariant.1,
       ap (λ p. p.1) c.in_ok-need.ensures.posted ∙ c.self.invariant.2 ∙ sym same.me ∙ sym (ap (λ x. x.me) c.in_ok-need.ensures.ok),

@@ -2,12 +2,12 @@ use Rattle.std.proofs.Common.{ap, sym, ◌∙◌}
 use Rattle.ivy_wire.specs.Lent.{owned_message}
 use Rattle.ivy_fixed.specs.Fixed.{fixed_ops}
 use Rattle.ivy_coherence.proofs.Same.{handled-same}
-use Rattle.ivy_protocol_tests.proofs.coherence.Node.refuses.Goals as goal
-use Rattle.ivy_protocol_tests.proofs.coherence.Node.refuses.Goals.{in-Ok, in-Err}
+use Rattle.ivy_protocol_tests.proofs.coherence.Node.takes.Goals as goal
+use Rattle.ivy_protocol_tests.proofs.coherence.Node.takes.Goals.{in-Ok, in-Err}
 
 pub invariant_of-self : goal.invariant_of-self
 invariant_of-self c =
-    let same = handled-same fixed_ops c.self.inside.coherence c.args.from (owned_message c.args.message) in
+    let same = handled-same fixed_ops c.self.inside.coherence c.args.from (owned_message c.in_ok-message.message) in
     elim c.match-handle.branch [
       | in-Ok w ↦ (
         ap (λ x. x.config) w.in-Ok.ensures.ok ∙ same.config ∙ c.self.invariant.0,

@@ -1,0 +1,109 @@
+//! Messages about one page, as rows of tables.
+ghost use Rattle.std.specs.Prelude.{◌≢◌, ◌<◌, IfOk, OnOk};
+ghost use Rattle.ivy_wire.specs.Lent.{owned_message};
+ghost use Rattle.ivy_wire.specs.Spelling.{FitsMessage};
+
+use ivy_model::Config;
+use ivy_wire::{Content, Frame, Message};
+use std::test::Fail;
+
+/// The bytes of a page.
+#[derive(Clone, Copy)]
+pub(crate) enum Bytes {
+    Zeros,
+    Ones,
+    /// Zeros, but 5 was stored in the first word.
+    Stored,
+}
+
+static ZEROS: [u8; 64] = [0; 64];
+
+static ONES: [u8; 64] = [255; 64];
+
+static STORED: [u8; 64] = [
+    0, 0, 0, 0, 0, 0, 0, 5, 0, 0, 0, 0, 0, 0, 0, 0, 0, 0, 0, 0, 0, 0, 0, 0, 0, 0, 0, 0, 0, 0, 0, 0,
+    0, 0, 0, 0, 0, 0, 0, 0, 0, 0, 0, 0, 0, 0, 0, 0, 0, 0, 0, 0, 0, 0, 0, 0, 0, 0, 0, 0, 0, 0, 0, 0,
+];
+
+/// What a message says of its page.
+#[derive(Clone, Copy)]
+pub(crate) enum Said {
+    /// Asks for a copy.
+    Request,
+    /// A copy.
+    Copy(Bytes),
+    /// Asks for the page itself.
+    WriteRequest,
+    /// The page itself, and the nodes that have a copy.
+    Whole(u8, Bytes),
+    /// The order of a node that is to write, and what acknowledges it.
+    Order,
+    Acknowledgement,
+}
+
+/// A message, by what it says, the node whose call it is and the number of that call.
+pub(crate) type Letter = (Said, u8, u64);
+
+fn page_of(bytes: Bytes) -> &'static [u8] {
+    match bytes {
+        Bytes::Zeros => &ZEROS,
+        Bytes::Ones => &ONES,
+        Bytes::Stored => &STORED,
+    }
+}
+
+fn content(page: u32, said: Said) -> Content<&'static [u8]> {
+    match said {
+        Said::Request => Content::ReadReq { page },
+        Said::Copy(bytes) => Content::ReadRep {
+            page,
+            bytes: page_of(bytes),
+        },
+        Said::WriteRequest => Content::WriteReq { page },
+        Said::Whole(copies, bytes) => Content::WriteRep {
+            page,
+            copies,
+            bytes: page_of(bytes),
+        },
+        Said::Order => Content::Inval { page },
+        Said::Acknowledgement => Content::InvalAck { page },
+    }
+}
+
+/// The message about a page.
+pub(crate) fn message(page: u32, letter: Letter) -> Message<&'static [u8]> {
+    let (said, origin, call) = letter;
+    Message {
+        origin,
+        call,
+        content: content(page, said),
+    }
+}
+
+/// The message, where it may come to node `me` from this one.
+pub(crate) fn received<'a>(
+    config: &Config,
+    from: u8,
+    me: u8,
+    message: Message<&'a [u8]>,
+) -> Result<Message<&'a [u8]>, Fail>
+    ensures from { OnOk result (from < config.now.nodes) }
+    ensures foreign { OnOk result (from ≢ me) }
+    ensures fits { IfOk result (λ message. FitsMessage config.now (owned_message message)) }
+{
+    config.check()?;
+    let frame = Frame {
+        source: from,
+        dest: me,
+        number: 1,
+        ack: 0,
+        body: Some(message),
+    };
+    if !frame.fits(config) {
+        return Err("a message that does not fit".into());
+    }
+    match frame.body {
+        Some(message) => Ok(message),
+        None => Err("no message".into()),
+    }
+}
