@@ -112,6 +112,13 @@ impl<M: Manager, A: Allocator> Coherence<M, A> {
         let _ = &self.me;
     }
 
+    /// The node that this is. It takes no memory.
+    pub fn me(&self) -> u8
+        ensures { result ≡ self.now.me }
+    {
+        self.me
+    }
+
     /// The configuration of the nodes. It takes no memory.
     pub fn config(&self) -> Config
         ensures { result ≡ self.now.config }

@@ -128,7 +128,7 @@ module _ {S : Type 0} (ops : Ops S) (laws : Laws ops) (c : Config) (config : IsC
         (turn_adds ops c config x f.memory sized f.pages f.shows t.core (f.sound.sound x t.core t.there) (f.running x t.core t.there) t.outcome turn pages tells)
     tells_on (delivered source x t tells) =
         event_on x t.core (serving ops t.core source t.message).after t.there t.cores
-        (message_adds ops c config x f.memory sized f.pages f.shows t.core (f.sound.sound x t.core t.there) (f.running x t.core t.there) source t.message pages tells)
+        (message_adds ops c config x f.memory sized f.pages f.shows t.core (f.sound.sound x t.core t.there) (f.running x t.core t.there) source t.message (f.sound.sent source x (o.delivered source x) t.message t.first).about pages tells)
 
   -- each step of the ordered world keeps it, and adds to the order at its end
   pub faithful_next : Steps (host_rules ops) o o' → GoesOn ops c o o' order

@@ -1,5 +1,5 @@
 -- What each event of a node adds to the order of all records. For every manager.
-use Rattle.std.proofs.Common.{◌≡◌, ◌<◌, ℕ, ◌+◌, List, [], ◌++◌, length, Option, Some, None, refl, ap, sym, ◌∙◌, subst, if◌then◌else◌, ◌==◌}
+use Rattle.std.proofs.Common.{◌≡◌, ◌<◌, ℕ, ◌+◌, List, [], ◌++◌, length, Option, Some, None, refl, ap, sym, ◌∙◌, subst, if◌then◌else◌, ◌==◌, true}
 use Rattle.std.proofs.lemmas.List.{append-nil}
 use Rattle.std.proofs.lemmas.Option.{same_Some, none-some}
 use Rattle.ivy_model.specs.declared.Config.{Config}
@@ -33,6 +33,8 @@ use Rattle.ivy_memory.specs.Asking.{asked_of}
 use Rattle.ivy_memory.specs.Memories.{Memory, reply_of, reply_there, taken_out, answered, needed}
 use Rattle.ivy_memory.proofs.Tame.{without-sound}
 use Rattle.ivy_host.specs.Hosts.{Host, number_of, recorded, begins_as, serving}
+use Rattle.ivy_memory.proofs.Pages.{is_of_pages}
+use Rattle.ivy_host.proofs.Pages.{page_serving}
 use Rattle.ivy_host.specs.Sound.{IsSoundHost}
 use Rattle.ivy_order.specs.Letters.{Net}
 use Rattle.ivy_order.specs.Orderly.{IsOrderly}
@@ -162,10 +164,10 @@ module _ {S : Type 0} (ops : Ops S) (c : Config) (config : IsConfig c) (x : ℕ)
   call_waits : (k : Coherent S) (called : Call) (flat : ℕ → List ℕ) → n.memory.asked ≡ None → step_of n.process ≡ Asks called → k.done ≡ n.memory.coherence.done
       → ((p : ℕ) → p < c.pages → flat p ≡ flat_page c mem p)
       → ((page : ℕ) (word : Word) (number : ℕ) → k.locked ≡ Some page → WaitsAt (entry_at k.table page) word number → IsWordOf c called page word)
-      → Adds c mem x n (record n { memory = record { coherence = k; asked = Some called } }) flat
+      → Adds c mem x n (record n { memory = record n.memory { coherence = k; asked = Some called } }) flat
   call_waits k called flat idle step done pages waiting =
       let untold : reply_there k.done ≡ None = ap reply_there (done ∙ good.memory.done idle) in
-      owing (record n { memory = record { coherence = k; asked = Some called } }) flat called None mem (asked_width n called step) refl pages
+      owing (record n { memory = record n.memory { coherence = k; asked = Some called } }) flat called None mem (asked_width n called step) refl pages
       (ap (λ xs. n.history ++ xs) (owed-untold k.me (Some called) (reply_there k.done) untold)
       ∙ owing_history n.history (pending n) [] (owed-unasked (number_of n) n.memory.asked (reply_there n.memory.coherence.done) idle))
       (record {
@@ -181,16 +183,16 @@ module _ {S : Type 0} (ops : Ops S) (c : Config) (config : IsConfig c) (x : ℕ)
 
     -- a word that is carried out at once gives the call's reply, or none yet
     hit_adds : (e : Outcome (Host S)) (flat : ℕ → List ℕ) (o : Option Reply) (new : model.Memory) → begun_now.after.done ≡ n.memory.coherence.done → begun_now.after.locked ≡ n.memory.coherence.locked
-        → Answers c mem called o new → ((p : ℕ) → p < c.pages → flat p ≡ flat_page c new p) → begins_as n called (answered called begun_now o) ≡ Some e → Adds c mem x n e.after flat
+        → Answers c mem called o new → ((p : ℕ) → p < c.pages → flat p ≡ flat_page c new p) → begins_as n called (answered n.memory called begun_now o) ≡ Some e → Adds c mem x n e.after flat
     hit_adds e flat None new done locked given pages is =
         subst (λ (z : Outcome (Host S)). Adds c mem x n z.after flat)
-        (same_Some (record { after = record n { memory = record { coherence = begun_now.after; asked = Some called } }; posted = begun_now.posted }) e is)
+        (same_Some (record { after = record n { memory = record n.memory { coherence = begun_now.after; asked = Some called } }; posted = begun_now.posted }) e is)
         (call_waits begun_now.after called flat idle step done (λ p inside. pages p inside ∙ ap (λ m. flat_page c m p) given)
         (λ q w number lock there. absurd (none-some q (sym (good.memory.locked idle) ∙ sym locked ∙ lock))))
     hit_adds e flat (Some r) new done locked given pages is =
         subst (λ (z : Outcome (Host S)). Adds c mem x n z.after flat)
-        (same_Some (record { after = recorded n (record { coherence = begun_now.after; asked = None }) called r; posted = begun_now.posted }) e is)
-        (records_call (record { coherence = begun_now.after; asked = None }) called r new idle step refl given flat pages)
+        (same_Some (record { after = recorded n (record n.memory { coherence = begun_now.after; asked = None }) called r; posted = begun_now.posted }) e is)
+        (records_call (record n.memory { coherence = begun_now.after; asked = None }) called r new idle step refl given flat pages)
 
     starts_adds : (e : Outcome (Host S)) (flat : ℕ → List ℕ) (number : ℕ) → begins_as n called (needed n.memory called begun_now begun_now.need) ≡ Some e
         → Starts (Copies {S = S} c) c x f page word number n.memory.coherence begun_now.need begun_now.after flat → Adds c mem x n e.after flat
@@ -200,7 +202,7 @@ module _ {S : Type 0} (ops : Ops S) (c : Config) (config : IsConfig c) (x : ℕ)
         hit_adds e flat (reply_of out) k.new done locked k.gives k.shows (sym (ap (λ d. begins_as n called (needed n.memory called begun_now d)) needs) ∙ is)
     starts_adds e flat number is (waits needs same done locked there) =
         subst (λ (z : Outcome (Host S)). Adds c mem x n z.after flat)
-        (same_Some (record { after = record n { memory = record { coherence = begun_now.after; asked = Some called } }; posted = begun_now.posted }) e
+        (same_Some (record { after = record n { memory = record n.memory { coherence = begun_now.after; asked = Some called } }; posted = begun_now.posted }) e
         (sym (ap (λ d. begins_as n called (needed n.memory called begun_now d)) needs) ∙ is))
         (call_waits begun_now.after called flat idle step done (same_pages flat same)
         (λ q w j lock waiting. (
@@ -253,10 +255,12 @@ module _ {S : Type 0} (ops : Ops S) (c : Config) (config : IsConfig c) (x : ℕ)
         untold None is = is
         untold (Some o) is = absurd (none-some page (sym (good.memory.answered o is) ∙ lock))
 
-    pub message_adds : (flat : ℕ → List ℕ) → Tells (Copies {S = S} c) c x f n.memory.coherence told flat → Adds c mem x n (serving ops n source m).after flat
-    unfolding serving
-    message_adds flat (quiet same done locked waiting) = quiet_adds flat same done locked waiting
-    message_adds flat (is_answered page word number out lock there free done carries) = answer_adds flat page word number out n.memory.asked refl lock there free done carries
+    told_adds : (flat : ℕ → List ℕ) → Tells (Copies {S = S} c) c x f n.memory.coherence told flat → Adds c mem x n told_host flat
+    told_adds flat (quiet same done locked waiting) = quiet_adds flat same done locked waiting
+    told_adds flat (is_answered page word number out lock there free done carries) = answer_adds flat page word number out n.memory.asked refl lock there free done carries
+
+    pub message_adds : is_of_pages m.content ≡ true → (flat : ℕ → List ℕ) → Tells (Copies {S = S} c) c x f n.memory.coherence told flat → Adds c mem x n (serving ops n source m).after flat
+    message_adds about flat tells = subst (λ (z : Outcome (Host S)). Adds c mem x n z.after flat) (sym (page_serving ops n source m about)) (told_adds flat tells)
 
 -- the call in progress begins anew, as its word was not carried out or gave no reply
 again_adds : {S : Type 0} (c : Config) (mem : model.Memory) (x : ℕ) (n n' : Host S) (flat : ℕ → List ℕ) → reply_there n.memory.coherence.done ≡ None → Adds c mem x (without_call n) n' flat → Adds c mem x n n' flat
@@ -280,6 +284,7 @@ module _ {S : Type 0} (ops : Ops S) (c : Config) (config : IsConfig c) (x : ℕ)
     memory = without-sound n.memory good.memory free;
     config = good.config;
     me = good.me;
+    asking = λ called is. absurd (none-some called is);
     numbered = λ called is. absurd (none-some called is);
   }
 

@@ -24,75 +24,9 @@ use Rattle.ivy_memory.specs.Sound.{IsSoundMemory}
 use Rattle.ivy_host.specs.Sound.{IsSoundHost}
 use Rattle.ivy_host.specs.Hosts.{Host, recorded, quietly, begins_with, begins_as, begins, steps, turned_at, turn_of, serving, host_rules, first_host}
 use Rattle.ivy_host.specs.Openings.{first_node, first_nodes, opening}
-use Rattle.ivy_memory.proofs.Tame.{SameNode, KeepsMemory, IsBegun, handled-told, first_sound-memory, told-sound, call-sound, call-begun}
+use Rattle.ivy_memory.proofs.Tame.{SameNode, KeepsMemory, IsBegun, first_sound-memory, told-sound, call-sound, call-begun}
 use Rattle.ivy_memory.proofs.Polling.{polled-keeps, polled-begun}
-
-module _ {S : Type 0} {ops : Ops S} (laws : Laws ops) where
-  -- what an event of node i has to keep
-  abbrev Tamed : Config → ℕ → Outcome (Host S) → Type 0
-  Tamed c i o = IsSoundHost ops c i o.after × All (FitsParcel c i) o.posted
-
-  tamed : (c : Config) (i : ℕ) (n : Host S) (o : Outcome (Host S)) → IsSoundHost ops c i n → IsSoundMemory ops o.after.memory → SameNode n.memory.coherence o.after.memory.coherence
-      → All (FitsParcel n.memory.coherence.config n.memory.coherence.me) o.posted → ((k : Call) → o.after.memory.asked ≡ Some k → length o.after.history + 1 < 2 ^ 64) → Tamed c i o
-  tamed c i n o s good same fits numbered = (
-    record { memory = good; config = same.config ∙ s.config; me = same.me ∙ s.me; numbered = numbered },
-    subst (λ k. All (FitsParcel k i) o.posted) s.config (subst (λ j. All (FitsParcel n.memory.coherence.config j) o.posted) s.me fits),
-  )
-
-  begins_with-tame : (c : Config) (i : ℕ) (n : Host S) (k : Call) (a : CallBegun S) (r : Answer) (o : Outcome (Host S)) → IsSoundHost ops c i n → KeepsMemory ops n.memory a
-      → length n.history + 1 < 2 ^ 64 → IsBegun k a → a.answer ≡ r → begins_with n k a r ≡ Some o → Tamed c i o
-  begins_with-tame c i n k a (Given r) o s h small begun given is =
-      subst (Tamed c i) (same_Some _ o is)
-      (tamed c i n (record { after = recorded n a.after k r; posted = a.posted }) s h.0 h.2 h.1 (λ j asked. absurd (none-some j (sym (begun.over r given) ∙ asked))))
-  begins_with-tame c i n k a Awaited o s h small begun given is =
-      subst (Tamed c i) (same_Some _ o is) (tamed c i n (record { after = record n { memory = a.after }; posted = a.posted }) s h.0 h.2 h.1 (λ j asked. small))
-  begins_with-tame c i n k a Unserved o s h small begun given is = absurd (none-some o is)
-
-  begins_if-tame : (c : Config) (i : ℕ) (n : Host S) (k : Call) (b : Bool) (o : Outcome (Host S)) → IsSoundHost ops c i n → n.memory.asked ≡ None → HasWidth k → nat_lt (length n.history + 1) (2 ^ 64) ≡ b
-      → (if b then begins_as n k (call_begun ops n.memory k (length n.history + 1)) else None) ≡ Some o → Tamed c i o
-  begins_if-tame c i n k false o s idle w small is = absurd (none-some o is)
-  begins_if-tame c i n k true o s idle w small is =
-      let number : ℕ = length n.history + 1 in
-      let a : CallBegun S = call_begun ops n.memory k number in
-      let below : number < 2 ^ 64 = ltb-true number (2 ^ 64) small in
-      begins_with-tame c i n k a a.answer o s (call-sound laws n.memory k number s.memory idle w (omega arith) below) below (call-begun ops n.memory k number idle) refl is
-
-  begins-tame : (c : Config) (i : ℕ) (n : Host S) (k : Call) (o : Outcome (Host S)) → IsSoundHost ops c i n → n.memory.asked ≡ None → step_of n.process ≡ Asks k → begins ops n k ≡ Some o → Tamed c i o
-  begins-tame c i n k o s idle asks is =
-      begins_if-tame c i n k (nat_lt (length n.history + 1) (2 ^ 64)) o s idle (only_words n.process.program n.process.state k asks).1 refl is
-
-  steps-tame : (c : Config) (i : ℕ) (n : Host S) (t : Step) (o : Outcome (Host S)) → IsSoundHost ops c i n → n.memory.asked ≡ None → step_of n.process ≡ t → steps ops n t ≡ Some o → Tamed c i o
-  steps-tame c i n (Local t) o s idle at is =
-      subst (Tamed c i) (same_Some _ o is)
-      (tamed c i n (quietly (record n { process = at_state n.process t })) s s.memory (record { config = refl; me = refl }) (all_none (FitsParcel n.memory.coherence.config n.memory.coherence.me))
-      (λ j h. absurd (none-some j (sym idle ∙ h))))
-  steps-tame c i n (Asks k) o s idle at is = begins-tame c i n k o s idle at is
-  steps-tame c i n Ends o s idle at is = absurd (none-some o is)
-
-  at-tame : (c : Config) (i : ℕ) (n : Host S) (a : Option Call) (o : Outcome (Host S)) → IsSoundHost ops c i n → n.memory.asked ≡ a → turned_at ops n a ≡ Some o → Tamed c i o
-  at-tame c i n (Some k) o s at is =
-      let number : ℕ = length n.history + 1 in
-      let a : CallBegun S = polled ops n.memory number in
-      let small : number < 2 ^ 64 = s.numbered k at in
-      begins_with-tame c i n k a a.answer o s (polled-keeps laws n.memory k number s.memory at (omega arith) small) small (polled-begun ops n.memory k number at) refl is
-  at-tame c i n None o s at is = steps-tame c i n _ o s at refl is
-
-  turn-tame : (c : Config) (i : ℕ) (n : Host S) (o : Outcome (Host S)) → IsSoundHost ops c i n → turn_of ops n ≡ Some o → Tamed c i o
-  unfolding turn_of
-  turn-tame c i n o s is = at-tame c i n _ o s refl is
-
-  serve-tame : (c : Config) (i source : ℕ) (n : Host S) (m : Message) → IsSoundHost ops c i n → source < c.nodes → source ≢ i → FitsMessage c m → Tamed c i (serving ops n source m)
-  unfolding serving
-  serve-tame c i source n m s below foreign fits =
-      let told = told-sound laws n.memory source m s.memory (subst (λ k. source < k.nodes) (sym s.config) below) (subst (λ j. source ≢ j) (sym s.me) foreign) (subst (λ k. FitsMessage k m) (sym s.config) fits) in
-      tamed c i n _ s told.0 (handled-told ops n.memory.coherence source m s.memory.coherent).0 told.1 s.numbered
-
-  -- turns and messages keep what holds of a node, and post only what can be sent
-  pub tame : (c : Config) → IsTame (host_rules ops) c (IsSoundHost ops c)
-  tame c = record {
-    turn = λ i n o s is. turn-tame c i n o s is;
-    serve = λ i source n m s below foreign fits. serve-tame c i source n m s below foreign fits;
-  }
+use Rattle.ivy_memory.proofs.Same.{told-same, told-asked}
 
 -- a call in progress is the one that the program makes
 abbrev pub IsAskingHost : {S : Type 0} → Host S → Type 0
@@ -138,10 +72,79 @@ module _ {S : Type 0} (ops : Ops S) where
   -- and so after a message, if it was so before
   pub serve-asking : (n : Host S) (from : ℕ) (m : Message) → IsAskingHost n → IsAskingHost (serving ops n from m).after
   unfolding serving
-  serve-asking n from m h = h
+  serve-asking n from m h k asked = h k (sym (told-asked ops n.memory from m) ∙ asked)
 
   pub first-asking : (c : Config) (me : ℕ) (p : List Instruction) → IsAskingHost (first_host ops c me p)
   first-asking c me p j h = absurd (none-some j h)
+
+module _ {S : Type 0} {ops : Ops S} (laws : Laws ops) where
+  -- what an event of node i has to keep
+  abbrev Tamed : Config → ℕ → Outcome (Host S) → Type 0
+  Tamed c i o = IsSoundHost ops c i o.after × All (FitsParcel c i) o.posted
+
+  tamed : (c : Config) (i : ℕ) (n : Host S) (o : Outcome (Host S)) → IsSoundHost ops c i n → IsSoundMemory ops o.after.memory → SameNode n.memory.coherence o.after.memory.coherence
+      → All (FitsParcel n.memory.coherence.config n.memory.coherence.me) o.posted → ((k : Call) → o.after.memory.asked ≡ Some k → length o.after.history + 1 < 2 ^ 64) → IsAskingHost o.after → Tamed c i o
+  tamed c i n o s good same fits numbered asking = (
+    record { memory = good; config = same.config ∙ s.config; me = same.me ∙ s.me; asking = asking; numbered = numbered },
+    subst (λ k. All (FitsParcel k i) o.posted) s.config (subst (λ j. All (FitsParcel n.memory.coherence.config j) o.posted) s.me fits),
+  )
+
+  begins_with-tame : (c : Config) (i : ℕ) (n : Host S) (k : Call) (a : CallBegun S) (r : Answer) (o : Outcome (Host S)) → IsSoundHost ops c i n → KeepsMemory ops n.memory a
+      → length n.history + 1 < 2 ^ 64 → IsBegun k a → a.answer ≡ r → IsAskingHost o.after → begins_with n k a r ≡ Some o → Tamed c i o
+  begins_with-tame c i n k a (Given r) o s h small begun given asking is =
+      let same : record { after = recorded n a.after k r; posted = a.posted } ≡ o = same_Some _ o is in
+      subst (Tamed c i) same
+      (tamed c i n (record { after = recorded n a.after k r; posted = a.posted }) s h.0 h.2 h.1 (λ j asked. absurd (none-some j (sym (begun.over r given) ∙ asked))) (subst (λ (x : Outcome (Host S)). IsAskingHost x.after) (sym same) asking))
+  begins_with-tame c i n k a Awaited o s h small begun given asking is =
+      let same : record { after = record n { memory = a.after }; posted = a.posted } ≡ o = same_Some _ o is in
+      subst (Tamed c i) same (tamed c i n (record { after = record n { memory = a.after }; posted = a.posted }) s h.0 h.2 h.1 (λ j asked. small) (subst (λ (x : Outcome (Host S)). IsAskingHost x.after) (sym same) asking))
+  begins_with-tame c i n k a Unserved o s h small begun given asking is = absurd (none-some o is)
+
+  begins_if-tame : (c : Config) (i : ℕ) (n : Host S) (k : Call) (b : Bool) (o : Outcome (Host S)) → IsSoundHost ops c i n → n.memory.asked ≡ None → HasWidth k → nat_lt (length n.history + 1) (2 ^ 64) ≡ b → IsAskingHost o.after
+      → (if b then begins_as n k (call_begun ops n.memory k (length n.history + 1)) else None) ≡ Some o → Tamed c i o
+  begins_if-tame c i n k false o s idle w small asking is = absurd (none-some o is)
+  begins_if-tame c i n k true o s idle w small asking is =
+      let number : ℕ = length n.history + 1 in
+      let a : CallBegun S = call_begun ops n.memory k number in
+      let below : number < 2 ^ 64 = ltb-true number (2 ^ 64) small in
+      begins_with-tame c i n k a a.answer o s (call-sound laws n.memory k number s.memory idle w (omega arith) below) below (call-begun ops n.memory k number idle) refl asking is
+
+  begins-tame : (c : Config) (i : ℕ) (n : Host S) (k : Call) (o : Outcome (Host S)) → IsSoundHost ops c i n → n.memory.asked ≡ None → step_of n.process ≡ Asks k → begins ops n k ≡ Some o → Tamed c i o
+  begins-tame c i n k o s idle asks is =
+      begins_if-tame c i n k (nat_lt (length n.history + 1) (2 ^ 64)) o s idle (only_words n.process.program n.process.state k asks).1 refl (begins-asking ops n k o idle asks is) is
+
+  steps-tame : (c : Config) (i : ℕ) (n : Host S) (t : Step) (o : Outcome (Host S)) → IsSoundHost ops c i n → n.memory.asked ≡ None → step_of n.process ≡ t → steps ops n t ≡ Some o → Tamed c i o
+  steps-tame c i n (Local t) o s idle at is =
+      subst (Tamed c i) (same_Some _ o is)
+      (tamed c i n (quietly (record n { process = at_state n.process t })) s s.memory (record { config = refl; me = refl }) (all_none (FitsParcel n.memory.coherence.config n.memory.coherence.me))
+      (λ j h. absurd (none-some j (sym idle ∙ h))) (λ j h. absurd (none-some j (sym idle ∙ h))))
+  steps-tame c i n (Asks k) o s idle at is = begins-tame c i n k o s idle at is
+  steps-tame c i n Ends o s idle at is = absurd (none-some o is)
+
+  at-tame : (c : Config) (i : ℕ) (n : Host S) (a : Option Call) (o : Outcome (Host S)) → IsSoundHost ops c i n → n.memory.asked ≡ a → turned_at ops n a ≡ Some o → Tamed c i o
+  at-tame c i n (Some k) o s at is =
+      let number : ℕ = length n.history + 1 in
+      let a : CallBegun S = polled ops n.memory number in
+      let small : number < 2 ^ 64 = s.numbered k at in
+      begins_with-tame c i n k a a.answer o s (polled-keeps laws n.memory k number s.memory at (omega arith) small) small (polled-begun ops n.memory k number at) refl (at-asking ops n (Some k) o s.asking at is) is
+  at-tame c i n None o s at is = steps-tame c i n _ o s at refl is
+
+  turn-tame : (c : Config) (i : ℕ) (n : Host S) (o : Outcome (Host S)) → IsSoundHost ops c i n → turn_of ops n ≡ Some o → Tamed c i o
+  unfolding turn_of
+  turn-tame c i n o s is = at-tame c i n _ o s refl is
+
+  serve-tame : (c : Config) (i source : ℕ) (n : Host S) (m : Message) → IsSoundHost ops c i n → source < c.nodes → source ≢ i → FitsMessage c m → Tamed c i (serving ops n source m)
+  unfolding serving
+  serve-tame c i source n m s below foreign fits =
+      let told = told-sound laws n.memory source m s.memory (subst (λ k. source < k.nodes) (sym s.config) below) (subst (λ j. source ≢ j) (sym s.me) foreign) (subst (λ k. FitsMessage k m) (sym s.config) fits) in
+      tamed c i n _ s told.0 (told-same ops n.memory source m) told.1 (λ k asked. s.numbered k (sym (told-asked ops n.memory source m) ∙ asked)) (λ k asked. s.asking k (sym (told-asked ops n.memory source m) ∙ asked))
+
+  -- turns and messages keep what holds of a node, and post only what can be sent
+  pub tame : (c : Config) → IsTame (host_rules ops) c (IsSoundHost ops c)
+  tame c = record {
+    turn = λ i n o s is. turn-tame c i n o s is;
+    serve = λ i source n m s below foreign fits. serve-tame c i source n m s below foreign fits;
+  }
 
 first_length : {S : Type 0} (ops : Ops S) (c : Config) (me : ℕ) (ps : List (List Instruction)) → length (first_nodes ops c me ps) ≡ length ps
 first_length ops c me [] = refl
@@ -166,7 +169,7 @@ opening_is {S} {ops} laws c programs limits many = record {
   nodes = first_length ops c 0 programs ∙ many;
   sound = λ i n is. (let x = first_at ops c 0 i programs i n (omega arith) is in
       subst (λ (m : Node (Host S)). IsSoundHost ops c i m.core) (sym x.1)
-      (record { memory = first_sound-memory laws c i limits (let below = x.2 in omega (arith, below, many)); config = refl; me = refl; numbered = λ k asked. absurd (none-some k asked) }));
+      (record { memory = first_sound-memory laws c i limits (let below = x.2 in omega (arith, below, many)); config = refl; me = refl; asking = λ k asked. absurd (none-some k asked); numbered = λ k asked. absurd (none-some k asked) }));
   links = λ i n is. (let x = first_at ops c 0 i programs i n (omega arith) is in ap (λ (m : Node (Host S)). m.link) x.1);
   sent = refl;
   early = none_early programs;

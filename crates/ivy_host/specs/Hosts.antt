@@ -8,15 +8,13 @@ use Rattle.ivy_model.specs.declared.Reply.{Reply}
 use Rattle.ivy_model.specs.Explains.{Answered}
 use Rattle.ivy_wire.specs.Data.{Message}
 use Rattle.ivy_pagetable.specs.Manager.{Ops}
-use Rattle.ivy_coherence.specs.Steps.{handled}
-use Rattle.ivy_coherence.specs.Sound.{first_coherent}
 use Rattle.ivy_program.specs.declared.Instruction.{Instruction}
 use Rattle.ivy_program.specs.States.{first_state}
 use Rattle.ivy_program.specs.Steps.{Process, Step, Local, Asks, Ends, step_of, at_state, answered_with}
 use Rattle.ivy_ether.specs.Cores.{Core, Outcome}
 use Rattle.ivy_memory.specs.declared.Answer.{Answer}
 use Rattle.ivy_memory.specs.declared.Answer.TheVariants.{Given, Awaited, Unserved}
-use Rattle.ivy_memory.specs.Memories.{Memory, CallBegun, call_begun, polled, memory_told}
+use Rattle.ivy_memory.specs.Memories.{Memory, CallBegun, first_memory, call_begun, polled, memory_handled, memory_told}
 
 pub record Host (S : Type 0) : Type 0 where
   pub memory : Memory S
@@ -77,7 +75,7 @@ module _ {S : Type 0} (ops : Ops S) where
   unfoldable pub serving : Host S → ℕ → Message → Outcome (Host S)
   serving n from m = record {
     after = record n { memory = memory_told ops n.memory from m };
-    posted = (handled ops n.memory.coherence from m).posted;
+    posted = (memory_handled ops n.memory from m).posted;
   }
 
   abbrev pub host_rules : Core (Host S)
@@ -85,7 +83,7 @@ module _ {S : Type 0} (ops : Ops S) where
 
   abbrev pub first_host : Config → ℕ → List Instruction → Host S
   first_host c me program = record {
-    memory = record { coherence = first_coherent ops c me; asked = None };
+    memory = first_memory ops c me;
     process = record { program = program; state = first_state };
     history = [];
   }

@@ -3,6 +3,7 @@ use Rattle.std.specs.Prelude.{◌≡◌, ℕ, ◌+◌, ◌^◌, ◌<◌, length,
 use Rattle.ivy_model.specs.declared.Config.{Config}
 use Rattle.ivy_model.specs.declared.Call.{Call}
 use Rattle.ivy_pagetable.specs.Manager.{Ops}
+use Rattle.ivy_program.specs.Steps.{Asks, step_of}
 use Rattle.ivy_host.specs.Hosts.{Host}
 use Rattle.ivy_memory.specs.Sound.{IsSoundMemory}
 
@@ -11,5 +12,7 @@ pub record IsSoundHost {S : Type 0} (ops : Ops S) (c : Config) (i : ℕ) (n : Ho
   pub memory : IsSoundMemory ops n.memory
   pub config : n.memory.coherence.config ≡ c
   pub me : n.memory.coherence.me ≡ i
-  -- the call in progress has a number
+  -- the call in progress is the one that the program makes
+  pub asking : (call : Call) → n.memory.asked ≡ Some call → step_of n.process ≡ Asks call
+  -- and has a number
   pub numbered : (call : Call) → n.memory.asked ≡ Some call → length n.history + 1 < 2 ^ 64

@@ -1,9 +1,10 @@
 -- A call that begins, and a message that comes, as the code has them.
-use Rattle.std.proofs.Common.{◌≡◌, ◌≢◌, ℕ, ◌^◌, ◌<◌, ◌≤◌, Bool, false, length, is_some, Option, Some, None, Result, Ok, Err, OnOk, OnErr, IsErrAnd, IfErr, refl, sym, ap, ◌∙◌, subst}
+use Rattle.std.proofs.Common.{◌≡◌, ◌≢◌, ℕ, ◌^◌, ◌<◌, ◌≤◌, ◌⊎◌, inl, inr, Bool, true, false, List, [], length, is_some, Option, Some, None, Result, Ok, Err, OnOk, OnErr, IsErrAnd, IfErr, refl, sym, ap, ◌∙◌, subst, if◌then◌else◌}
+use Rattle.std.proofs.lemmas.Bool.{cases_Bool}
 use Rattle.ivy_model.specs.declared.Config.{Config}
 use Rattle.ivy_model.specs.declared.Call.{Call}
 use Rattle.ivy_model.specs.Legal.{HasWidth}
-use Rattle.ivy_wire.specs.Data.{Message}
+use Rattle.ivy_wire.specs.Data.{Message, Parcel}
 use Rattle.ivy_wire.specs.Spelling.{FitsMessage}
 use Rattle.ivy_pagetable.specs.declared.Out.{Out}
 use Rattle.ivy_pagetable.specs.declared.Word.{Word}
@@ -14,13 +15,18 @@ use Rattle.ivy_coherence.specs.declared.Need.TheVariants as need
 use Rattle.ivy_coherence.specs.Coherent.{Coherent}
 use Rattle.ivy_coherence.specs.Faults.{Begun, HasToAsk, begun}
 use Rattle.ivy_coherence.specs.Sound.{IsSound}
+use Rattle.ivy_coherence.specs.Steps.{handled}
+use Rattle.ivy_memory.specs.declared.answer.Answer.{Answer}
 use Rattle.ivy_coherence.proofs.Keeping.{begun-keeps}
 use Rattle.ivy_memory.specs.declared.asked.Asked.TheVariants as asked
-use Rattle.ivy_memory.specs.Asking.{CanAsk, HasToAskFor, CallHasToAsk, asked_of}
-use Rattle.ivy_memory.specs.Memories.{Memory, CallBegun, needed, begun_as, call_begun, memory_told}
+use Rattle.ivy_memory.specs.declared.heap_side.HeapCall.{HeapCall}
+use Rattle.ivy_memory.specs.Asking.{CanAsk, HasToAskFor, CallHasToAsk, IsOfHeap, asked_of}
+use Rattle.ivy_memory.specs.HeapCalls.{HeapBegun, HeapSide, HeapTold, heap_begun, heap_told}
+use Rattle.ivy_memory.specs.Memories.{Memory, CallBegun, needed, asked_after, heap_answered, begun_as, call_begun, MemoryEffect, by_side, by_coherence, memory_handled_as, memory_handled, memory_told}
 use Rattle.ivy_memory.proofs.Asking.{can_ask}
 use Rattle.ivy_memory.specs.Sound.{IsSoundMemory}
-use Rattle.ivy_memory.proofs.Tame.{Begins, begun-begins, one_wide, had-sound, started-sound, told-sound, needed-posted, call-few}
+use Rattle.ivy_memory.proofs.Tame.{Begins, begun-begins, one_wide, had-sound, started-sound, told-sound, needed-posted, call-few, call-sound, told-few}
+use Rattle.ivy_memory.proofs.Sides.{misfit_stays}
 
 none_of : {A : Type 0} (o : Option A) → is_some o ≡ false → o ≡ None
 none_of None h = refl
@@ -35,6 +41,10 @@ of_either P F (Err e) new good old h k x y = subst F (sym k.0) y
 pub err_there : {A E : Type 0} (r : Result A E) (F : E → Type 0) (e : E) → IsErrAnd r (λ x. x ≡ e) → F e → IfErr r F
 err_there (Ok a) F e h k = absurd h
 err_there (Err x) F e h k = subst F (sym h) k
+
+-- or of one of two
+pub err_refuses : {A E X : Type 0} (r : Result A E) (G : E → Type 0) (R : X → E → Type 0) (e : E) (x y : X) → x ≡ y → IsErrAnd r (λ z. z ≡ e) → R x e → IfErr r (λ f. G f ⊎ R y f)
+err_refuses r G R e x y same is why = err_there r (λ f. G f ⊎ R y f) e is (inr (subst (λ z. R z e) same why))
 
 -- no call is in progress where the code sees none
 pub no_call : {S : Type 0} (n v : Memory S) {b : Bool} → v ≡ n → b ≡ is_some v.asked → b ≡ false → n.asked ≡ None
@@ -83,13 +93,13 @@ module _ {S : Type 0} {ops : Ops S} (laws : Laws ops) where
     resting = ap (λ (x : Memory S). x.asked) l.same ∙ l.idle
 
     pub had_memory : (new : Coherent S) (told : Need) (o : Out) (a : Option Call) → ((j : Call) → a ≡ Some j → HasWidth j) → new ≡ access.after → told ≡ access.need → told ≡ need.Have o
-        → IsSoundMemory ops (record { coherence = new; asked = a })
+        → IsSoundMemory ops (record { coherence = new; asked = a; side = v.side })
     had_memory new told o a wide is was had =
-        subst (λ x. IsSoundMemory ops (record { coherence = x; asked = a })) (sym is) (had-sound v access o a wide l.sound resting access-begins access-sound (sym was ∙ had))
+        subst (λ x. IsSoundMemory ops (record { coherence = x; asked = a; side = v.side })) (sym is) (had-sound v access o a wide l.sound resting access-begins access-sound (sym was ∙ had))
 
-    pub started_memory : (new : Coherent S) → new ≡ access.after → IsSoundMemory ops (record { coherence = new; asked = Some c })
+    pub started_memory : (new : Coherent S) → new ≡ access.after → IsSoundMemory ops (record { coherence = new; asked = Some c; side = v.side })
     started_memory new is =
-        subst (λ x. IsSoundMemory ops (record { coherence = x; asked = Some c })) (sym is) (started-sound v access c l.legal l.sound resting access-begins access-sound)
+        subst (λ x. IsSoundMemory ops (record { coherence = x; asked = Some c; side = v.side })) (sym is) (started-sound v access c l.legal l.sound resting access-begins access-sound)
 
     -- the call in progress is that call
     pub wide : (j : Call) → Some c ≡ Some j → HasWidth j
@@ -99,19 +109,19 @@ module _ {S : Type 0} {ops : Ops S} (laws : Laws ops) where
     busy_stays new told is was busy = is ∙ access-begins.busy (sym was ∙ busy)
 
     pub busy_memory : (new : Coherent S) (told : Need) → new ≡ access.after → told ≡ access.need → told ≡ need.Busy
-        → IsSoundMemory ops (record { coherence = new; asked = v.asked })
+        → IsSoundMemory ops (record { coherence = new; asked = v.asked; side = v.side })
     busy_memory new told is was busy =
-        subst (λ x. IsSoundMemory ops (record { coherence = x; asked = v.asked })) (sym (busy_stays new told is was busy)) l.sound
+        subst (λ x. IsSoundMemory ops (record { coherence = x; asked = v.asked; side = v.side })) (sym (busy_stays new told is was busy)) l.sound
 
     begun_is : call_begun ops n c number ≡ needed v c access access.need
     unfolding call_begun
     begun_is = ap (λ x. call_begun ops x c number) (sym l.same) ∙ ap (begun_as ops v c number) asking
 
     -- a call whose word has to be asked for
-    pub call_asks : {A E : Type 0} (r : Result A E) → HasToAsk v.coherence page w → OnErr r (CallHasToAsk n.coherence c)
+    pub call_asks : {A E : Type 0} (r : Result A E) → HasToAsk v.coherence page w → OnErr r (CallHasToAsk n.coherence c ⊎ IsOfHeap (asked_of n.coherence.config c))
     call_asks (Ok a) asks = tt
     call_asks (Err x) asks =
-        subst (λ (m : Memory S). CallHasToAsk m.coherence c) l.same (subst (HasToAskFor v.coherence) (sym asking) asks)
+        inl (subst (λ (m : Memory S). CallHasToAsk m.coherence c) l.same (subst (HasToAskFor v.coherence) (sym asking) asks))
 
     -- what the call comes to, by what its access does
     pub begun_by : (told : Need) → told ≡ access.need → call_begun ops n c number ≡ needed v c access told
@@ -122,7 +132,106 @@ module _ {S : Type 0} {ops : Ops S} (laws : Laws ops) where
     call_posts = sym (ap (λ (x : CallBegun S). x.posted) begun_is ∙ needed-posted v c access access.need access-begins refl)
 
     pub busy_is : (new : Coherent S) (told : Need) → new ≡ access.after → told ≡ access.need → told ≡ need.Busy
-        → record { coherence = new; asked = v.asked } ≡ (call_begun ops n c number).after
+        → record { coherence = new; asked = v.asked; side = v.side } ≡ (call_begun ops n c number).after
     busy_is new told is was busy =
-        ap (λ x. record { coherence = x; asked = v.asked }) (busy_stays new told is was busy)
+        ap (λ x. record { coherence = x; asked = v.asked; side = v.side }) (busy_stays new told is was busy)
         ∙ sym (ap (λ (x : CallBegun S). x.after) (begun_by told was) ∙ ap (λ x. (needed v c access x).after) busy)
+
+-- A call that begins as one of the heap, as the code has it: `v` is what the fields are seen as, `n` the value.
+pub record IsHeapBeginning {S : Type 0} (ops : Ops S) (n v : Memory S) (k : Config) (c : Call) (number : ℕ) (h : HeapCall) (node : ℕ) : Type 0 where
+  pub same : v ≡ n
+  pub sound : IsSoundMemory ops v
+  pub config : k ≡ v.coherence.config
+  pub idle : n.asked ≡ None
+  pub legal : HasWidth c
+  pub least : 1 ≤ number
+  pub most : number < 2 ^ 64
+  pub asks : asked_of k c ≡ asked.Heap h
+  pub me : node ≡ v.coherence.me
+
+module _ {S : Type 0} {ops : Ops S} (laws : Laws ops) (n v : Memory S) (k : Config) (c : Call) (number : ℕ) (h : HeapCall) (node : ℕ) (l : IsHeapBeginning ops n v k c number h node) where
+  abbrev begins : HeapBegun
+  begins = heap_begun node v.side h number
+
+  heap_asking : asked_of v.coherence.config c ≡ asked.Heap h
+  heap_asking = ap (λ x. asked_of x c) (sym l.config) ∙ l.asks
+
+  -- what the call comes to
+  pub heap_is : call_begun ops n c number ≡ heap_answered v c begins
+  unfolding call_begun
+  heap_is = ap (λ x. call_begun ops x c number) (sym l.same) ∙ ap (begun_as ops v c number) heap_asking ∙ ap (λ i. heap_answered v c (heap_begun i v.side h number)) (sym l.me)
+
+  -- the memory after it is sound
+  pub heap_memory : (answer : Answer) (new : HeapSide) (a : Option Call) → answer ≡ begins.answer → new ≡ begins.after → asked_after v.asked c answer ≡ a → IsSoundMemory ops (record { coherence = v.coherence; asked = a; side = new })
+  heap_memory answer new a told after waits =
+      subst (λ x. IsSoundMemory ops (record { coherence = v.coherence; asked = a; side = x })) (sym after)
+      (subst (λ x. IsSoundMemory ops (record { coherence = v.coherence; asked = x; side = begins.after })) (ap (asked_after v.asked c) (sym told) ∙ waits)
+      (subst (λ (x : CallBegun S). IsSoundMemory ops x.after) (ap (λ x. call_begun ops x c number) l.same ∙ heap_is)
+      (call-sound laws v c number l.sound (ap (λ (x : Memory S). x.asked) l.same ∙ l.idle) l.legal l.least l.most).0))
+
+-- A message that comes, as the code has it: `v` is what the fields are seen as, `n` the value.
+pub record IsMessage {S : Type 0} (ops : Ops S) (n v : Memory S) (node from : ℕ) (m : Message) : Type 0 where
+  pub same : v ≡ n
+  pub sound : IsSoundMemory ops v
+  pub me : node ≡ v.coherence.me
+  pub below : from < n.coherence.config.nodes
+  pub foreign : from ≢ n.coherence.me
+  pub fits : FitsMessage n.coherence.config m
+
+module _ {S : Type 0} {ops : Ops S} (laws : Laws ops) (n v : Memory S) (node from : ℕ) (m : Message) (l : IsMessage ops n v node from m) where
+  abbrev heard : HeapTold
+  heard = heap_told node v.side from m
+
+  abbrev effect_by : HeapTold → MemoryEffect S
+  effect_by t = memory_handled_as ops v from m t
+
+  heard_is : memory_handled ops n from m ≡ effect_by heard
+  heard_is = ap (λ x. memory_handled ops x from m) (sym l.same) ∙ ap (λ i. effect_by (heap_told i v.side from m)) (sym l.me)
+
+  pub few_answers : length (memory_handled ops n from m).posted ≤ 8
+  few_answers =
+      subst (λ (x : Memory S). length (memory_handled ops x from m).posted ≤ 8) l.same
+      (told-few laws v from m l.sound
+      (subst (λ (x : Memory S). from < x.coherence.config.nodes) (sym l.same) l.below)
+      (subst (λ (x : Memory S). from ≢ x.coherence.me) (sym l.same) l.foreign)
+      (subst (λ (x : Memory S). FitsMessage x.coherence.config m) (sym l.same) l.fits))
+
+  told_memory : IsSoundMemory ops (memory_told ops n from m)
+  told_memory = subst (λ (x : Memory S). IsSoundMemory ops (memory_told ops x from m)) l.same (message_memory laws n v l.same l.sound from m l.below l.foreign l.fits)
+
+  -- it is one of the heap that fits a rule
+  pub side_is : (fits : Bool) → fits ≡ heard.fits → fits ≡ true → memory_handled ops n from m ≡ by_side v heard
+  side_is fits same is = heard_is ∙ ap (λ b. if b then by_side v heard else by_coherence ops v from m) (sym same ∙ is)
+
+  pub side_memory : (fits : Bool) (new : HeapSide) → fits ≡ heard.fits → fits ≡ true → new ≡ heard.after → IsSoundMemory ops (record { coherence = v.coherence; asked = v.asked; side = new })
+  side_memory fits new same is after =
+      subst (λ x. IsSoundMemory ops (record { coherence = v.coherence; asked = v.asked; side = x })) (sym after)
+      (subst (λ (e : MemoryEffect S). IsSoundMemory ops e.after) (side_is fits same is) told_memory)
+
+  -- it is none
+  pub coherence_is : (fits : Bool) → fits ≡ heard.fits → fits ≡ false → memory_handled ops n from m ≡ by_coherence ops v from m
+  coherence_is fits same is = heard_is ∙ ap (λ b. if b then by_side v heard else by_coherence ops v from m) (sym same ∙ is)
+
+  pub coherence_memory : (fits : Bool) → fits ≡ heard.fits → fits ≡ false → IsSoundMemory ops (by_coherence ops v from m).after
+  coherence_memory fits same is = subst (λ (e : MemoryEffect S). IsSoundMemory ops e.after) (coherence_is fits same is) told_memory
+
+  -- what the side could not post, the memory could not post
+  pub side_posts : (R : List Parcel → Type 0) → (R [] → ⊥) → R heard.posted → R (memory_handled ops n from m).posted
+  side_posts R none why =
+      elim (cases_Bool heard.fits) [
+        | inl fits ↦ subst (λ (e : MemoryEffect S). R e.posted) (sym (side_is true (sym fits) refl)) why
+        | inr misfits ↦ absurd (none (subst R (misfit_stays node v.side from m misfits).1 why))
+      ]
+
+  -- what it is refused by
+  pub err_posts : {A E : Type 0} (r : Result A E) (G : E → Type 0) (R : List Parcel → E → Type 0) (e : E) → ((f : E) → R [] f → ⊥) → IsErrAnd r (λ x. x ≡ e) → G e ⊎ R heard.posted e → IfErr r (λ f. G f ⊎ R (memory_handled ops n from m).posted f)
+  err_posts r G R e none is why =
+      err_there r (λ f. G f ⊎ R (memory_handled ops n from m).posted f) e is
+      (elim why [ inl x ↦ inl x | inr x ↦ inr (side_posts (λ ps. R ps e) (none e) x) ])
+
+  -- the memory after the coherence had the message, or refused it
+  pub left_memory : {A E : Type 0} (P : Type 0) (fits : Bool) (r : Result A E) (new : Coherent S) (side : HeapSide) → fits ≡ heard.fits → fits ≡ false → side ≡ v.side
+      → OnOk r (new ≡ (handled ops v.coherence from m).after) → OnErr r ((new ≡ v.coherence) × P) → IsSoundMemory ops (record { coherence = new; asked = v.asked; side = side })
+  left_memory P fits r new side same is kept good bad =
+      subst (λ x. IsSoundMemory ops (record { coherence = new; asked = v.asked; side = x })) (sym kept)
+      (of_either P (λ x. IsSoundMemory ops (record { coherence = x; asked = v.asked; side = v.side })) r new _ _ good bad (coherence_memory fits same is) l.sound)

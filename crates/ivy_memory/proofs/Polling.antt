@@ -25,18 +25,19 @@ use Rattle.ivy_memory.specs.declared.answer.Answer.TheVariants.{Given, Awaited, 
 use Rattle.ivy_memory.specs.declared.asked.Asked.{Asked}
 use Rattle.ivy_memory.specs.declared.asked.Asked.TheVariants as asked
 use Rattle.ivy_memory.specs.Asking.{CanAsk, HasToAskFor, asked_of}
-use Rattle.ivy_memory.specs.Memories.{Memory, CallBegun, HasToAskAgain, reply_of, reply_there, taken_out, answered, unserved, needed, again_unless, again, tried_as, polled_as, polled_at, polled}
+use Rattle.ivy_memory.specs.HeapCalls.{HeapSide, closed}
+use Rattle.ivy_memory.specs.Memories.{Memory, CallBegun, HasToAskAgain, reply_of, reply_at, taken_out, answered, unserved, needed, again_unless, again, tried_as, polled_as, polled_at, polled}
 use Rattle.ivy_memory.specs.Sound.{IsSoundMemory}
 use Rattle.ivy_memory.proofs.Asking.{can_ask}
 use Rattle.ivy_memory.proofs.Tame.{SameNode, Begins, begun-begins, taken-sound, with_done-sound, again-sound, KeepsMemory, IsBegun, again-begun, unserved-begun}
 
 -- the call in progress as the definitions have it
-pub polled_so : {S : Type 0} (ops : Ops S) (m : Memory S) (k : Call) (number : ℕ) → m.asked ≡ Some k → polled ops m number ≡ polled_as ops m k number (reply_there m.coherence.done)
+pub polled_so : {S : Type 0} (ops : Ops S) (m : Memory S) (k : Call) (number : ℕ) → m.asked ≡ Some k → polled ops m number ≡ polled_as ops m k number (reply_at m)
 unfolding polled
 polled_so ops m k number is = ap (polled_at ops m number) is
 
 module _ {S : Type 0} where
-  unless-posted : (m : Memory S) (k : Call) (b : Begun S) (r : Option Reply) → b.posted ≡ [] → (again_unless m (answered k b r) r).posted ≡ b.posted
+  unless-posted : (m : Memory S) (k : Call) (b : Begun S) (r : Option Reply) → b.posted ≡ [] → (again_unless m (answered (taken_out m) k b r) r).posted ≡ b.posted
   unless-posted m k b None none = sym none
   unless-posted m k b (Some r) none = refl
 
@@ -46,7 +47,7 @@ module _ {S : Type 0} where
   again-posted m k b need.Started bs is = refl
   again-posted m k b need.Busy bs is = sym (bs.none is)
 
-  unless-same : (m : Memory S) (k : Call) (b : Begun S) (r : Option Reply) → SameNode m.coherence b.after → SameNode m.coherence (again_unless m (answered k b r) r).after.coherence
+  unless-same : (m : Memory S) (k : Call) (b : Begun S) (r : Option Reply) → SameNode m.coherence b.after → SameNode m.coherence (again_unless m (answered (taken_out m) k b r) r).after.coherence
   unless-same m k b None same = record { config = refl; me = refl }
   unless-same m k b (Some r) same = same
 
@@ -66,7 +67,7 @@ module _ {S : Type 0} (ops : Ops S) (m : Memory S) (k : Call) (number : ℕ) whe
   tried-same : (x : Asked) → SameNode m.coherence (tried_as ops m k number x).after.coherence
   tried-same (asked.Refused code) = record { config = refl; me = refl }
   tried-same (asked.Word page w) = again-same m k (retry page w) (retry page w).need (let s = (marks page w).same in record { config = s.config; me = s.me })
-  tried-same asked.Heap = record { config = refl; me = refl }
+  tried-same (asked.Heap k) = record { config = refl; me = refl }
 
   as-same : (r : Option Reply) → SameNode m.coherence (polled_as ops m k number r).after.coherence
   as-same None = tried-same (asked_of m.coherence.config k)
@@ -75,14 +76,14 @@ module _ {S : Type 0} (ops : Ops S) (m : Memory S) (k : Call) (number : ℕ) whe
   tried-begun : m.asked ≡ Some k → (x : Asked) → IsBegun k (tried_as ops m k number x)
   tried-begun is (asked.Refused code) = unserved-begun m k is
   tried-begun is (asked.Word page w) = again-begun m k (retry page w) (retry page w).need is
-  tried-begun is asked.Heap = unserved-begun m k is
+  tried-begun is (asked.Heap h) = unserved-begun m k is
 
   as-begun : m.asked ≡ Some k → (r : Option Reply) → IsBegun k (polled_as ops m k number r)
   as-begun is None = tried-begun is (asked_of m.coherence.config k)
   as-begun is (Some r) = record { over = λ q h. refl; same = λ j h. absurd cc }
 
   pub polled-begun : m.asked ≡ Some k → IsBegun k (polled ops m number)
-  polled-begun is = subst (IsBegun k) (sym (polled_so ops m k number is)) (as-begun is (reply_there m.coherence.done))
+  polled-begun is = subst (IsBegun k) (sym (polled_so ops m k number is)) (as-begun is (reply_at m))
 
   tried-few : IsSound ops m.coherence → (x : Asked) → length (tried_as ops m k number x).posted ≤ 8
   tried-few s (asked.Refused code) = omega arith
@@ -91,7 +92,7 @@ module _ {S : Type 0} (ops : Ops S) (m : Memory S) (k : Call) (number : ℕ) whe
       let is : length (again m (needed (taken_out m) k (retry page w) (retry page w).need) (retry page w).need).posted ≡ length (retry page w).posted
       = ap length (again-posted m k (retry page w) (retry page w).need (marks page w) refl) in
       omega (arith, few, is)
-  tried-few s asked.Heap = omega arith
+  tried-few s (asked.Heap k) = omega arith
 
   as-few : IsSound ops m.coherence → (r : Option Reply) → length (polled_as ops m k number r).posted ≤ 8
   as-few s None = tried-few s (asked_of m.coherence.config k)
@@ -100,7 +101,7 @@ module _ {S : Type 0} (ops : Ops S) (m : Memory S) (k : Call) (number : ℕ) whe
 module _ {S : Type 0} (ops : Ops S) where
   at-same : (m : Memory S) (number : ℕ) (a : Option Call) → SameNode m.coherence (polled_at ops m number a).after.coherence
   at-same m number None = record { config = refl; me = refl }
-  at-same m number (Some k) = as-same ops m k number (reply_there m.coherence.done)
+  at-same m number (Some k) = as-same ops m k number (reply_at m)
 
   -- the node stays who it is
   pub polled-same : (m : Memory S) (number : ℕ) → SameNode m.coherence (polled ops m number).after.coherence
@@ -109,7 +110,7 @@ module _ {S : Type 0} (ops : Ops S) where
 
   at-few : (m : Memory S) (number : ℕ) → IsSound ops m.coherence → (a : Option Call) → length (polled_at ops m number a).posted ≤ 8
   at-few m number s None = omega arith
-  at-few m number s (Some k) = as-few ops m k number s (reply_there m.coherence.done)
+  at-few m number s (Some k) = as-few ops m k number s (reply_at m)
 
   -- it posts few messages
   pub polled-few : (n v : Memory S) → v ≡ n → IsSoundMemory ops v → (number : ℕ) → length (polled ops n number).posted ≤ 8
@@ -133,9 +134,9 @@ module _ {S : Type 0} {ops : Ops S} (laws : Laws ops) (m : Memory S) (k : Call) 
         again-sound m k b b.need (s.width k called) s bs kept.0 refl,
         subst (All (FitsParcel m.coherence.config m.coherence.me)) (sym (again-posted m k b b.need bs refl)) kept.1,
       )
-  tried-keeps asked.Heap can = quiet-keeps
+  tried-keeps (asked.Heap k) can = quiet-keeps
 
-  as-keeps : (r : Option Reply) → reply_there m.coherence.done ≡ r
+  as-keeps : (r : Option Reply) → reply_at m ≡ r
       → IsSoundMemory ops (polled_as ops m k number r).after × All (FitsParcel m.coherence.config m.coherence.me) (polled_as ops m k number r).posted
   as-keeps None is = tried-keeps (asked_of m.coherence.config k) (can_ask m.coherence.config k s.coherent.limits (s.width k called))
   as-keeps (Some r) is = (taken-sound m r s is, all_none (FitsParcel m.coherence.config m.coherence.me))
@@ -143,7 +144,7 @@ module _ {S : Type 0} {ops : Ops S} (laws : Laws ops) (m : Memory S) (k : Call) 
   -- what asking for the reply keeps
   pub polled-keeps : KeepsMemory ops m (polled ops m number)
   polled-keeps =
-      let kept = subst (λ (a : CallBegun S). IsSoundMemory ops a.after × All (FitsParcel m.coherence.config m.coherence.me) a.posted) (sym (polled_so ops m k number called)) (as-keeps (reply_there m.coherence.done) refl) in
+      let kept = subst (λ (a : CallBegun S). IsSoundMemory ops a.after × All (FitsParcel m.coherence.config m.coherence.me) a.posted) (sym (polled_so ops m k number called)) (as-keeps (reply_at m) refl) in
       (kept.0, kept.1, polled-same ops m number)
 
 -- an access after which no answer stands there
@@ -176,7 +177,7 @@ pub record IsRetry {S : Type 0} (ops : Ops S) (n v : Memory S) (k : Config) (c :
   pub sound : IsSoundMemory ops v
   pub config : k ≡ v.coherence.config
   pub called : v.asked ≡ Some c
-  pub untold : reply_there n.coherence.done ≡ None
+  pub untold : reply_at n ≡ None
   pub least : 1 ≤ number
   pub most : number < 2 ^ 64
   pub asks : asked_of k c ≡ asked.Word page w
@@ -191,8 +192,8 @@ module _ {S : Type 0} {ops : Ops S} (laws : Laws ops) (n v : Memory S) (k : Conf
   pub retry_can : (page < v.coherence.config.pages) × IsWord v.coherence.config.page_size w
   retry_can = subst (CanAsk v.coherence.config) asking (can_ask v.coherence.config c l.sound.coherent.limits (l.sound.width c l.called))
 
-  untold : reply_there v.coherence.done ≡ None
-  untold = ap (λ (x : Memory S). reply_there x.coherence.done) l.same ∙ l.untold
+  untold : reply_at v ≡ None
+  untold = ap (λ (x : Memory S). reply_at x) l.same ∙ l.untold
 
   access-begins : Begins v.coherence access
   access-begins = begun-begins ops v.coherence page w number
@@ -208,55 +209,57 @@ module _ {S : Type 0} {ops : Ops S} (laws : Laws ops) (n v : Memory S) (k : Conf
       ∙ ap (λ t. again v (needed (taken_out v) c (cleared access) t) t) (sym was)
 
   -- what the call comes to where the memory is this, and what the access posts is posted
-  abbrev pub comes_to : Answer → Coherent S → Option Call → CallBegun S
-  comes_to answer new a = record { answer = answer; after = record { coherence = new; asked = a }; posted = access.posted }
+  abbrev pub comes_to : Answer → Coherent S → Option Call → HeapSide → CallBegun S
+  comes_to answer new a side = record { answer = answer; after = record { coherence = new; asked = a; side = side }; posted = access.posted }
 
   last_is : (new last : Coherent S) → new ≡ access.after → last ≡ record new { done = None } → record access.after { done = None } ≡ last
   last_is new last is gone = ap (λ (z : Coherent S). record z { done = None }) (sym is) ∙ sym gone
 
   -- the word has an answer now
-  pub given_is : (new last : Coherent S) (told : Need) (o : Out) (r : Reply) → new ≡ access.after → last ≡ record new { done = None } → told ≡ access.need → told ≡ need.Have o → reply_of o ≡ Some r
-      → polled ops n number ≡ comes_to (Given r) last None
-  given_is new last told o r is gone was had replies =
+  pub given_is : (new last : Coherent S) (told : Need) (o : Out) (r : Reply) (side : HeapSide) → side ≡ closed v.side → new ≡ access.after → last ≡ record new { done = None } → told ≡ access.need → told ≡ need.Have o → reply_of o ≡ Some r
+      → polled ops n number ≡ comes_to (Given r) last None side
+  given_is new last told o r side over is gone was had replies =
       polled_by told was
       ∙ ap (λ t. again v (needed (taken_out v) c (cleared access) t) t) had
-      ∙ ap (λ x. again_unless v (answered c (cleared access) x) x) replies
-      ∙ ap (λ x. comes_to (Given r) x None) (last_is new last is gone)
+      ∙ ap (λ x. again_unless v (answered (taken_out v) c (cleared access) x) x) replies
+      ∙ ap (λ x. comes_to (Given r) x None (closed v.side)) (last_is new last is gone)
+      ∙ ap (comes_to (Given r) last None) (sym over)
 
-  nothing_is : (new : Coherent S) → new ≡ v.coherence → access.posted ≡ [] → unserved v ≡ comes_to Unserved new v.asked
+  nothing_is : (new : Coherent S) → new ≡ v.coherence → access.posted ≡ [] → unserved v ≡ comes_to Unserved new v.asked v.side
   nothing_is new is none =
-      ap (λ x. record { answer = Unserved; after = record { coherence = x; asked = v.asked }; posted = [] }) (sym is)
-      ∙ ap (λ ps. record { answer = Unserved; after = record { coherence = new; asked = v.asked }; posted = ps }) (sym none)
+      ap (λ x. record { answer = Unserved; after = record { coherence = x; asked = v.asked; side = v.side }; posted = [] }) (sym is)
+      ∙ ap (λ ps. record { answer = Unserved; after = record { coherence = new; asked = v.asked; side = v.side }; posted = ps }) (sym none)
 
   -- it has none
   pub quiet_is : (new : Coherent S) (told : Need) (o : Out) → new ≡ access.after → told ≡ access.need → told ≡ need.Have o → reply_of o ≡ None
-      → polled ops n number ≡ comes_to Unserved new v.asked
+      → polled ops n number ≡ comes_to Unserved new v.asked v.side
   quiet_is new told o is was had none =
       polled_by told was
       ∙ ap (λ t. again v (needed (taken_out v) c (cleared access) t) t) had
-      ∙ ap (λ x. again_unless v (answered c (cleared access) x) x) none
+      ∙ ap (λ x. again_unless v (answered (taken_out v) c (cleared access) x) x) none
       ∙ nothing_is new (is ∙ access-begins.quiet o (sym was ∙ had) none) (access-begins.had o (sym was ∙ had))
 
   -- it has to be asked for
-  pub starts_is : (new last : Coherent S) (told : Need) → new ≡ access.after → last ≡ record new { done = None } → told ≡ access.need → told ≡ need.Started
-      → polled ops n number ≡ comes_to Awaited last v.asked
-  starts_is new last told is gone was started =
+  pub starts_is : (new last : Coherent S) (told : Need) (side : HeapSide) → side ≡ closed v.side → new ≡ access.after → last ≡ record new { done = None } → told ≡ access.need → told ≡ need.Started
+      → polled ops n number ≡ comes_to Awaited last v.asked side
+  starts_is new last told side over is gone was started =
       polled_by told was
       ∙ ap (λ t. again v (needed (taken_out v) c (cleared access) t) t) started
-      ∙ ap (λ x. comes_to Awaited x (Some c)) (last_is new last is gone)
-      ∙ ap (comes_to Awaited last) (sym l.called)
+      ∙ ap (λ x. comes_to Awaited x (Some c) (closed v.side)) (last_is new last is gone)
+      ∙ ap (λ x. comes_to Awaited last x (closed v.side)) (sym l.called)
+      ∙ ap (comes_to Awaited last v.asked) (sym over)
 
   -- it waits
   pub waits_is : (new : Coherent S) (told : Need) → new ≡ access.after → told ≡ access.need → told ≡ need.Busy
-      → polled ops n number ≡ comes_to Unserved new v.asked
+      → polled ops n number ≡ comes_to Unserved new v.asked v.side
   waits_is new told is was busy =
       polled_by told was
       ∙ ap (λ t. again v (needed (taken_out v) c (cleared access) t) t) busy
       ∙ nothing_is new (is ∙ access-begins.busy (sym was ∙ busy)) (access-begins.none (sym was ∙ busy))
 
   -- the memory after it is sound
-  pub poll_memory : (answer : Answer) (new : Coherent S) (a : Option Call) → polled ops n number ≡ comes_to answer new a → IsSoundMemory ops (record { coherence = new; asked = a })
-  poll_memory answer new a is =
+  pub poll_memory : (answer : Answer) (new : Coherent S) (a : Option Call) (side : HeapSide) → polled ops n number ≡ comes_to answer new a side → IsSoundMemory ops (record { coherence = new; asked = a; side = side })
+  poll_memory answer new a side is =
       subst (λ (x : CallBegun S). IsSoundMemory ops x.after) (ap (λ x. polled ops x number) l.same ∙ is)
       (polled-keeps laws v c number l.sound l.called l.least l.most).0
 

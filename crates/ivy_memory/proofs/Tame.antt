@@ -1,5 +1,5 @@
 -- Accesses and messages keep what holds of a memory, and post only what can be sent. For every manager that keeps the laws.
-use Rattle.std.proofs.Common.{◌≡◌, ◌≢◌, ℕ, ◌-◌, ◌^◌, ◌<◌, ◌≤◌, ◌⊎◌, inl, inr, Bool, true, false, List, [], length, Option, Some, None, refl, sym, ap, ◌∙◌, subst, arith, if◌then◌else◌, ◌==◌}
+use Rattle.std.proofs.Common.{◌≡◌, ◌≢◌, ℕ, ◌-◌, ◌^◌, ◌<◌, ◌≤◌, ◌⊎◌, inl, inr, Bool, true, false, List, [], ◌∷◌, length, nat_lt, Option, Some, None, refl, sym, ap, ◌∙◌, subst, arith, if◌then◌else◌, ◌==◌}
 use Rattle.std.specs.Prelude.{All, slice_set}
 use Rattle.std.proofs.lemmas.List.{set-get_or}
 use Rattle.std.proofs.lemmas.Option.{same_Some, none-some}
@@ -27,19 +27,26 @@ use Rattle.ivy_coherence.specs.declared.Need.TheVariants as need
 use Rattle.ivy_coherence.specs.Coherent.{Coherent}
 use Rattle.ivy_coherence.specs.Steps.{unlocked, handled}
 use Rattle.ivy_coherence.specs.Faults.{Begun, started, hit, begun}
-use Rattle.ivy_coherence.specs.Sound.{IsSound, first_coherent}
+use Rattle.ivy_coherence.specs.Sound.{IsSound}
 use Rattle.ivy_coherence.proofs.Keeping.{handled-keeps, begun-keeps, first-sound}
-use Rattle.ivy_serving.proofs.IdleServing.{all_none}
+use Rattle.ivy_serving.specs.Serving.{parcel_to}
+use Rattle.ivy_alloc.specs.Heap.{HeapState}
+use Rattle.ivy_serving.proofs.IdleServing.{all_none, all_one}
 use Rattle.ivy_coherence.proofs.Rows.{Rows, AccessRows, handled-by_rows, begun-by_rows}
-use Rattle.ivy_coherence.proofs.Few.{begun-few}
+use Rattle.ivy_coherence.proofs.Few.{begun-few, handled-few}
 use Rattle.ivy_memory.specs.declared.answer.Answer.{Answer}
-use Rattle.ivy_memory.specs.declared.answer.Answer.TheVariants.{Given, Unserved}
+use Rattle.ivy_memory.specs.declared.answer.Answer.TheVariants.{Given, Awaited, Unserved}
 use Rattle.ivy_memory.specs.declared.asked.Asked.{Asked}
 use Rattle.ivy_memory.specs.declared.asked.Asked.TheVariants as asked
+use Rattle.ivy_memory.specs.declared.heap_side.HeapCall.{HeapCall}
+use Rattle.ivy_memory.specs.declared.heap_side.Errand.{Errand}
+use Rattle.ivy_memory.specs.declared.heap_side.Errand.TheVariants as errand
 use Rattle.ivy_memory.specs.Asking.{CanAsk, asked_of}
-use Rattle.ivy_memory.specs.Memories.{Memory, CallBegun, reply_of, reply_there, taken_out, answered, unserved, needed, again_unless, again, begun_as, call_begun, memory_told}
+use Rattle.ivy_memory.specs.HeapCalls.{HeapBegun, HeapTold, number_in, request, begun_at, heap_begun, heap_told, reply_told}
+use Rattle.ivy_memory.specs.Memories.{Memory, CallBegun, MemoryEffect, first_memory, reply_of, reply_there, first_reply, reply_at, taken_out, answered, unserved, needed, again_unless, again, asked_after, heap_answered, begun_as, call_begun, by_side, by_coherence, memory_handled, memory_told}
 use Rattle.ivy_memory.proofs.Asking.{can_ask}
-use Rattle.ivy_memory.specs.Sound.{IsSoundMemory}
+use Rattle.ivy_memory.specs.Sound.{IsSoundMemory, IsSoundSide}
+use Rattle.ivy_memory.proofs.Sides.{KeepsSide, either, no_errand, same_side, quiet_side, closed_side, kept_side, request_sent, told-keeps, first_sound-side, heap_begun-few}
 
 -- the node stays who it is
 pub record SameNode {S : Type 0} (old new : Coherent S) : Type 0 where
@@ -91,16 +98,16 @@ module _ {S : Type 0} where
   stays : {c : Coherent S} {new : Coherent S} → new.config ≡ c.config → new.me ≡ c.me → new.locked ≡ c.locked → new.done ≡ c.done → Told c new
   stays config me locked done = (record { config = config; me = me }, inl (locked, done))
 
-  answered-fits : (k : Config) (me : ℕ) (c : Call) (b : Begun S) (r : Option Reply) → All (FitsParcel k me) b.posted → All (FitsParcel k me) (answered c b r).posted
-  answered-fits k me c b None fits = fits
-  answered-fits k me c b (Some r) fits = fits
+  answered-fits : (k : Config) (me : ℕ) (m : Memory S) (c : Call) (b : Begun S) (r : Option Reply) → All (FitsParcel k me) b.posted → All (FitsParcel k me) (answered m c b r).posted
+  answered-fits k me m c b None fits = fits
+  answered-fits k me m c b (Some r) fits = fits
 
   needed-fits : (k : Config) (me : ℕ) (m : Memory S) (c : Call) (b : Begun S) (n : Need) → All (FitsParcel k me) b.posted → All (FitsParcel k me) (needed m c b n).posted
-  needed-fits k me m c b (need.Have o) fits = answered-fits k me c b (reply_of o) fits
+  needed-fits k me m c b (need.Have o) fits = answered-fits k me m c b (reply_of o) fits
   needed-fits k me m c b need.Started fits = fits
   needed-fits k me m c b need.Busy fits = all_none (FitsParcel k me)
 
-  answered-same : (m : Memory S) (c : Call) (b : Begun S) (r : Option Reply) → SameNode m.coherence b.after → SameNode m.coherence (answered c b r).after.coherence
+  answered-same : (m : Memory S) (c : Call) (b : Begun S) (r : Option Reply) → SameNode m.coherence b.after → SameNode m.coherence (answered m c b r).after.coherence
   answered-same m c b None same = same
   answered-same m c b (Some r) same = same
 
@@ -109,13 +116,13 @@ module _ {S : Type 0} where
   needed-same m c b need.Started same = same
   needed-same m c b need.Busy same = record { config = refl; me = refl }
 
-  answered-posted : (c : Call) (b : Begun S) (r : Option Reply) → (answered c b r).posted ≡ b.posted
-  answered-posted c b None = refl
-  answered-posted c b (Some r) = refl
+  answered-posted : (m : Memory S) (c : Call) (b : Begun S) (r : Option Reply) → (answered m c b r).posted ≡ b.posted
+  answered-posted m c b None = refl
+  answered-posted m c b (Some r) = refl
 
   -- what is posted is what the access posts
   pub needed-posted : (m : Memory S) (c : Call) (b : Begun S) (n : Need) → Begins m.coherence b → b.need ≡ n → (needed m c b n).posted ≡ b.posted
-  needed-posted m c b (need.Have o) bs is = answered-posted c b (reply_of o)
+  needed-posted m c b (need.Have o) bs is = answered-posted m c b (reply_of o)
   needed-posted m c b need.Started bs is = refl
   needed-posted m c b need.Busy bs is = sym (bs.none is)
 
@@ -184,29 +191,42 @@ pub one_wide : (c : Call) → HasWidth c → (j : Call) → Some c ≡ Some j �
 one_wide c wide j h = subst HasWidth (same_Some c j h) wide
 
 module _ {S : Type 0} {ops : Ops S} where
+  -- without a call in progress node 0 was asked for none
+  pub idle_side : (m : Memory S) → IsSoundMemory ops m → m.asked ≡ None → m.side.errand ≡ None
+  idle_side m s idle = no_errand m.coherence.config m.asked m.side.errand idle s.side.errand
+
+  started_side : (m : Memory S) (b : Begun S) (a : Option Call) → IsSoundMemory ops m → m.asked ≡ None → Begins m.coherence b → IsSoundSide b.after.config b.after.me a m.side
+  started_side m b a s idle bs =
+      quiet_side b.after.config b.after.me m.asked a m.side (idle_side m s idle)
+      (same_side m.coherence.config b.after.config m.coherence.me b.after.me m.asked m.side bs.same.config bs.same.me s.side)
+
   -- the memory after an access, by what it was told
   pub had-sound : (m : Memory S) (b : Begun S) (o : Out) (a : Option Call) → ((j : Call) → a ≡ Some j → HasWidth j) → IsSoundMemory ops m → m.asked ≡ None → Begins m.coherence b → IsSound ops b.after → b.need ≡ need.Have o
-      → IsSoundMemory ops (record { coherence = b.after; asked = a })
+      → IsSoundMemory ops (record { coherence = b.after; asked = a; side = m.side })
   had-sound m b o a wide s idle bs good is = record {
     width = wide;
     coherent = good;
     done = λ h. bs.done ∙ s.done idle;
     locked = λ h. bs.lock o is ∙ s.locked idle;
     answered = λ p h. bs.lock o is ∙ s.locked idle;
+    side = started_side m b a s idle bs;
+    apart = λ e h. absurd (none-some e (sym (idle_side m s idle) ∙ h));
   }
 
   pub started-sound : (m : Memory S) (b : Begun S) (c : Call) → HasWidth c → IsSoundMemory ops m → m.asked ≡ None → Begins m.coherence b → IsSound ops b.after
-      → IsSoundMemory ops (record { coherence = b.after; asked = Some c })
+      → IsSoundMemory ops (record { coherence = b.after; asked = Some c; side = m.side })
   started-sound m b c wide s idle bs good = record {
     width = one_wide c wide;
     coherent = good;
     done = λ h. absurd (none-some c (sym h));
     locked = λ h. absurd (none-some c (sym h));
     answered = λ o h. absurd (none-some o (sym (bs.done ∙ s.done idle) ∙ h));
+    side = started_side m b (Some c) s idle bs;
+    apart = λ e h. absurd (none-some e (sym (idle_side m s idle) ∙ h));
   }
 
   answered-sound : (m : Memory S) (c : Call) (b : Begun S) (o : Out) (r : Option Reply) → HasWidth c → IsSoundMemory ops m → m.asked ≡ None → Begins m.coherence b → IsSound ops b.after → b.need ≡ need.Have o
-      → IsSoundMemory ops (answered c b r).after
+      → IsSoundMemory ops (answered m c b r).after
   answered-sound m c b o None wide s idle bs good is = had-sound m b o (Some c) (one_wide c wide) s idle bs good is
   answered-sound m c b o (Some r) wide s idle bs good is = had-sound m b o None (λ j h. absurd (none-some j h)) s idle bs good is
 
@@ -216,7 +236,7 @@ module _ {S : Type 0} {ops : Ops S} where
   needed-sound m c b need.Started wide s idle bs good is = started-sound m b c wide s idle bs good
   needed-sound m c b need.Busy wide s idle bs good is = s
 
-  pub told-memory : (m : Memory S) (new : Coherent S) → IsSoundMemory ops m → Told m.coherence new → IsSound ops new → IsSoundMemory ops (record { coherence = new; asked = m.asked })
+  pub told-memory : (m : Memory S) (new : Coherent S) → IsSoundMemory ops m → Told m.coherence new → IsSound ops new → IsSoundMemory ops (record { coherence = new; asked = m.asked; side = m.side })
   told-memory m new s told good =
       elim told.1 [
         | inl x ↦ record {
@@ -225,6 +245,8 @@ module _ {S : Type 0} {ops : Ops S} where
           locked = λ h. x.0 ∙ s.locked h;
           answered = λ o h. x.0 ∙ s.answered o (sym x.1 ∙ h);
           width = s.width;
+          side = same_side m.coherence.config new.config m.coherence.me new.me m.asked m.side told.0.config told.0.me s.side;
+          apart = λ e h. (x.0 ∙ (s.apart e h).0, x.1 ∙ (s.apart e h).1);
         }
         | inr x ↦ record {
           coherent = good;
@@ -232,6 +254,8 @@ module _ {S : Type 0} {ops : Ops S} where
           locked = λ h. x.2;
           answered = λ o h. x.2;
           width = s.width;
+          side = same_side m.coherence.config new.config m.coherence.me new.me m.asked m.side told.0.config told.0.me s.side;
+          apart = λ e h. absurd (none-some x.0 (sym (s.apart e h).0 ∙ x.1));
         }
       ]
 
@@ -262,13 +286,20 @@ module _ {S : Type 0} {ops : Ops S} where
     locked = λ h. free;
     answered = λ o h. absurd (none-some o h);
     width = λ j h. absurd (none-some j h);
+    side = closed_side m.coherence.config m.coherence.me m.asked None m.side s.side;
+    apart = λ e h. absurd (none-some e h);
   }
 
-  pub taken-sound : (m : Memory S) (r : Reply) → IsSoundMemory ops m → reply_there m.coherence.done ≡ Some r → IsSoundMemory ops (taken_out m)
-  taken-sound m r s there = let d = reply_done m.coherence.done r there in without-sound m s (s.answered d.0 d.1)
+  -- no word waits where the reply is there
+  free_at : (m : Memory S) (r : Reply) → IsSoundMemory ops m → (e : Option Errand) → m.side.errand ≡ e → first_reply (reply_told e) (reply_there m.coherence.done) ≡ Some r → m.coherence.locked ≡ None
+  free_at m r s None is there = let d = reply_done m.coherence.done r there in s.answered d.0 d.1
+  free_at m r s (Some e) is there = (s.apart e is).0
+
+  pub taken-sound : (m : Memory S) (r : Reply) → IsSoundMemory ops m → reply_at m ≡ Some r → IsSoundMemory ops (taken_out m)
+  taken-sound m r s there = without-sound m s (free_at m r s m.side.errand refl there)
 
   again_unless-sound : (m : Memory S) (c : Call) (b : Begun S) (o : Out) (r : Option Reply) → HasWidth c → IsSoundMemory ops m → Begins (taken_out m).coherence b → IsSound ops b.after → b.need ≡ need.Have o
-      → IsSoundMemory ops (again_unless m (answered c b r) r).after
+      → IsSoundMemory ops (again_unless m (answered (taken_out m) c b r) r).after
   again_unless-sound m c b o None wide s bs good is = s
   again_unless-sound m c b o (Some r) wide s bs good is = answered-sound (taken_out m) c b o (Some r) wide (without-sound m s (bs.free o is)) refl bs good is
 
@@ -283,26 +314,84 @@ abbrev pub KeepsMemory : {S : Type 0} → Ops S → Memory S → CallBegun S →
 KeepsMemory ops m a = IsSoundMemory ops a.after × All (FitsParcel m.coherence.config m.coherence.me) a.posted × SameNode m.coherence a.after.coherence
 
 module _ {S : Type 0} {ops : Ops S} (laws : Laws ops) where
-  pub first_sound-memory : (c : Config) (me : ℕ) → IsConfig c → me < c.nodes → IsSoundMemory ops (record { coherence = first_coherent ops c me; asked = None })
+  pub first_sound-memory : (c : Config) (me : ℕ) → IsConfig c → me < c.nodes → IsSoundMemory ops (first_memory ops c me)
   first_sound-memory c me limits here = record {
     coherent = first-sound laws c me limits here;
     done = λ h. refl;
     locked = λ h. refl;
     answered = λ o h. refl;
     width = λ j h. absurd (none-some j h);
+    side = first_sound-side c me;
+    apart = λ e h. absurd (none-some e h);
+  }
+
+  -- what the side was told leaves the rest as it is
+  side-sound : (m : Memory S) (t : HeapTold) → IsSoundMemory ops m → KeepsSide m.coherence.config m.coherence.me m.asked m.side t → IsSoundMemory ops (by_side m t).after
+  side-sound m t s kept = record {
+    coherent = s.coherent;
+    done = s.done;
+    locked = s.locked;
+    answered = s.answered;
+    width = s.width;
+    side = kept.sound;
+    apart = λ e h. (let d = kept.apart e h in s.apart d.0 d.1);
   }
 
   pub told-sound : (m : Memory S) (from : ℕ) (message : Message) → IsSoundMemory ops m → from < m.coherence.config.nodes → from ≢ m.coherence.me → FitsMessage m.coherence.config message
-      → IsSoundMemory ops (memory_told ops m from message) × All (FitsParcel m.coherence.config m.coherence.me) (handled ops m.coherence from message).posted
+      → IsSoundMemory ops (memory_told ops m from message) × All (FitsParcel m.coherence.config m.coherence.me) (memory_handled ops m from message).posted
   told-sound m from message s below foreign fits =
       let kept = handled-keeps laws m.coherence from message s.coherent below foreign fits in
+      let t : HeapTold = heap_told m.coherence.me m.side from message in
+      let side = told-keeps m.coherence.config m.coherence.me m.asked m.side s.side s.coherent.limits s.coherent.here from message below foreign fits in
+      either (λ (e : MemoryEffect S). IsSoundMemory ops e.after × All (FitsParcel m.coherence.config m.coherence.me) e.posted) t.fits (by_side m t) (by_coherence ops m from message)
+      (side-sound m t s side, side.fits)
       (told-memory m _ s (handled-told ops m.coherence from message s.coherent) kept.0, kept.1)
 
-  as-sound : (m : Memory S) (k : Call) (number : ℕ) (x : Asked) → HasWidth k → IsSoundMemory ops m → m.asked ≡ None → CanAsk m.coherence.config x → 1 ≤ number → number < 2 ^ 64
+  -- a message has few answers
+  pub told-few : (m : Memory S) (from : ℕ) (message : Message) → IsSoundMemory ops m → from < m.coherence.config.nodes → from ≢ m.coherence.me → FitsMessage m.coherence.config message → length (memory_handled ops m from message).posted ≤ 8
+  told-few m from message s below foreign fits =
+      let t : HeapTold = heap_told m.coherence.me m.side from message in
+      let few = (told-keeps m.coherence.config m.coherence.me m.asked m.side s.side s.coherent.limits s.coherent.here from message below foreign fits).few in
+      either (λ (e : MemoryEffect S). length e.posted ≤ 8) t.fits (by_side m t) (by_coherence ops m from message) (omega (arith, few)) (handled-few ops m.coherence from message s.coherent fits)
+
+  module _ (m : Memory S) (k : Call) (number : ℕ) (s : IsSoundMemory ops m) (wide : HasWidth k) (idle : m.asked ≡ None) (h : HeapCall) (of : asked_of m.coherence.config k ≡ asked.Heap h) (least : 1 ≤ number) (most : number < 2 ^ 64) where
+    asked-heap : m.side.heap ≡ None → (b : Bool) → nat_lt (number_in h) (2 ^ 64) ≡ b → KeepsMemory ops m (heap_answered m k (if b then record { answer = Awaited; after = record m.side { errand = Some (errand.Asked h number) }; posted = parcel_to m.coherence.me 0 m.coherence.me number (request h) ∷ [] } else record { answer = Unserved; after = m.side; posted = [] }))
+    asked-heap away false small = (s, all_none (FitsParcel m.coherence.config m.coherence.me), record { config = refl; me = refl })
+    asked-heap away true small = (
+      record {
+        coherent = s.coherent;
+        done = λ x. absurd (none-some k (sym x));
+        locked = λ x. absurd (none-some k (sym x));
+        answered = s.answered;
+        width = one_wide k wide;
+        side = record { away = s.side.away; home = s.side.home; errand = record { call = k; asked = refl; of = of } };
+        apart = λ e x. (s.locked idle, s.done idle);
+      },
+      all_one (FitsParcel m.coherence.config m.coherence.me) _ (request_sent m.coherence.config m.coherence.me m.asked m.side s.side s.coherent.limits s.coherent.here h number away small least most),
+      record { config = refl; me = refl },
+    )
+
+    heap-at : (o : Option HeapState) → m.side.heap ≡ o → KeepsMemory ops m (heap_answered m k (begun_at m.coherence.me m.side h number o))
+    heap-at None there = asked-heap there (nat_lt (number_in h) (2 ^ 64)) refl
+    heap-at (Some g) there = (
+      record {
+        coherent = s.coherent;
+        done = s.done;
+        locked = s.locked;
+        answered = s.answered;
+        width = s.width;
+        side = kept_side m.coherence.config m.coherence.me m.asked m.side g h there s.side;
+        apart = s.apart;
+      },
+      all_none (FitsParcel m.coherence.config m.coherence.me),
+      record { config = refl; me = refl },
+    )
+
+  as-sound : (m : Memory S) (k : Call) (number : ℕ) (x : Asked) → asked_of m.coherence.config k ≡ x → HasWidth k → IsSoundMemory ops m → m.asked ≡ None → CanAsk m.coherence.config x → 1 ≤ number → number < 2 ^ 64
       → KeepsMemory ops m (begun_as ops m k number x)
-  as-sound m k number (asked.Refused code) wide s idle can least most = (s, all_none (FitsParcel m.coherence.config m.coherence.me), record { config = refl; me = refl })
-  as-sound m k number asked.Heap wide s idle can least most = (s, all_none (FitsParcel m.coherence.config m.coherence.me), record { config = refl; me = refl })
-  as-sound m k number (asked.Word page w) wide s idle can least most =
+  as-sound m k number (asked.Refused code) of wide s idle can least most = (s, all_none (FitsParcel m.coherence.config m.coherence.me), record { config = refl; me = refl })
+  as-sound m k number (asked.Heap h) of wide s idle can least most = heap-at m k number s wide idle h of least most m.side.heap refl
+  as-sound m k number (asked.Word page w) of wide s idle can least most =
       let b : Begun S = begun ops m.coherence page w number in
       let kept = begun-keeps laws m.coherence page w number s.coherent can.0 can.1 least most in
       let marks : Begins m.coherence b = begun-begins ops m.coherence page w number in
@@ -311,12 +400,17 @@ module _ {S : Type 0} {ops : Ops S} (laws : Laws ops) where
   -- a call that begins
   pub call-sound : (m : Memory S) (k : Call) (number : ℕ) → IsSoundMemory ops m → m.asked ≡ None → HasWidth k → 1 ≤ number → number < 2 ^ 64 → KeepsMemory ops m (call_begun ops m k number)
   unfolding call_begun
-  call-sound m k number s idle w least most = as-sound m k number (asked_of m.coherence.config k) w s idle (can_ask m.coherence.config k s.coherent.limits w) least most
+  call-sound m k number s idle w least most = as-sound m k number (asked_of m.coherence.config k) refl w s idle (can_ask m.coherence.config k s.coherent.limits w) least most
 
 -- a call that has its reply is not in progress, and what is in progress is that call
 pub record IsBegun {S : Type 0} (k : Call) (a : CallBegun S) : Type 0 where
   pub over : (r : Reply) → a.answer ≡ Given r → a.after.asked ≡ None
   pub same : (j : Call) → a.after.asked ≡ Some j → k ≡ j
+
+asked_so : (k j : Call) (old : Option Call) (r : Answer) → old ≡ None → asked_after old k r ≡ Some j → k ≡ j
+asked_so k j old Awaited idle is = same_Some k j is
+asked_so k j old (Given r) idle is = absurd (none-some j (sym idle ∙ is))
+asked_so k j old Unserved idle is = absurd (none-some j (sym idle ∙ is))
 
 module _ {S : Type 0} where
   -- what changes nothing
@@ -326,29 +420,35 @@ module _ {S : Type 0} where
   pub unserved-begun : (m : Memory S) (k : Call) → m.asked ≡ Some k → IsBegun k (unserved m)
   unserved-begun m k asked = record { over = λ r h. absurd cc; same = λ j h. same_Some k j (sym asked ∙ h) }
 
-  answered-begun : (k : Call) (b : Begun S) (r : Option Reply) → IsBegun k (answered k b r)
-  answered-begun k b None = record { over = λ r h. absurd cc; same = λ j h. same_Some k j h }
-  answered-begun k b (Some r) = record { over = λ q h. refl; same = λ j h. absurd (none-some j h) }
+  answered-begun : (m : Memory S) (k : Call) (b : Begun S) (r : Option Reply) → IsBegun k (answered m k b r)
+  answered-begun m k b None = record { over = λ r h. absurd cc; same = λ j h. same_Some k j h }
+  answered-begun m k b (Some r) = record { over = λ q h. refl; same = λ j h. absurd (none-some j h) }
+
+  heap-begun : (m : Memory S) (k : Call) (b : HeapBegun) → m.asked ≡ None → IsBegun k (heap_answered m k b)
+  heap-begun m k b idle = record {
+    over = λ r h. ap (asked_after m.asked k) h ∙ idle;
+    same = λ j h. asked_so k j m.asked b.answer idle h;
+  }
 
   needed-begun : (m : Memory S) (k : Call) (b : Begun S) (n : Need) → m.asked ≡ None → IsBegun k (needed m k b n)
-  needed-begun m k b (need.Have o) idle = answered-begun k b (reply_of o)
-  needed-begun m k b need.Started idle = answered-begun k b None
+  needed-begun m k b (need.Have o) idle = answered-begun m k b (reply_of o)
+  needed-begun m k b need.Started idle = answered-begun m k b None
   needed-begun m k b need.Busy idle = idle-begun m k idle Unserved []
 
-  again_unless-begun : (m : Memory S) (k : Call) (b : Begun S) (r : Option Reply) → m.asked ≡ Some k → IsBegun k (again_unless m (answered k b r) r)
+  again_unless-begun : (m : Memory S) (k : Call) (b : Begun S) (r : Option Reply) → m.asked ≡ Some k → IsBegun k (again_unless m (answered (taken_out m) k b r) r)
   again_unless-begun m k b None asked = unserved-begun m k asked
-  again_unless-begun m k b (Some r) asked = answered-begun k b (Some r)
+  again_unless-begun m k b (Some r) asked = answered-begun (taken_out m) k b (Some r)
 
   pub again-begun : (m : Memory S) (k : Call) (b : Begun S) (n : Need) → m.asked ≡ Some k → IsBegun k (again m (needed (taken_out m) k b n) n)
   again-begun m k b (need.Have o) asked = again_unless-begun m k b (reply_of o) asked
-  again-begun m k b need.Started asked = answered-begun k b None
+  again-begun m k b need.Started asked = answered-begun (taken_out m) k b None
   again-begun m k b need.Busy asked = unserved-begun m k asked
 
 module _ {S : Type 0} (ops : Ops S) where
   as-begun : (m : Memory S) (k : Call) (number : ℕ) (x : Asked) → m.asked ≡ None → IsBegun k (begun_as ops m k number x)
   as-begun m k number (asked.Refused code) idle = idle-begun m k idle (Given (reply.Refused code)) []
   as-begun m k number (asked.Word page w) idle = let b : Begun S = begun ops m.coherence page w number in needed-begun m k b b.need idle
-  as-begun m k number asked.Heap idle = idle-begun m k idle Unserved []
+  as-begun m k number (asked.Heap h) idle = heap-begun m k (heap_begun m.coherence.me m.side h number) idle
 
   pub call-begun : (m : Memory S) (k : Call) (number : ℕ) → m.asked ≡ None → IsBegun k (call_begun ops m k number)
   unfolding call_begun
@@ -357,7 +457,7 @@ module _ {S : Type 0} (ops : Ops S) where
   as-same : (m : Memory S) (k : Call) (number : ℕ) (x : Asked) → SameNode m.coherence (begun_as ops m k number x).after.coherence
   as-same m k number (asked.Refused code) = record { config = refl; me = refl }
   as-same m k number (asked.Word page w) = let b : Begun S = begun ops m.coherence page w number in needed-same m k b b.need (begun-begins ops m.coherence page w number).same
-  as-same m k number asked.Heap = record { config = refl; me = refl }
+  as-same m k number (asked.Heap h) = record { config = refl; me = refl }
 
   -- the node stays who it is
   pub call-same : (m : Memory S) (k : Call) (number : ℕ) → SameNode m.coherence (call_begun ops m k number).after.coherence
@@ -371,7 +471,7 @@ module _ {S : Type 0} (ops : Ops S) where
       let few = begun-few ops m.coherence page w number s in
       let is : length (needed m k b b.need).posted ≡ length b.posted = ap length (needed-posted m k b b.need (begun-begins ops m.coherence page w number) refl) in
       omega (arith, few, is)
-  as-few m k number asked.Heap s = omega arith
+  as-few m k number (asked.Heap h) s = heap_begun-few m.coherence.me m.side h number
 
   pub call-few : (m : Memory S) (k : Call) (number : ℕ) → IsSound ops m.coherence → length (call_begun ops m k number).posted ≤ 8
   unfolding call_begun

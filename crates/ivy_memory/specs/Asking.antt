@@ -14,6 +14,8 @@ use Rattle.ivy_coherence.specs.Coherent.{Coherent}
 use Rattle.ivy_coherence.specs.Faults.{HasToAsk}
 use Rattle.ivy_memory.specs.declared.asked.Asked.{Asked}
 use Rattle.ivy_memory.specs.declared.asked.Asked.TheVariants as asked
+use Rattle.ivy_memory.specs.declared.heap_side.HeapCall.TheVariants as heap
+use Rattle.ivy_memory.specs.HeapCalls.{IsGrowth}
 
 -- the word of a page, unless it is refused
 abbrev pub word_unless : Option ℕ → ℕ → Word → Asked
@@ -38,14 +40,26 @@ asked_of c (Store width addr value) =
 asked_of c (Count k) = count_asked (word_of_count c k word.Count)
 asked_of c (Advance k) = count_asked (word_of_count c k word.Advance)
 asked_of c (Await k least) = count_asked (word_of_count c k (λ offset. word.Await offset least))
-asked_of c (Alloc size) = asked.Heap
-asked_of c (Free addr) = asked.Heap
+asked_of c (Alloc size) = asked.Heap (heap.Alloc size)
+asked_of c (Free addr) = asked.Heap (heap.Free addr)
 
 -- other nodes have to be asked: it is a word of a page, and not at hand
 abbrev pub HasToAskFor : {S : Type 0} → Coherent S → Asked → Type 0
 HasToAskFor c (asked.Refused code) = ⊥
 HasToAskFor c (asked.Word page w) = HasToAsk c page w
-HasToAskFor c asked.Heap = ⊥
+HasToAskFor c (asked.Heap k) = ⊥
+
+-- it is a call of the heap
+abbrev pub IsOfHeap : Asked → Type 0
+IsOfHeap (asked.Refused code) = ⊥
+IsOfHeap (asked.Word page w) = ⊥
+IsOfHeap (asked.Heap k) = Unit {0}
+
+-- the heap may want memory for it
+abbrev pub IsGrowthAsked : Asked → Fault → Type 0
+IsGrowthAsked (asked.Refused code) fault = ⊥
+IsGrowthAsked (asked.Word page w) fault = ⊥
+IsGrowthAsked (asked.Heap k) fault = IsGrowth k fault
 
 abbrev pub CallHasToAsk : {S : Type 0} → Coherent S → Call → Type 0
 CallHasToAsk c call = HasToAskFor c (asked_of c.config call)
@@ -54,4 +68,4 @@ CallHasToAsk c call = HasToAskFor c (asked_of c.config call)
 abbrev pub CanAsk : Config → Asked → Type 0
 CanAsk c (asked.Refused code) = Unit {0}
 CanAsk c (asked.Word page w) = (page < c.pages) × IsWord c.page_size w
-CanAsk c asked.Heap = Unit {0}
+CanAsk c (asked.Heap k) = Unit {0}

@@ -1,3 +1,4 @@
 pub mod Asking
+pub mod HeapCalls
 pub mod Memories
 pub mod Sound

@@ -1,5 +1,6 @@
--- A node's memory: its coherence, and the call that it has in progress.
-use Rattle.std.specs.Prelude.{◌≡◌, ℕ, Option, Some, None, List, []}
+-- A node's memory: its coherence, the call that it has in progress, and its side of the calls of the heap.
+use Rattle.std.specs.Prelude.{◌≡◌, ℕ, Option, Some, None, List, [], if◌then◌else◌}
+use Rattle.ivy_model.specs.declared.Config.{Config}
 use Rattle.ivy_model.specs.declared.Call.{Call}
 use Rattle.ivy_model.specs.declared.Reply.{Reply}
 use Rattle.ivy_model.specs.declared.Reply.TheVariants as reply
@@ -10,6 +11,7 @@ use Rattle.ivy_pagetable.specs.Manager.{Ops}
 use Rattle.ivy_coherence.specs.declared.Need.{Need}
 use Rattle.ivy_coherence.specs.declared.Need.TheVariants as need
 use Rattle.ivy_coherence.specs.Coherent.{Coherent}
+use Rattle.ivy_coherence.specs.Sound.{first_coherent}
 use Rattle.ivy_coherence.specs.Steps.{handled}
 use Rattle.ivy_coherence.specs.Faults.{Begun, begun}
 use Rattle.ivy_memory.specs.declared.answer.Answer.{Answer}
@@ -17,10 +19,17 @@ use Rattle.ivy_memory.specs.declared.answer.Answer.TheVariants.{Given, Awaited, 
 use Rattle.ivy_memory.specs.declared.asked.Asked.{Asked}
 use Rattle.ivy_memory.specs.declared.asked.Asked.TheVariants as asked
 use Rattle.ivy_memory.specs.Asking.{asked_of, CallHasToAsk}
+use Rattle.ivy_memory.specs.HeapCalls.{HeapSide, HeapBegun, HeapTold, first_side, closed, heap_begun, heap_told, reply_told}
 
 pub record Memory (S : Type 0) : Type 0 where
   pub coherence : Coherent S
   pub asked : Option Call
+  pub side : HeapSide
+
+-- the memory of a node as it begins
+abbrev pub first_memory : {S : Type 0} → Ops S → Config → ℕ → Memory S
+first_memory ops c me =
+    record { coherence = first_coherent ops c me; asked = None; side = first_side c me }
 
 -- the reply that a word carried out gives: none where an awaited count is too low yet
 abbrev pub reply_of : Out → Option Reply
@@ -29,20 +38,29 @@ reply_of out.Done = Some reply.Done
 reply_of out.Full = Some (reply.Refused 7)
 reply_of out.NotYet = None
 
--- the reply of the call in progress, once the word that waited was carried out
+-- the reply of the word that waited, once it was carried out
 abbrev pub reply_there : Option Out → Option Reply
 reply_there None = None
 reply_there (Some o) = reply_of o
 
+abbrev pub first_reply : Option Reply → Option Reply → Option Reply
+first_reply (Some r) o = Some r
+first_reply None o = o
+
+-- the reply of the call in progress, once it is there
+abbrev pub reply_at : {S : Type 0} → Memory S → Option Reply
+reply_at m = first_reply (reply_told m.side.errand) (reply_there m.coherence.done)
+
 -- the memory without the call in progress: its reply was taken out, or it begins anew
 abbrev pub taken_out : {S : Type 0} → Memory S → Memory S
-taken_out m = record { coherence = record m.coherence { done = None }; asked = None }
+taken_out m =
+    record { coherence = record m.coherence { done = None }; asked = None; side = closed m.side }
 
 -- other nodes have to be asked for the call in progress, which has no reply yet
 pub record HasToAskAgain {S : Type 0} (m : Memory S) : Type 0 where
   pub call : Call
   pub asked : m.asked ≡ Some call
-  pub untold : reply_there m.coherence.done ≡ None
+  pub untold : reply_at m ≡ None
   pub asks : CallHasToAsk m.coherence call
 
 -- what a call comes to when it begins or is tried again: what it is answered, the memory after, and what is posted
@@ -51,17 +69,22 @@ pub record CallBegun (S : Type 0) : Type 0 where
   pub after : Memory S
   pub posted : List Parcel
 
+-- the call in progress after a call of the heap began
+abbrev pub asked_after : Option Call → Call → Answer → Option Call
+asked_after old call Awaited = Some call
+asked_after old call answer = old
+
 module _ {S : Type 0} where
   -- it is answered, or it is in progress where it has no reply
-  abbrev pub answered : Call → Begun S → Option Reply → CallBegun S
-  answered call b None = record {
+  abbrev pub answered : Memory S → Call → Begun S → Option Reply → CallBegun S
+  answered m call b None = record {
     answer = Awaited;
-    after = record { coherence = b.after; asked = Some call };
+    after = record { coherence = b.after; asked = Some call; side = m.side };
     posted = b.posted;
   }
-  answered call b (Some r) = record {
+  answered m call b (Some r) = record {
     answer = Given r;
-    after = record { coherence = b.after; asked = None };
+    after = record { coherence = b.after; asked = None; side = m.side };
     posted = b.posted;
   }
 
@@ -72,8 +95,8 @@ module _ {S : Type 0} where
   unserved m = record { answer = Unserved; after = m; posted = [] }
 
   abbrev pub needed : Memory S → Call → Begun S → Need → CallBegun S
-  needed m call b (need.Have o) = answered call b (reply_of o)
-  needed m call b need.Started = answered call b None
+  needed m call b (need.Have o) = answered m call b (reply_of o)
+  needed m call b need.Started = answered m call b None
   needed m call b need.Busy = unserved m
 
   -- a call that is tried again: where its word has no answer now either, or another one waits, nothing changes
@@ -86,14 +109,34 @@ module _ {S : Type 0} where
   again m a need.Started = a
   again m a need.Busy = unserved m
 
+  -- a call of the heap has its reply, or it is in progress where node 0 was asked
+  abbrev pub heap_answered : Memory S → Call → HeapBegun → CallBegun S
+  heap_answered m call b = record {
+    answer = b.answer;
+    after = record {
+      coherence = m.coherence;
+      asked = asked_after m.asked call b.answer;
+      side = b.after;
+    };
+    posted = b.posted;
+  }
+
+-- what a message does to a memory, and what is posted
+pub record MemoryEffect (S : Type 0) : Type 0 where
+  pub after : Memory S
+  pub posted : List Parcel
+
+abbrev pub by_side : {S : Type 0} → Memory S → HeapTold → MemoryEffect S
+by_side m t = record { after = record m { side = t.after }; posted = t.posted }
+
 module _ {S : Type 0} (ops : Ops S) where
-  -- a call of the heap is not served yet
   abbrev pub begun_as : Memory S → Call → ℕ → Asked → CallBegun S
   begun_as m call number (asked.Refused code) = refused m code
   begun_as m call number (asked.Word page word) =
       let b = begun ops m.coherence page word number in
       needed m call b b.need
-  begun_as m call number asked.Heap = unserved m
+  begun_as m call number (asked.Heap k) =
+      heap_answered m call (heap_begun m.coherence.me m.side k number)
 
   -- a call begins, as the one of this number
   unfoldable pub call_begun : Memory S → Call → ℕ → CallBegun S
@@ -105,7 +148,7 @@ module _ {S : Type 0} (ops : Ops S) where
   tried_as m call number (asked.Word page word) =
       let b = begun ops (taken_out m).coherence page word number in
       again m (needed (taken_out m) call b b.need) b.need
-  tried_as m call number asked.Heap = unserved m
+  tried_as m call number (asked.Heap k) = unserved m
 
   abbrev pub polled_as : Memory S → Call → ℕ → Option Reply → CallBegun S
   polled_as m call number (Some r) =
@@ -114,12 +157,26 @@ module _ {S : Type 0} (ops : Ops S) where
 
   abbrev pub polled_at : Memory S → ℕ → Option Call → CallBegun S
   polled_at m number None = unserved m
-  polled_at m number (Some call) = polled_as m call number (reply_there m.coherence.done)
+  polled_at m number (Some call) = polled_as m call number (reply_at m)
 
   -- the reply of the call in progress, the one of this number: it is there, or the call is tried again
   unfoldable pub polled : Memory S → ℕ → CallBegun S
   polled m number = polled_at m number m.asked
 
+  abbrev pub by_coherence : Memory S → ℕ → Message → MemoryEffect S
+  by_coherence m from message = record {
+    after = record m { coherence = (handled ops m.coherence from message).after };
+    posted = (handled ops m.coherence from message).posted;
+  }
+
+  -- a message of the heap that fits a rule is for the node's side of it; any other is for its coherence
+  abbrev pub memory_handled_as : Memory S → ℕ → Message → HeapTold → MemoryEffect S
+  memory_handled_as m from message t = if t.fits then by_side m t else by_coherence m from message
+
   -- a message comes
+  abbrev pub memory_handled : Memory S → ℕ → Message → MemoryEffect S
+  memory_handled m from message =
+      memory_handled_as m from message (heap_told m.coherence.me m.side from message)
+
   abbrev pub memory_told : Memory S → ℕ → Message → Memory S
-  memory_told m from message = record m { coherence = (handled ops m.coherence from message).after }
+  memory_told m from message = (memory_handled m from message).after

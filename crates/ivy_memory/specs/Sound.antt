@@ -1,17 +1,46 @@
 -- What holds of a node's memory, whatever comes to it.
-use Rattle.std.specs.Prelude.{◌≡◌, None, Some}
+use Rattle.std.specs.Prelude.{◌≡◌, ◌≢◌, ℕ, Option, None, Some}
+use Rattle.ivy_model.specs.declared.Config.{Config}
 use Rattle.ivy_model.specs.declared.Call.{Call}
 use Rattle.ivy_model.specs.Legal.{HasWidth}
 use Rattle.ivy_pagetable.specs.declared.Out.{Out}
 use Rattle.ivy_pagetable.specs.Manager.{Ops}
 use Rattle.ivy_coherence.specs.Sound.{IsSound}
+use Rattle.ivy_alloc.specs.Heap.{HeapState}
+use Rattle.ivy_memory.specs.declared.asked.Asked.TheVariants as kinds
+use Rattle.ivy_memory.specs.declared.heap_side.HeapCall.{HeapCall}
+use Rattle.ivy_memory.specs.declared.heap_side.Errand.{Errand}
+use Rattle.ivy_memory.specs.declared.heap_side.Errand.TheVariants as errand
+use Rattle.ivy_memory.specs.Asking.{asked_of}
+use Rattle.ivy_memory.specs.HeapCalls.{HeapSide}
 use Rattle.ivy_memory.specs.Memories.{Memory}
 
--- Without a call in progress no word waits, and none was carried out; nor does a word wait beside one carried out. The
--- call in progress has a width that the memory knows.
+-- the call in progress is this one of the heap
+pub record IsInProgress (c : Config) (in_progress : Option Call) (k : HeapCall) : Type 0 where
+  pub call : Call
+  pub asked : in_progress ≡ Some call
+  pub of : asked_of c call ≡ kinds.Heap k
+
+-- node 0 was asked for the call in progress, if for any
+abbrev pub IsErrandOf : Config → Option Call → Option Errand → Type 0
+IsErrandOf c in_progress None = Unit {0}
+IsErrandOf c in_progress (Some (errand.Asked k number)) = IsInProgress c in_progress k
+IsErrandOf c in_progress (Some (errand.Told r)) = (k : HeapCall) × IsInProgress c in_progress k
+
+-- the heap is at node 0, and any other node may ask that one
+pub record IsSoundSide (c : Config) (me : ℕ) (in_progress : Option Call) (s : HeapSide) : Type 0 where
+  pub away : s.heap ≡ None → me ≢ 0
+  pub home : (h : HeapState) → s.heap ≡ Some h → (h.config ≡ c) × (me ≡ 0)
+  pub errand : IsErrandOf c in_progress s.errand
+
+-- Without a call in progress no word waits, and none was carried out; nor does a word wait beside one carried out, or
+-- beside a call of the heap that node 0 was asked for. The call in progress has a width that the memory knows.
 pub record IsSoundMemory {S : Type 0} (ops : Ops S) (m : Memory S) : Type 0 where
   pub coherent : IsSound ops m.coherence
   pub done : m.asked ≡ None → m.coherence.done ≡ None
   pub locked : m.asked ≡ None → m.coherence.locked ≡ None
   pub answered : (o : Out) → m.coherence.done ≡ Some o → m.coherence.locked ≡ None
   pub width : (call : Call) → m.asked ≡ Some call → HasWidth call
+  pub side : IsSoundSide m.coherence.config m.coherence.me m.asked m.side
+  pub apart : (e : Errand) → m.side.errand ≡ Some e
+      → (m.coherence.locked ≡ None) × (m.coherence.done ≡ None)

@@ -4,6 +4,7 @@ ghost use Rattle.ivy_model.specs.Config.{IsConfig};
 ghost use Rattle.ivy_model.specs.Legal.{HasWidth};
 ghost use Rattle.ivy_memory.specs.Asking.{count_asked, asked_of};
 
+use crate::heap_side::HeapCall;
 use ivy_event::{advance, await_at_least, read};
 use ivy_model::{Call, Config, Fault, access_refusal};
 use ivy_pagetable::Word;
@@ -15,8 +16,8 @@ pub enum Asked {
     Refused(u8),
     /// It is this word of this page.
     Word { page: u32, word: Word },
-    /// It is the heap's, which is not served yet.
-    Heap,
+    /// It is this call of the heap, which is not served yet.
+    Heap(HeapCall),
 }
 
 /// What a call on an eventcount is, whose word is this: it is refused where there is no such count.
@@ -65,6 +66,7 @@ pub fn asked_of(config: &Config, call: Call) -> Asked
         Call::Count { k } => count_asked(read(config, k)),
         Call::Advance { k } => count_asked(advance(config, k)),
         Call::Await { k, least } => count_asked(await_at_least(config, k, least)),
-        Call::Alloc { .. } | Call::Free { .. } => Asked::Heap,
+        Call::Alloc { size } => Asked::Heap(HeapCall::Alloc { size }),
+        Call::Free { addr } => Asked::Heap(HeapCall::Free { addr }),
     }
 }

@@ -5,8 +5,10 @@
 
 mod answer;
 mod asked;
+mod heap_side;
 mod memory;
 
 pub use answer::Answer;
 pub use asked::{Asked, asked_of};
+pub use heap_side::{Errand, HeapCall, HeapSide};
 pub use memory::Memory;

@@ -1,17 +1,17 @@
 //! The memory of one node, as its program sees it: one call in progress, over the node's coherence.
-ghost use Rattle.std.specs.Prelude.{◌≡◌, ◌≢◌, ◌<◌, ◌≤◌, ◌↔◌, None, IsSome, IfOk, IfErr, OnOk, OnErr, IsOkUnless, IsErrOf, length};
+ghost use Rattle.std.specs.Prelude.{◌≡◌, ◌≢◌, ◌<◌, ◌≤◌, ◌↔◌, ◌⊎◌, None, IsSome, IfOk, IfErr, OnOk, OnErr, IsOkUnless, IsErrOf, length};
 ghost use Rattle.ivy_model.specs.Config.{IsConfig};
 ghost use Rattle.ivy_model.specs.Legal.{HasWidth};
 ghost use Rattle.ivy_model.specs.Wants.{IsWant};
-ghost use Rattle.ivy_wire.specs.Lent.{owned_message};
+ghost use Rattle.ivy_wire.specs.Lent.{owned_content, owned_message};
 ghost use Rattle.ivy_wire.specs.Spelling.{FitsMessage};
-ghost use Rattle.ivy_coherence.specs.Sound.{first_coherent};
-ghost use Rattle.ivy_coherence.specs.Steps.{handled};
-ghost use Rattle.ivy_memory.specs.Asking.{CallHasToAsk};
-ghost use Rattle.ivy_memory.specs.Memories.{reply_of, reply_there, HasToAskAgain, call_begun, polled, memory_told};
+ghost use Rattle.ivy_memory.specs.Asking.{CallHasToAsk, IsOfHeap, IsGrowthAsked, asked_of};
+ghost use Rattle.ivy_memory.specs.HeapCalls.{IsGrowthFor};
+ghost use Rattle.ivy_memory.specs.Memories.{first_memory, reply_of, reply_at, HasToAskAgain, call_begun, polled, memory_handled, memory_told};
 
 use crate::answer::Answer;
 use crate::asked::{Asked, asked_of};
+use crate::heap_side::HeapSide;
 use ivy_coherence::{Coherence, Need};
 use ivy_model::{Call, Config, Fault, Reply};
 use ivy_pagetable::{Manager, Out};
@@ -34,11 +34,12 @@ fn reply_of(out: Out) -> Option<Reply>
     }
 }
 
-/// A node's coherence, and the call that its program has in progress.
+/// A node's coherence, the call that its program has in progress, and its side of the calls of the heap.
 #[derive(Drop)]
 pub struct Memory<M: Manager, A: Allocator> {
     coherence: Coherence<M, A>,
     asked: Option<Call>,
+    side: HeapSide<A>,
 }
 
 impl<M: Manager, A: Allocator> Model for Memory<M, A> {
@@ -49,12 +50,13 @@ impl<M: Manager, A: Allocator> Model for Memory<M, A> {
 
     ghost use Rattle.std.specs.Coded.{codes};
     ghost use Rattle.ivy_pagetable.specs.NodeSets.{nodes_code};
+    ghost use Rattle.ivy_alloc.specs.Heap.{heap_state_code};
 
-    ghost coded = { Prim.hlevel (codes, nodes_code) };
+    ghost coded = { Prim.hlevel (codes, nodes_code, heap_state_code) };
 
-    ghost view = { λ m. record { coherence = m.coherence; asked = m.asked } };
+    ghost view = { λ m. record { coherence = m.coherence; asked = m.asked; side = m.side } };
 
-    ghost invariant = { λ m. IsSoundMemory M.ops (record { coherence = m.coherence; asked = m.asked }) };
+    ghost invariant = { λ m. IsSoundMemory M.ops (record { coherence = m.coherence; asked = m.asked; side = m.side }) };
 }
 
 impl<M: Manager, A: Allocator + Copy> Memory<M, A> {
@@ -65,17 +67,16 @@ impl<M: Manager, A: Allocator + Copy> Memory<M, A> {
         requires limits { IsConfig config.now }
         requires here { me < config.now.nodes }
         requires fresh { manager ≡ M.ops.first config.now me }
-        ensures first { IfOk result (λ m. m ≡ record { coherence = first_coherent M.ops config.now me; asked = None }) }
+        ensures first { IfOk result (λ m. m ≡ first_memory M.ops config.now me) }
         ensures memory { IsOkUnless result Fault.Memory }
     {
         Ok(Memory {
             coherence: Coherence::new(alloc, config, me, manager)?,
             asked: None,
+            side: HeapSide::new(alloc, config, me)?,
         })
     }
-}
 
-impl<M: Manager, A: Allocator> Memory<M, A> {
     /// The call in progress.
     pub fn asked(&self) -> Option<Call>
         ensures { result ≡ self.now.asked }
@@ -86,8 +87,9 @@ impl<M: Manager, A: Allocator> Memory<M, A> {
     #[tactic(auto, unfolding(crate::specs::Memories::call_begun))]
     /// A call begins, as the one of this number [1, 17, 18]: it is answered at once, or it is in progress from now on.
     ///
-    /// Refused with 18 exactly where a call is in progress already. A call of the heap is not served yet. Else only a
-    /// call that other nodes have to be asked for is refused: any other takes no memory, and asks the post nothing.
+    /// Refused with 18 exactly where a call is in progress already. Else only a call that other nodes have to be asked
+    /// for, or one of the heap, is refused: any other takes no memory, and asks the post nothing. Node 0 serves the
+    /// calls of the heap at once, and any other node asks node 0.
     pub fn begin<P: Post>(&mut self, call: Call, number: u64, post: &mut P) -> Result<Answer, Fault>
         requires width { HasWidth call }
         requires number { 1 ≤ number }
@@ -100,8 +102,8 @@ impl<M: Manager, A: Allocator> Memory<M, A> {
         ensures posted { OnOk result (post.new ≡ P.after post.old (call_begun M.ops self.old call number).posted) }
         ensures took { OnOk result (P.takes post.old (call_begun M.ops self.old call number).posted) }
         ensures err { OnErr result ((self.new ≡ self.old) × (post.new ≡ post.old)) }
-        ensures fault { self.old.asked ≡ None → IfErr result (P.refuses post.old (call_begun M.ops self.old call number).posted) }
-        ensures sure { self.old.asked ≡ None → OnErr result (CallHasToAsk self.old.coherence call) }
+        ensures fault { self.old.asked ≡ None → IfErr result (λ fault. IsGrowthAsked (asked_of self.old.coherence.config call) fault ⊎ P.refuses post.old (call_begun M.ops self.old call number).posted fault) }
+        ensures sure { self.old.asked ≡ None → OnErr result (CallHasToAsk self.old.coherence call ⊎ IsOfHeap (asked_of self.old.coherence.config call)) }
         ensures want { self.old.asked ≡ None → IfErr result IsWant }
     {
         if self.asked.is_some() {
@@ -123,15 +125,24 @@ impl<M: Manager, A: Allocator> Memory<M, A> {
                 }
                 Need::Busy => Ok(Answer::Unserved),
             },
-            Asked::Heap => Ok(Answer::Unserved),
+            Asked::Heap(of_heap) => {
+                let answer = self.side.begin(self.coherence.me(), of_heap, number, post)?;
+                if let Answer::Awaited = answer {
+                    self.asked = Some(call);
+                }
+                Ok(answer)
+            }
         }
     }
 
-    /// The reply of the call in progress, if its word waited and was carried out.
+    /// The reply of the call in progress, if node 0 gave it, or if its word waited and was carried out.
     fn reply(&self) -> Option<Reply>
-        ensures { result ≡ reply_there self.now.coherence.done }
+        ensures { result ≡ reply_at self.now }
     {
-        reply_of(self.coherence.answer()?)
+        match self.side.reply() {
+            Some(reply) => Some(reply),
+            None => reply_of(self.coherence.answer()?),
+        }
     }
 
     #[tactic(auto, unfolding(crate::specs::Memories::polled))]
@@ -159,6 +170,7 @@ impl<M: Manager, A: Allocator> Memory<M, A> {
         };
         if let Some(reply) = self.reply() {
             let _ = self.coherence.returned();
+            self.side.close();
             self.asked = None;
             return Ok(Answer::Given(reply));
         }
@@ -169,6 +181,7 @@ impl<M: Manager, A: Allocator> Memory<M, A> {
             Need::Have(out) => match reply_of(out) {
                 Some(reply) => {
                     let _ = self.coherence.returned();
+                    self.side.close();
                     self.asked = None;
                     Ok(Answer::Given(reply))
                 }
@@ -176,6 +189,7 @@ impl<M: Manager, A: Allocator> Memory<M, A> {
             },
             Need::Started => {
                 let _ = self.coherence.returned();
+                self.side.close();
                 Ok(Answer::Awaited)
             }
             Need::Busy => Ok(Answer::Unserved),
@@ -194,14 +208,17 @@ impl<M: Manager, A: Allocator> Memory<M, A> {
         requires fits { FitsMessage self.old.coherence.config (owned_message message) }
         requires config { P.config post.old ≡ self.old.coherence.config }
         requires node { P.node post.old ≡ self.old.coherence.me }
-        ensures few { length (handled M.ops self.old.coherence from (owned_message message.entry)).posted ≤ 8 }
+        ensures few { length (memory_handled M.ops self.old from (owned_message message.entry)).posted ≤ 8 }
         ensures ok { OnOk result (self.new ≡ memory_told M.ops self.old from (owned_message message.entry)) }
-        ensures posted { OnOk result (post.new ≡ P.after post.old (handled M.ops self.old.coherence from (owned_message message.entry)).posted) }
-        ensures took { OnOk result (P.takes post.old (handled M.ops self.old.coherence from (owned_message message.entry)).posted) }
+        ensures posted { OnOk result (post.new ≡ P.after post.old (memory_handled M.ops self.old from (owned_message message.entry)).posted) }
+        ensures took { OnOk result (P.takes post.old (memory_handled M.ops self.old from (owned_message message.entry)).posted) }
         ensures err { OnErr result ((self.new ≡ self.old) × (post.new ≡ post.old)) }
-        ensures fault { IfErr result (P.refuses post.old (handled M.ops self.old.coherence from (owned_message message.entry)).posted) }
+        ensures fault { IfErr result (λ fault. IsGrowthFor (owned_content message.entry.content) fault ⊎ P.refuses post.old (memory_handled M.ops self.old from (owned_message message.entry)).posted fault) }
         ensures want { IfErr result IsWant }
     {
+        if self.side.handle(self.coherence.me(), from, &message, post)? {
+            return Ok(());
+        }
         self.coherence.handle(from, message, post)
     }
 }

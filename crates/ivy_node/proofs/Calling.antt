@@ -1,8 +1,9 @@
 -- A call of the program that begins, or is asked for its reply, as the code has it.
-use Rattle.std.proofs.Common.{◌≡◌, ℕ, ◌+◌, ◌<◌, ◌≤◌, ◌^◌, true, false, List, [], ◌∷◌, ◌++◌, length, Option, Some, None, refl, sym, ap, ◌∙◌, subst, arith, if◌then◌else◌}
+use Rattle.std.proofs.Common.{◌≡◌, ℕ, ◌+◌, ◌<◌, ◌≤◌, ◌^◌, ◌⊎◌, inl, inr, true, false, List, [], ◌∷◌, ◌++◌, length, Option, Some, None, refl, sym, ap, ◌∙◌, subst, arith, if◌then◌else◌}
 use Rattle.std.proofs.lemmas.Bool.{lt-ltb}
 use Rattle.ivy_model.specs.declared.Call.{Call}
 use Rattle.ivy_model.specs.declared.Fault.{Fault}
+use Rattle.ivy_model.specs.declared.Fault.TheVariants as fault
 use Rattle.ivy_model.specs.declared.Record.{Record}
 use Rattle.ivy_model.specs.declared.Reply.{Reply}
 use Rattle.ivy_wire.specs.Data.{Parcel}
@@ -17,8 +18,9 @@ use Rattle.ivy_memory.specs.declared.Answer.{Answer}
 use Rattle.ivy_memory.specs.declared.Answer.TheVariants.{Given, Awaited, Unserved}
 use Rattle.ivy_memory.specs.declared.Asked.{Asked}
 use Rattle.ivy_memory.specs.declared.Asked.TheVariants as asked
-use Rattle.ivy_memory.specs.Asking.{asked_of}
-use Rattle.ivy_memory.specs.Memories.{Memory, CallBegun, reply_of, reply_there, taken_out, answered, needed, again_unless, again, begun_as, call_begun, tried_as, polled_as, polled}
+use Rattle.ivy_memory.specs.Asking.{IsGrowthAsked, asked_of}
+use Rattle.ivy_memory.proofs.Sides.{heap_unserved, growth_memory}
+use Rattle.ivy_memory.specs.Memories.{Memory, CallBegun, reply_of, reply_at, taken_out, answered, needed, again_unless, again, begun_as, call_begun, tried_as, polled_as, polled}
 use Rattle.ivy_memory.proofs.Polling.{polled_so}
 use Rattle.ivy_host.specs.Hosts.{Host, begins_as, begins_with, steps, turned_at, turn_of, number_of, recorded}
 use Rattle.ivy_node.specs.Outboxes.{Outbox, HasNumbers, Refuses, IsRefused, posted_by, takes_none, after_none}
@@ -32,7 +34,7 @@ H = Host Managed
 abbrev ChangesNothing : Memory Managed → CallBegun Managed → Type 0
 ChangesNothing m a = a.answer ≡ Unserved → (a.after ≡ m) × (a.posted ≡ [])
 
-answered-changes : (m : Memory Managed) (k : Call) (b : Begun Managed) (r : Option Reply) → ChangesNothing m (answered k b r)
+answered-changes : (m : Memory Managed) (k : Call) (b : Begun Managed) (r : Option Reply) → ChangesNothing m (answered m k b r)
 answered-changes m k b None is = absurd cc
 answered-changes m k b (Some r) is = absurd cc
 
@@ -44,13 +46,13 @@ needed-changes m k b need.Busy is = (refl, refl)
 as-changes : (m : Memory Managed) (k : Call) (number : ℕ) (x : Asked) → ChangesNothing m (begun_as managed_ops m k number x)
 as-changes m k number (asked.Refused code) is = absurd cc
 as-changes m k number (asked.Word page w) is = let b : Begun Managed = begun managed_ops m.coherence page w number in needed-changes m k b b.need is
-as-changes m k number asked.Heap is = (refl, refl)
+as-changes m k number (asked.Heap h) is = heap_unserved m k number h is
 
 unserved_is : (m : Memory Managed) (k : Call) (number : ℕ) → ChangesNothing m (call_begun managed_ops m k number)
 unfolding call_begun
 unserved_is m k number is = as-changes m k number (asked_of m.coherence.config k) is
 
-unless-changes : (m : Memory Managed) (k : Call) (b : Begun Managed) (r : Option Reply) → ChangesNothing m (again_unless m (answered k b r) r)
+unless-changes : (m : Memory Managed) (k : Call) (b : Begun Managed) (r : Option Reply) → ChangesNothing m (again_unless m (answered (taken_out m) k b r) r)
 unless-changes m k b None is = (refl, refl)
 unless-changes m k b (Some r) is = absurd cc
 
@@ -62,7 +64,7 @@ again-changes m k b need.Busy is = (refl, refl)
 tried-changes : (m : Memory Managed) (k : Call) (number : ℕ) (x : Asked) → ChangesNothing m (tried_as managed_ops m k number x)
 tried-changes m k number (asked.Refused code) is = (refl, refl)
 tried-changes m k number (asked.Word page w) is = let b : Begun Managed = begun managed_ops (taken_out m).coherence page w number in again-changes m k b b.need is
-tried-changes m k number asked.Heap is = (refl, refl)
+tried-changes m k number (asked.Heap h) is = (refl, refl)
 
 polled-changes : (m : Memory Managed) (k : Call) (number : ℕ) (r : Option Reply) → ChangesNothing m (polled_as managed_ops m k number r)
 polled-changes m k number None is = tried-changes m k number (asked_of m.coherence.config k) is
@@ -100,7 +102,7 @@ pub poll_call : (h : H) (k : Call) (number : ℕ) → IsNumbered h number → h.
 unfolding turn_of
 poll_call h k number n asked = record {
   turn = ap (turned_at managed_ops h) asked ∙ ap (λ m. begins_as h k (polled managed_ops h.memory m)) (sym n.is);
-  nothing = subst (ChangesNothing h.memory) (sym (polled_so managed_ops h.memory k number asked)) (polled-changes h.memory k number (reply_there h.memory.coherence.done));
+  nothing = subst (ChangesNothing h.memory) (sym (polled_so managed_ops h.memory k number asked)) (polled-changes h.memory k number (reply_at h.memory));
 }
 
 module _ (h : H) (k : Call) (a : CallBegun Managed) (calls : IsCall h k a) where
@@ -154,3 +156,11 @@ module _ (h : H) (k : Call) (a : CallBegun Managed) (calls : IsCall h k a) where
 
   pub cannot_call : (box : Outbox) (f : Fault) → Refuses box a.posted f → HasNoNumbers h box f
   cannot_call box f refuses spent = cannot_by box (subst (λ (x : Fault). IsRefused x box a.posted) spent refuses) a.answer refl
+
+  -- nor is it for want of numbers that the heap does not grow
+  pub cannot_begin : (box : Outbox) (f : Fault) (x : Asked) → IsGrowthAsked x f ⊎ Refuses box a.posted f → HasNoNumbers h box f
+  cannot_begin box f x why spent =
+      elim why [
+        | inl grows ↦ let not : fault.Memory ≡ fault.NumbersSpent = sym (growth_memory x f grows) ∙ spent in absurd cc
+        | inr refuses ↦ cannot_call box f refuses spent
+      ]

@@ -1,5 +1,5 @@
 -- What a delivery to a site is, from what its parts did. `v` is what the fields are seen as, `n` the value.
-use Rattle.std.proofs.Common.{◌≡◌, ℕ, ◌+◌, ◌≤◌, true, false, List, [], ◌∷◌, ◌++◌, length, map, Some, None, Result, Ok, Err, MatchResult, refl, sym, ap, ◌∙◌, subst, arith, append-nil}
+use Rattle.std.proofs.Common.{◌≡◌, ℕ, ◌+◌, ◌≤◌, ◌⊎◌, inl, inr, true, false, List, [], ◌∷◌, ◌++◌, length, map, Some, None, Result, Ok, Err, MatchResult, refl, sym, ap, ◌∙◌, subst, arith, append-nil}
 use Rattle.std.proofs.lemmas.List.{length-append}
 use Rattle.ivy_model.specs.declared.Config.{Config}
 use Rattle.ivy_model.specs.declared.Fault.{Fault}
@@ -15,19 +15,20 @@ use Rattle.ivy_link.specs.declared.Verdict.{Verdict}
 use Rattle.ivy_link.specs.declared.Verdict.TheVariants as verdict
 use Rattle.ivy_link.specs.Linked.{Linked, sends, has_numbers}
 use Rattle.ivy_link.specs.Accepted.{offered, accepted}
-use Rattle.ivy_coherence.specs.Steps.{handled}
 use Rattle.ivy_host.specs.Managers.{Managed, managed_ops}
 use Rattle.ivy_ether.specs.Marks.{Mark, Delivery}
 use Rattle.ivy_ether.specs.Cores.{Core}
 use Rattle.ivy_ether.specs.Nodes.{Node, Effect, stays, posting, accepting, served, received, received_as, delivered, delivered_as}
-use Rattle.ivy_memory.specs.Memories.{Memory, memory_told}
+use Rattle.ivy_memory.specs.Memories.{Memory, memory_handled, memory_told}
 use Rattle.ivy_host.specs.Hosts.{Host, host_rules, serving}
 use Rattle.ivy_node.specs.Outboxes.{Outbox, HasNumbers, IsRefused, with_link, posted_by}
 use Rattle.ivy_node.specs.Shown.{Shown, after_event, after_delivery}
 use Rattle.ivy_node.specs.Sites.{AfterDelivery, IsSpentDelivery, IsSite}
 use Rattle.ivy_node.proofs.Boxes.{as_many}
 use Rattle.ivy_node.proofs.Made.{delivery_made}
-use Rattle.ivy_memory.proofs.Same.{handled-same}
+use Rattle.ivy_memory.specs.HeapCalls.{IsGrowthFor}
+use Rattle.ivy_memory.proofs.Sides.{growth_memory_for}
+use Rattle.ivy_memory.proofs.Same.{told-same, told-asked}
 use Rattle.ivy_host.proofs.Tame.{IsAskingHost}
 
 abbrev H : Type 0
@@ -92,14 +93,23 @@ is_sent : (m : Node H) (h : H) (ps : List Parcel) → has_numbers m.link ps ≡ 
 is_sent m h ps numbers = rw numbers refl
 
 -- what the message of the next frame posts has no numbers
-pub spent_message : (n v : Shown) → v ≡ n → (k : Config) (f : Frame) (bytes : List ℕ) (w : Verdict) → IsRead v k f bytes w → w ≡ verdict.Next → (m : Message) → f.body ≡ Some m → (e : Fault)
-    → IsRefused e (box_of v) (handled managed_ops v.node.core.memory.coherence f.source m).posted → IsSpentDelivery n bytes e
+spent_post : (n v : Shown) → v ≡ n → (k : Config) (f : Frame) (bytes : List ℕ) (w : Verdict) → IsRead v k f bytes w → w ≡ verdict.Next → (m : Message) → f.body ≡ Some m → (e : Fault)
+    → IsRefused e (box_of v) (memory_handled managed_ops v.node.core.memory f.source m).posted → IsSpentDelivery n bytes e
 unfolding serving
-spent_message n v same k f bytes w r next m body e why spent =
+spent_post n v same k f bytes w r next m body e why spent =
     subst (λ (x : Shown). delivered rules x.config x.node bytes ≡ None) same
     (receives v k f bytes w r ∙ (ap (λ x. received_as rules x v.node f) next ∙ (ap (served rules v.node f) body
     ∙ ap (accepting f) (not_sent v.node (serving managed_ops v.node.core f.source m).after (serving managed_ops v.node.core f.source m).posted
-    (numbers_out e (box_of v) (handled managed_ops v.node.core.memory.coherence f.source m).posted why spent)))))
+    (numbers_out e (box_of v) (memory_handled managed_ops v.node.core.memory f.source m).posted why spent)))))
+
+-- nor is it for want of numbers that the heap does not grow
+pub spent_message : (n v : Shown) → v ≡ n → (k : Config) (f : Frame) (bytes : List ℕ) (w : Verdict) → IsRead v k f bytes w → w ≡ verdict.Next → (m : Message) → f.body ≡ Some m → (e : Fault)
+    → IsGrowthFor m.content e ⊎ IsRefused e (box_of v) (memory_handled managed_ops v.node.core.memory f.source m).posted → IsSpentDelivery n bytes e
+spent_message n v same k f bytes w r next m body e why spent =
+    elim why [
+      | inl grows ↦ let not : fault.Memory ≡ fault.NumbersSpent = sym (growth_memory_for m.content e grows) ∙ spent in absurd cc
+      | inr refuses ↦ spent_post n v same k f bytes w r next m body e refuses spent
+    ]
 
 -- the frame was heard: what the node and its outbox are before the frame is accepted
 pub record IsHeard (v : Shown) (f : Frame) (w : Verdict) (h : H) (box : Outbox) : Type 0 where
@@ -132,12 +142,12 @@ heard_quietly v f w ne none = record {
 
 -- by a message that is served
 told_message : (v : Shown) (f : Frame) (w : Verdict) (m : Message) → w ≡ verdict.Next → f.body ≡ Some m
-    → HasNumbers (box_of v) (handled managed_ops v.node.core.memory.coherence f.source m).posted → length (handled managed_ops v.node.core.memory.coherence f.source m).posted ≤ 8
-    → IsHeard v f w (serving managed_ops v.node.core f.source m).after (posted_by (box_of v) (handled managed_ops v.node.core.memory.coherence f.source m).posted)
+    → HasNumbers (box_of v) (memory_handled managed_ops v.node.core.memory f.source m).posted → length (memory_handled managed_ops v.node.core.memory f.source m).posted ≤ 8
+    → IsHeard v f w (serving managed_ops v.node.core f.source m).after (posted_by (box_of v) (memory_handled managed_ops v.node.core.memory f.source m).posted)
 unfolding serving
 told_message v f w m next body numbers few =
-    let ps : List Parcel = (handled managed_ops v.node.core.memory.coherence f.source m).posted in
-    let same = handled-same managed_ops v.node.core.memory.coherence f.source m in
+    let ps : List Parcel = (memory_handled managed_ops v.node.core.memory f.source m).posted in
+    let same = told-same managed_ops v.node.core.memory f.source m in
     record {
       link = (sends v.node.link ps).after;
       sent = map spelling (sends v.node.link ps).frames;
@@ -146,18 +156,18 @@ told_message v f w m next body numbers few =
       few = omega (arith, as_many v.node.link ps, few);
       config = same.config;
       me = same.me;
-      asking = λ a. a;
+      asking = λ a k is. a k (sym (told-asked managed_ops v.node.core.memory f.source m) ∙ is);
     }
 
 pub heard_message : (v : Shown) (f : Frame) (w : Verdict) (m : Message) (memory : Memory Managed) (box : Outbox) → w ≡ verdict.Next → f.body ≡ Some m
     → memory ≡ memory_told managed_ops v.node.core.memory f.source m
-    → HasNumbers (box_of v) (handled managed_ops v.node.core.memory.coherence f.source m).posted → length (handled managed_ops v.node.core.memory.coherence f.source m).posted ≤ 8
-    → box ≡ posted_by (box_of v) (handled managed_ops v.node.core.memory.coherence f.source m).posted
+    → HasNumbers (box_of v) (memory_handled managed_ops v.node.core.memory f.source m).posted → length (memory_handled managed_ops v.node.core.memory f.source m).posted ≤ 8
+    → box ≡ posted_by (box_of v) (memory_handled managed_ops v.node.core.memory f.source m).posted
     → IsHeard v f w (record { memory = memory; process = v.node.core.process; history = v.node.core.history }) box
 unfolding serving
 heard_message v f w m memory box next body told numbers few posted =
     subst (λ x. IsHeard v f w (record { memory = memory; process = v.node.core.process; history = v.node.core.history }) x) (sym posted)
-    (subst (λ x. IsHeard v f w (record { memory = x; process = v.node.core.process; history = v.node.core.history }) (posted_by (box_of v) (handled managed_ops v.node.core.memory.coherence f.source m).posted)) (sym told)
+    (subst (λ x. IsHeard v f w (record { memory = x; process = v.node.core.process; history = v.node.core.history }) (posted_by (box_of v) (memory_handled managed_ops v.node.core.memory f.source m).posted)) (sym told)
     (told_message v f w m next body numbers few))
 
 -- then the frame is accepted, and the event listed

@@ -43,8 +43,9 @@ impl<A: Allocator> Model for Site<A> {
 
     ghost use Rattle.std.specs.Coded.{codes};
     ghost use Rattle.ivy_pagetable.specs.NodeSets.{nodes_code};
+    ghost use Rattle.ivy_alloc.specs.Heap.{heap_state_code};
 
-    ghost coded = { Prim.hlevel (codes, nodes_code) };
+    ghost coded = { Prim.hlevel (codes, nodes_code, heap_state_code) };
 
     ghost view = { λ s. record { config = s.outbox.config; me = s.outbox.me; node = record { core = record { memory = s.memory; process = s.machine; history = s.history.items }; link = s.outbox.link }; events = s.events.marks; waiting = s.outbox.waiting } };
 

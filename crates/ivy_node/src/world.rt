@@ -43,8 +43,9 @@ impl<A: Allocator> Model for World<A> {
 
     ghost use Rattle.std.specs.Coded.{codes};
     ghost use Rattle.ivy_pagetable.specs.NodeSets.{nodes_code};
+    ghost use Rattle.ivy_alloc.specs.Heap.{heap_state_code};
 
-    ghost coded = { Prim.hlevel (codes, nodes_code) };
+    ghost coded = { Prim.hlevel (codes, nodes_code, heap_state_code) };
 
     ghost view = { λ w. run_of w.config w.sites.items w.sent.items };
 

@@ -35,10 +35,11 @@ impl Model for Node {
     ghost use Rattle.ivy_protocol_tests.specs.declared.memory.TheConstants.{PAIR};
     ghost use Rattle.std.specs.Coded.{codes};
     ghost use Rattle.ivy_pagetable.specs.NodeSets.{nodes_code};
+    ghost use Rattle.ivy_alloc.specs.Heap.{heap_state_code};
 
     ghost Value = { memories.Memory Owners × (declared.Config × ℕ × List wire.Parcel) };
 
-    ghost coded = { Prim.hlevel (codes, nodes_code) };
+    ghost coded = { Prim.hlevel (codes, nodes_code, heap_state_code) };
 
     ghost view = { λ n. (n.memory, n.posted) };
 

@@ -30,6 +30,7 @@ use Rattle.ivy_memory.proofs.Tame.{Begins, begun-begins, needed-posted}
 use Rattle.ivy_memory.proofs.Polling.{polled_so}
 use Rattle.ivy_host.specs.Hosts.{Host, recorded, quietly, begins_with, begins_as, begins, steps, turned_at, turn_of, host_rules}
 use Rattle.ivy_host.specs.Sound.{IsSoundHost}
+use Rattle.ivy_host.proofs.Pages.{made_asked, quiet_reply}
 use Rattle.ivy_order.specs.Letters.{Net}
 use Rattle.ivy_order.specs.Rows.{IsKept}
 use Rattle.ivy_worlds.proofs.LiftedEvents.{Tells, Starts}
@@ -75,7 +76,7 @@ module _ {S : Type 0} (ops : Ops S) (c : Config) (x : ℕ) (h : Host S) (good : 
       refuses called code idle step kind (sym (same_Some (quietly (recorded h h.memory called (reply.Refused code))) out is))
   kind-cases called (kinds.Word page word) idle step kind can few is =
       asks_for called page word idle step kind (subst (λ d. page < d.pages) good.config can.0) (subst (λ d. IsWord d.page_size word) good.config can.1) few is
-  kind-cases called kinds.Heap idle step kind can few is = absurd (none-some out is)
+  kind-cases called (kinds.Heap k) idle step kind can few is = absurd (made_asked h.memory.coherence.config h called step k kind)
 
   begins-cases : (called : Call) → h.memory.asked ≡ None → step_of h.process ≡ Asks called → begins ops h called ≡ Some out → HostTurn ops c h out
   begins-cases called idle step is = either (nat_lt (number_of h) (2 ^ 64)) refl is
@@ -110,7 +111,7 @@ module _ {S : Type 0} (ops : Ops S) (c : Config) (x : ℕ) (h : Host S) (good : 
         let b : Begun S = asks ops (without_call h) page word in
         let all = again-cases (asked_for ops (without_call h) called page word) b b.need (begun-begins ops (taken_out h.memory).coherence page word (number_of h)) refl is in
         tries_again called page word asked untold all.0 of (subst (λ d. page < d.pages) good.config can.0) (subst (λ d. IsWord d.page_size word) good.config can.1) all.1
-    tried-cases kinds.Heap untold of can is = absurd (none-some out is)
+    tried-cases (kinds.Heap k) untold of can is = absurd (none-some out is)
 
     replied-cases : (r : Option Reply) → reply_there h.memory.coherence.done ≡ r → begins_as h called (polled_as ops h.memory called (number_of h) r) ≡ Some out → HostTurn ops c h out
     replied-cases None there is =
@@ -119,7 +120,7 @@ module _ {S : Type 0} (ops : Ops S) (c : Config) (x : ℕ) (h : Host S) (good : 
 
   at-cases : (a : Option Call) → h.memory.asked ≡ a → turned_at ops h a ≡ Some out → HostTurn ops c h out
   at-cases (Some called) asked is =
-      replied-cases called asked (reply_there h.memory.coherence.done) refl (ap (begins_as h called) (sym (polled_so ops h.memory called (number_of h) asked)) ∙ is)
+      replied-cases called asked (reply_there h.memory.coherence.done) refl (ap (begins_as h called) (ap (polled_as ops h.memory called (number_of h)) (sym (quiet_reply ops c x h good)) ∙ sym (polled_so ops h.memory called (number_of h) asked)) ∙ is)
   at-cases None asked is = steps-cases (step_of h.process) asked refl is
 
   -- each turn of a sound node is one of these
@@ -152,7 +153,7 @@ module _ {S : Type 0} (ops : Ops S) (h : Host S) (called : Call) (page : ℕ) (w
   with_memory a Awaited out is = let e = sym (same_Some _ out is) in (ap (λ (z : Outcome (Host S)). z.after.memory) e, ap (λ (z : Outcome (Host S)). z.posted) e)
   with_memory a Unserved out is = absurd (none-some out is)
 
-  answered_coherence : (b : Begun S) (r : Option Reply) → (answered called b r).after.coherence ≡ b.after
+  answered_coherence : (b : Begun S) (r : Option Reply) → (answered h.memory called b r).after.coherence ≡ b.after
   answered_coherence b None = refl
   answered_coherence b (Some r) = refl
 

@@ -42,6 +42,6 @@ sound_opening {S = S} {ops = ops} laws c limits programs many =
       sound = λ i h there.
           let first = opening_first ops c programs i h there in
           let within : i < length o.cores = slice_get_within o.cores i h there in
-          subst (IsSoundHost ops c i) (sym first.1) (record { memory = first_sound-memory laws c i limits (omega (arith, within, count)); config = refl; me = refl; numbered = λ k asked. absurd (none-some k asked) });
+          subst (IsSoundHost ops c i) (sym first.1) (record { memory = first_sound-memory laws c i limits (omega (arith, within, count)); config = refl; me = refl; asking = λ k asked. absurd (none-some k asked); numbered = λ k asked. absurd (none-some k asked) });
       sent = λ i j k m there. absurd (none-some m there);
     }

@@ -1,5 +1,5 @@
 -- What each row keeps, each event of an ordered world keeps.
-use Rattle.std.proofs.Common.{◌≡◌, ◌<◌, ◌≤◌, ℕ, List, [], ◌∷◌, Option, refl, ap, ◌∙◌, subst}
+use Rattle.std.proofs.Common.{◌≡◌, ◌<◌, ◌≤◌, ℕ, List, [], ◌∷◌, Option, slice_set, refl, ap, ◌∙◌, subst}
 use Rattle.ivy_model.specs.declared.Config.{Config}
 use Rattle.ivy_link.specs.Paired.{extended}
 use Rattle.ivy_pagetable.specs.declared.Out.{Out}
@@ -12,7 +12,11 @@ use Rattle.ivy_coherence.specs.Faults.{begun}
 use Rattle.ivy_coherence.proofs.Same.{handled-same}
 use Rattle.ivy_memory.proofs.Tame.{with_done-sound}
 use Rattle.ivy_ether.specs.Ordered.{Ordered, Turns, Delivers, one_more}
-use Rattle.ivy_host.specs.Hosts.{Host, host_rules, serving}
+use Rattle.ivy_host.specs.Hosts.{Host, host_rules}
+use Rattle.ivy_ether.specs.Cores.{Outcome}
+use Rattle.ivy_wire.specs.Data.{Message}
+use Rattle.ivy_memory.specs.Memories.{by_coherence}
+use Rattle.ivy_host.proofs.Pages.{page_serving}
 use Rattle.ivy_host.specs.Sound.{IsSoundHost}
 use Rattle.ivy_order.specs.Letters.{Letter, Net}
 use Rattle.ivy_order.specs.Rows.{taken, IsKept}
@@ -26,10 +30,13 @@ module _ {S : Type 0} {ops : Ops S} {P : (ℕ → S) → Net → (ℕ → List �
   abbrev pub Then : (ℕ → List ℕ) → Type 0
   Then flat = P (managers_of spare o') (net_of o') flat
 
+  -- what a message about a page does to a node
+  abbrev told : ℕ → Host S → Message → Outcome (Host S)
+  told source n m = record { after = record n { memory = (by_coherence ops n.memory source m).after }; posted = (by_coherence ops n.memory source m).posted }
+
   -- a message is delivered
   pub kept-delivers : (source x : ℕ) (t : Delivers (host_rules ops) o source x o')
       → (flat : ℕ → List ℕ) × Then flat × Tells P c x f t.core.memory.coherence (handled ops t.core.memory.coherence source t.message).after flat
-  unfolding serving
   kept-delivers source x t =
       let k : Coherent S = t.core.memory.coherence in
       let good : IsSoundHost ops c x t.core = w.sound x t.core t.there in
@@ -40,8 +47,9 @@ module _ {S : Type 0} {ops : Ops S} {P : (ℕ → S) → Net → (ℕ → List �
       (kept.takes (managers_of spare o) (net_of o) f source x t.message refl t.first h) in (
         all.0,
         all.1 (managers_of spare o') (net_of o')
-            (leads_to spare o o' (one_more o.delivered source x) letters x t.core (serving ops t.core source t.message).after (handled ops k source t.message).posted t.there t.cores
-            ((handled-same ops k source t.message).me ∙ good.me) t.posted t.delivered),
+            (leads_to spare o o' (one_more o.delivered source x) letters x t.core (told source t.core t.message).after (handled ops k source t.message).posted t.there
+            (t.cores ∙ ap (λ (z : Outcome (Host S)). slice_set o.cores x z.after) (page_serving ops t.core source t.message sent.about))
+            ((handled-same ops k source t.message).me ∙ good.me) (t.posted ∙ ap (λ (z : Outcome (Host S)). extended o.posted z.posted) (page_serving ops t.core source t.message sent.about)) t.delivered),
         all.2,
       )
 

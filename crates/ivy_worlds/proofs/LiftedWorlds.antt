@@ -13,6 +13,8 @@ use Rattle.ivy_ether.specs.Ordered.{Ordered, Steps, rests, turns, delivers}
 use Rattle.ivy_ether.specs.Following.{IsTame}
 use Rattle.ivy_host.specs.Hosts.{Host, host_rules}
 use Rattle.ivy_host.specs.Sound.{IsSoundHost}
+use Rattle.ivy_memory.proofs.Pages.{is_of_pages, IsOfPages}
+use Rattle.ivy_host.proofs.Pages.{turn-pages, serve-pages}
 use Rattle.ivy_order.specs.Letters.{Letter}
 pub use Rattle.ivy_worlds.specs.Nets.{entry_of, page_of, breaches_of, manager_of, net_with, net_of, managers_of}
 use Rattle.ivy_worlds.proofs.Led.{get_set}
@@ -48,12 +50,13 @@ module _ {S : Type 0} where
         loose = refl;
       }
 
--- a message that one node sent another
+-- a message that one node sent another, about a page
 pub record IsSent (c : Config) (i j : ℕ) (m : Message) : Type 0 where
   pub below : i < c.nodes
   pub there : j < c.nodes
   pub apart : i ≢ j
   pub fits : FitsMessage c m
+  pub about : is_of_pages m.content ≡ true
 
 -- Each core is that of a sound node of this configuration, and each message was sent by a node to another one.
 pub record IsSoundWorld {S : Type 0} (ops : Ops S) (c : Config) (o : Ordered (Host S)) : Type 0 where
@@ -67,10 +70,10 @@ get_either [] ys k x h = inr (k, h)
 get_either (z ∷ xs) ys zero x h = inl h
 get_either (z ∷ xs) ys (suc k) x h = get_either xs ys k x h
 
-posted-sent : (c : Config) (me i j : ℕ) (ps : List Parcel) (k : ℕ) (m : Message) → All (FitsParcel c me) ps → slice_get (posted i j ps) k ≡ Some m → IsSent c i j m
-posted-sent c me i j [] k m fits is = absurd (none-some m is)
-posted-sent c me i j (p ∷ ps) k m fits is =
-    this_or (p.source == i && p.dest == j) refl k is (λ l there. posted-sent c me i j ps l m (all_tail (FitsParcel c me) p ps fits) there)
+posted-sent : (c : Config) (me i j : ℕ) (ps : List Parcel) (k : ℕ) (m : Message) → All (FitsParcel c me) ps → All IsOfPages ps → slice_get (posted i j ps) k ≡ Some m → IsSent c i j m
+posted-sent c me i j [] k m fits pages is = absurd (none-some m is)
+posted-sent c me i j (p ∷ ps) k m fits pages is =
+    this_or (p.source == i && p.dest == j) refl k is (λ l there. posted-sent c me i j ps l m (all_tail (FitsParcel c me) p ps fits) (all_tail IsOfPages p ps pages) there)
   where
     this_or : (b : Bool) → (p.source == i && p.dest == j) ≡ b → (k : ℕ) → slice_get (if b then p.message ∷ posted i j ps else posted i j ps) k ≡ Some m
         → ((l : ℕ) → slice_get (posted i j ps) l ≡ Some m → IsSent c i j m) → IsSent c i j m
@@ -86,14 +89,15 @@ posted-sent c me i j (p ∷ ps) k m fits is =
           there = subst (λ z. z < c.nodes) dest one.dest;
           apart = λ e. one.apart (dest ∙ sym e ∙ sym mine);
           fits = subst (FitsMessage c) (same_Some p.message m is) one.message;
+          about = subst (λ (x : Message). is_of_pages x.content ≡ true) (same_Some p.message m is) (all_head IsOfPages p ps pages);
         }
     this_or true test (suc l) is rest = rest l is
 
 module _ {S : Type 0} (ops : Ops S) (c : Config) (tame : IsTame (host_rules ops) c (IsSoundHost ops c)) where
   -- an event of node x keeps it so
   event_sound : (o o' : Ordered (Host S)) (x : ℕ) (h after : Host S) (ps : List Parcel) → IsSoundWorld ops c o → slice_get o.cores x ≡ Some h → o'.cores ≡ slice_set o.cores x after
-      → o'.posted ≡ extended o.posted ps → IsSoundHost ops c x after × All (FitsParcel c x) ps → IsSoundWorld ops c o'
-  event_sound o o' x h after ps w there cores sent good = record {
+      → o'.posted ≡ extended o.posted ps → IsSoundHost ops c x after × All (FitsParcel c x) ps → All IsOfPages ps → IsSoundWorld ops c o'
+  event_sound o o' x h after ps w there cores sent good pages = record {
     count = ap length cores ∙ length-set o.cores x after ∙ w.count;
     sound = λ i k is. elim (get_set o.cores x h after i there) [
       | inl y ↦ subst (λ z. IsSoundHost ops c z k) (sym y.0) (subst (IsSoundHost ops c x) (same_Some after k (sym y.1 ∙ ap (λ l. slice_get l i) (sym cores) ∙ is)) good.0)
@@ -101,7 +105,7 @@ module _ {S : Type 0} (ops : Ops S) (c : Config) (tame : IsTame (host_rules ops)
     ];
     sent = λ i j k m is. elim (get_either (o.posted i j) (posted i j ps) k m (ap (λ g. slice_get (g i j) k) (sym sent) ∙ is)) [
       | inl y ↦ w.sent i j k m y
-      | inr y ↦ posted-sent c x i j ps y.0 m good.1 y.1
+      | inr y ↦ posted-sent c x i j ps y.0 m good.1 pages y.1
     ];
   }
 
@@ -109,7 +113,9 @@ module _ {S : Type 0} (ops : Ops S) (c : Config) (tame : IsTame (host_rules ops)
   pub steps_sound : (o o' : Ordered (Host S)) → IsSoundWorld ops c o → Steps (host_rules ops) o o' → IsSoundWorld ops c o'
   steps_sound o o' w (rests same) = subst (IsSoundWorld ops c) (sym same) w
   steps_sound o o' w (turns x t) = event_sound o o' x t.core t.outcome.after t.outcome.posted w t.there t.cores t.posted (tame.turn x t.core t.outcome (w.sound x t.core t.there) t.turned)
+      (turn-pages ops t.core t.outcome t.turned)
   steps_sound o o' w (delivers source x t) =
       let sent : IsSent c source x t.message = w.sent source x (o.delivered source x) t.message t.first in
       event_sound o o' x t.core ((host_rules ops).serve t.core source t.message).after ((host_rules ops).serve t.core source t.message).posted w t.there t.cores t.posted
       (tame.serve x source t.core t.message (w.sound x t.core t.there) sent.below sent.apart sent.fits)
+      (serve-pages ops t.core source t.message sent.about)

@@ -1,5 +1,5 @@
-use Rattle.std.proofs.Common.{IfErr, ◌∙◌, sym, ap, subst, arith}
-use Rattle.ivy_memory.proofs.Beginning.{no_call, can, wide, had_memory, started_memory, busy_memory, busy_is, call_posts, few_posted, err_there, call_asks}
+use Rattle.std.proofs.Common.{rules, ◌∙◌, sym, ap, arith}
+use Rattle.ivy_memory.proofs.Beginning.{no_call, can, wide, had_memory, started_memory, busy_memory, busy_is, call_posts, few_posted, err_refuses, call_asks, heap_memory}
 use Rattle.ivy_memory.proofs.memory.Memory.begin.Goals as goal
 
 pub need-requires-clause-page : goal.need-requires-clause-page
@@ -41,7 +41,7 @@ returns-in-Busy-clause-posted g c =
 
 pub returns-in_err-out-in-Word-clause-fault : goal.returns-in_err-out-in-Word-clause-fault
 returns-in_err-out-in-Word-clause-fault g c =
-    λ idle. subst (λ x. IfErr c.from_residual.result (g.P.Post.refuses c.args.post.now x)) (call_posts g.met.M.Manager.laws _ _ c.config.result c.args.call c.args.number c.in-Word.page c.in-Word.word (record { same = c.self.view_is; sound = c.self.invariant; config = c.config.ensures; idle = no_call _ _ c.self.view_is c.is_some.ensures c.if-is_some.false; legal = c.requires.width; least = c.requires.number; most = omega arith; asks = sym c.asked_of.ensures.is ∙ c.in-Word.is })) (err_there c.from_residual.result _ _ c.from_residual.ensures.1 c.in_err-out-in-Word.ensures.fault)
+    λ idle. err_refuses c.from_residual.result _ (g.P.Post.refuses c.args.post.now) _ _ _ (call_posts g.met.M.Manager.laws _ _ c.config.result c.args.call c.args.number c.in-Word.page c.in-Word.word (record { same = c.self.view_is; sound = c.self.invariant; config = c.config.ensures; idle = no_call _ _ c.self.view_is c.is_some.ensures c.if-is_some.false; legal = c.requires.width; least = c.requires.number; most = omega arith; asks = sym c.asked_of.ensures.is ∙ c.in-Word.is })) c.from_residual.ensures.1 c.in_err-out-in-Word.ensures.fault
 
 pub returns-in_err-out-in-Word-clause-sure : goal.returns-in_err-out-in-Word-clause-sure
 returns-in_err-out-in-Word-clause-sure g c =
@@ -61,3 +61,9 @@ returns-in-None-clause-few g c = few_posted _ _ c.self.view_is c.self.invariant 
 
 pub returns-in-Started-clause-few : goal.returns-in-Started-clause-few
 returns-in-Started-clause-few g c = few_posted _ _ c.self.view_is c.self.invariant c.args.call c.args.number
+
+pub invariant_of-self-in_default : goal.invariant_of-self-in_default
+invariant_of-self-in_default g c =
+    heap_memory g.met.M.Manager.laws _ _ c.config.result c.args.call c.args.number c.in-Heap.of_heap c.me.result
+    (record { same = c.self.view_is; sound = c.self.invariant; config = c.config.ensures; idle = no_call _ _ c.self.view_is c.is_some.ensures c.if-is_some.false; legal = c.requires.width; least = c.requires.number; most = omega arith; asks = sym c.asked_of.ensures.is ∙ c.in-Heap.is; me = c.me.ensures })
+    c.in_ok-answer-in-Heap.answer c.begin.new.self c.self.inside.asked c.in_ok-answer-in-Heap.ensures.reply c.in_ok-answer-in-Heap.ensures.ok (search rules)

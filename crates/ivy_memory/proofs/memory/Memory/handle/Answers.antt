@@ -1,10 +1,27 @@
+use Rattle.std.proofs.Common.{rules}
 use Rattle.ivy_wire.specs.Lent.{owned_message}
-use Rattle.ivy_memory.specs.Sound.{IsSoundMemory}
-use Rattle.ivy_memory.proofs.Beginning.{of_either, message_memory}
+use Rattle.ivy_memory.proofs.Beginning.{few_answers, side_memory, err_posts, left_memory}
 use Rattle.ivy_memory.proofs.memory.Memory.handle.Goals as goal
 
-pub invariant_of-self : goal.invariant_of-self
-invariant_of-self g c =
-    of_either _ (λ x. IsSoundMemory g.M.Manager.ops (record { coherence = x; asked = c.self.inside.asked })) c.handle.result c.handle.new.self _ _ c.handle.ensures.ok c.handle.ensures.err
-    (message_memory g.met.M.Manager.laws _ _ c.self.view_is c.self.invariant c.args.from (owned_message c.args.message) c.requires.from c.requires.foreign c.requires.fits)
-    c.self.invariant
+pub returns-in_err-handle-clause-few : goal.returns-in_err-handle-clause-few
+returns-in_err-handle-clause-few g c =
+    few_answers g.met.M.Manager.laws _ _ c.me.result c.args.from (owned_message c.args.message) (record { same = c.self.view_is; sound = c.self.invariant; me = c.me.ensures; below = c.requires.from; foreign = c.requires.foreign; fits = c.requires.fits })
+
+pub returns-in_err-handle-clause-fault : goal.returns-in_err-handle-clause-fault
+returns-in_err-handle-clause-fault g c =
+    err_posts g.met.M.Manager.laws _ _ c.me.result c.args.from (owned_message c.args.message) (record { same = c.self.view_is; sound = c.self.invariant; me = c.me.ensures; below = c.requires.from; foreign = c.requires.foreign; fits = c.requires.fits })
+    c.from_residual.result _ (g.P.Post.refuses c.args.post.now) _ (g.met.P.Post.refuses_none c.args.post.now) c.from_residual.ensures.1 c.in_err-handle.ensures.fault
+
+pub invariant_of-self-then-branch : goal.invariant_of-self-then-branch
+invariant_of-self-then-branch g c =
+    side_memory g.met.M.Manager.laws _ _ c.me.result c.args.from (owned_message c.args.message) (record { same = c.self.view_is; sound = c.self.invariant; me = c.me.ensures; below = c.requires.from; foreign = c.requires.foreign; fits = c.requires.fits })
+    c.in_ok-handle.field-0 c.handle.new.self c.in_ok-handle.ensures.fits (search rules) c.in_ok-handle.ensures.ok
+
+pub returns-then-branch-clause-few : goal.returns-then-branch-clause-few
+returns-then-branch-clause-few g c =
+    few_answers g.met.M.Manager.laws _ _ c.me.result c.args.from (owned_message c.args.message) (record { same = c.self.view_is; sound = c.self.invariant; me = c.me.ensures; below = c.requires.from; foreign = c.requires.foreign; fits = c.requires.fits })
+
+pub invariant_of-self-2 : goal.invariant_of-self-2
+invariant_of-self-2 g c =
+    left_memory g.met.M.Manager.laws _ _ c.me.result c.args.from (owned_message c.args.message) (record { same = c.self.view_is; sound = c.self.invariant; me = c.me.ensures; below = c.requires.from; foreign = c.requires.foreign; fits = c.requires.fits })
+    _ c.in_ok-handle.field-0 c.handle-2.result c.handle-2.new.self c.handle.new.self c.in_ok-handle.ensures.fits (search rules) (c.in_ok-handle.ensures.misfit (search rules)).0 c.handle-2.ensures.ok c.handle-2.ensures.err

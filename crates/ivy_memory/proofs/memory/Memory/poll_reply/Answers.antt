@@ -29,10 +29,10 @@ pub invariant_of-self-in-Some-reply_of : goal.invariant_of-self-in-Some-reply_of
 invariant_of-self-in-Some-reply_of g c =
     poll_memory g.met.M.Manager.laws _ _ c.config.result c.in-Some.call c.args.number c.in-Word.page c.in-Word.word
     (record { same = c.self.view_is; sound = c.self.invariant; config = c.config.ensures; called = c.in-Some.is; untold = sym c.reply.ensures ∙ c.in_default-reply.is; least = c.requires.number; most = omega arith; asks = sym c.asked_of.ensures.is ∙ c.in-Word.is })
-    _ _ _
+    _ _ _ _
     (given_is g.met.M.Manager.laws _ _ c.config.result c.in-Some.call c.args.number c.in-Word.page c.in-Word.word
     (record { same = c.self.view_is; sound = c.self.invariant; config = c.config.ensures; called = c.in-Some.is; untold = sym c.reply.ensures ∙ c.in_default-reply.is; least = c.requires.number; most = omega arith; asks = sym c.asked_of.ensures.is ∙ c.in-Word.is })
-    c.need.new.self c.returned-in-Some-reply_of.new.self c.in_ok-out.field-0 c.in-Have.out c.in-Some-reply_of.reply c.in_ok-out.ensures.ok c.returned-in-Some-reply_of.ensures.taken c.in_ok-out.ensures.need c.in-Have.is (sym c.reply_of.ensures ∙ c.in-Some-reply_of.is))
+    c.need.new.self c.returned-in-Some-reply_of.new.self c.in_ok-out.field-0 c.in-Have.out c.in-Some-reply_of.reply c.close-in-Some-reply_of.new.self c.close-in-Some-reply_of.ensures c.in_ok-out.ensures.ok c.returned-in-Some-reply_of.ensures.taken c.in_ok-out.ensures.need c.in-Have.is (sym c.reply_of.ensures ∙ c.in-Some-reply_of.is))
 
 pub returns-in-Some-reply_of-clause-few : goal.returns-in-Some-reply_of-clause-few
 returns-in-Some-reply_of-clause-few g c = polled-few _ _ _ c.self.view_is c.self.invariant c.args.number
@@ -42,14 +42,14 @@ returns-in-Some-reply_of-clause-reply g c =
     sym (ap (λ (x : CallBegun _). x.answer)
     (given_is g.met.M.Manager.laws _ _ c.config.result c.in-Some.call c.args.number c.in-Word.page c.in-Word.word
     (record { same = c.self.view_is; sound = c.self.invariant; config = c.config.ensures; called = c.in-Some.is; untold = sym c.reply.ensures ∙ c.in_default-reply.is; least = c.requires.number; most = omega arith; asks = sym c.asked_of.ensures.is ∙ c.in-Word.is })
-    c.need.new.self c.returned-in-Some-reply_of.new.self c.in_ok-out.field-0 c.in-Have.out c.in-Some-reply_of.reply c.in_ok-out.ensures.ok c.returned-in-Some-reply_of.ensures.taken c.in_ok-out.ensures.need c.in-Have.is (sym c.reply_of.ensures ∙ c.in-Some-reply_of.is)))
+    c.need.new.self c.returned-in-Some-reply_of.new.self c.in_ok-out.field-0 c.in-Have.out c.in-Some-reply_of.reply c.close-in-Some-reply_of.new.self c.close-in-Some-reply_of.ensures c.in_ok-out.ensures.ok c.returned-in-Some-reply_of.ensures.taken c.in_ok-out.ensures.need c.in-Have.is (sym c.reply_of.ensures ∙ c.in-Some-reply_of.is)))
 
 pub returns-in-Some-reply_of-clause-ok : goal.returns-in-Some-reply_of-clause-ok
 returns-in-Some-reply_of-clause-ok g c =
     sym (ap (λ (x : CallBegun _). x.after)
     (given_is g.met.M.Manager.laws _ _ c.config.result c.in-Some.call c.args.number c.in-Word.page c.in-Word.word
     (record { same = c.self.view_is; sound = c.self.invariant; config = c.config.ensures; called = c.in-Some.is; untold = sym c.reply.ensures ∙ c.in_default-reply.is; least = c.requires.number; most = omega arith; asks = sym c.asked_of.ensures.is ∙ c.in-Word.is })
-    c.need.new.self c.returned-in-Some-reply_of.new.self c.in_ok-out.field-0 c.in-Have.out c.in-Some-reply_of.reply c.in_ok-out.ensures.ok c.returned-in-Some-reply_of.ensures.taken c.in_ok-out.ensures.need c.in-Have.is (sym c.reply_of.ensures ∙ c.in-Some-reply_of.is)))
+    c.need.new.self c.returned-in-Some-reply_of.new.self c.in_ok-out.field-0 c.in-Have.out c.in-Some-reply_of.reply c.close-in-Some-reply_of.new.self c.close-in-Some-reply_of.ensures c.in_ok-out.ensures.ok c.returned-in-Some-reply_of.ensures.taken c.in_ok-out.ensures.need c.in-Have.is (sym c.reply_of.ensures ∙ c.in-Some-reply_of.is)))
 
 pub returns-in-Some-reply_of-clause-posted : goal.returns-in-Some-reply_of-clause-posted
 returns-in-Some-reply_of-clause-posted g c =
@@ -68,7 +68,7 @@ pub invariant_of-self-in-None : goal.invariant_of-self-in-None
 invariant_of-self-in-None g c =
     poll_memory g.met.M.Manager.laws _ _ c.config.result c.in-Some.call c.args.number c.in-Word.page c.in-Word.word
     (record { same = c.self.view_is; sound = c.self.invariant; config = c.config.ensures; called = c.in-Some.is; untold = sym c.reply.ensures ∙ c.in_default-reply.is; least = c.requires.number; most = omega arith; asks = sym c.asked_of.ensures.is ∙ c.in-Word.is })
-    _ _ _
+    _ _ _ _
     (quiet_is g.met.M.Manager.laws _ _ c.config.result c.in-Some.call c.args.number c.in-Word.page c.in-Word.word
     (record { same = c.self.view_is; sound = c.self.invariant; config = c.config.ensures; called = c.in-Some.is; untold = sym c.reply.ensures ∙ c.in_default-reply.is; least = c.requires.number; most = omega arith; asks = sym c.asked_of.ensures.is ∙ c.in-Word.is })
     c.need.new.self c.in_ok-out.field-0 c.in-Have.out c.in_ok-out.ensures.ok c.in_ok-out.ensures.need c.in-Have.is (sym c.reply_of.ensures ∙ c.in-None.is))
@@ -107,10 +107,10 @@ pub invariant_of-self-in-Started : goal.invariant_of-self-in-Started
 invariant_of-self-in-Started g c =
     poll_memory g.met.M.Manager.laws _ _ c.config.result c.in-Some.call c.args.number c.in-Word.page c.in-Word.word
     (record { same = c.self.view_is; sound = c.self.invariant; config = c.config.ensures; called = c.in-Some.is; untold = sym c.reply.ensures ∙ c.in_default-reply.is; least = c.requires.number; most = omega arith; asks = sym c.asked_of.ensures.is ∙ c.in-Word.is })
-    _ _ _
+    _ _ _ _
     (starts_is g.met.M.Manager.laws _ _ c.config.result c.in-Some.call c.args.number c.in-Word.page c.in-Word.word
     (record { same = c.self.view_is; sound = c.self.invariant; config = c.config.ensures; called = c.in-Some.is; untold = sym c.reply.ensures ∙ c.in_default-reply.is; least = c.requires.number; most = omega arith; asks = sym c.asked_of.ensures.is ∙ c.in-Word.is })
-    c.need.new.self c.returned-in-Started.new.self c.in_ok-out.field-0 c.in_ok-out.ensures.ok c.returned-in-Started.ensures.taken c.in_ok-out.ensures.need c.in-Started.is)
+    c.need.new.self c.returned-in-Started.new.self c.in_ok-out.field-0 c.close-in-Started.new.self c.close-in-Started.ensures c.in_ok-out.ensures.ok c.returned-in-Started.ensures.taken c.in_ok-out.ensures.need c.in-Started.is)
 
 pub returns-in-Started-clause-few : goal.returns-in-Started-clause-few
 returns-in-Started-clause-few g c = polled-few _ _ _ c.self.view_is c.self.invariant c.args.number
@@ -120,14 +120,14 @@ returns-in-Started-clause-reply g c =
     sym (ap (λ (x : CallBegun _). x.answer)
     (starts_is g.met.M.Manager.laws _ _ c.config.result c.in-Some.call c.args.number c.in-Word.page c.in-Word.word
     (record { same = c.self.view_is; sound = c.self.invariant; config = c.config.ensures; called = c.in-Some.is; untold = sym c.reply.ensures ∙ c.in_default-reply.is; least = c.requires.number; most = omega arith; asks = sym c.asked_of.ensures.is ∙ c.in-Word.is })
-    c.need.new.self c.returned-in-Started.new.self c.in_ok-out.field-0 c.in_ok-out.ensures.ok c.returned-in-Started.ensures.taken c.in_ok-out.ensures.need c.in-Started.is))
+    c.need.new.self c.returned-in-Started.new.self c.in_ok-out.field-0 c.close-in-Started.new.self c.close-in-Started.ensures c.in_ok-out.ensures.ok c.returned-in-Started.ensures.taken c.in_ok-out.ensures.need c.in-Started.is))
 
 pub returns-in-Started-clause-ok : goal.returns-in-Started-clause-ok
 returns-in-Started-clause-ok g c =
     sym (ap (λ (x : CallBegun _). x.after)
     (starts_is g.met.M.Manager.laws _ _ c.config.result c.in-Some.call c.args.number c.in-Word.page c.in-Word.word
     (record { same = c.self.view_is; sound = c.self.invariant; config = c.config.ensures; called = c.in-Some.is; untold = sym c.reply.ensures ∙ c.in_default-reply.is; least = c.requires.number; most = omega arith; asks = sym c.asked_of.ensures.is ∙ c.in-Word.is })
-    c.need.new.self c.returned-in-Started.new.self c.in_ok-out.field-0 c.in_ok-out.ensures.ok c.returned-in-Started.ensures.taken c.in_ok-out.ensures.need c.in-Started.is))
+    c.need.new.self c.returned-in-Started.new.self c.in_ok-out.field-0 c.close-in-Started.new.self c.close-in-Started.ensures c.in_ok-out.ensures.ok c.returned-in-Started.ensures.taken c.in_ok-out.ensures.need c.in-Started.is))
 
 pub returns-in-Started-clause-posted : goal.returns-in-Started-clause-posted
 returns-in-Started-clause-posted g c =
@@ -146,7 +146,7 @@ pub invariant_of-self-in-Busy : goal.invariant_of-self-in-Busy
 invariant_of-self-in-Busy g c =
     poll_memory g.met.M.Manager.laws _ _ c.config.result c.in-Some.call c.args.number c.in-Word.page c.in-Word.word
     (record { same = c.self.view_is; sound = c.self.invariant; config = c.config.ensures; called = c.in-Some.is; untold = sym c.reply.ensures ∙ c.in_default-reply.is; least = c.requires.number; most = omega arith; asks = sym c.asked_of.ensures.is ∙ c.in-Word.is })
-    _ _ _
+    _ _ _ _
     (waits_is g.met.M.Manager.laws _ _ c.config.result c.in-Some.call c.args.number c.in-Word.page c.in-Word.word
     (record { same = c.self.view_is; sound = c.self.invariant; config = c.config.ensures; called = c.in-Some.is; untold = sym c.reply.ensures ∙ c.in_default-reply.is; least = c.requires.number; most = omega arith; asks = sym c.asked_of.ensures.is ∙ c.in-Word.is })
     c.need.new.self c.in_ok-out.field-0 c.in_ok-out.ensures.ok c.in_ok-out.ensures.need c.in-Busy.is)

@@ -1,0 +1,164 @@
+-- What one event posts is about pages.
+use Rattle.std.proofs.Common.{◌≡◌, ℕ, Bool, true, false, List, [], ◌∷◌, Option, Some, None, refl, sym, ap, subst, if◌then◌else◌}
+use Rattle.ivy_model.specs.declared.Config.{Config}
+use Rattle.ivy_model.specs.declared.Call.{Call}
+use Rattle.ivy_model.specs.declared.Reply.{Reply}
+use Rattle.std.specs.Prelude.{All, map}
+use Rattle.std.proofs.lemmas.List.Elements.{All-cons, All-push}
+use Rattle.ivy_wire.specs.declared.Content.TheVariants as content
+use Rattle.ivy_wire.specs.Data.{Content, Parcel, Message}
+use Rattle.ivy_pagetable.specs.declared.PutOff.{PutOff}
+use Rattle.ivy_pagetable.specs.declared.Request.{Request}
+use Rattle.ivy_pagetable.specs.declared.Request.TheVariants as request
+use Rattle.ivy_pagetable.specs.NodeSets.{Nodes, nodes_of, nodes_with}
+use Rattle.ivy_pagetable.specs.States.{IdleState}
+use Rattle.ivy_pagetable.specs.Manager.{Ops}
+use Rattle.ivy_serving.specs.Serving.{Serving, parcel_to, serving, served_by_owner, served_by_other, served, all_served, told, settled, invalidations}
+use Rattle.ivy_serving.proofs.IdleServing.{all_none, all_one}
+use Rattle.ivy_pagetable.specs.declared.Word.{Word}
+use Rattle.ivy_pagetable.specs.Tables.{page_at}
+use Rattle.ivy_pagetable.specs.Entries.{copying, owning}
+use Rattle.ivy_pagetable.specs.Words.{carried_out}
+use Rattle.ivy_coherence.specs.Coherent.{Coherent}
+use Rattle.ivy_coherence.specs.Steps.{handled}
+use Rattle.ivy_coherence.specs.Faults.{Begun, begun}
+use Rattle.ivy_memory.specs.declared.asked.Asked.{Asked}
+use Rattle.ivy_memory.specs.declared.asked.Asked.TheVariants as asked
+use Rattle.ivy_memory.specs.declared.heap_side.HeapCall.{HeapCall}
+use Rattle.ivy_memory.specs.declared.heap_side.Errand.{Errand}
+use Rattle.ivy_memory.specs.declared.heap_side.Errand.TheVariants as errand
+use Rattle.ivy_memory.specs.Asking.{asked_of}
+use Rattle.ivy_memory.specs.HeapCalls.{HeapSide, misfit, heap_told_as, heap_told}
+use Rattle.ivy_memory.specs.Memories.{Memory, CallBegun, reply_at, taken_out, begun_as, call_begun, tried_as, polled_as, polled, by_coherence, memory_handled_as, memory_handled}
+use Rattle.ivy_memory.specs.Sound.{IsErrandOf}
+use Rattle.ivy_memory.proofs.Tame.{begun-begins, needed-posted}
+use Rattle.ivy_memory.proofs.Polling.{again-posted, polled_so}
+use Rattle.ivy_coherence.proofs.Rows.{Rows, AccessRows, handled-by_rows, begun-by_rows}
+
+-- a message about a page, and none of the heap
+abbrev pub is_of_pages : Content → Bool
+is_of_pages (content.AllocReq size) = false
+is_of_pages (content.AllocRep code addr) = false
+is_of_pages (content.FreeReq addr) = false
+is_of_pages (content.FreeRep code) = false
+is_of_pages m = true
+
+abbrev pub IsOfPages : Parcel → Type 0
+IsOfPages p = is_of_pages p.message.content ≡ true
+
+either_pages : {S : Type 0} (b : Bool) (v w : Serving S) → All IsOfPages v.posted → All IsOfPages w.posted → All IsOfPages (if b then v else w).posted
+either_pages true v w one two = one
+either_pages false v w one two = two
+
+module _ {S : Type 0} (ops : Ops S) (me page : ℕ) (bytes : List ℕ) where
+  owner_pages : (v : Serving S) (origin call : ℕ) (kind : Request) → All IsOfPages v.posted → All IsOfPages (served_by_owner ops me page bytes v origin call kind).posted
+  owner_pages v origin call request.Read all = All-push IsOfPages v.posted _ all refl
+  owner_pages v origin call request.Write all = All-push IsOfPages v.posted _ all refl
+  owner_pages v origin call request.Invalidate all = all
+
+  other_pages : (v : Serving S) (origin call : ℕ) (kind : Request) → All IsOfPages v.posted → All IsOfPages (served_by_other ops me page bytes v origin call kind).posted
+  other_pages v origin call request.Read all = All-push IsOfPages v.posted _ all refl
+  other_pages v origin call request.Write all = All-push IsOfPages v.posted _ all refl
+  other_pages v origin call request.Invalidate all = All-push IsOfPages v.posted _ all refl
+
+  all_served-pages : (v : Serving S) (qs : List PutOff) → All IsOfPages v.posted → All IsOfPages (all_served ops me page bytes v qs).posted
+  all_served-pages v [] all = all
+  all_served-pages v (q ∷ qs) all =
+      all_served-pages (served ops me page bytes v q) qs
+      (either_pages v.idle.owner _ _ (owner_pages v q.origin q.call q.kind all) (other_pages v q.origin q.call q.kind all))
+
+  pub settled-pages : (from : ℕ) (idle : IdleState) (m : S) (breaches : ℕ) (reply : Option Bool) (qs : List PutOff)
+      → All IsOfPages (settled ops me from page bytes idle m breaches reply qs).posted
+  settled-pages from idle m breaches reply qs = all_served-pages (serving idle (told ops from page m reply) breaches []) qs (all_none IsOfPages)
+
+told-pages : (me page call : ℕ) (nodes : List ℕ) → All IsOfPages (map (λ node. parcel_to me node me call (content.Inval page)) nodes)
+told-pages me page call [] = all_none IsOfPages
+told-pages me page call (node ∷ nodes) = All-cons IsOfPages _ _ refl (told-pages me page call nodes)
+
+pub invalidations-pages : (me page call : ℕ) (s : Nodes) → All IsOfPages (invalidations me page call s)
+invalidations-pages me page call s = told-pages me page call (nodes_of s)
+
+module _ {S : Type 0} (ops : Ops S) where
+  message-rows : (c : Coherent S) (from origin call : ℕ) → Rows ops c from origin call (λ m e. All IsOfPages e.posted)
+  message-rows c from origin call = record {
+    breach = λ m why. all_none IsOfPages;
+    served = λ kind page i may is order. settled-pages ops c.me page (page_at c.table page) origin i c.manager c.breaches None (record { kind = kind; origin = origin; call = call } ∷ []);
+    put_off = λ kind page e may is room at. all_none IsOfPages;
+    given_up = λ page w by is. all_one IsOfPages _ refl;
+    copy = λ page bytes w mine is this. settled-pages ops c.me page (carried_out w.word bytes).bytes from copying c.manager c.breaches (Some _) w.put_off;
+    alone = λ page copies bytes w mine is this none. settled-pages ops c.me page (carried_out w.waiting.word bytes).bytes from owning c.manager c.breaches (Some _) w.waiting.put_off;
+    shared = λ page copies bytes w mine is this some apart. invalidations-pages c.me page call (nodes_with copies);
+    acknowledged = λ page w mine is this missing others. all_none IsOfPages;
+    last = λ page w mine is this missing none. settled-pages ops c.me page (carried_out w.waiting.word (page_at c.table page)).bytes from owning c.manager c.breaches None w.waiting.put_off;
+  }
+
+  access-rows : (c : Coherent S) (page : ℕ) (w : Word) (call : ℕ) → AccessRows ops c page w call (λ b. All IsOfPages b.posted)
+  access-rows c page w call = record {
+    busy = all_none IsOfPages;
+    hit = λ i none is enough. all_none IsOfPages;
+    read = λ i none is short reads. all_one IsOfPages _ refl;
+    write = λ i none is short writes other. all_one IsOfPages _ refl;
+    owner = λ i none is short writes own. invalidations-pages c.me page call i.copies;
+  }
+
+  -- a message that comes
+  pub handled-pages : (c : Coherent S) (from : ℕ) (m : Message) → All IsOfPages (handled ops c from m).posted
+  handled-pages c from m = handled-by_rows m (message-rows c from m.origin m.call)
+
+  -- an access of this node's program
+  pub begun-pages : (c : Coherent S) (page : ℕ) (w : Word) (call : ℕ) → All IsOfPages (begun ops c page w call).posted
+  begun-pages c page w call = begun-by_rows (access-rows c page w call)
+
+  -- what a call that begins posts, if it is none of the heap
+  begun-as-pages : (m : Memory S) (k : Call) (number : ℕ) (x : Asked) → asked_of m.coherence.config k ≡ x → ((h : HeapCall) → asked_of m.coherence.config k ≡ asked.Heap h → ⊥) → All IsOfPages (begun_as ops m k number x).posted
+  begun-as-pages m k number (asked.Refused code) of words = all_none IsOfPages
+  begun-as-pages m k number (asked.Heap h) of words = absurd (words h of)
+  begun-as-pages m k number (asked.Word page w) of words =
+      let b : Begun S = begun ops m.coherence page w number in
+      subst (All IsOfPages) (sym (needed-posted m k b b.need (begun-begins ops m.coherence page w number) refl)) (begun-pages m.coherence page w number)
+
+  pub call-pages : (m : Memory S) (k : Call) (number : ℕ) → ((h : HeapCall) → asked_of m.coherence.config k ≡ asked.Heap h → ⊥) → All IsOfPages (call_begun ops m k number).posted
+  unfolding call_begun
+  call-pages m k number words = begun-as-pages m k number (asked_of m.coherence.config k) refl words
+
+  tried-pages : (m : Memory S) (k : Call) (number : ℕ) (x : Asked) → All IsOfPages (tried_as ops m k number x).posted
+  tried-pages m k number (asked.Refused code) = all_none IsOfPages
+  tried-pages m k number (asked.Heap h) = all_none IsOfPages
+  tried-pages m k number (asked.Word page w) =
+      let b : Begun S = begun ops (taken_out m).coherence page w number in
+      subst (All IsOfPages) (sym (again-posted m k b b.need (begun-begins ops (taken_out m).coherence page w number) refl)) (begun-pages (taken_out m).coherence page w number)
+
+  polled-as-pages : (m : Memory S) (k : Call) (number : ℕ) (r : Option Reply) → All IsOfPages (polled_as ops m k number r).posted
+  polled-as-pages m k number None = tried-pages m k number (asked_of m.coherence.config k)
+  polled-as-pages m k number (Some r) = all_none IsOfPages
+
+  -- what a call that is asked for its reply posts
+  pub polled-pages : (m : Memory S) (k : Call) (number : ℕ) → m.asked ≡ Some k → All IsOfPages (polled ops m number).posted
+  polled-pages m k number called = subst (λ (a : CallBegun S). All IsOfPages a.posted) (sym (polled_so ops m k number called)) (polled-as-pages m k number (reply_at m))
+
+-- a message about a page is none of the heap
+page-as : (me : ℕ) (s : HeapSide) (from : ℕ) (m : Message) (body : Content) → is_of_pages body ≡ true → heap_told_as me s from m body ≡ misfit s
+page-as me s from m (content.AllocReq size) h = absurd cc
+page-as me s from m (content.AllocRep code addr) h = absurd cc
+page-as me s from m (content.FreeReq addr) h = absurd cc
+page-as me s from m (content.FreeRep code) h = absurd cc
+page-as me s from m (content.ReadReq page) h = refl
+page-as me s from m (content.WriteReq page) h = refl
+page-as me s from m (content.ReadRep page bytes) h = refl
+page-as me s from m (content.WriteRep page copies bytes) h = refl
+page-as me s from m (content.Inval page) h = refl
+page-as me s from m (content.InvalAck page) h = refl
+
+pub page_misfits : (me : ℕ) (s : HeapSide) (from : ℕ) (m : Message) → is_of_pages m.content ≡ true → heap_told me s from m ≡ misfit s
+unfolding heap_told
+page_misfits me s from m h = page-as me s from m m.content h
+
+-- it is for the coherence alone
+pub page_handled : {S : Type 0} (ops : Ops S) (m : Memory S) (from : ℕ) (message : Message) → is_of_pages message.content ≡ true → memory_handled ops m from message ≡ by_coherence ops m from message
+page_handled ops m from message h = ap (memory_handled_as ops m from message) (page_misfits m.coherence.me m.side from message h)
+
+-- node 0 was asked for no call where the one in progress is none of the heap
+pub no_errand_of : (c : Config) (a : Option Call) (e : Option Errand) → ((k : Call) → a ≡ Some k → (h : HeapCall) → asked_of c k ≡ asked.Heap h → ⊥) → IsErrandOf c a e → e ≡ None
+no_errand_of c a None words is = refl
+no_errand_of c a (Some (errand.Asked k number)) words is = absurd (words is.call is.asked k is.of)
+no_errand_of c a (Some (errand.Told r)) words is = absurd (words is.1.call is.1.asked is.0 is.1.of)

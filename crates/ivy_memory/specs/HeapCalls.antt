@@ -1,0 +1,167 @@
+-- A node's side of the calls of the heap: node 0 keeps the heap, and any other node asks it.
+use Rattle.std.specs.Prelude.{◌≡◌, ℕ, ◌^◌, Bool, true, false, ◌&&◌, ◌==◌, nat_lt, if◌then◌else◌, List, [], ◌∷◌, Option, Some, None}
+use Rattle.ivy_model.specs.declared.Config.{Config}
+use Rattle.ivy_model.specs.declared.Reply.{Reply}
+use Rattle.ivy_model.specs.declared.Reply.TheVariants.{Value, Done, Refused}
+use Rattle.ivy_model.specs.declared.Fault.{Fault}
+use Rattle.ivy_model.specs.declared.Fault.TheVariants.{Memory, ZeroSize, NoRoom, NotABlock}
+use Rattle.ivy_model.specs.Numbers.{fault_number}
+use Rattle.ivy_wire.specs.declared.Content.TheVariants as content
+use Rattle.ivy_wire.specs.Data.{Content, Message, Parcel}
+use Rattle.ivy_serving.specs.Serving.{parcel_to}
+use Rattle.ivy_alloc.specs.Heap.{HeapState, first_heap}
+use Rattle.ivy_alloc.specs.Told.{Told, alloc_told, free_told}
+use Rattle.ivy_memory.specs.declared.answer.Answer.{Answer}
+use Rattle.ivy_memory.specs.declared.answer.Answer.TheVariants.{Given, Awaited, Unserved}
+use Rattle.ivy_memory.specs.declared.heap_side.HeapCall.{HeapCall}
+use Rattle.ivy_memory.specs.declared.heap_side.HeapCall.TheVariants.{Alloc, Free}
+use Rattle.ivy_memory.specs.declared.heap_side.Errand.{Errand}
+use Rattle.ivy_memory.specs.declared.heap_side.Errand.TheVariants as errand
+
+-- `heap` is the heap, at node 0 alone; `errand` is the call in progress that node 0 was asked for
+pub record HeapSide : Type 0 where
+  pub heap : Option HeapState
+  pub errand : Option Errand
+
+-- the side of a node as it begins
+abbrev pub first_side : Config → ℕ → HeapSide
+first_side c me = record { heap = if me == 0 then Some (first_heap c) else None; errand = None }
+
+-- the side without an errand: its call is over
+abbrev pub closed : HeapSide → HeapSide
+closed s = record s { errand = None }
+
+-- the heap may want memory for a block more, and for nothing else
+abbrev pub IsGrowth : HeapCall → Fault → Type 0
+IsGrowth (Alloc size) fault = fault ≡ Memory
+IsGrowth (Free addr) fault = ⊥
+
+-- and so it may for a request of a block
+abbrev pub IsGrowthFor : Content → Fault → Type 0
+IsGrowthFor (content.AllocReq size) fault = fault ≡ Memory
+IsGrowthFor body fault = ⊥
+
+-- what the heap answers to a call, and the heap after it
+abbrev pub told_of : HeapState → HeapCall → Told
+told_of h (Alloc size) = alloc_told h.config h.blocks size
+told_of h (Free addr) = free_told h.blocks addr
+
+abbrev pub after_told : HeapState → Told → HeapState
+after_told h t = record { config = h.config; blocks = t.blocks }
+
+abbrev pub kept : HeapSide → HeapState → Told → HeapSide
+kept s h t = record s { heap = Some (after_told h t) }
+
+-- how node 0 is asked
+abbrev pub request : HeapCall → Content
+request (Alloc size) = content.AllocReq size
+request (Free addr) = content.FreeReq addr
+
+abbrev pub number_in : HeapCall → ℕ
+number_in (Alloc size) = size
+number_in (Free addr) = addr
+
+-- how it answers: with code 0, or with that of the refusal
+abbrev pub answer_to : HeapCall → Reply → Content
+answer_to (Alloc size) (Value addr) = content.AllocRep 0 addr
+answer_to (Alloc size) Done = content.AllocRep 0 0
+answer_to (Alloc size) (Refused code) = content.AllocRep code 0
+answer_to (Free addr) (Refused code) = content.FreeRep code
+answer_to (Free addr) r = content.FreeRep 0
+
+-- the reply that the answer to an Alloc is, if the call can have it: 8 is for no bytes, and they have no other
+abbrev pub block_told : ℕ → ℕ → ℕ → Option Reply
+block_told size code addr =
+    if size == 0 then (if code == fault_number ZeroSize then Some (Refused code) else None)
+    else (if code == 0 then Some (Value addr)
+    else (if code == fault_number NoRoom then Some (Refused code) else None))
+
+abbrev pub end_told : ℕ → Option Reply
+end_told code =
+    if code == 0 then Some Done
+    else (if code == fault_number NotABlock then Some (Refused code) else None)
+
+abbrev pub reply_in : HeapCall → Content → Option Reply
+reply_in (Alloc size) (content.AllocRep code addr) = block_told size code addr
+reply_in (Free addr) (content.FreeRep code) = end_told code
+reply_in k m = None
+
+-- what a call of the heap comes to when it begins
+pub record HeapBegun : Type 0 where
+  pub answer : Answer
+  pub after : HeapSide
+  pub posted : List Parcel
+
+-- Node 0 serves it at once. Any other node asks node 0, whatever will be refused; there is no request with a number
+-- that takes more than 8 bytes.
+abbrev pub begun_at : ℕ → HeapSide → HeapCall → ℕ → Option HeapState → HeapBegun
+begun_at me s k number (Some h) =
+    let t = told_of h k in
+    record { answer = Given t.reply; after = kept s h t; posted = [] }
+begun_at me s k number None =
+    if nat_lt (number_in k) (2 ^ 64)
+    then record {
+      answer = Awaited;
+      after = record s { errand = Some (errand.Asked k number) };
+      posted = parcel_to me 0 me number (request k) ∷ [];
+    }
+    else record { answer = Unserved; after = s; posted = [] }
+
+abbrev pub heap_begun : ℕ → HeapSide → HeapCall → ℕ → HeapBegun
+heap_begun me s k number = begun_at me s k number s.heap
+
+-- what a message does: whether it fits a rule, and what comes of it
+pub record HeapTold : Type 0 where
+  pub fits : Bool
+  pub after : HeapSide
+  pub posted : List Parcel
+
+abbrev pub misfit : HeapSide → HeapTold
+misfit s = record { fits = false; after = s; posted = [] }
+
+-- node 0 serves the call of the node that the request is from, and answers it
+abbrev pub served_at : ℕ → HeapSide → ℕ → ℕ → HeapCall → Option HeapState → HeapTold
+served_at me s from number k (Some h) =
+    let t = told_of h k in
+    record {
+      fits = true;
+      after = kept s h t;
+      posted = parcel_to me from from number (answer_to k t.reply) ∷ [];
+    }
+served_at me s from number k None = misfit s
+
+abbrev pub served : ℕ → HeapSide → ℕ → Message → HeapCall → HeapTold
+served me s from m k =
+    if m.origin == from then served_at me s from m.call k s.heap else misfit s
+
+-- the answer to the call that node 0 was asked for
+abbrev pub learned : HeapSide → Option Reply → HeapTold
+learned s (Some r) =
+    record { fits = true; after = record s { errand = Some (errand.Told r) }; posted = [] }
+learned s None = misfit s
+
+abbrev pub learns : HeapSide → ℕ → Content → Option Errand → HeapTold
+learns s number body (Some (errand.Asked k asked)) =
+    if number == asked then learned s (reply_in k body) else misfit s
+learns s number body (Some (errand.Told r)) = misfit s
+learns s number body None = misfit s
+
+abbrev pub answered_by : ℕ → HeapSide → ℕ → Message → HeapTold
+answered_by me s from m =
+    if from == 0 && m.origin == me then learns s m.call m.content s.errand else misfit s
+
+abbrev pub heap_told_as : ℕ → HeapSide → ℕ → Message → Content → HeapTold
+heap_told_as me s from m (content.AllocReq size) = served me s from m (Alloc size)
+heap_told_as me s from m (content.FreeReq addr) = served me s from m (Free addr)
+heap_told_as me s from m (content.AllocRep code addr) = answered_by me s from m
+heap_told_as me s from m (content.FreeRep code) = answered_by me s from m
+heap_told_as me s from m body = misfit s
+
+-- a message of another node
+unfoldable pub heap_told : ℕ → HeapSide → ℕ → Message → HeapTold
+heap_told me s from m = heap_told_as me s from m m.content
+
+-- the reply of the call that node 0 was asked for, once it came
+abbrev pub reply_told : Option Errand → Option Reply
+reply_told (Some (errand.Told r)) = Some r
+reply_told e = None
