@@ -5,3 +5,4 @@ pub mod Beginning
 pub mod Polling
 pub mod Same
 pub mod Pages
+pub mod Errands

@@ -28,6 +28,7 @@ use Rattle.ivy_memory.specs.declared.heap_side.HeapCall.{HeapCall}
 use Rattle.ivy_memory.specs.declared.heap_side.Errand.{Errand}
 use Rattle.ivy_memory.specs.declared.heap_side.Errand.TheVariants as errand
 use Rattle.ivy_memory.specs.Asking.{asked_of}
+pub use Rattle.ivy_memory.specs.HeapCalls.{is_of_pages}
 use Rattle.ivy_memory.specs.HeapCalls.{HeapSide, misfit, heap_told_as, heap_told}
 use Rattle.ivy_memory.specs.Memories.{Memory, CallBegun, reply_at, taken_out, begun_as, call_begun, tried_as, polled_as, polled, by_coherence, memory_handled_as, memory_handled}
 use Rattle.ivy_memory.specs.Sound.{IsErrandOf}
@@ -36,13 +37,6 @@ use Rattle.ivy_memory.proofs.Polling.{again-posted, polled_so}
 use Rattle.ivy_coherence.proofs.Rows.{Rows, AccessRows, handled-by_rows, begun-by_rows}
 
 -- a message about a page, and none of the heap
-abbrev pub is_of_pages : Content → Bool
-is_of_pages (content.AllocReq size) = false
-is_of_pages (content.AllocRep code addr) = false
-is_of_pages (content.FreeReq addr) = false
-is_of_pages (content.FreeRep code) = false
-is_of_pages m = true
-
 abbrev pub IsOfPages : Parcel → Type 0
 IsOfPages p = is_of_pages p.message.content ≡ true
 

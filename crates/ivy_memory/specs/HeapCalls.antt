@@ -52,6 +52,14 @@ after_told h t = record { config = h.config; blocks = t.blocks }
 abbrev pub kept : HeapSide → HeapState → Told → HeapSide
 kept s h t = record s { heap = Some (after_told h t) }
 
+-- whether a message is about a page: any other is of the heap
+abbrev pub is_of_pages : Content → Bool
+is_of_pages (content.AllocReq size) = false
+is_of_pages (content.AllocRep code addr) = false
+is_of_pages (content.FreeReq addr) = false
+is_of_pages (content.FreeRep code) = false
+is_of_pages body = true
+
 -- how node 0 is asked
 abbrev pub request : HeapCall → Content
 request (Alloc size) = content.AllocReq size

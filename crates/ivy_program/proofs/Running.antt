@@ -56,3 +56,7 @@ words_at n s (Some _) c h = cc
 -- each program makes calls of words alone, and an access has 1, 2, 4 or 8 bytes
 pub only_words : (p : List Instruction) → OnlyWords p
 only_words p s c h = words_at (length p) s (slice_get p s.place) c h
+
+-- the access that a call makes has 1, 2, 4 or 8 bytes
+pub asked_legal : (p : List Instruction) (s : State) (c : Call) → step p s ≡ Asks c → HasWidth c
+asked_legal p s c h = (only_words p s c h).1

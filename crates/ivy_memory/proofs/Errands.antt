@@ -1,0 +1,129 @@
+-- A call of the heap that node 0 is asked for: what node 0 does with the request, and the node that asked with the answer.
+use Rattle.std.proofs.Common.{◌≡◌, ℕ, ◌<◌, inl, inr, Bool, true, false, ◌&&◌, ◌==◌, [], ◌∷◌, Option, Some, None, refl, sym, ap, ◌∙◌, subst, arith, eq-eqb, if◌then◌else◌}
+use Rattle.std.proofs.lemmas.Bool.{ne_eqb}
+use Rattle.std.proofs.lemmas.Option.{none-some}
+use Rattle.ivy_model.specs.declared.Config.{Config}
+use Rattle.ivy_model.specs.declared.Fault.TheVariants.{ZeroSize, NoRoom, NotABlock}
+use Rattle.ivy_model.specs.declared.Reply.{Reply}
+use Rattle.ivy_model.specs.declared.Reply.TheVariants.{Value, Done, Refused}
+use Rattle.ivy_model.specs.Numbers.{fault_number}
+use Rattle.ivy_wire.specs.declared.Content.TheVariants as content
+use Rattle.ivy_wire.specs.Data.{Content, Message}
+use Rattle.ivy_pagetable.specs.Manager.{Ops}
+use Rattle.ivy_serving.specs.Serving.{parcel_to}
+use Rattle.ivy_alloc.specs.Heap.{HeapState}
+use Rattle.ivy_alloc.specs.Laws.{IsAllocReply, IsFreeReply}
+use Rattle.ivy_alloc.proofs.Answered.{has_replies}
+use Rattle.ivy_memory.specs.declared.heap_side.HeapCall.{HeapCall}
+use Rattle.ivy_memory.specs.declared.heap_side.HeapCall.TheVariants.{Alloc, Free}
+use Rattle.ivy_memory.specs.declared.heap_side.Errand.{Errand}
+use Rattle.ivy_memory.specs.declared.heap_side.Errand.TheVariants as errand
+use Rattle.ivy_memory.specs.HeapCalls.{HeapSide, HeapTold, is_of_pages, told_of, kept, request, answer_to, block_told, end_told, reply_in, misfit, served_at, served, learned, learns, answered_by, heap_told_as, heap_told}
+use Rattle.ivy_memory.specs.Memories.{Memory, by_side, memory_handled_as, memory_handled}
+
+-- neither the request nor the answer is about a page
+pub request_heap : (k : HeapCall) → is_of_pages (request k) ≡ false
+request_heap (Alloc size) = refl
+request_heap (Free addr) = refl
+
+pub answer_heap : (k : HeapCall) (r : Reply) → is_of_pages (answer_to k r) ≡ false
+answer_heap (Alloc size) (Value addr) = refl
+answer_heap (Alloc size) Done = refl
+answer_heap (Alloc size) (Refused code) = refl
+answer_heap (Free addr) (Value v) = refl
+answer_heap (Free addr) Done = refl
+answer_heap (Free addr) (Refused code) = refl
+
+-- what is told of a block of no bytes, and of one of some
+abbrev told_of_none : ℕ → Option Reply
+told_of_none code = if code == fault_number ZeroSize then Some (Refused code) else None
+
+abbrev told_of_some : ℕ → ℕ → Option Reply
+told_of_some code addr = if code == 0 then Some (Value addr) else (if code == fault_number NoRoom then Some (Refused code) else None)
+
+none_told : (size code addr : ℕ) → size ≡ 0 → block_told size code addr ≡ told_of_none code
+none_told size code addr none = ap (λ b. if b then told_of_none code else told_of_some code addr) (eq-eqb size 0 none)
+
+some_told : (size code addr : ℕ) → 0 < size → block_told size code addr ≡ told_of_some code addr
+some_told size code addr some = ap (λ b. if b then told_of_none code else told_of_some code addr) (ne_eqb size 0 (λ none. omega (arith, some, none)))
+
+-- the answer tells the reply of the call
+alloc-replied : (c : Config) (size : ℕ) (r : Reply) → IsAllocReply c size r → reply_in (Alloc size) (answer_to (Alloc size) r) ≡ Some r
+alloc-replied c size (Value addr) is = some_told size 0 addr is.0
+alloc-replied c size Done is = absurd is
+alloc-replied c size (Refused code) is = elim is [
+  | inl x ↦ subst (λ z. block_told size z 0 ≡ Some (Refused z)) (sym x.1) (none_told size (fault_number ZeroSize) 0 x.0)
+  | inr x ↦ subst (λ z. block_told size z 0 ≡ Some (Refused z)) (sym x.1) (some_told size (fault_number NoRoom) 0 x.0)
+]
+
+free-replied : (addr : ℕ) (r : Reply) → IsFreeReply r → reply_in (Free addr) (answer_to (Free addr) r) ≡ Some r
+free-replied addr (Value v) is = absurd is
+free-replied addr Done is = refl
+free-replied addr (Refused code) is = subst (λ z. end_told z ≡ Some (Refused z)) (sym is) refl
+
+pub replied : (h : HeapState) (k : HeapCall) → reply_in k (answer_to k (told_of h k).reply) ≡ Some (told_of h k).reply
+replied h (Alloc size) = alloc-replied h.config size (told_of h (Alloc size)).reply (has_replies h.config h.blocks size).0
+replied h (Free addr) = free-replied addr (told_of h (Free addr)).reply (has_replies h.config h.blocks addr).1
+
+-- a message that tells the reply of a call is one of the answers
+alloc-answer : (me : ℕ) (s : HeapSide) (from : ℕ) (m : Message) (size : ℕ) (body : Content) (r : Reply) → reply_in (Alloc size) body ≡ Some r → heap_told_as me s from m body ≡ answered_by me s from m
+alloc-answer me s from m size (content.AllocReq n) r is = absurd (none-some r is)
+alloc-answer me s from m size (content.AllocRep code addr) r is = refl
+alloc-answer me s from m size (content.FreeReq addr) r is = absurd (none-some r is)
+alloc-answer me s from m size (content.FreeRep code) r is = refl
+alloc-answer me s from m size (content.ReadReq page) r is = absurd (none-some r is)
+alloc-answer me s from m size (content.WriteReq page) r is = absurd (none-some r is)
+alloc-answer me s from m size (content.ReadRep page bytes) r is = absurd (none-some r is)
+alloc-answer me s from m size (content.WriteRep page copies bytes) r is = absurd (none-some r is)
+alloc-answer me s from m size (content.Inval page) r is = absurd (none-some r is)
+alloc-answer me s from m size (content.InvalAck page) r is = absurd (none-some r is)
+
+free-answer : (me : ℕ) (s : HeapSide) (from : ℕ) (m : Message) (at : ℕ) (body : Content) (r : Reply) → reply_in (Free at) body ≡ Some r → heap_told_as me s from m body ≡ answered_by me s from m
+free-answer me s from m at (content.AllocReq n) r is = absurd (none-some r is)
+free-answer me s from m at (content.AllocRep code addr) r is = refl
+free-answer me s from m at (content.FreeReq addr) r is = absurd (none-some r is)
+free-answer me s from m at (content.FreeRep code) r is = refl
+free-answer me s from m at (content.ReadReq page) r is = absurd (none-some r is)
+free-answer me s from m at (content.WriteReq page) r is = absurd (none-some r is)
+free-answer me s from m at (content.ReadRep page bytes) r is = absurd (none-some r is)
+free-answer me s from m at (content.WriteRep page copies bytes) r is = absurd (none-some r is)
+free-answer me s from m at (content.Inval page) r is = absurd (none-some r is)
+free-answer me s from m at (content.InvalAck page) r is = absurd (none-some r is)
+
+answer-told : (me : ℕ) (s : HeapSide) (from : ℕ) (m : Message) (k : HeapCall) (r : Reply) → reply_in k m.content ≡ Some r → heap_told_as me s from m m.content ≡ answered_by me s from m
+answer-told me s from m (Alloc size) r is = alloc-answer me s from m size m.content r is
+answer-told me s from m (Free addr) r is = free-answer me s from m addr m.content r is
+
+request-told : (me : ℕ) (s : HeapSide) (from : ℕ) (m : Message) (k : HeapCall) → heap_told_as me s from m (request k) ≡ served me s from m k
+request-told me s from m (Alloc size) = refl
+request-told me s from m (Free addr) = refl
+
+-- node 0 serves the request of another node
+heap_served : (me : ℕ) (s : HeapSide) (from number : ℕ) (k : HeapCall) (h : HeapState) → s.heap ≡ Some h
+    → heap_told me s from (record { origin = from; call = number; content = request k }) ≡ served_at me s from number k (Some h)
+unfolding heap_told
+heap_served me s from number k h there =
+    request-told me s from (record { origin = from; call = number; content = request k }) k
+    ∙ ap (λ b. if b then served_at me s from number k s.heap else misfit s) (eq-eqb from from refl)
+    ∙ ap (served_at me s from number k) there
+
+-- the node that asked learns the reply
+heap_learned : (me : ℕ) (s : HeapSide) (m : Message) (k : HeapCall) (r : Reply) → m.origin ≡ me → s.errand ≡ Some (errand.Asked k m.call) → reply_in k m.content ≡ Some r
+    → heap_told me s 0 m ≡ learned s (Some r)
+unfolding heap_told
+heap_learned me s m k r mine asks is =
+    answer-told me s 0 m k r is
+    ∙ ap (λ b. if b then learns s m.call m.content s.errand else misfit s) (eq-eqb m.origin me mine)
+    ∙ ap (learns s m.call m.content) asks
+    ∙ ap (λ b. if b then learned s (reply_in k m.content) else misfit s) (eq-eqb m.call m.call refl)
+    ∙ ap (learned s) is
+
+module _ {S : Type 0} (ops : Ops S) (m : Memory S) where
+  pub request_handled : (from number : ℕ) (k : HeapCall) (h : HeapState) → m.side.heap ≡ Some h
+      → memory_handled ops m from (record { origin = from; call = number; content = request k }) ≡ by_side m (served_at m.coherence.me m.side from number k (Some h))
+  request_handled from number k h there =
+      ap (memory_handled_as ops m from (record { origin = from; call = number; content = request k })) (heap_served m.coherence.me m.side from number k h there)
+
+  pub answer_handled : (message : Message) (k : HeapCall) (r : Reply) → message.origin ≡ m.coherence.me → m.side.errand ≡ Some (errand.Asked k message.call) → reply_in k message.content ≡ Some r
+      → memory_handled ops m 0 message ≡ by_side m (learned m.side (Some r))
+  answer_handled message k r mine asks is = ap (memory_handled_as ops m 0 message) (heap_learned m.coherence.me m.side message k r mine asks is)
