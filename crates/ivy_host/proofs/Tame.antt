@@ -13,7 +13,7 @@ use Rattle.ivy_pagetable.specs.Manager.{Ops, Laws}
 use Rattle.ivy_serving.proofs.IdleServing.{all_none}
 use Rattle.ivy_program.specs.declared.Instruction.{Instruction}
 use Rattle.ivy_program.specs.Steps.{Step, Local, Asks, Ends, step_of, at_state}
-use Rattle.ivy_program.proofs.Running.{only_words}
+use Rattle.ivy_program.proofs.Running.{asked_legal}
 use Rattle.ivy_ether.specs.Cores.{Outcome}
 use Rattle.ivy_ether.specs.Nodes.{Node}
 use Rattle.ivy_ether.specs.Following.{IsTame, IsOpening}
@@ -111,7 +111,7 @@ module _ {S : Type 0} {ops : Ops S} (laws : Laws ops) where
 
   begins-tame : (c : Config) (i : ℕ) (n : Host S) (k : Call) (o : Outcome (Host S)) → IsSoundHost ops c i n → n.memory.asked ≡ None → step_of n.process ≡ Asks k → begins ops n k ≡ Some o → Tamed c i o
   begins-tame c i n k o s idle asks is =
-      begins_if-tame c i n k (nat_lt (length n.history + 1) (2 ^ 64)) o s idle (only_words n.process.program n.process.state k asks).1 refl (begins-asking ops n k o idle asks is) is
+      begins_if-tame c i n k (nat_lt (length n.history + 1) (2 ^ 64)) o s idle (asked_legal n.process.program n.process.state k asks) refl (begins-asking ops n k o idle asks is) is
 
   steps-tame : (c : Config) (i : ℕ) (n : Host S) (t : Step) (o : Outcome (Host S)) → IsSoundHost ops c i n → n.memory.asked ≡ None → step_of n.process ≡ t → steps ops n t ≡ Some o → Tamed c i o
   steps-tame c i n (Local t) o s idle at is =
