@@ -1,8 +1,8 @@
 -- The opening world is faithful to the empty order: all bytes are 0, and nothing was asked or sent.
-use Rattle.std.proofs.Common.{◌≡◌, ◌⊎◌, ◌<◌, ℕ, Bool, List, [], ◌++◌, length, get_or, replicate, slice_get, Option, Some, None, refl, ap, sym, subst, ◌∙◌, inl, inr, arith, if◌then◌else◌}
+use Rattle.std.proofs.Common.{◌≡◌, ◌⊎◌, ◌<◌, ℕ, Bool, true, false, ◌==◌, List, [], ◌++◌, length, get_or, replicate, slice_get, Option, Some, None, refl, ap, sym, subst, ◌∙◌, inl, inr, arith, if◌then◌else◌}
 use Rattle.std.proofs.lemmas.Bool.{cases_eq, cases_lt, ne_eqb}
 use Rattle.std.proofs.lemmas.List.{length-replicate, get_or-replicate, get_or_past}
-use Rattle.std.proofs.lemmas.Option.{none-some, slice_get_within, slice_get-get_or}
+use Rattle.std.proofs.lemmas.Option.{same_Some, none-some, slice_get_within, slice_get-get_or}
 use Rattle.ivy_model.specs.declared.Config.{Config}
 use Rattle.ivy_model.specs.Config.{IsConfig}
 use Rattle.ivy_model.specs.Memory.{flat_page, first as first_memory}
@@ -13,11 +13,14 @@ use Rattle.ivy_pagetable.specs.Entries.{put_offs, nothing, owned}
 use Rattle.ivy_pagetable.specs.Tables.{first_entry}
 use Rattle.ivy_pagetable.specs.Manager.{Ops, Laws}
 use Rattle.ivy_program.specs.declared.Instruction.{Instruction}
+use Rattle.ivy_alloc.specs.Heap.{HeapState, first_heap}
+use Rattle.ivy_memory.specs.HeapCalls.{first_side}
 use Rattle.ivy_ether.specs.Ordered.{Ordered}
 use Rattle.ivy_ether.specs.Following.{ordered_of}
 use Rattle.ivy_host.specs.Hosts.{Host, first_host}
 use Rattle.ivy_host.specs.Openings.{opening}
 use Rattle.ivy_order.specs.Letters.{Letter, Place, Underway, Aside, Loose, IsAt}
+use Rattle.ivy_worlds.specs.Errands.{heap_way}
 use Rattle.ivy_worlds.proofs.LiftedWorlds.{entry_of, page_of, net_of, IsSoundWorld}
 use Rattle.ivy_worlds.proofs.LiftedRuns.{sound_opening}
 use Rattle.ivy_order.proofs.Opening.{IsFirst, orderly_opening}
@@ -82,6 +85,14 @@ module _ {S : Type 0} (ops : Ops S) (laws : Laws ops) (c : Config) (config : IsC
   no_letter (Aside i p k) l at = none_aside ((net_of begun).entry i p) k at.0 (elim (first.entries i p) [ inl y ↦ inl y.1 | inr y ↦ inr y ]) at.1
   no_letter (Loose k) l at = none-some l at
 
+  -- no block is live
+  first_blocks : (i : ℕ) (h : HeapState) → (first_side c i).heap ≡ Some h → h.blocks ≡ (first_memory c).blocks
+  first_blocks i h has = at (i == 0) has
+    where
+      at : (b : Bool) → (if b then Some (first_heap c) else None) ≡ Some h → h.blocks ≡ (first_memory c).blocks
+      at true is = ap (λ (x : HeapState). x.blocks) (sym (same_Some (first_heap c) h is))
+      at false is = absurd (none-some h is)
+
   -- nothing is to be explained yet
   pub opening_faithful : IsFaithful ops c begun []
   opening_faithful = record {
@@ -98,5 +109,6 @@ module _ {S : Type 0} (ops : Ops S) (laws : Laws ops) (c : Config) (config : IsC
           makes = λ called is. absurd (none-some called is);
           waits = λ called page word number is. absurd (none-some called is);
         }));
-    parts = λ i n there. (let new = opening_first ops c programs i n there in ap (λ (x : Host S). x.history ++ pending x) (sym new.1));
+    parts = λ i n there. (let new = opening_first ops c programs i n there in ap (λ (x : Host S). x.history ++ pending x (heap_way begun 0 i)) (sym new.1));
+    blocks = λ i n h there has. (let new = opening_first ops c programs i n there in first_blocks i h (ap (λ (x : Host S). x.memory.side.heap) (sym new.1) ∙ has));
   }

@@ -1,5 +1,5 @@
--- The order explains each world of strings that is reached, and goes on from move to move, as programs load and store.
--- For every manager that keeps the laws.
+-- The order explains each world of strings that is reached, and goes on from move to move. For every manager that keeps
+-- the laws.
 use Rattle.std.proofs.Common.{◌≡◌, ◌+◌, ℕ, zero, suc, List, [], ◌∷◌, ◌++◌, length, map, slice_get, Some, refl, ap, sym, subst, ◌∙◌, arith, append-nil, append_assoc}
 use Rattle.std.proofs.lemmas.Simd.{map-map}
 use Rattle.std.proofs.lemmas.Option.{same_Some, none-some}
@@ -22,7 +22,8 @@ use Rattle.ivy_host.specs.Sound.{IsSoundHost}
 use Rattle.ivy_host.specs.Openings.{first_node, first_nodes, opening}
 use Rattle.ivy_host.specs.Holding.{AreRuns}
 use Rattle.ivy_host.proofs.Tame.{tame}
-use Rattle.ivy_explain.proofs.Faithful.{IsFaithful, HasPrograms, GoesOn, map-places, faithful_next, faithful_explained, faithful_runs}
+use Rattle.ivy_explain.proofs.Faithful.{IsFaithful, HasPrograms, map-places, faithful_explained, faithful_runs}
+use Rattle.ivy_explain.proofs.FaithfulSteps.{GoesOn, faithful_next}
 use Rattle.ivy_explain.proofs.FaithfulOpening.{opening_faithful}
 
 -- what stands in a list that is mapped

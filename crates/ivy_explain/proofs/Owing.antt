@@ -7,7 +7,7 @@ use Rattle.ivy_model.specs.declared.Config.{Config}
 use Rattle.ivy_model.specs.declared.Call.{Call}
 use Rattle.ivy_model.specs.declared.Record.{Record}
 use Rattle.ivy_model.specs.declared.Reply.{Reply}
-use Rattle.ivy_model.specs.Memory.{flat_page}
+use Rattle.ivy_model.specs.Memory.{Blocks, flat_page}
 use Rattle.ivy_model.specs.Memory as model
 use Rattle.ivy_model.specs.Legal.{HasWidth, ServesAll}
 use Rattle.ivy_model.specs.Explains.{part, IsOwed}
@@ -16,10 +16,18 @@ use Rattle.ivy_pagetable.specs.declared.Word.{Word}
 use Rattle.ivy_pagetable.specs.Tables.{entry_at}
 use Rattle.ivy_program.specs.Steps.{Asks, step_of}
 use Rattle.ivy_program.specs.Runs.{IsRunTo}
+use Rattle.ivy_wire.specs.Data.{Message}
+use Rattle.ivy_pagetable.specs.declared.Out.{Out}
+use Rattle.ivy_alloc.specs.Heap.{HeapState}
+use Rattle.ivy_alloc.specs.Told.{Told}
 use Rattle.ivy_memory.specs.declared.Asked.TheVariants as asked
+use Rattle.ivy_memory.specs.declared.Errand.{Errand}
+use Rattle.ivy_memory.specs.declared.Errand.TheVariants as errand
 use Rattle.ivy_memory.specs.Asking.{asked_of}
-use Rattle.ivy_memory.specs.Memories.{reply_there}
+use Rattle.ivy_memory.specs.HeapCalls.{after_told, reply_told}
+use Rattle.ivy_memory.specs.Memories.{first_reply, reply_there}
 use Rattle.ivy_host.specs.Hosts.{Host, number_of}
+use Rattle.ivy_worlds.specs.Errands.{replied_by}
 use Rattle.ivy_worlds.proofs.LiftedEvents.{WaitsAt}
 use Rattle.ivy_explain.proofs.WordsServed.{Answers}
 
@@ -29,8 +37,19 @@ owed me None r = []
 owed me (Some c) None = []
 owed me (Some c) (Some r) = record { node = me; call = c; reply = r } ∷ []
 
-abbrev pub pending : {S : Type 0} → Host S → List Record
-pending n = owed (number_of n) n.memory.asked (reply_there n.memory.coherence.done)
+-- The reply that the flat memory gave: node 0 was asked for it and has answered, with these messages of the heap on their
+-- way from there, or a word that waited was carried out.
+abbrev pub reply_owed : Option Errand → List Message → Option Out → Option Reply
+reply_owed e ms d = first_reply (replied_by e ms) (reply_there d)
+
+abbrev pub pending : {S : Type 0} → Host S → List Message → List Record
+pending n ms = owed (number_of n) n.memory.asked (reply_owed n.memory.side.errand ms n.memory.coherence.done)
+
+-- a reply that is there is owed
+pub told-owed : (e : Option Errand) (ms : List Message) (d : Option Out) (r : Reply) → ((y : Errand) → e ≡ Some y → d ≡ None) → first_reply (reply_told e) (reply_there d) ≡ Some r → reply_owed e ms d ≡ Some r
+told-owed None ms d r apart is = is
+told-owed (Some (errand.Told s)) ms d r apart is = is
+told-owed (Some (errand.Asked k number)) ms d r apart is = absurd (none-some r (ap reply_there (sym (apart (errand.Asked k number) refl)) ∙ is))
 
 pub owed-unasked : (me : ℕ) (o : Option Call) (r : Option Reply) → o ≡ None → owed me o r ≡ []
 owed-unasked me None r e = refl
@@ -83,14 +102,22 @@ pub record IsRunning {S : Type 0} (c : Config) (n : Host S) : Type 0 where
   pub waits : (called : Call) (page : ℕ) (word : Word) (number : ℕ) → n.memory.asked ≡ Some called → n.memory.coherence.locked ≡ Some page
       → WaitsAt (entry_at n.memory.coherence.table page) word number → IsWordOf c called page word
 
--- What an event of node i comes to: the flat memory makes these records, all the node's own, and has these pages then.
-pub record Adds {S : Type 0} (c : Config) (old : model.Memory) (i : ℕ) (n n' : Host S) (pages : ℕ → List ℕ) : Type 0 where
+-- The live blocks before and after an event, at the flat memory and at a node that has a heap: they stay, or the heap served
+-- a call.
+pub data GoOn (blocks : Blocks) (heap heap' : Option HeapState) (blocks' : Blocks) : Type 0 where
+  blocks_stay : blocks' ≡ blocks → heap' ≡ heap → GoOn blocks heap heap' blocks'
+  blocks_change : (h : HeapState) (t : Told) → heap ≡ Some h → heap' ≡ Some (after_told h t) → blocks' ≡ t.blocks → GoOn blocks heap heap' blocks'
+
+-- What an event of node i comes to, with these messages of the heap on their way to it from node 0: the flat memory makes
+-- these records, all the node's own, and has these pages then.
+pub record Adds {S : Type 0} (c : Config) (old : model.Memory) (i : ℕ) (n n' : Host S) (ms : List Message) (pages : ℕ → List ℕ) : Type 0 where
   pub more : List Record
   pub new : model.Memory
   pub legal : ServesAll c old more new
   pub shows : (p : ℕ) → p < c.pages → pages p ≡ flat_page c new p
   pub own : part i more ≡ more
   pub other : (j : ℕ) → j ≢ i → part j more ≡ []
-  pub history : n'.history ++ pending n' ≡ (n.history ++ pending n) ++ more
+  pub history : n'.history ++ pending n' ms ≡ (n.history ++ pending n ms) ++ more
   pub running : IsRunning c n'
   pub program : n'.process.program ≡ n.process.program
+  pub blocks : GoOn old.blocks n.memory.side.heap n'.memory.side.heap new.blocks

@@ -37,6 +37,7 @@ pub record IsServed (c : Config) (old : model.Memory) (called : Call) (page : �
   pub new : model.Memory
   pub answers : Answers c old called (reply_of came.out) new
   pub pages : (q : ℕ) → q < c.pages → flat_page c new q ≡ with_page (flat_page c old) page came.bytes q
+  pub blocks : new.blocks ≡ old.blocks
 
 -- nothing is written
 same_pages : (f : ℕ → List ℕ) (p q : ℕ) → f q ≡ with_page f p (f p) q
@@ -48,7 +49,7 @@ same_pages f p q = elim (cases_eq q p) [
 module _ (c : Config) (old : model.Memory) where
   -- what the memory answers and stays as it is
   unchanged : (called : Call) (page : ℕ) (given : Out) → Answers c old called (reply_of given) old → IsServed c old called page (record { out = given; bytes = flat_page c old page })
-  unchanged called page given answers = record { new = old; answers = answers; pages = λ q inside. same_pages (flat_page c old) page q }
+  unchanged called page given answers = record { new = old; answers = answers; pages = λ q inside. same_pages (flat_page c old) page q; blocks = refl }
 
   -- the memory has one page's bytes anew
   changed_page : (new : model.Memory) (p : ℕ) (bytes : List ℕ) → flat_page c new p ≡ bytes → ((q : ℕ) → q < c.pages → q ≢ p → flat_page c new q ≡ flat_page c old q)
@@ -78,6 +79,7 @@ module _ (c : Config) (old : model.Memory) where
           pages = changed_page new (addr / c.page_size) (overwrite (flat_page c old (addr / c.page_size)) (addr % c.page_size) (big_bytes width value))
               (write_by_page c old width addr value sized.bytes placed)
               (λ q inside ne. write_elsewhere c old width addr value q sized.bytes placed inside ne);
+          blocks = refl;
         }
 
   module _ (width addr code : ℕ) (refusal : access_refusal c width addr ≡ Some code) where
@@ -118,6 +120,7 @@ module _ (c : Config) (old : model.Memory) where
       new = counted;
       answers = advances reply.Done counted false room (refl, refl);
       pages = changed_page counted 0 (overwrite words (8 * k) (big_bytes 8 (n + 1))) (write_count old.counts k (n + 1) (slice_get_within old.counts k n there)) others;
+      blocks = refl;
     }
       where
         others : (q : ℕ) → q < c.pages → q ≢ 0 → flat_page c counted q ≡ flat_page c old q

@@ -40,7 +40,7 @@ module _ {S : Type 0} {ops : Ops S} (laws : Laws ops) (c : Config) (limits : IsC
       (quiet_first laws c limits Routed kept begins spare programs many, first_owed (net_of (first_ordered ops c programs)) (first_net ops c programs) (first_net ops c programs).delivered)
 
   pub runs_awaited : AllAwaited ops c programs
-  runs_awaited o run = (let h = reached o run in (h.1.1.0.0, awaited c (net_of o) h.1.1.0.0 h.1.1.1))
+  runs_awaited o run = (let h = reached o run in (h.1.1.0.0, awaited c (net_of o) h.1.1.0.0 h.1.1.1, h.0.errands))
 
   -- what follows for each page from the managers' invariant, and from messages and next hops being at nodes
   pub runs_routed : (Says : (ℕ → S) → Net → ℕ → Type 0)

@@ -8,6 +8,7 @@ use Rattle.ivy_program.specs.declared.Instruction.{Instruction}
 use Rattle.ivy_ether.specs.Ordered.{Ordered}
 use Rattle.ivy_host.specs.Hosts.{Host}
 use Rattle.ivy_order.specs.Orderly.{IsOrderly}
+use Rattle.ivy_worlds.specs.Errands.{AreErrands}
 use Rattle.ivy_worlds.specs.Nets.{net_of, managers_of}
 use Rattle.ivy_worlds.specs.Runs.{IsReachedInOrder}
 use Rattle.ivy_requests.specs.Waiting.{IsAwaited}
@@ -18,10 +19,10 @@ module _ {S : Type 0} (ops : Ops S) (c : Config) (programs : List (List Instruct
   abbrev pub hops_of : Ordered (Host S) → ℕ → ℕ → ℕ
   hops_of o page node = ops.next_hop (managers_of (ops.first c 0) o node) page
 
-  -- the entries and letters fit together, and whoever waits has its message
+  -- the entries and letters fit together, and whoever waits has its message: a word, and a call of the heap
   abbrev pub AllAwaited : Type 0
   AllAwaited = (o : Ordered (Host S)) → IsReachedInOrder ops c programs o
-      → IsOrderly c (net_of o) × IsAwaited (net_of o)
+      → IsOrderly c (net_of o) × IsAwaited (net_of o) × AreErrands o
 
   -- the routes to each page, and besides where nodes manage pages
   abbrev pub AllRouted : Type 0
