@@ -52,10 +52,10 @@ module _ {S : Type 0} (ops : Ops S) (c : Config) (o o' : Ordered (Host S)) (orde
       (asked : asker.memory.side.errand ≡ Some (errand.Asked k number)) (has : core.memory.side.heap ≡ Some heap) (cores : o'.cores ≡ set o.cores home (with_heap core heap k))
       (before : heap_way o 0 source ≡ []) (answer : Message) (after : heap_way o' 0 source ≡ answer ∷ []) (fits : reply_in k answer.content ≡ Some (told_of heap k).reply)
       (others : (j : ℕ) → j ≢ source → heap_way o' 0 j ≡ heap_way o 0 j) where
-    good : IsSoundHost ops c source asker
+    pub good : IsSoundHost ops c source asker
     good = f.sound.sound source asker asks
 
-    called : IsInProgress asker.memory.coherence.config asker.memory.asked k
+    pub called : IsInProgress asker.memory.coherence.config asker.memory.asked k
     called = subst (IsErrandOf asker.memory.coherence.config asker.memory.asked) asked good.memory.side.errand
 
     -- its record

@@ -28,7 +28,8 @@ use Rattle.ivy_worlds.specs.Errands.{about_heap, heap_way, call_message, IsErran
 use Rattle.ivy_worlds.proofs.LiftedWorlds.{net_of, IsSoundWorld, steps_sound}
 use Rattle.ivy_worlds.proofs.HostTurns.{HostTurn, answers, tries_again, goes_on, refuses, asks_for, serves_heap, asks_heap, asks, without_call, asked_posted}
 use Rattle.ivy_worlds.proofs.HeapWays.{way_turned, way_other, way_page, heap_there, heap_elsewhere, heap_quiet}
-use Rattle.ivy_worlds.proofs.LiftedHosts.{WorldTells, rested, turned, delivered, heap_delivered, HeapDelivery, serves, learns, kept-steps}
+use Rattle.ivy_worlds.proofs.HeapDeliveries.{HeapDelivery, serves, learns}
+use Rattle.ivy_worlds.proofs.LiftedHosts.{WorldTells, rested, turned, delivered, heap_delivered, kept-steps}
 use Rattle.ivy_explain.specs.Copied.{IsCopied}
 use Rattle.ivy_explain.proofs.CopiedRows.{copied-kept}
 use Rattle.ivy_explain.proofs.Owing.{Adds}

@@ -135,7 +135,7 @@ module _ {S : Type 0} (o o' : Ordered (Host S)) (x : ℕ) (h after : Host S) (th
               (same 0 x (λ e. absurd (away e)) ∙ none.1));
         }
 
-    pub turned_errands : TurnErrand x h.memory.side.errand after.memory.side.errand ps → AreErrands o'
+    turned_errands : TurnErrand x h.memory.side.errand after.memory.side.errand ps → AreErrands o'
     turned_errands (leaves pages same) =
         quiet_event (way_still o o' ps within sent done pages) (λ away is. as_before x _ _ _ _ _ _ same refl refl is)
     turned_errands (closes pages before rest) =

@@ -25,15 +25,13 @@ module _ {X : Type 0} (test : X → Bool) where
   -- an element that is kept was there
   pub filtered_from : (xs : List X) (k : ℕ) (x : X) → slice_get (filter test xs) k ≡ Some x → (l : ℕ) × (slice_get xs l ≡ Some x)
   filtered_from [] k x is = absurd (none-some x is)
-  filtered_from (y ∷ xs) k x is = this_or (test y) k is
+  filtered_from (y ∷ xs) k x is = this_or (test y) k (λ j at. (let r = filtered_from xs j x at in (suc r.0, r.1))) is
     where
-      rest : (j : ℕ) → slice_get (filter test xs) j ≡ Some x → (l : ℕ) × (slice_get (y ∷ xs) l ≡ Some x)
-      rest j at = let r = filtered_from xs j x at in (suc r.0, r.1)
-
-      this_or : (b : Bool) (j : ℕ) → slice_get (if b then y ∷ filter test xs else filter test xs) j ≡ Some x → (l : ℕ) × (slice_get (y ∷ xs) l ≡ Some x)
-      this_or true zero at = (0, at)
-      this_or true (suc j) at = rest j at
-      this_or false j at = rest j at
+      this_or : (b : Bool) (j : ℕ) → ((i : ℕ) → slice_get (filter test xs) i ≡ Some x → (l : ℕ) × (slice_get (y ∷ xs) l ≡ Some x))
+          → slice_get (if b then y ∷ filter test xs else filter test xs) j ≡ Some x → (l : ℕ) × (slice_get (y ∷ xs) l ≡ Some x)
+      this_or true zero rest at = (0, at)
+      this_or true (suc i) rest at = rest i at
+      this_or false i rest at = rest i at
 
   -- how many are kept of the first ones, with this one too
   pub kept_more : (xs : List X) (n : ℕ) (x : X) → slice_get xs n ≡ Some x → length (filter test (take (n + 1) xs)) ≡ length (filter test (take n xs)) + (if test x then 1 else 0)

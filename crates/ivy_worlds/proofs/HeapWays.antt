@@ -69,17 +69,17 @@ pub way_still : {C : Type 0} (o o' : Ordered C) (ps : List Parcel) → IsWithin 
 way_still o o' ps within sent done pages i j =
     way_turned o o' ps within sent done i j ∙ ap (λ l. heap_way o i j ++ l) (heap_quiet i j ps pages) ∙ append-nil (heap_way o i j)
 
+-- what holds of two nodes, of each pair that is these
+pub at_pair : (source x : ℕ) (P : ℕ → ℕ → Type 0) (i j : ℕ) → P source x → (i == source && j == x) ≡ true → P i j
+at_pair source x P i j h same =
+    let both = and_parts (i == source) (j == x) same in
+    subst (λ a. P a j) (sym (eqb-true i source both.0)) (subst (λ b. P source b) (sym (eqb-true j x both.1)) h)
+
 -- the first message under way from one node to another is taken
 module _ {C : Type 0} (o : Ordered C) (within : IsWithin o) (source x : ℕ) (m : Message) (first : slice_get (o.posted source x) (o.delivered source x) ≡ Some m) where
-  -- it is the first of this pair of nodes
-  at_pair : (P : ℕ → ℕ → Type 0) (i j : ℕ) → P source x → (i == source && j == x) ≡ true → P i j
-  at_pair P i j h same =
-      let both = and_parts (i == source) (j == x) same in
-      subst (λ a. P a j) (sym (eqb-true i source both.0)) (subst (λ b. P source b) (sym (eqb-true j x both.1)) h)
-
   within-one : (i j : ℕ) (b : Bool) → (i == source && j == x) ≡ b → (if b then o.delivered i j + 1 else o.delivered i j) ≤ length (o.posted i j)
   within-one i j false same = within i j
-  within-one i j true same = at_pair (λ a b. o.delivered a b + 1 ≤ length (o.posted a b)) i j (let less = slice_get_within (o.posted source x) (o.delivered source x) m first in omega (arith, less)) same
+  within-one i j true same = at_pair source x (λ a b. o.delivered a b + 1 ≤ length (o.posted a b)) i j (let less = slice_get_within (o.posted source x) (o.delivered source x) m first in omega (arith, less)) same
 
   pub within_taken : (i j : ℕ) → one_more o.delivered source x i j ≤ length (o.posted i j)
   within_taken i j = within-one i j (i == source && j == x) refl

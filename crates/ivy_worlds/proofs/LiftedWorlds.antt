@@ -85,7 +85,7 @@ module _ {S : Type 0} (o : Ordered (Host S)) (source x : ℕ) (m : Message) (fir
       → length (about_pages (take (if b then o.delivered i j + 1 else o.delivered i j) (o.posted i j))) ≡ (if b then before i j + (if is_of_pages m.content then 1 else 0) else before i j)
   counted i j false same = refl
   counted i j true same =
-      at_pair o source x m first
+      at_pair source x
       (λ a b. length (about_pages (take (o.delivered a b + 1) (o.posted a b))) ≡ before a b + (if is_of_pages m.content then 1 else 0)) i j
       (kept_more (λ m. is_of_pages m.content) (o.posted source x) (o.delivered source x) m first) same
 
