@@ -51,6 +51,7 @@ impl<A: Allocator> Model for Node<A> {
 pub(crate) type Outcome = Result<Answer, Fault>;
 
 /// What happens to a node, or what it shows.
+#[derive(Clone, Copy)]
 pub(crate) enum Step {
     /// Its program makes a call, the one of this number: awaits that count 0 is at least this, reads or advances a
     /// count, wants a block of so many bytes, or ends the block at an address. What that comes to.
