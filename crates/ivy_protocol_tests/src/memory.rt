@@ -136,7 +136,12 @@ impl<A: Allocator + Copy> Node<A> {
         let Some(parcel) = other.posted.parcels().last() else {
             return Ok(false);
         };
-        let is_letter = is_parcel(parcel, other.posted.node(), self.posted.node(), message(0, letter));
+        let is_letter = is_parcel(
+            parcel,
+            other.posted.node(),
+            self.posted.node(),
+            message(0, letter),
+        );
         Ok(is_letter && self.takes(parcel.source, parcel.message.lent(), Ok(()))?)
     }
 

@@ -114,6 +114,11 @@ impl Post for Posted {
 }
 
 /// Whether a parcel is this message of a node to another.
-pub(crate) fn is_parcel(parcel: &Parcel<Page<Global>>, source: u8, dest: u8, wanted: Message<&[u8]>) -> bool {
+pub(crate) fn is_parcel(
+    parcel: &Parcel<Page<Global>>,
+    source: u8,
+    dest: u8,
+    wanted: Message<&[u8]>,
+) -> bool {
     parcel.source == source && parcel.dest == dest && parcel.message.lent() == wanted
 }
