@@ -399,8 +399,7 @@ impl<M: Manager, A: Allocator> Coherence<M, A> {
         requires node { P.node post.old ≡ self.old.me }
         ensures ok { OnOk result
             (self.new ≡ (handled M.ops self.old from (owned_message message.entry)).after) }
-        ensures few { length (handled M.ops self.old from (owned_message message.entry)).posted
-            ≤ most_posted }
+        ensures few { length (handled M.ops self.old from (owned_message message.entry)).posted ≤ most_posted }
         ensures posted { OnOk result
             (post.new ≡ P.after post.old (handled M.ops self.old from (owned_message message.entry)).posted) }
         ensures err { OnErr result ((self.new ≡ self.old) × (post.new ≡ post.old)) }
