@@ -1,9 +1,11 @@
 //! The texts of programs, and the machine that carries one out.
+use growths::Refusing;
 use ivy_model::{Call, Fault, Reply};
 use ivy_program::{
     Instruction, Machine, Next, Operation, Register, Width, parse, parse_number, words_of,
 };
-use std::alloc::Allocator;
+use std::alloc::{Allocator, Global};
+use std::process::Abort;
 use std::test::Fail;
 
 /// The line at fault, or 0 where the text is in order.
@@ -24,28 +26,12 @@ fn bad_program_text(rt: HostRuntime) -> Result<(), Fail> {
         ("node 0\nbogus\nprint r16\n", 2),
         ("node 0\n\n# a comment\nprint\n", 4),
         ("node 0\nprint r1 r2", 2),
-        ("node 0\nload 3 r1 r2", 2),
         ("node 0\nset r1 18446744073709551616", 2),
         ("node 0\nset r1 000000000000000000001", 2),
         ("node 0\nset r1 +1", 2),
         ("node 0\nprint r1\r", 2),
         ("node 0\nprint r1\r\r\n", 2),
         ("node 0\nprint\u{b}r1", 2),
-        ("node 0\nstore 3 r1 r2", 2),
-        ("node 0\ncount r1", 2),
-        ("node 0\ncount r16 r2", 2),
-        ("node 0\ncount r1 16", 2),
-        ("node 0\ncount r1 r2 r3", 2),
-        ("node 0\nadvance", 2),
-        ("node 0\nadvance 1", 2),
-        ("node 0\nadvance r1 r2", 2),
-        ("node 0\nawait r1 r2", 2),
-        ("node 0\nawait r16 r2 r3", 2),
-        ("node 0\nawait r1 2 r3", 2),
-        ("node 0\nawait r1 r2 3", 2),
-        ("node 0\nawait r1 r2 r3 r4", 2),
-        ("node 0\nalloc r1 r2", 2),
-        ("node 0\nfree r1", 2),
         ("node 0\nstop r1", 2),
         ("node 0\nmov r1", 2),
         ("node 0\nadd r1 r2 16", 2),
@@ -53,6 +39,96 @@ fn bad_program_text(rt: HostRuntime) -> Result<(), Fail> {
         ("node 0\nstatus 1", 2),
     ] {
         assert_eq!(rt; line_at_fault(rt, text), line, "{text}");
+    }
+    Ok(())
+}
+
+/// A line of a call has all its words and no more, and each is a register, but for the width.
+#[test]
+fn calls_at_fault(rt: HostRuntime) -> Result<(), Fail> {
+    for line in [
+        "load 3 r1 r2",
+        "load r1 r2",
+        "store 3 r1 r2",
+        "store 8 r1",
+        "count r1",
+        "count r16 r2",
+        "count r1 16",
+        "count r1 r2 r3",
+        "advance",
+        "advance 1",
+        "advance r1 r2",
+        "await r1 r2",
+        "await r16 r2 r3",
+        "await r1 2 r3",
+        "await r1 r2 3",
+        "await r1 r2 r3 r4",
+        "alloc",
+        "alloc r1",
+        "alloc r16 r2",
+        "alloc r1 8",
+        "alloc 8 r1 r2",
+        "free",
+        "free r16",
+        "free 64",
+        "free r1 r2",
+    ] {
+        let text = format!(in rt.alloc(); "node 0\n{line}\n")?;
+        assert_eq!(rt; line_at_fault(rt, text.as_str()), 2, "{line}");
+    }
+    Ok(())
+}
+
+/// Programs with a line of each kind.
+const EACH_KIND: [&str; 20] = [
+    "node 0",
+    "label a",
+    "set r1 64",
+    "mov r2 r1",
+    "add r3 r1 r2",
+    "load 8 r4 r1",
+    "store 8 r1 r2",
+    "count r4 r0",
+    "advance r0",
+    "await r4 r0 r1",
+    "alloc r5 r1",
+    "free r5",
+    "status r6",
+    "print r6",
+    "jumpz r6 a",
+    "jump a",
+    "node 1",
+    "label a",
+    "jump a",
+    "stop",
+];
+
+/// The line at fault where the line at this place has a word too many, or 0 where there is none.
+fn fault_beside(rt: HostRuntime, lines: &[&str], at: usize) -> Result<u64, Fail> {
+    let mut text = String::new(rt.alloc());
+    for (place, line) in lines.iter().enumerate() {
+        text.push_str(line)?;
+        text.push_str(if place == at { " more\n" } else { "\n" })?;
+    }
+    Ok(line_at_fault(rt, text.as_str()))
+}
+
+#[test]
+fn each_line_at_fault(rt: HostRuntime) -> Result<(), Fail> {
+    for (at, line) in EACH_KIND.iter().enumerate() {
+        let number = fault_beside(rt, &EACH_KIND, at)?;
+        assert_eq!(rt; number, at as u64 + 1, "{line}");
+    }
+    assert_eq!(rt; fault_beside(rt, &EACH_KIND, EACH_KIND.len())?, 0);
+    Ok(())
+}
+
+/// The third line jumps to a name of the next program alone.
+#[test]
+fn unknown_jump_beside_a_fault(rt: HostRuntime) -> Result<(), Fail> {
+    let lines = ["node 0", "print r1", "jump a", "print r1", "node 1", "label a"];
+    for (at, number) in [1, 2, 3, 3, 3, 3, 3].iter().enumerate() {
+        assert_eq!(rt; fault_beside(rt, &lines, at)?, *number, "{at}");
     }
     Ok(())
 }
@@ -85,6 +161,21 @@ fn labels_at_fault(rt: HostRuntime) {
     }
 }
 
+/// One name is a label of each of two programs, at a place of its own.
+#[test]
+fn labels_of_one_name(rt: HostRuntime) -> Result<(), Fail> {
+    let text = "node 0\nlabel a\njump a\nnode 1\nprint r0\njump a\nlabel a\n";
+    let programs = parse(rt.alloc(), text)?;
+    assert_eq!(rt; programs.len(), 2);
+    let jump = |place| Instruction::Jump { place };
+    let print = Instruction::Print {
+        from: Register::new(0).ok_or("no register")?,
+    };
+    assert_eq!(rt; programs[0].instructions(), [jump(0)].as_slice());
+    assert_eq!(rt; programs[1].instructions(), [print, jump(2)].as_slice());
+    Ok(())
+}
+
 #[test]
 fn texts_in_order(rt: HostRuntime) -> Result<(), Fail> {
     assert_eq!(rt; parse(rt.alloc(), "")?.len(), 0);
@@ -102,11 +193,9 @@ fn texts_in_order(rt: HostRuntime) -> Result<(), Fail> {
 }
 
 #[test]
-fn lines_of_counts(rt: HostRuntime) -> Result<(), Fail> {
-    let mut programs = parse(
-        rt.alloc(),
-        "node 0\ncount r1 r2\nadvance r3\nawait r4 r5 r15\n",
-    )?;
+fn lines_of_calls(rt: HostRuntime) -> Result<(), Fail> {
+    let text = "node 0\ncount r1 r2\nadvance r3\nawait r4 r5 r15\nalloc r6 r7\nfree r8\n";
+    let mut programs = parse(rt.alloc(), text)?;
     let program = programs.pop().ok_or("no program")?;
     let register = |number| Register::new(number).ok_or("no register");
     let lines = [
@@ -122,6 +211,11 @@ fn lines_of_counts(rt: HostRuntime) -> Result<(), Fail> {
             count: register(5)?,
             least: register(15)?,
         },
+        Instruction::Alloc {
+            to: register(6)?,
+            size: register(7)?,
+        },
+        Instruction::Free { addr: register(8)? },
     ];
     assert_eq!(rt; program.instructions(), lines.as_slice());
     Ok(())
@@ -149,6 +243,42 @@ fn limits_of_a_text(rt: HostRuntime) -> Result<(), Fail> {
     Ok(())
 }
 
+/// Reads a text with its n-th growth refused. Where it comes to so many growths the fault is want of
+/// memory, and else the text's own.
+fn parse_at(
+    rt: &impl Abort,
+    memory: &Refusing<Global>,
+    n: u64,
+    text: &str,
+    own: Option<Fault>,
+) -> bool {
+    memory.refuse(n);
+    let fault = parse(memory, text).err();
+    let met = memory.asked(n) >= n;
+    memory.refuse(0);
+    let wanted = if met { Some(Fault::Memory) } else { own };
+    assert_eq!(rt; fault, wanted, "growth {n}");
+    met
+}
+
+#[test]
+fn growths_of_a_text(rt: HostRuntime) {
+    let memory = Refusing::new(rt.alloc());
+    for (text, own) in [
+        ("node 0\nlabel a\nalloc r1 r2\njump a\nnode 1\nfree r1\n", None),
+        ("node 0\njump a\nbogus\n", Some(Fault::ProgramFault(2))),
+    ] {
+        let mut refused = 0;
+        for n in 1..100 {
+            if !parse_at(&rt, &memory, n, text, own) {
+                break;
+            }
+            refused = n;
+        }
+        assert!(rt; refused > 0 && refused < 99);
+    }
+}
+
 /// The program of the first load: its call is given until it is answered, and what came is printed.
 #[test]
 fn first_load(rt: HostRuntime) -> Result<(), Fail> {
@@ -173,21 +303,36 @@ fn first_load(rt: HostRuntime) -> Result<(), Fail> {
     Ok(())
 }
 
+/// The calls of a program that ends within 40 turns, each with its reply of these, and what it prints.
+fn answered<A: Allocator + Copy>(
+    alloc: A,
+    text: &str,
+    replies: &[Reply],
+) -> Result<(Vec<Call, A>, Vec<u64, A>), Fail> {
+    let mut programs = parse(alloc, text)?;
+    let mut machine = Machine::new(programs.pop().ok_or("no program")?);
+    let mut calls = Vec::new(alloc);
+    for _ in 0..40 {
+        if let Next::Call(call) = machine.next()? {
+            let reply = *replies.get(calls.len()).ok_or("no reply")?;
+            calls.push(call)?;
+            machine.answer(reply);
+        }
+    }
+    if !machine.ended() {
+        return Err("not ended".into());
+    }
+    Ok((calls, machine.output().to_vec(alloc)?))
+}
+
 /// A refused call keeps its register, and its number is the status until the next call.
 #[test]
 fn refused_load(rt: HostRuntime) -> Result<(), Fail> {
     let text = "node 0\nstatus r3\nprint r3\nset r2 5\nload 1 r2 r1\nprint r2\nstatus r3\n\
                 print r3\nload 1 r2 r1\nstatus r3\nprint r3\nprint r2";
-    let mut programs = parse(rt.alloc(), text)?;
-    let mut machine = Machine::new(programs.pop().ok_or("no program")?);
-    let mut replies = [Reply::Value(9), Reply::Refused(5)].to_vec(rt.alloc())?;
-    for _ in 0..16 {
-        if let Next::Call(_) = machine.next()? {
-            machine.answer(replies.pop().ok_or("no reply")?);
-        }
-    }
-    assert!(rt; machine.ended());
-    assert_eq!(rt; machine.output(), [0, 5, 5, 0, 9].as_slice());
+    let replies = [Reply::Refused(5), Reply::Value(9)];
+    let (_, output) = answered(rt.alloc(), text, &replies)?;
+    assert_eq!(rt; output.as_slice(), [0, 5, 5, 0, 9].as_slice());
     Ok(())
 }
 
@@ -198,18 +343,9 @@ fn stores(rt: HostRuntime) -> Result<(), Fail> {
     let text = "node 0\nset r1 64\nset r2 258\nstore 2 r1 r2\nstatus r3\nprint r3\n\
                 store 8 r2 r1\nstatus r3\nprint r3\nprint r1\nprint r2\n\
                 store 1 r1 r1\nstatus r3\nprint r3";
-    let mut programs = parse(rt.alloc(), text)?;
-    let mut machine = Machine::new(programs.pop().ok_or("no program")?);
-    let mut calls = Vec::new(rt.alloc());
-    let mut replies = [Reply::Done, Reply::Refused(3), Reply::Done].to_vec(rt.alloc())?;
-    for _ in 0..16 {
-        if let Next::Call(call) = machine.next()? {
-            calls.push(call)?;
-            machine.answer(replies.pop().ok_or("no reply")?);
-        }
-    }
-    assert!(rt; machine.ended());
-    assert_eq!(rt; machine.output(), [0, 3, 64, 258, 0].as_slice());
+    let replies = [Reply::Done, Reply::Refused(3), Reply::Done];
+    let (calls, output) = answered(rt.alloc(), text, &replies)?;
+    assert_eq!(rt; output.as_slice(), [0, 3, 64, 258, 0].as_slice());
     let named = [(2, 64, 258), (8, 258, 64), (1, 64, 64)].map(|(width, addr, value)| Call::Store {
         width,
         addr,
@@ -226,26 +362,16 @@ fn counts(rt: HostRuntime) -> Result<(), Fail> {
     let text = "node 0\nset r1 3\nset r2 5\nadvance r1\nstatus r4\nprint r4\n\
                 count r3 r1\nprint r3\nawait r3 r1 r2\nprint r3\nadvance r2\nstatus r4\n\
                 print r4\ncount r3 r2\nprint r3\nawait r3 r2 r1\nstatus r4\nprint r4\nprint r3";
-    let mut programs = parse(rt.alloc(), text)?;
-    let mut machine = Machine::new(programs.pop().ok_or("no program")?);
-    let mut calls = Vec::new(rt.alloc());
-    let mut replies = [
-        Reply::Refused(6),
-        Reply::Refused(6),
-        Reply::Refused(7),
-        Reply::Value(8),
-        Reply::Value(1),
+    let replies = [
         Reply::Done,
-    ]
-    .to_vec(rt.alloc())?;
-    for _ in 0..32 {
-        if let Next::Call(call) = machine.next()? {
-            calls.push(call)?;
-            machine.answer(replies.pop().ok_or("no reply")?);
-        }
-    }
-    assert!(rt; machine.ended());
-    assert_eq!(rt; machine.output(), [0, 1, 8, 7, 8, 6, 8].as_slice());
+        Reply::Value(1),
+        Reply::Value(8),
+        Reply::Refused(7),
+        Reply::Refused(6),
+        Reply::Refused(6),
+    ];
+    let (calls, output) = answered(rt.alloc(), text, &replies)?;
+    assert_eq!(rt; output.as_slice(), [0, 1, 8, 7, 8, 6, 8].as_slice());
     let named = [
         Call::Advance { k: 3 },
         Call::Count { k: 3 },
@@ -253,6 +379,33 @@ fn counts(rt: HostRuntime) -> Result<(), Fail> {
         Call::Advance { k: 5 },
         Call::Count { k: 5 },
         Call::Await { k: 5, least: 3 },
+    ];
+    assert_eq!(rt; calls.as_slice(), named.as_slice());
+    Ok(())
+}
+
+/// `alloc` names the bytes that its second register holds, and the address goes to the first; `free`
+/// names the address. A refusal keeps the register, and its number is the status until a call succeeds.
+#[test]
+fn blocks(rt: HostRuntime) -> Result<(), Fail> {
+    let text = "node 0\nset r1 24\nalloc r2 r1\nprint r2\nalloc r2 r3\nstatus r4\nprint r4\n\
+                print r2\nfree r2\nstatus r4\nprint r4\nprint r2\nfree r2\nstatus r4\nprint r4\n\
+                print r2\nalloc r2 r2\nprint r2\nstatus r4\nprint r4";
+    let replies = [
+        Reply::Value(72),
+        Reply::Refused(8),
+        Reply::Done,
+        Reply::Refused(10),
+        Reply::Value(64),
+    ];
+    let (calls, output) = answered(rt.alloc(), text, &replies)?;
+    assert_eq!(rt; output.as_slice(), [72, 8, 72, 0, 72, 10, 72, 64, 0].as_slice());
+    let named = [
+        Call::Alloc { size: 24 },
+        Call::Alloc { size: 0 },
+        Call::Free { addr: 72 },
+        Call::Free { addr: 72 },
+        Call::Alloc { size: 72 },
     ];
     assert_eq!(rt; calls.as_slice(), named.as_slice());
     Ok(())

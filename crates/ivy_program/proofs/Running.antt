@@ -6,12 +6,11 @@ use Rattle.ivy_model.specs.Legal.{HasWidth, IsWidth}
 use Rattle.ivy_program.specs.declared.instruction.Width.{Width}
 use Rattle.ivy_program.specs.declared.instruction.Width.TheVariants.{One, Two, Four, Eight}
 use Rattle.ivy_program.specs.declared.instruction.Instruction.{Instruction}
-use Rattle.ivy_program.specs.declared.instruction.Instruction.TheVariants.{Load, Store, Count, Advance, Await}
+use Rattle.ivy_program.specs.declared.instruction.Instruction.TheVariants.{Load, Store, Count, Advance, Await, Alloc, Free}
 use Rattle.ivy_program.specs.Instructions.{bytes_in}
 use Rattle.ivy_program.specs.States.{State}
 use Rattle.ivy_program.specs.Steps.{Step, Local, Asks, Ends, step, step_at, answered}
 use Rattle.ivy_program.specs.Runs.{StepsTo, Runs}
-use Rattle.ivy_program.specs.Calls.{IsWordCall, OnlyWords}
 
 leads_on : (p : List Instruction) (n : ℕ) (old mid new : State) → StepsTo p n old mid → step p mid ≡ Local new → StepsTo p (suc n) old new
 leads_on p zero old mid new e h = (new, subst (λ s. step p s ≡ Local new) e h, refl)
@@ -38,21 +37,17 @@ asked c (Local s) = c
 asked c (Asks d) = d
 asked c Ends = c
 
-words_at : (n : ℕ) (s : State) (i : Option Instruction) (c : Call)
-    → step_at n s i ≡ Asks c → IsWordCall c × HasWidth c
-words_at n s None c h = cc
-words_at n s (Some (Load width to addr)) c h =
-    subst (λ d. IsWordCall d × HasWidth d) (ap (asked c) h) (tt, is_width width)
-words_at n s (Some (Store width addr from)) c h =
-    subst (λ d. IsWordCall d × HasWidth d) (ap (asked c) h) (tt, is_width width)
-words_at n s (Some (Count to count)) c h =
-    subst (λ d. IsWordCall d × HasWidth d) (ap (asked c) h) (tt, tt)
-words_at n s (Some (Advance count)) c h =
-    subst (λ d. IsWordCall d × HasWidth d) (ap (asked c) h) (tt, tt)
-words_at n s (Some (Await to count least)) c h =
-    subst (λ d. IsWordCall d × HasWidth d) (ap (asked c) h) (tt, tt)
-words_at n s (Some _) c h = cc
+legal_at : (n : ℕ) (s : State) (i : Option Instruction) (c : Call) → step_at n s i ≡ Asks c → HasWidth c
+legal_at n s None c h = cc
+legal_at n s (Some (Load width to addr)) c h = subst HasWidth (ap (asked c) h) (is_width width)
+legal_at n s (Some (Store width addr from)) c h = subst HasWidth (ap (asked c) h) (is_width width)
+legal_at n s (Some (Count to count)) c h = subst HasWidth (ap (asked c) h) tt
+legal_at n s (Some (Advance count)) c h = subst HasWidth (ap (asked c) h) tt
+legal_at n s (Some (Await to count least)) c h = subst HasWidth (ap (asked c) h) tt
+legal_at n s (Some (Alloc to size)) c h = subst HasWidth (ap (asked c) h) tt
+legal_at n s (Some (Free addr)) c h = subst HasWidth (ap (asked c) h) tt
+legal_at n s (Some _) c h = cc
 
--- each program makes calls of words alone, and an access has 1, 2, 4 or 8 bytes
-pub only_words : (p : List Instruction) → OnlyWords p
-only_words p s c h = words_at (length p) s (slice_get p s.place) c h
+-- an access that a program asks for has 1, 2, 4 or 8 bytes
+pub asked_legal : (p : List Instruction) (s : State) (c : Call) → step p s ≡ Asks c → HasWidth c
+asked_legal p s c h = legal_at (length p) s (slice_get p s.place) c h

@@ -4,7 +4,7 @@ use Rattle.std.specs.List.{AllZip}
 use Rattle.std.specs.Str.Parse.{digits_value}
 use Rattle.std.proofs.lemmas.Bool.Decides.{nat_tests}
 use Rattle.ivy_program.specs.declared.instruction.Instruction.{Instruction}
-use Rattle.ivy_program.specs.declared.instruction.Instruction.TheVariants.{Set, Move, Compute, Load, Store, Count, Advance, Await, Status, Print, Jump, JumpIfZero, Stop}
+use Rattle.ivy_program.specs.declared.instruction.Instruction.TheVariants.{Set, Move, Compute, Load, Store, Count, Advance, Await, Alloc, Free, Status, Print, Jump, JumpIfZero, Stop}
 use Rattle.ivy_program.specs.declared.instruction.Operation.{Operation}
 use Rattle.ivy_program.specs.declared.instruction.Operation.TheVariants.{Add, Sub, Mul}
 use Rattle.ivy_program.specs.declared.instruction.Width.{Width}
@@ -60,6 +60,8 @@ key_of (Store width addr from) = number (codes "store")
 key_of (Count to count) = number (codes "count")
 key_of (Advance count) = number (codes "advance")
 key_of (Await to count least) = number (codes "await")
+key_of (Alloc to size) = number (codes "alloc")
+key_of (Free addr) = number (codes "free")
 key_of (Set to value) = number (codes "set")
 key_of (Move to from) = number (codes "mov")
 key_of (Compute operation to left right) = 1
@@ -85,6 +87,8 @@ plain_key ws (Store width addr from) h = ap key h.2
 plain_key ws (Count to count) h = ap key h
 plain_key ws (Advance count) h = ap key h
 plain_key ws (Await to count least) h = ap key h
+plain_key ws (Alloc to size) h = ap key h
+plain_key ws (Free addr) h = ap key h
 plain_key ws (Set to value) h = ap key h.2
 plain_key ws (Move to from) h = ap key h
 plain_key ws (Compute operation to left right) h = ap key h ∙ operation_is operation
@@ -154,6 +158,8 @@ module _ (ws : List (List ℕ)) where
       (operand_same ws 1 t u (at 1 _ h) (at 1 _ k) i)
       (operand_same ws 2 c d (at 2 _ h) (at 2 _ k) i)
       (operand_same ws 3 l m (at 3 _ h) (at 3 _ k) i)
+  plain_same (Alloc t n) (Alloc u m) h k = λ i. Alloc (operand_same ws 1 t u (at 1 _ h) (at 1 _ k) i) (operand_same ws 2 n m (at 2 _ h) (at 2 _ k) i)
+  plain_same (Free a) (Free b) h k = ap Free (operand_same ws 1 a b (at 1 _ h) (at 1 _ k))
   plain_same (Set t n) (Set u m) h k = λ i. Set
       (operand_same ws 1 t u (at 1 _ h.2) (at 1 _ k.2) i)
       ((sym h.1.1 ∙ ap (digits_value 10) (sym (at 2 _ h.2) ∙ at 2 _ k.2) ∙ k.1.1) i)

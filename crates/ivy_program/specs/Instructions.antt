@@ -5,7 +5,7 @@ use Rattle.ivy_program.specs.declared.instruction.Width.TheVariants.{One, Two, F
 use Rattle.ivy_program.specs.declared.instruction.Operation.{Operation}
 use Rattle.ivy_program.specs.declared.instruction.Operation.TheVariants.{Add, Sub, Mul}
 use Rattle.ivy_program.specs.declared.instruction.Instruction.{Instruction}
-use Rattle.ivy_program.specs.declared.instruction.Instruction.TheVariants.{Set, Move, Compute, Load, Store, Count, Advance, Await, Status, Print, Jump, JumpIfZero, Stop}
+use Rattle.ivy_program.specs.declared.instruction.Instruction.TheVariants.{Set, Move, Compute, Load, Store, Count, Advance, Await, Alloc, Free, Status, Print, Jump, JumpIfZero, Stop}
 
 abbrev pub bytes_in : Width → ℕ
 bytes_in One = 1
@@ -24,6 +24,7 @@ abbrev pub receiver_of : Instruction → Option ℕ
 receiver_of (Load width to addr) = Some to
 receiver_of (Count to count) = Some to
 receiver_of (Await to count least) = Some to
+receiver_of (Alloc to size) = Some to
 receiver_of _ = None
 
 -- each register that it names is there
@@ -36,6 +37,8 @@ NamesRegisters (Store width addr from) = (addr < 16) × (from < 16)
 NamesRegisters (Count to count) = (to < 16) × (count < 16)
 NamesRegisters (Advance count) = count < 16
 NamesRegisters (Await to count least) = (to < 16) × (count < 16) × (least < 16)
+NamesRegisters (Alloc to size) = (to < 16) × (size < 16)
+NamesRegisters (Free addr) = addr < 16
 NamesRegisters (Status to) = to < 16
 NamesRegisters (Print from) = from < 16
 NamesRegisters (Jump place) = Unit {0}

@@ -6,7 +6,7 @@ use Rattle.ivy_program.specs.declared.line.Action.TheVariants as action
 use Rattle.ivy_program.specs.declared.line.Line.{Line}
 use Rattle.ivy_program.specs.declared.line.Line.TheVariants as line
 use Rattle.ivy_program.specs.declared.instruction.Instruction.{Instruction}
-use Rattle.ivy_program.specs.declared.instruction.Instruction.TheVariants.{Set, Move, Compute, Load, Store, Count, Advance, Await, Status, Print, Stop}
+use Rattle.ivy_program.specs.declared.instruction.Instruction.TheVariants.{Set, Move, Compute, Load, Store, Count, Advance, Await, Alloc, Free, Status, Print, Stop}
 use Rattle.ivy_program.specs.Instructions.{NamesRegisters}
 use Rattle.ivy_program.specs.Numbers.{IsNumber}
 use Rattle.ivy_program.specs.Operands.{register_word, operation_word, IsWidthWord, IsName}
@@ -25,6 +25,8 @@ SpellsPlain words (Count to count) =
 SpellsPlain words (Advance count) = words ≡ codes "advance" ∷ register_word count ∷ []
 SpellsPlain words (Await to count least) =
     words ≡ codes "await" ∷ register_word to ∷ register_word count ∷ register_word least ∷ []
+SpellsPlain words (Alloc to size) = words ≡ codes "alloc" ∷ register_word to ∷ register_word size ∷ []
+SpellsPlain words (Free addr) = words ≡ codes "free" ∷ register_word addr ∷ []
 SpellsPlain words (Set to value) = (w : List ℕ) × IsNumberWord w value
     × (words ≡ codes "set" ∷ register_word to ∷ w ∷ [])
 SpellsPlain words (Move to from) =

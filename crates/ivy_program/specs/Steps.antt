@@ -5,7 +5,7 @@ use Rattle.ivy_model.specs.declared.Call.TheVariants as call
 use Rattle.ivy_model.specs.declared.Reply.{Reply}
 use Rattle.ivy_model.specs.declared.Reply.TheVariants.{Value, Done, Refused}
 use Rattle.ivy_program.specs.declared.instruction.Instruction.{Instruction}
-use Rattle.ivy_program.specs.declared.instruction.Instruction.TheVariants.{Set, Move, Compute, Load, Store, Count, Advance, Await, Status, Print, Jump, JumpIfZero, Stop}
+use Rattle.ivy_program.specs.declared.instruction.Instruction.TheVariants.{Set, Move, Compute, Load, Store, Count, Advance, Await, Alloc, Free, Status, Print, Jump, JumpIfZero, Stop}
 use Rattle.ivy_program.specs.declared.machine.Next.{Next}
 use Rattle.ivy_program.specs.declared.machine.Next.TheVariants as next
 use Rattle.ivy_program.specs.Instructions.{bytes_in, result_of, receiver_of}
@@ -24,6 +24,8 @@ call_of s (Store width addr from) = Some (call.Store (bytes_in width) (held s ad
 call_of s (Count to count) = Some (call.Count (held s count))
 call_of s (Advance count) = Some (call.Advance (held s count))
 call_of s (Await to count least) = Some (call.Await (held s count) (held s least))
+call_of s (Alloc to size) = Some (call.Alloc (held s size))
+call_of s (Free addr) = Some (call.Free (held s addr))
 call_of s _ = None
 
 -- what an instruction without a call writes: a register, or the output

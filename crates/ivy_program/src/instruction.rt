@@ -140,6 +140,16 @@ pub enum Instruction {
         count: Register,
         least: Register,
     },
+    /// `alloc rD rN`: takes a block of as many bytes as one register holds, and its address goes to
+    /// another.
+    Alloc {
+        to: Register,
+        size: Register,
+    },
+    /// `free rA`: ends the block at the address in the register.
+    Free {
+        addr: Register,
+    },
     /// `status rD`: the register takes the number of the last call's refusal, or 0.
     Status {
         to: Register,
@@ -172,6 +182,7 @@ impl Instruction {
             Instruction::Load { to, .. } => Some(to),
             Instruction::Count { to, .. } => Some(to),
             Instruction::Await { to, .. } => Some(to),
+            Instruction::Alloc { to, .. } => Some(to),
             _ => None,
         }
     }

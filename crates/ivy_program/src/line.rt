@@ -125,6 +125,9 @@ fn parse_unary(keyword: &str, operand: &str) -> Option<Action>
         "advance" => Action::Plain(Instruction::Advance {
             count: parse_register(operand)?,
         }),
+        "free" => Action::Plain(Instruction::Free {
+            addr: parse_register(operand)?,
+        }),
         "status" => Action::Plain(Instruction::Status {
             to: parse_register(operand)?,
         }),
@@ -154,6 +157,10 @@ fn parse_binary(keyword: &str, first: &str, second: &str) -> Option<Action>
         "count" => Action::Plain(Instruction::Count {
             to: parse_register(first)?,
             count: parse_register(second)?,
+        }),
+        "alloc" => Action::Plain(Instruction::Alloc {
+            to: parse_register(first)?,
+            size: parse_register(second)?,
         }),
         "jumpz" => Action::JumpIfZero(parse_register(first)?, Name::new(second)?),
         _ => return None,
