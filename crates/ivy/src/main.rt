@@ -10,6 +10,10 @@ mod command;
 mod examples;
 #[cfg(test)]
 mod examples_of_counts;
+#[cfg(test)]
+mod examples_of_heap;
+#[cfg(test)]
+mod examples_of_numbers;
 mod failure;
 mod moves;
 #[cfg(test)]

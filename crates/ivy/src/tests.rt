@@ -132,100 +132,147 @@ pub fn check_over<R: Abort + AllocGlobal>(
     Ok(())
 }
 
+/// A program text in a file of this name, with what it prints and for how many nodes it is.
+#[derive(Clone, Copy)]
+pub struct Example<'a> {
+    pub name: &'a str,
+    pub text: &'a str,
+    pub out: &'a str,
+    pub nodes: u64,
+}
+
+/// An example prints its lines in rounds, and then under the drawn moves of these seeds, in which all nodes end.
+pub fn check_example<R: Abort + AllocGlobal>(
+    rt: &R,
+    example: &Example,
+    seeds: &[u64],
+) -> Result<(), Fail> {
+    let name = example.name;
+    let files = [(name, example.text)];
+    let mut ends = String::from_str(rt.alloc(), example.out)?;
+    for node in 0..example.nodes {
+        ends.push_str(format!(in rt.alloc(); "node {node} ended\n")?.as_str())?;
+    }
+    for manager in ["dynamic", "fixed"] {
+        let line = format!(in rt.alloc(); "run {name} --manager {manager}")?;
+        check_over(rt, &files, line.as_str(), (0, example.out, ""))?;
+        for seed in seeds {
+            let line = format!(in rt.alloc();
+                "sim {name} --manager {manager} --seed {seed} --moves 100000"
+            )?;
+            check_over(rt, &files, line.as_str(), (0, ends.as_str(), ""))?;
+        }
+    }
+    Ok(())
+}
+
 fn check<R: Abort + AllocGlobal>(rt: &R, line: &str, answer: (u8, &str, &str)) -> Result<(), Fail> {
     check_over(rt, &FILES, line, answer)
 }
 
+/// Options of two pages.
+const SMALL: &str = "--pages 2 --page-size 64 --manager fixed";
+
+/// Commands, their options, and what they print with status 0.
+const DONE: [(&str, &str, &str); 10] = [
+    ("run empty", "", ""),
+    ("run empty", "--turns 0", ""),
+    ("run load", SMALL, "node 1: 0\n"),
+    (
+        "run load",
+        "--page-size=64 --capacity 0 --pulse 0",
+        "node 1: 0\n",
+    ),
+    ("step load moves", SMALL, FIRST_TRACE),
+    (
+        "step load spaced",
+        SMALL,
+        "1 turn 1\n2 turn 1\n  sent 0 ReadReq 1 0 1\nnode 0 ended\nnode 1 open\n",
+    ),
+    ("step empty none", "", "node 0 ended\nnode 1 ended\n"),
+    ("sim empty", "", "node 0 ended\nnode 1 ended\n"),
+    ("sim load --moves 0", SMALL, "node 0 ended\nnode 1 open\n"),
+    // Of the first eight moves of this seed seven are turns of node 0, and one is a pulse.
+    (
+        "sim load --seed 1 --moves 8",
+        SMALL,
+        "node 0 ended\nnode 1 open\n",
+    ),
+];
+
 #[test]
 fn done(rt: HostRuntime) -> Result<(), Fail> {
-    let small = "--pages 2 --page-size 64 --manager fixed";
-    for (command, options, out) in [
-        ("run empty", "", ""),
-        ("run empty", "--turns 0", ""),
-        ("run load", small, "node 1: 0\n"),
-        (
-            "run load",
-            "--page-size=64 --capacity 0 --pulse 0",
-            "node 1: 0\n",
-        ),
-        ("step load moves", small, FIRST_TRACE),
-        (
-            "step load spaced",
-            small,
-            "1 turn 1\n2 turn 1\n  sent 0 ReadReq 1 0 1\nnode 0 ended\nnode 1 open\n",
-        ),
-        ("step empty none", "", "node 0 ended\nnode 1 ended\n"),
-        ("sim empty", "", "node 0 ended\nnode 1 ended\n"),
-        ("sim load --moves 0", small, "node 0 ended\nnode 1 open\n"),
-        // Of the first eight moves of this seed seven are turns of node 0, and one is a pulse.
-        (
-            "sim load --seed 1 --moves 8",
-            small,
-            "node 0 ended\nnode 1 open\n",
-        ),
-    ] {
+    for (command, options, out) in DONE {
         let line = format!(in rt.alloc(); "{command} {options}")?;
         check(&rt, line.as_str(), (0, out, ""))?;
     }
     Ok(())
 }
 
+/// What is printed up to a move that is refused.
+const UNSENT_TRACE: &str =
+    "1 turn 1\n2 turn 1\n  sent 0 ReadReq 1 0 1\n3 deliver 1 1\n  refused 19\n";
+
+/// Command lines, and their status and what they print on both streams.
+const REFUSED: [(&str, u8, &str, &str); 18] = [
+    (
+        "step load unsent --page-size 64",
+        1,
+        UNSENT_TRACE,
+        "ivy: 19 NoSuchFrame\n",
+    ),
+    (
+        "run load --page-size 64 --turns 0",
+        1,
+        "",
+        "ivy: 21 TurnLimit\n",
+    ),
+    ("run endless --turns 5", 1, "", "ivy: 21 TurnLimit\n"),
+    ("run endless --turns 1000", 1, "", "ivy: 21 TurnLimit\n"),
+    ("run missing", 2, "", "ivy: cannot read missing\n"),
+    (
+        "step faulty missing",
+        2,
+        "",
+        "ivy: 20 ProgramFault line 2\n",
+    ),
+    (
+        "step load missing --pages 1",
+        2,
+        "",
+        "ivy: cannot read missing\n",
+    ),
+    (
+        "run faulty --pages 1",
+        2,
+        "",
+        "ivy: 20 ProgramFault line 2\n",
+    ),
+    (
+        "step load unknown --pages 1",
+        2,
+        "",
+        "ivy: 20 ProgramFault line 3\n",
+    ),
+    ("run load --pages 1", 2, "", "ivy: 2 BadConfig\n"),
+    ("run load --pages 4294967298", 2, "", "ivy: 2 BadConfig\n"),
+    ("run load --page-size 96", 2, "", "ivy: 2 BadConfig\n"),
+    ("run none", 2, "", "ivy: 2 BadConfig\n"),
+    ("run lone", 2, "", "ivy: 2 BadConfig\n"),
+    ("sim missing --moves 0", 2, "", "ivy: cannot read missing\n"),
+    (
+        "sim faulty --pages 1",
+        2,
+        "",
+        "ivy: 20 ProgramFault line 2\n",
+    ),
+    ("sim load --pages 1", 2, "", "ivy: 2 BadConfig\n"),
+    ("run nine", 2, "", "ivy: 2 BadConfig\n"),
+];
+
 #[test]
 fn refused(rt: HostRuntime) -> Result<(), Fail> {
-    let trace = "1 turn 1\n2 turn 1\n  sent 0 ReadReq 1 0 1\n3 deliver 1 1\n  refused 19\n";
-    for (line, status, out, err) in [
-        (
-            "step load unsent --page-size 64",
-            1,
-            trace,
-            "ivy: 19 NoSuchFrame\n",
-        ),
-        (
-            "run load --page-size 64 --turns 0",
-            1,
-            "",
-            "ivy: 21 TurnLimit\n",
-        ),
-        ("run endless --turns 1000", 1, "", "ivy: 21 TurnLimit\n"),
-        ("run missing", 2, "", "ivy: cannot read missing\n"),
-        (
-            "step faulty missing",
-            2,
-            "",
-            "ivy: 20 ProgramFault line 2\n",
-        ),
-        (
-            "step load missing --pages 1",
-            2,
-            "",
-            "ivy: cannot read missing\n",
-        ),
-        (
-            "run faulty --pages 1",
-            2,
-            "",
-            "ivy: 20 ProgramFault line 2\n",
-        ),
-        (
-            "step load unknown --pages 1",
-            2,
-            "",
-            "ivy: 20 ProgramFault line 3\n",
-        ),
-        ("run load --pages 1", 2, "", "ivy: 2 BadConfig\n"),
-        ("run load --pages 4294967298", 2, "", "ivy: 2 BadConfig\n"),
-        ("run load --page-size 96", 2, "", "ivy: 2 BadConfig\n"),
-        ("run lone", 2, "", "ivy: 2 BadConfig\n"),
-        ("sim missing --moves 0", 2, "", "ivy: cannot read missing\n"),
-        (
-            "sim faulty --pages 1",
-            2,
-            "",
-            "ivy: 20 ProgramFault line 2\n",
-        ),
-        ("sim load --pages 1", 2, "", "ivy: 2 BadConfig\n"),
-        ("run nine", 2, "", "ivy: 2 BadConfig\n"),
-    ] {
+    for (line, status, out, err) in REFUSED {
         check(&rt, line, (status, out, err))?;
     }
     Ok(())

@@ -1,6 +1,6 @@
-//! Each growth refused in turn in a turn of a node, in the delivery of a string and in a pulse: where it loads or
-//! advances a count, at once or by asking for the page, where it tries an await again, and where what comes is
-//! served or answers it. A refused call changes nothing: the node goes on as a twin does that was never refused,
+//! Each growth refused in turn in a turn of a node, in the delivery of a string and in a pulse: where it loads,
+//! advances a count or asks for a block, at once or by asking another node, where it tries an await again, and where
+//! what comes is served or answers it. A refused call changes nothing: the node goes on as a twin does that was never refused,
 //! to the same strings and replies.
 ghost use Rattle.std.specs.Prelude.{◌≡◌, IfOk};
 
@@ -8,6 +8,7 @@ use crate::common::{
     LOADS, MANY, REPLY, REQUEST, Written, has_next, is_met, node_of, receive, string, take_turn,
 };
 use crate::counts::{FIRST_ASKS, FIRST_GETS, RETRY_ASKS, RETRY_GETS};
+use crate::heap::{ALLOC_ASKS, ALLOC_GETS};
 use growths::Refusing;
 use ivy_model::{Call, Fault, Record, Reply};
 use ivy_node::Site;
@@ -20,6 +21,8 @@ const EMPTY: &str = "node 0\n";
 const ADVANCES: &str = "node 0\nadvance r0\n";
 
 const AWAITS: &str = "node 0\nset r1 1\nawait r2 r0 r1\n";
+
+const ALLOCS: &str = "node 0\nset r1 8\nalloc r2 r1\n";
 
 /// What happens to a node, with no growth refused.
 #[derive(Clone, Copy)]
@@ -214,6 +217,12 @@ const ADVANCED: [Record; 1] = [Record {
     reply: Reply::Done,
 }];
 
+const ALLOCATED: Record = Record {
+    node: 0,
+    call: Call::Alloc { size: 8 },
+    reply: Reply::Value(64),
+};
+
 const AWAITED: [Record; 1] = [Record {
     node: 0,
     call: Call::Await { k: 0, least: 1 },
@@ -314,6 +323,93 @@ const ANSWER_COMES: Growing = Growing {
 #[test]
 fn growths_of_an_answer_to_an_await(rt: HostRuntime) -> Result<(), Fail> {
     growths_of(&rt, rt.alloc(), &ANSWER_COMES)
+}
+
+/// Node 0 gives itself a block.
+const ALLOC: Growing = Growing {
+    me: 0,
+    text: ALLOCS,
+    before: &[Step::Turn],
+    comes: None,
+    sends: None,
+    answers: &[ALLOCATED],
+};
+
+#[test]
+fn growths_of_an_alloc(rt: HostRuntime) -> Result<(), Fail> {
+    growths_of(&rt, rt.alloc(), &ALLOC)
+}
+
+/// Node 1 asks for a block.
+const ALLOC_OF_NODE_1: Growing = Growing {
+    me: 1,
+    text: ALLOCS,
+    before: &[Step::Turn],
+    comes: None,
+    sends: Some((ALLOC_ASKS, None)),
+    answers: &[],
+};
+
+#[test]
+fn growths_of_an_alloc_that_asks(rt: HostRuntime) -> Result<(), Fail> {
+    growths_of(&rt, rt.alloc(), &ALLOC_OF_NODE_1)
+}
+
+/// Node 0 is asked for it. Where it is refused, the block has its place again when it is asked once more.
+const ALLOC_COMES: Growing = Growing {
+    me: 0,
+    text: EMPTY,
+    before: &[],
+    comes: Some((ALLOC_ASKS, None)),
+    sends: Some((ALLOC_GETS, None)),
+    answers: &[],
+};
+
+#[test]
+fn growths_of_an_alloc_that_comes(rt: HostRuntime) -> Result<(), Fail> {
+    growths_of(&rt, rt.alloc(), &ALLOC_COMES)
+}
+
+/// Node 0 is asked to end that block. Where it is refused, the block is still there to be ended.
+const FREE_COMES: Growing = Growing {
+    me: 0,
+    text: EMPTY,
+    before: &[
+        Step::Comes((ALLOC_ASKS, None)),
+        Step::Sends((ALLOC_GETS, None)),
+    ],
+    comes: Some((
+        "4956010901000011 0000000000000002 0000000000000001 01 0000000000000002 0000000000000040",
+        None,
+    )),
+    sends: Some((
+        "4956010a0001000a 0000000000000002 0000000000000001 01 0000000000000002 00",
+        None,
+    )),
+    answers: &[],
+};
+
+#[test]
+fn growths_of_a_free_that_comes(rt: HostRuntime) -> Result<(), Fail> {
+    growths_of(&rt, rt.alloc(), &FREE_COMES)
+}
+
+/// The block comes to node 1.
+const BLOCK_COMES: Growing = Growing {
+    me: 1,
+    text: ALLOCS,
+    before: &[Step::Turn, Step::Turn, Step::Sends((ALLOC_ASKS, None))],
+    comes: Some((ALLOC_GETS, None)),
+    sends: None,
+    answers: &[Record {
+        node: 1,
+        ..ALLOCATED
+    }],
+};
+
+#[test]
+fn growths_of_a_block_that_comes(rt: HostRuntime) -> Result<(), Fail> {
+    growths_of(&rt, rt.alloc(), &BLOCK_COMES)
 }
 
 /// Node 1, whose request is on the wire.

@@ -2,11 +2,13 @@
 //! before it were made, and the run goes on from there to the same end. The runs have all that a store can
 //! lead to: turns in which it faults, page requests at the owner and put off, pages with and without copies,
 //! copies that are ended at once and once they came, acknowledgements, the last of them and others, and seven
-//! requests that are put off and then served in one event.
+//! requests that are put off and then served in one event. One more run has calls of the heap that node 0 serves for
+//! another node.
 use crate::common::{LOADS, MANY, PAIR, TRIO, deliver, ended, loaded, play, pulse, shows, world};
 use crate::eight_nodes::{
     ALL_STORE, EIGHT, ONE_STORES, PUT_OFF_WHILE_AWAITED, moves_of, put_off_by_a_writer,
 };
+use crate::heap::{asking_moves, asking_text};
 use crate::stores::{
     LATE, LATE_MOVES, UPGRADE_OF_THREE, UPGRADE_OF_THREE_MOVES, UPGRADE_OF_TWO,
     UPGRADE_OF_TWO_MOVES,
@@ -170,6 +172,19 @@ fn growths_of_runs(rt: HostRuntime) -> Result<(), Fail> {
         growths_of(&rt, &memory, &growing)?;
     }
     Ok(())
+}
+
+/// Node 1 asks for blocks and ends them, some in vain.
+#[test]
+fn growths_of_the_heap(rt: HostRuntime) -> Result<(), Fail> {
+    let text = asking_text(rt.alloc())?;
+    let moves = asking_moves(rt.alloc())?;
+    let growing = Growing {
+        config: PAIR,
+        text: text.as_str(),
+        moves: &moves,
+    };
+    growths_of(&rt, &Refusing::new(rt.alloc()), &growing)
 }
 
 /// A pulse and the delivery of what it sends replace the delivery that was refused.

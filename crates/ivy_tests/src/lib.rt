@@ -66,6 +66,8 @@ mod growths_of_strings;
 #[cfg(test)]
 mod growths_of_worlds;
 #[cfg(test)]
+mod heap;
+#[cfg(test)]
 mod schedules;
 #[cfg(test)]
 mod site_alone;
