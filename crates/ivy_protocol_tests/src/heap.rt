@@ -31,7 +31,7 @@ const WANTS_8: Letter = (Said::BlockRequest(8), 1, 1);
 
 const GETS_64: Letter = (Said::Block(0, 64), 1, 1);
 
-/// A call of node 1: it begins, node 0 is asked and answers, and the call has its reply.
+/// A call of node 1: it begins, node 0 is asked and answers, and the call has its reply. `keeper` is node 0.
 struct Round {
     begins: Step,
     asks: Letter,
@@ -52,19 +52,26 @@ fn check_round<A: Allocator + Copy>(
     Ok(())
 }
 
+fn check_rounds<A: Allocator + Copy>(
+    rt: &impl Abort,
+    keeper: &mut Node<A>,
+    node: &mut Node<A>,
+    rounds: &[Round],
+) -> Result<(), Fail> {
+    for round in rounds {
+        check_round(rt, keeper, node, round)?;
+    }
+    Ok(())
+}
+
 /// Each request and each answer is the one message that its node posts. What will be refused is asked for too.
 #[test]
 fn node_1_asks_node_0(rt: HostRuntime) -> Result<(), Fail> {
     let mut keeper = Node::new(rt.alloc(), rt.alloc(), 0)?;
     let mut node = Node::new(rt.alloc(), rt.alloc(), 1)?;
-    for (index, round) in ROUNDS.iter().enumerate() {
-        check_round(&rt, &mut keeper, &mut node, round)?;
-        assert!(rt; node.goes(&Step::Posted(index + 1))?, "round {index}");
-        assert!(rt; keeper.goes(&Step::Posted(index + 1))?, "round {index}");
-    }
-    assert!(rt; node.goes(&Step::Breaches(0))?);
-    assert!(rt; keeper.goes(&Step::Breaches(0))?);
-    Ok(())
+    check_rounds(&rt, &mut keeper, &mut node, &ROUNDS)?;
+    check_node(&rt, &mut keeper, &ANSWERED)?;
+    check_node(&rt, &mut node, &ASKED)
 }
 
 const ROUNDS: [Round; 5] = [
@@ -99,6 +106,31 @@ const ROUNDS: [Round; 5] = [
         ends: Step::Polls(5, NO_BLOCK),
     },
 ];
+
+/// What the nodes have posted after these rounds.
+const ANSWERED: Scene = Scene {
+    me: 0,
+    steps: &[Step::Breaches(0)],
+    posted: &[
+        (1, GETS_64),
+        (1, (Said::Block(8, 0), 1, 2)),
+        (1, (Said::Block(9, 0), 1, 3)),
+        (1, (Said::End(0), 1, 4)),
+        (1, (Said::End(10), 1, 5)),
+    ],
+};
+
+const ASKED: Scene = Scene {
+    me: 1,
+    steps: &[Step::Breaches(0), Step::Asked(None)],
+    posted: &[
+        (0, WANTS_8),
+        (0, (Said::BlockRequest(0), 1, 2)),
+        (0, (Said::BlockRequest(u64::MAX), 1, 3)),
+        (0, (Said::EndRequest(64), 1, 4)),
+        (0, (Said::EndRequest(64), 1, 5)),
+    ],
+};
 
 /// Node 0 serves its own calls at once, and posts nothing.
 #[test]
