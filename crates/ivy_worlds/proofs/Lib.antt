@@ -1,3 +1,8 @@
+pub mod Filtered
+pub mod HeapWays
+pub mod HeapDeliveries
+pub mod HostTurns
+pub mod ErrandSteps
 pub mod LiftedNets
 pub mod LiftedRows
 pub mod LiftedEvents
@@ -9,5 +14,6 @@ pub mod LiftedSteps
 pub mod LiftedHosts
 pub mod LiftedRuns
 pub mod Led
+pub mod Opened
 pub mod Worlds
 pub mod Runs

@@ -1,5 +1,5 @@
 -- What each row keeps holds in every world that moves lead to, where it held as the world began.
-use Rattle.std.proofs.Common.{◌≡◌, ◌<◌, ℕ, List, [], length, refl, ◌∙◌, subst, sym, arith}
+use Rattle.std.proofs.Common.{◌≡◌, ◌<◌, ℕ, List, [], length, drop, refl, ap, ◌∙◌, subst, sym, arith}
 use Rattle.std.proofs.lemmas.List.{length-map}
 use Rattle.std.proofs.lemmas.Option.{none-some, slice_get_within}
 use Rattle.ivy_model.specs.declared.Config.{Config}
@@ -18,6 +18,8 @@ use Rattle.ivy_host.specs.Sound.{IsSoundHost}
 use Rattle.ivy_host.proofs.Tame.{tame, opening_is}
 use Rattle.ivy_order.specs.Letters.{Net}
 use Rattle.ivy_order.specs.Rows.{IsKept}
+use Rattle.ivy_worlds.specs.Errands.{about_heap, heap_way, IsAtRest, resting}
+use Rattle.ivy_worlds.proofs.Opened.{opening_delivered}
 use Rattle.ivy_worlds.proofs.Led.{HasOrder, order_led, opening_first}
 use Rattle.ivy_worlds.proofs.LiftedWorlds.{net_of, managers_of, IsSoundWorld, steps_sound}
 use Rattle.ivy_worlds.proofs.LiftedHosts.{kept-steps}
@@ -36,6 +38,7 @@ kept-led {ops = ops} {P = P} laws c limits kept spare w w' moves =
 pub sound_opening : {S : Type 0} {ops : Ops S} → Laws ops → (c : Config) → IsConfig c → (programs : List (List Instruction)) → length programs ≡ c.nodes → IsSoundWorld ops c (ordered_of (opening ops c programs) (λ i j. []))
 sound_opening {S = S} {ops = ops} laws c limits programs many =
     let o : Ordered (Host S) = ordered_of (opening ops c programs) (λ i j. []) in
+    let none_under_way : (i j : ℕ) → heap_way o i j ≡ [] = λ i j. ap (λ d. about_heap (drop d [])) (opening_delivered ops c programs i j) in
     let count : length o.cores ≡ c.nodes = length-map (opening ops c programs).nodes (λ (n : Node (Host S)). n.core) ∙ (opening_is laws c programs limits many).nodes in
     record {
       count = count;
@@ -44,4 +47,11 @@ sound_opening {S = S} {ops = ops} laws c limits programs many =
           let within : i < length o.cores = slice_get_within o.cores i h there in
           subst (IsSoundHost ops c i) (sym first.1) (record { memory = first_sound-memory laws c i limits (omega (arith, within, count)); config = refl; me = refl; asking = λ k asked. absurd (none-some k asked); numbered = λ k asked. absurd (none-some k asked) });
       sent = λ i j k m there. absurd (none-some m there);
+      within = λ i j. (let none = opening_delivered ops c programs i j in omega (arith, none));
+      errands = record {
+        apart = λ i j a b. none_under_way i j;
+        home = none_under_way 0 0;
+        each = λ i h away there.
+            resting (subst (λ (z : Host S). IsAtRest z.memory.side.errand) (sym (opening_first ops c programs i h there).1) tt) (none_under_way i 0) (none_under_way 0 i);
+      };
     }

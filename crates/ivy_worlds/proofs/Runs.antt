@@ -3,6 +3,8 @@ use Rattle.std.proofs.Common.{◌≡◌, ◌<◌, ℕ, List, [], ◌∷◌, leng
 use Rattle.std.proofs.lemmas.Option.{none-some, slice_get_within, slice_get_cases}
 use Rattle.ivy_model.specs.declared.Config.{Config}
 use Rattle.ivy_model.specs.Config.{IsConfig}
+use Rattle.ivy_wire.specs.Data.{Message}
+use Rattle.ivy_memory.specs.HeapCalls.{is_of_pages}
 use Rattle.ivy_pagetable.specs.declared.PutOff.{PutOff}
 use Rattle.ivy_pagetable.specs.Entries.{put_offs}
 use Rattle.ivy_pagetable.specs.Manager.{Ops, Laws}
@@ -19,6 +21,7 @@ use Rattle.ivy_order.specs.Letters.{Letter, Net, Place, Underway, Aside, Loose, 
 use Rattle.ivy_order.specs.Rows.{IsKept}
 use Rattle.ivy_worlds.specs.Nets.{entry_of, manager_of, net_of, managers_of}
 use Rattle.ivy_worlds.specs.Runs.{first_ordered, IsRun, IsReachedInOrder, FollowsInOrder}
+use Rattle.ivy_worlds.proofs.Filtered.{filtered_from}
 use Rattle.ivy_worlds.proofs.Led.{HasOrder, order_led}
 use Rattle.ivy_worlds.proofs.LiftedWorlds.{IsSoundWorld, steps_sound}
 use Rattle.ivy_worlds.proofs.LiftedHosts.{kept-steps}
@@ -56,7 +59,7 @@ module _ {S : Type 0} (ops : Ops S) (c : Config) (o : Ordered (Host S)) (sound :
   ]
 
   pub letters_below : (a : Place) (l : Letter) → IsAt (net_of o) a l → l.dest < c.nodes
-  letters_below (Underway i j k) l at = subst (λ v. v < c.nodes) (sym at.3) (sound.sent i j k l.message at.1).there
+  letters_below (Underway i j k) l at = subst (λ v. v < c.nodes) (sym at.3) (let posted = filtered_from (λ (m : Message). is_of_pages m.content) (o.posted i j) k l.message at.1 in (sound.sent i j posted.0 l.message posted.1).there)
   letters_below (Aside i p k) l at = subst (λ (v : Letter). v.dest < c.nodes) (sym at.2) (aside_below i p k at.0 at.1)
   letters_below (Loose k) l at = absurd (none-some l at)
 

@@ -1,8 +1,8 @@
 -- Each world that moves lead to from an opening is orderly, so its pages are exclusive. For every manager that keeps the
--- laws, and for programs that read and write.
-use Rattle.std.proofs.Common.{◌≡◌, ◌⊎◌, ℕ, zero, suc, Bool, List, [], length, get_or, replicate, slice_get, Some, refl, sym, ap, ◌∙◌, inl, inr, if◌then◌else◌, ◌+◌, ◌∷◌, arith, map, option_map}
+-- laws, whatever the programs.
+use Rattle.std.proofs.Common.{◌≡◌, ◌⊎◌, ℕ, zero, suc, Bool, List, [], length, take, get_or, replicate, slice_get, Some, refl, sym, ap, ◌∙◌, inl, inr, if◌then◌else◌}
 use Rattle.std.proofs.lemmas.Bool.{cases_eq, ne_eqb}
-use Rattle.std.proofs.lemmas.Option.{slice_get_cases, same_Some, none-some, slice_get-map, get_or_from_slice_get}
+use Rattle.std.proofs.lemmas.Option.{slice_get_cases}
 use Rattle.ivy_model.specs.declared.Config.{Config}
 use Rattle.ivy_model.specs.Config.{IsConfig}
 use Rattle.ivy_wire.specs.Data.{Message}
@@ -14,7 +14,7 @@ use Rattle.ivy_program.specs.declared.Instruction.{Instruction}
 use Rattle.ivy_ether.specs.declared.moves.Move.{Move}
 use Rattle.ivy_ether.specs.Ordered.{Ordered}
 use Rattle.ivy_ether.specs.Worlds.{World, Leads}
-use Rattle.ivy_ether.specs.Following.{ordered_of, links_of}
+use Rattle.ivy_ether.specs.Following.{ordered_of}
 use Rattle.ivy_ether.proofs.Opening.{opening_follows}
 use Rattle.ivy_host.specs.Hosts.{Host, host_rules, first_host}
 use Rattle.ivy_host.specs.Holding.{IsExclusive}
@@ -24,16 +24,14 @@ use Rattle.ivy_host.proofs.Tame.{opening_is}
 use Rattle.ivy_order.specs.Letters.{Net}
 use Rattle.ivy_order.specs.Orderly.{IsOrderly}
 use Rattle.ivy_order.specs.Rows.{IsKept}
+use Rattle.ivy_worlds.specs.Nets.{about_pages}
 use Rattle.ivy_worlds.proofs.Led.{HasOrder, core_there, opening_first}
+use Rattle.ivy_worlds.proofs.Opened.{opening_delivered}
 use Rattle.ivy_worlds.proofs.LiftedWorlds.{entry_of, net_of, managers_of}
 use Rattle.ivy_worlds.proofs.LiftedRuns.{Holds, kept-led, sound_opening}
 use Rattle.ivy_order.proofs.Opening.{IsFirst, orderly_opening}
 use Rattle.ivy_order.proofs.Exclusive.{orderly_exclusive}
 use Rattle.ivy_order.proofs.Kept.{orderly-kept}
-use Rattle.std.proofs.lemmas.List.{get_or_past, length-map}
-use Rattle.ivy_link.specs.Linked.{Peer, fresh, first_link, peer_at}
-use Rattle.ivy_link.specs.Paired.{link_at}
-use Rattle.ivy_ether.specs.Nodes.{Node}
 
 entry_first : (n p : ℕ) (e : Entry) → (get_or (replicate n e) p nothing ≡ e) ⊎ (get_or (replicate n e) p nothing ≡ nothing)
 entry_first zero p e = inr refl
@@ -49,35 +47,13 @@ first_at i p n = elim (entry_first n p (first_entry i)) [
   ]
 ]
 
--- a new link has delivered nothing
-fresh_peer : (n j : ℕ) → get_or (replicate n fresh) j fresh ≡ fresh
-fresh_peer zero j = refl
-fresh_peer (suc n) zero = refl
-fresh_peer (suc n) (suc j) = fresh_peer n j
-
 module _ {S : Type 0} (ops : Ops S) (c : Config) where
-  first_link_there : (me : ℕ) (ps : List (List Instruction)) (i : ℕ) (n : Node (Host S)) → slice_get (first_nodes ops c me ps) i ≡ Some n → n.link ≡ first_link (me + i) c.nodes
-  first_link_there me [] i n is = absurd (none-some n is)
-  first_link_there me (p ∷ ps) zero n is = ap (λ (m : Node (Host S)). m.link) (sym (same_Some _ n is)) ∙ ap (λ k. first_link k c.nodes) (let f : me ≡ me + 0 = omega arith in f)
-  first_link_there me (p ∷ ps) (suc i) n is = first_link_there (me + 1) ps i n is ∙ ap (λ k. first_link k c.nodes) (let f : me + 1 + i ≡ me + suc i = omega arith in f)
-
-  link_there : (ns : List (Node (Host S))) (j : ℕ) (n : Node (Host S)) → slice_get ns j ≡ Some n → link_at (map (λ (m : Node (Host S)). m.link) ns) j ≡ n.link
-  link_there ns j n is = get_or_from_slice_get (map (λ (m : Node (Host S)). m.link) ns) j n.link (first_link j 0) (slice_get-map (λ (m : Node (Host S)). m.link) ns j ∙ ap (option_map (λ (m : Node (Host S)). m.link)) is)
-
   -- the net of the world as it begins
   pub first_net : (programs : List (List Instruction)) → IsFirst (net_of (ordered_of (opening ops c programs) (λ i j. [])))
-  first_net programs = record { entries = entries; posted = λ i j. refl; delivered = λ i j. delivered j i; loose = refl }
+  first_net programs = record { entries = entries; posted = λ i j. refl; delivered = λ i j. ap (λ d. length (about_pages (take d []))) (opening_delivered ops c programs i j); loose = refl }
     where
       o : Ordered (Host S)
       o = ordered_of (opening ops c programs) (λ i j. [])
-
-      delivered : (j i : ℕ) → (peer_at (link_at (links_of (opening ops c programs)) j) i).delivered ≡ 0
-      delivered j i = elim (slice_get_cases (opening ops c programs).nodes j).1 [
-        | inl there ↦ ap (λ l. (peer_at l i).delivered) (link_there (opening ops c programs).nodes j there.0 there.2 ∙ first_link_there 0 programs j there.0 there.2)
-            ∙ ap (λ (q : Peer). q.delivered) (fresh_peer c.nodes i)
-        | inr past ↦ ap (λ l. (peer_at l i).delivered) (get_or_past (links_of (opening ops c programs)) j (first_link j 0)
-            (rw (length-map (opening ops c programs).nodes (λ (n : Node (Host S)). n.link)) past.0))
-      ]
 
       entries : (i p : ℕ) → ((i ≡ 0) × ((net_of o).entry i p ≡ owned)) ⊎ ((net_of o).entry i p ≡ nothing)
       entries i p = elim (slice_get_cases o.cores i).1 [

@@ -1,2 +1,3 @@
 pub mod Nets
+pub mod Errands
 pub mod Runs

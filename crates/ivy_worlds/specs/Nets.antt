@@ -1,11 +1,18 @@
--- The entries, letters and managers of an ordered world.
-use Rattle.std.specs.Prelude.{ℕ, List, [], slice_get, Option, Some, None}
+-- The entries, letters and managers of an ordered world. Of its messages those about pages are letters; one of the heap
+-- is none.
+use Rattle.std.specs.Prelude.{ℕ, List, [], length, take, filter, slice_get, Option, Some, None}
+use Rattle.ivy_wire.specs.Data.{Message}
 use Rattle.ivy_pagetable.specs.declared.Entry.{Entry}
 use Rattle.ivy_pagetable.specs.Entries.{nothing}
 use Rattle.ivy_pagetable.specs.Tables.{entry_at, page_at}
 use Rattle.ivy_ether.specs.Ordered.{Ordered}
+use Rattle.ivy_memory.specs.HeapCalls.{is_of_pages}
 use Rattle.ivy_host.specs.Hosts.{Host}
 use Rattle.ivy_order.specs.Letters.{Letter, Net}
+
+-- the messages about pages among these, in their order
+abbrev pub about_pages : List Message → List Message
+about_pages ms = filter (λ m. is_of_pages m.content) ms
 
 module _ {S : Type 0} where
   -- beyond the nodes: entries of nothing, no bytes, no breach, and some manager
@@ -31,8 +38,8 @@ module _ {S : Type 0} where
     entry = λ i p. entry_of (slice_get o.cores i) p;
     page = λ i p. page_of (slice_get o.cores i) p;
     breaches = λ i. breaches_of (slice_get o.cores i);
-    posted = o.posted;
-    delivered = delivered;
+    posted = λ i j. about_pages (o.posted i j);
+    delivered = λ i j. length (about_pages (take (delivered i j) (o.posted i j)));
     loose = loose;
   }
 

@@ -1,0 +1,55 @@
+-- The calls of the heap in an ordered world: the messages of the heap that are under way, and what they tell of the
+-- calls that node 0 was asked for.
+use Rattle.std.specs.Prelude.{◌≡◌, ◌≢◌, ℕ, not, List, [], ◌∷◌, drop, filter, slice_get, Option, Some, None}
+use Rattle.ivy_model.specs.declared.Reply.{Reply}
+use Rattle.ivy_wire.specs.Data.{Content, Message}
+use Rattle.ivy_ether.specs.Ordered.{Ordered}
+use Rattle.ivy_memory.specs.declared.HeapCall.{HeapCall}
+use Rattle.ivy_memory.specs.declared.Errand.{Errand}
+use Rattle.ivy_memory.specs.declared.Errand.TheVariants as errand
+use Rattle.ivy_memory.specs.HeapCalls.{is_of_pages, request, reply_in}
+use Rattle.ivy_host.specs.Hosts.{Host}
+
+-- the messages of the heap among these, in their order
+abbrev pub about_heap : List Message → List Message
+about_heap ms = filter (λ m. not (is_of_pages m.content)) ms
+
+-- those under way from one node to another
+abbrev pub heap_way : {C : Type 0} → Ordered C → ℕ → ℕ → List Message
+heap_way o i j = about_heap (drop (o.delivered i j) (o.posted i j))
+
+-- a message of the call of this number of a node
+abbrev pub call_message : ℕ → ℕ → Content → Message
+call_message node number body = record { origin = node; call = number; content = body }
+
+-- node 0 owes no answer
+abbrev pub IsAtRest : Option Errand → Type 0
+IsAtRest None = Unit {0}
+IsAtRest (Some (errand.Asked k number)) = ⊥
+IsAtRest (Some (errand.Told r)) = Unit {0}
+
+-- The messages of the heap under way from a node to node 0 and back, by the call that node 0 was asked for: none where no
+-- answer is owed; else the request alone, or the answer alone, which tells a reply.
+pub data IsErrandAt (node : ℕ) (e : Option Errand) (there back : List Message) : Type 0 where
+  resting : IsAtRest e → there ≡ [] → back ≡ [] → IsErrandAt node e there back
+  asking : (k : HeapCall) (number : ℕ) → e ≡ Some (errand.Asked k number)
+      → there ≡ call_message node number (request k) ∷ [] → back ≡ []
+      → IsErrandAt node e there back
+  answered : (k : HeapCall) (number : ℕ) (body : Content) (r : Reply)
+      → e ≡ Some (errand.Asked k number) → there ≡ []
+      → back ≡ call_message node number body ∷ [] → reply_in k body ≡ Some r
+      → IsErrandAt node e there back
+
+-- messages of the heap go between node 0 and the others alone, by the calls that it was asked for
+pub record AreErrands {S : Type 0} (o : Ordered (Host S)) : Type 0 where
+  pub apart : (i j : ℕ) → i ≢ 0 → j ≢ 0 → heap_way o i j ≡ []
+  pub home : heap_way o 0 0 ≡ []
+  pub each : (i : ℕ) (h : Host S) → i ≢ 0 → slice_get o.cores i ≡ Some h
+      → IsErrandAt i h.memory.side.errand (heap_way o i 0) (heap_way o 0 i)
+
+-- the reply of the call that node 0 was asked for: told, or on its way
+abbrev pub replied_by : Option Errand → List Message → Option Reply
+replied_by (Some (errand.Asked k number)) (m ∷ ms) = reply_in k m.content
+replied_by (Some (errand.Asked k number)) [] = None
+replied_by (Some (errand.Told r)) ms = Some r
+replied_by None ms = None
