@@ -1,5 +1,5 @@
 -- Each step of the ordered world keeps what stands of the calls that node 0 was asked for.
-use Rattle.std.proofs.Common.{◌≡◌, ◌≢◌, ◌<◌, ℕ, true, false, List, [], ◌∷◌, ◌++◌, drop, slice_get, slice_set, Option, Some, None, refl, sym, ap, ◌∙◌, subst, inl, inr}
+use Rattle.std.proofs.Common.{◌≡◌, ◌≢◌, ℕ, true, false, List, [], ◌∷◌, ◌++◌, drop, slice_get, slice_set, Option, Some, None, refl, sym, ap, ◌∙◌, subst, inl, inr}
 use Rattle.std.specs.Prelude.{All}
 use Rattle.std.proofs.lemmas.Bool.{cases_eq}
 use Rattle.std.proofs.lemmas.List.{append-nil}
@@ -20,7 +20,7 @@ use Rattle.ivy_memory.specs.declared.HeapCall.{HeapCall}
 use Rattle.ivy_memory.specs.declared.Errand.{Errand}
 use Rattle.ivy_memory.specs.declared.Errand.TheVariants as errand
 use Rattle.ivy_memory.specs.Asking.{asked_of}
-use Rattle.ivy_memory.specs.HeapCalls.{told_of, request, answer_to, reply_in, reply_told}
+use Rattle.ivy_memory.specs.HeapCalls.{told_of, request, answer_to, reply_told}
 use Rattle.ivy_memory.specs.Memories.{first_reply, reply_there, taken_out}
 use Rattle.ivy_memory.proofs.Errands.{request_heap, answer_heap, replied}
 use Rattle.ivy_memory.proofs.Pages.{is_of_pages, IsOfPages, begun-pages, no_errand_of}
@@ -176,11 +176,11 @@ module _ {S : Type 0} (ops : Ops S) (o o' : Ordered (Host S)) (within : IsWithin
         let left : taken.0 ≡ [] = tail_of t.message taken.0 (sym taken.1 ∙ subst (λ z. heap_way o source z ≡ t.message ∷ []) (sym home) on_way) in
         let gone : heap_way o' source x ≡ []
         = taken.2 ∙ ap (λ l. l ++ about_heap (posted source x sent)) left ∙ ap (λ l. about_heap (posted source x l)) posts
-            ∙ heap_elsewhere x source source x source number body (λ e. absurd (away (sym e ∙ home))) in
+        ∙ heap_elsewhere x source source x source number body (λ e. absurd (away (sym e ∙ home))) in
         let comes : heap_way o' 0 source ≡ call_message source number body ∷ []
         = other 0 source (λ e. absurd (away (sym e))) ∙ ap (λ l. l ++ about_heap (posted 0 source (parcel_to x source source number body ∷ []))) none
-            ∙ ap (λ z. about_heap (posted 0 source (parcel_to z source source number body ∷ []))) home
-            ∙ heap_there 0 source source number body (answer_heap k (told_of state k).reply) in
+        ∙ ap (λ z. about_heap (posted 0 source (parcel_to z source source number body ∷ []))) home
+        ∙ heap_there 0 source source number body (answer_heap k (told_of state k).reply) in
         let asker_now : IsErrandAt source asker.memory.side.errand (heap_way o' source 0) (heap_way o' 0 source)
         = answered k number body (told_of state k).reply asks (subst (λ z. heap_way o' source z ≡ []) home gone) comes (replied state k) in
         let others : (i : ℕ) (g : Host S) → i ≢ 0 → i ≢ source → slice_get o.cores i ≡ Some g → IsErrandAt i g.memory.side.errand (heap_way o' i 0) (heap_way o' 0 i)
