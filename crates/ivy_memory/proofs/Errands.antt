@@ -1,24 +1,22 @@
 -- A call of the heap that node 0 is asked for: what node 0 does with the request, and the node that asked with the answer.
-use Rattle.std.proofs.Common.{◌≡◌, ℕ, ◌<◌, inl, inr, Bool, true, false, ◌&&◌, ◌==◌, [], ◌∷◌, Option, Some, None, refl, sym, ap, ◌∙◌, subst, arith, eq-eqb, if◌then◌else◌}
+use Rattle.std.proofs.Common.{◌≡◌, ℕ, ◌<◌, inl, inr, false, ◌==◌, Option, Some, None, refl, sym, ap, ◌∙◌, subst, arith, eq-eqb, if◌then◌else◌}
 use Rattle.std.proofs.lemmas.Bool.{ne_eqb}
 use Rattle.std.proofs.lemmas.Option.{none-some}
 use Rattle.ivy_model.specs.declared.Config.{Config}
-use Rattle.ivy_model.specs.declared.Fault.TheVariants.{ZeroSize, NoRoom, NotABlock}
+use Rattle.ivy_model.specs.declared.Fault.TheVariants.{ZeroSize, NoRoom}
 use Rattle.ivy_model.specs.declared.Reply.{Reply}
 use Rattle.ivy_model.specs.declared.Reply.TheVariants.{Value, Done, Refused}
 use Rattle.ivy_model.specs.Numbers.{fault_number}
 use Rattle.ivy_wire.specs.declared.Content.TheVariants as content
 use Rattle.ivy_wire.specs.Data.{Content, Message}
 use Rattle.ivy_pagetable.specs.Manager.{Ops}
-use Rattle.ivy_serving.specs.Serving.{parcel_to}
 use Rattle.ivy_alloc.specs.Heap.{HeapState}
 use Rattle.ivy_alloc.specs.Laws.{IsAllocReply, IsFreeReply}
 use Rattle.ivy_alloc.proofs.Answered.{has_replies}
 use Rattle.ivy_memory.specs.declared.heap_side.HeapCall.{HeapCall}
 use Rattle.ivy_memory.specs.declared.heap_side.HeapCall.TheVariants.{Alloc, Free}
-use Rattle.ivy_memory.specs.declared.heap_side.Errand.{Errand}
 use Rattle.ivy_memory.specs.declared.heap_side.Errand.TheVariants as errand
-use Rattle.ivy_memory.specs.HeapCalls.{HeapSide, HeapTold, is_of_pages, told_of, kept, request, answer_to, block_told, end_told, reply_in, misfit, served_at, served, learned, learns, answered_by, heap_told_as, heap_told}
+use Rattle.ivy_memory.specs.HeapCalls.{HeapSide, is_of_pages, told_of, request, answer_to, block_told, end_told, reply_in, misfit, served_at, served, learned, learns, answered_by, heap_told_as, heap_told}
 use Rattle.ivy_memory.specs.Memories.{Memory, by_side, memory_handled_as, memory_handled}
 
 -- neither the request nor the answer is about a page

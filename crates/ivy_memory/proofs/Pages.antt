@@ -1,8 +1,7 @@
--- What one event posts is about pages.
-use Rattle.std.proofs.Common.{◌≡◌, ℕ, Bool, true, false, List, [], ◌∷◌, Option, Some, None, refl, sym, ap, subst, if◌then◌else◌}
+-- What an access and a message about a page post is about pages, and such a message is none of the heap.
+use Rattle.std.proofs.Common.{◌≡◌, ℕ, Bool, true, false, List, [], ◌∷◌, Option, Some, None, refl, ap, if◌then◌else◌}
 use Rattle.ivy_model.specs.declared.Config.{Config}
 use Rattle.ivy_model.specs.declared.Call.{Call}
-use Rattle.ivy_model.specs.declared.Reply.{Reply}
 use Rattle.std.specs.Prelude.{All, map}
 use Rattle.std.proofs.lemmas.List.Elements.{All-cons, All-push}
 use Rattle.ivy_wire.specs.declared.Content.TheVariants as content
@@ -21,8 +20,7 @@ use Rattle.ivy_pagetable.specs.Entries.{copying, owning}
 use Rattle.ivy_pagetable.specs.Words.{carried_out}
 use Rattle.ivy_coherence.specs.Coherent.{Coherent}
 use Rattle.ivy_coherence.specs.Steps.{handled}
-use Rattle.ivy_coherence.specs.Faults.{Begun, begun}
-use Rattle.ivy_memory.specs.declared.asked.Asked.{Asked}
+use Rattle.ivy_coherence.specs.Faults.{begun}
 use Rattle.ivy_memory.specs.declared.asked.Asked.TheVariants as asked
 use Rattle.ivy_memory.specs.declared.heap_side.HeapCall.{HeapCall}
 use Rattle.ivy_memory.specs.declared.heap_side.Errand.{Errand}
@@ -30,10 +28,8 @@ use Rattle.ivy_memory.specs.declared.heap_side.Errand.TheVariants as errand
 use Rattle.ivy_memory.specs.Asking.{asked_of}
 pub use Rattle.ivy_memory.specs.HeapCalls.{is_of_pages}
 use Rattle.ivy_memory.specs.HeapCalls.{HeapSide, misfit, heap_told_as, heap_told}
-use Rattle.ivy_memory.specs.Memories.{Memory, CallBegun, reply_at, taken_out, begun_as, call_begun, tried_as, polled_as, polled, by_coherence, memory_handled_as, memory_handled}
+use Rattle.ivy_memory.specs.Memories.{Memory, by_coherence, memory_handled_as, memory_handled}
 use Rattle.ivy_memory.specs.Sound.{IsErrandOf}
-use Rattle.ivy_memory.proofs.Tame.{begun-begins, needed-posted}
-use Rattle.ivy_memory.proofs.Polling.{again-posted, polled_so}
 use Rattle.ivy_coherence.proofs.Rows.{Rows, AccessRows, handled-by_rows, begun-by_rows}
 
 -- a message about a page, and none of the heap
@@ -102,33 +98,6 @@ module _ {S : Type 0} (ops : Ops S) where
   -- an access of this node's program
   pub begun-pages : (c : Coherent S) (page : ℕ) (w : Word) (call : ℕ) → All IsOfPages (begun ops c page w call).posted
   begun-pages c page w call = begun-by_rows (access-rows c page w call)
-
-  -- what a call that begins posts, if it is none of the heap
-  begun-as-pages : (m : Memory S) (k : Call) (number : ℕ) (x : Asked) → asked_of m.coherence.config k ≡ x → ((h : HeapCall) → asked_of m.coherence.config k ≡ asked.Heap h → ⊥) → All IsOfPages (begun_as ops m k number x).posted
-  begun-as-pages m k number (asked.Refused code) of words = all_none IsOfPages
-  begun-as-pages m k number (asked.Heap h) of words = absurd (words h of)
-  begun-as-pages m k number (asked.Word page w) of words =
-      let b : Begun S = begun ops m.coherence page w number in
-      subst (All IsOfPages) (sym (needed-posted m k b b.need (begun-begins ops m.coherence page w number) refl)) (begun-pages m.coherence page w number)
-
-  pub call-pages : (m : Memory S) (k : Call) (number : ℕ) → ((h : HeapCall) → asked_of m.coherence.config k ≡ asked.Heap h → ⊥) → All IsOfPages (call_begun ops m k number).posted
-  unfolding call_begun
-  call-pages m k number words = begun-as-pages m k number (asked_of m.coherence.config k) refl words
-
-  tried-pages : (m : Memory S) (k : Call) (number : ℕ) (x : Asked) → All IsOfPages (tried_as ops m k number x).posted
-  tried-pages m k number (asked.Refused code) = all_none IsOfPages
-  tried-pages m k number (asked.Heap h) = all_none IsOfPages
-  tried-pages m k number (asked.Word page w) =
-      let b : Begun S = begun ops (taken_out m).coherence page w number in
-      subst (All IsOfPages) (sym (again-posted m k b b.need (begun-begins ops (taken_out m).coherence page w number) refl)) (begun-pages (taken_out m).coherence page w number)
-
-  polled-as-pages : (m : Memory S) (k : Call) (number : ℕ) (r : Option Reply) → All IsOfPages (polled_as ops m k number r).posted
-  polled-as-pages m k number None = tried-pages m k number (asked_of m.coherence.config k)
-  polled-as-pages m k number (Some r) = all_none IsOfPages
-
-  -- what a call that is asked for its reply posts
-  pub polled-pages : (m : Memory S) (k : Call) (number : ℕ) → m.asked ≡ Some k → All IsOfPages (polled ops m number).posted
-  polled-pages m k number called = subst (λ (a : CallBegun S). All IsOfPages a.posted) (sym (polled_so ops m k number called)) (polled-as-pages m k number (reply_at m))
 
 -- a message about a page is none of the heap
 page-as : (me : ℕ) (s : HeapSide) (from : ℕ) (m : Message) (body : Content) → is_of_pages body ≡ true → heap_told_as me s from m body ≡ misfit s

@@ -1,5 +1,5 @@
 -- Each step of the ordered world keeps what stands of the calls that node 0 was asked for.
-use Rattle.std.proofs.Common.{◌≡◌, ◌≢◌, ◌<◌, ℕ, true, false, List, [], ◌∷◌, ◌++◌, drop, slice_get, slice_set, Option, Some, None, refl, sym, ap, ◌∙◌, subst, inl, inr}
+use Rattle.std.proofs.Common.{◌≡◌, ◌≢◌, ℕ, true, false, List, [], ◌∷◌, ◌++◌, drop, slice_get, slice_set, Option, Some, None, refl, sym, ap, ◌∙◌, subst, inl, inr}
 use Rattle.std.specs.Prelude.{All}
 use Rattle.std.proofs.lemmas.Bool.{cases_eq}
 use Rattle.std.proofs.lemmas.List.{append-nil}
@@ -12,6 +12,7 @@ use Rattle.ivy_link.specs.Paired.{posted, extended}
 use Rattle.ivy_pagetable.specs.Manager.{Ops}
 use Rattle.ivy_serving.specs.Serving.{parcel_to}
 use Rattle.ivy_serving.proofs.IdleServing.{all_none}
+use Rattle.ivy_alloc.specs.Heap.{HeapState}
 use Rattle.ivy_ether.specs.Cores.{Outcome}
 use Rattle.ivy_ether.specs.Ordered.{Ordered, Turns, Delivers}
 use Rattle.ivy_memory.specs.declared.Asked.TheVariants as kinds
@@ -19,7 +20,7 @@ use Rattle.ivy_memory.specs.declared.HeapCall.{HeapCall}
 use Rattle.ivy_memory.specs.declared.Errand.{Errand}
 use Rattle.ivy_memory.specs.declared.Errand.TheVariants as errand
 use Rattle.ivy_memory.specs.Asking.{asked_of}
-use Rattle.ivy_memory.specs.HeapCalls.{told_of, request, answer_to, reply_in, reply_told}
+use Rattle.ivy_memory.specs.HeapCalls.{told_of, request, answer_to, reply_told}
 use Rattle.ivy_memory.specs.Memories.{first_reply, reply_there, taken_out}
 use Rattle.ivy_memory.proofs.Errands.{request_heap, answer_heap, replied}
 use Rattle.ivy_memory.proofs.Pages.{is_of_pages, IsOfPages, begun-pages, no_errand_of}
@@ -161,23 +162,25 @@ module _ {S : Type 0} (ops : Ops S) (o o' : Ordered (Host S)) (within : IsWithin
         quiet_event o o' x t.core after t.there t.cores errands (way_page (host_rules ops) o o' within source x t about (serve-pages ops t.core source t.message about))
         (λ away is. as_before x _ _ _ _ _ _ (ap (λ (z : Outcome (Host S)). z.after.memory.side.errand) (page_serving ops t.core source t.message about)) refl refl is)
 
-    -- and a message of the heap
-    pub heap_errands : is_of_pages t.message.content ≡ false → HeapDelivery ops o source x t.core t.message → AreErrands o'
-    heap_errands heap (serves home away asker at k number asks on_way none same state is does) =
+    -- node 0 serves the request: its answer is the one under way then
+    served_errands : is_of_pages t.message.content ≡ false → x ≡ 0 → source ≢ 0 → (asker : Host S) → slice_get o.cores source ≡ Some asker → (k : HeapCall) (number : ℕ) → asker.memory.side.errand ≡ Some (errand.Asked k number)
+        → heap_way o source 0 ≡ t.message ∷ [] → heap_way o 0 source ≡ [] → (state : HeapState)
+        → sent ≡ parcel_to x source source number (answer_to k (told_of state k).reply) ∷ [] → AreErrands o'
+    served_errands heap home away asker at k number asks on_way none state posts =
         let body = answer_to k (told_of state k).reply in
         let other : (i j : ℕ) → (i ≡ source → j ≢ x) → heap_way o' i j ≡ heap_way o i j ++ about_heap (posted i j (parcel_to x source source number body ∷ []))
-        = λ i j off. way_other (host_rules ops) o o' within source x t i j off ∙ ap (λ (z : Outcome (Host S)). heap_way o i j ++ about_heap (posted i j z.posted)) does in
+        = λ i j off. way_other (host_rules ops) o o' within source x t i j off ∙ ap (λ l. heap_way o i j ++ about_heap (posted i j l)) posts in
         let still : (i j : ℕ) → (i ≡ source → j ≢ x) → (x ≡ i → source ≢ j) → heap_way o' i j ≡ heap_way o i j
         = λ i j off elsewhere. other i j off ∙ ap (λ l. heap_way o i j ++ l) (heap_elsewhere x source i j source number body elsewhere) ∙ append-nil (heap_way o i j) in
         let taken = way_taken (host_rules ops) o o' within source x t heap in
         let left : taken.0 ≡ [] = tail_of t.message taken.0 (sym taken.1 ∙ subst (λ z. heap_way o source z ≡ t.message ∷ []) (sym home) on_way) in
         let gone : heap_way o' source x ≡ []
-        = taken.2 ∙ ap (λ l. l ++ about_heap (posted source x sent)) left ∙ ap (λ (z : Outcome (Host S)). about_heap (posted source x z.posted)) does
-            ∙ heap_elsewhere x source source x source number body (λ e. absurd (away (sym e ∙ home))) in
+        = taken.2 ∙ ap (λ l. l ++ about_heap (posted source x sent)) left ∙ ap (λ l. about_heap (posted source x l)) posts
+        ∙ heap_elsewhere x source source x source number body (λ e. absurd (away (sym e ∙ home))) in
         let comes : heap_way o' 0 source ≡ call_message source number body ∷ []
         = other 0 source (λ e. absurd (away (sym e))) ∙ ap (λ l. l ++ about_heap (posted 0 source (parcel_to x source source number body ∷ []))) none
-            ∙ ap (λ z. about_heap (posted 0 source (parcel_to z source source number body ∷ []))) home
-            ∙ heap_there 0 source source number body (answer_heap k (told_of state k).reply) in
+        ∙ ap (λ z. about_heap (posted 0 source (parcel_to z source source number body ∷ []))) home
+        ∙ heap_there 0 source source number body (answer_heap k (told_of state k).reply) in
         let asker_now : IsErrandAt source asker.memory.side.errand (heap_way o' source 0) (heap_way o' 0 source)
         = answered k number body (told_of state k).reply asks (subst (λ z. heap_way o' source z ≡ []) home gone) comes (replied state k) in
         let others : (i : ℕ) (g : Host S) → i ≢ 0 → i ≢ source → slice_get o.cores i ≡ Some g → IsErrandAt i g.memory.side.errand (heap_way o' i 0) (heap_way o' 0 i)
@@ -193,19 +196,29 @@ module _ {S : Type 0} (ops : Ops S) (o o' : Ordered (Host S)) (within : IsWithin
               ])
               (λ off. absurd (off home));
         }
-    heap_errands heap (learns away home k number r asks back tells does) =
+
+    -- the node that asked learns the reply
+    learned_errands : is_of_pages t.message.content ≡ false → x ≢ 0 → source ≡ 0 → heap_way o 0 x ≡ t.message ∷ [] → IsAtRest after.memory.side.errand → sent ≡ [] → AreErrands o'
+    learned_errands heap away home back rests posts =
         let other : (i j : ℕ) → (i ≡ source → j ≢ x) → heap_way o' i j ≡ heap_way o i j
-        = λ i j off. way_other (host_rules ops) o o' within source x t i j off ∙ ap (λ (z : Outcome (Host S)). heap_way o i j ++ about_heap (posted i j z.posted)) does ∙ append-nil (heap_way o i j) in
+        = λ i j off. way_other (host_rules ops) o o' within source x t i j off ∙ ap (λ l. heap_way o i j ++ about_heap (posted i j l)) posts ∙ append-nil (heap_way o i j) in
         let taken = way_taken (host_rules ops) o o' within source x t heap in
         let left : taken.0 ≡ [] = tail_of t.message taken.0 (sym taken.1 ∙ subst (λ z. heap_way o z x ≡ t.message ∷ []) (sym home) back) in
         let gone : heap_way o' source x ≡ []
-        = taken.2 ∙ ap (λ l. l ++ about_heap (posted source x sent)) left ∙ ap (λ (z : Outcome (Host S)). about_heap (posted source x z.posted)) does in
+        = taken.2 ∙ ap (λ l. l ++ about_heap (posted source x sent)) left ∙ ap (λ l. about_heap (posted source x l)) posts in
         record {
           apart = λ i j a b. other i j (λ e. absurd (a (e ∙ home))) ∙ errands.apart i j a b;
           home = other 0 0 (λ e z. away (sym z)) ∙ errands.home;
           each = each-of o o' x t.core after t.there t.cores errands
               (λ i g off ne there. as_before i _ _ _ _ _ _ refl (other i 0 (λ e z. away (sym z))) (other 0 i (λ e. ne)) (errands.each i g off there))
-              (λ off. resting (subst (λ (z : Outcome (Host S)). IsAtRest z.after.memory.side.errand) (sym does) tt)
+              (λ off. resting rests
               (other x 0 (λ e z. away (sym z)) ∙ none_there (errands.each x t.core away t.there) t.message back)
               (subst (λ z. heap_way o' z x ≡ []) home gone));
         }
+
+    -- and so does a message of the heap
+    pub heap_errands : is_of_pages t.message.content ≡ false → HeapDelivery ops o source x t.core t.message → AreErrands o'
+    heap_errands heap (serves home away asker at k number asks on_way none same state is does) =
+        served_errands heap home away asker at k number asks on_way none state (ap (λ (z : Outcome (Host S)). z.posted) does)
+    heap_errands heap (learns away home k number r asks back tells does) =
+        learned_errands heap away home back (subst (λ (z : Outcome (Host S)). IsAtRest z.after.memory.side.errand) (sym does) tt) (ap (λ (z : Outcome (Host S)). z.posted) does)

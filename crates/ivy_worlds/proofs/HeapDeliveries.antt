@@ -5,14 +5,12 @@ use Rattle.std.proofs.lemmas.Bool.{cases_eq}
 use Rattle.std.proofs.lemmas.Option.{same_Some, none-some, slice_get_cases}
 use Rattle.ivy_model.specs.declared.Config.{Config}
 use Rattle.ivy_model.specs.declared.Reply.{Reply}
-use Rattle.ivy_wire.specs.Data.{Content, Message, Parcel}
+use Rattle.ivy_wire.specs.Data.{Message}
 use Rattle.ivy_pagetable.specs.Manager.{Ops}
 use Rattle.ivy_serving.specs.Serving.{parcel_to}
 use Rattle.ivy_alloc.specs.Heap.{HeapState}
-use Rattle.ivy_ether.specs.Cores.{Outcome}
 use Rattle.ivy_ether.specs.Ordered.{Ordered, Delivers}
 use Rattle.ivy_memory.specs.declared.HeapCall.{HeapCall}
-use Rattle.ivy_memory.specs.declared.Errand.{Errand}
 use Rattle.ivy_memory.specs.declared.Errand.TheVariants as errand
 use Rattle.ivy_memory.specs.HeapCalls.{told_of, kept, request, answer_to, reply_in}
 use Rattle.ivy_memory.proofs.Errands.{request_handled, answer_handled}

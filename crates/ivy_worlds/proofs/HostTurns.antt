@@ -12,7 +12,6 @@ use Rattle.ivy_pagetable.specs.Manager.{Ops}
 use Rattle.ivy_serving.specs.Serving.{parcel_to}
 use Rattle.ivy_coherence.specs.declared.Need.{Need}
 use Rattle.ivy_coherence.specs.declared.Need.TheVariants as need
-use Rattle.ivy_coherence.specs.Coherent.{Coherent}
 use Rattle.ivy_coherence.specs.Faults.{Begun, begun}
 use Rattle.ivy_alloc.specs.Heap.{HeapState}
 use Rattle.ivy_program.specs.States.{State}

@@ -1,5 +1,5 @@
 -- What each row keeps, each step of an ordered world keeps; and what the flat memory is told by it.
-use Rattle.std.proofs.Common.{◌≡◌, ◌<◌, ◌+◌, ℕ, Bool, true, false, List, [], ◌∷◌, Option, None, refl, sym, ap, ◌∙◌, subst, arith, if◌then◌else◌}
+use Rattle.std.proofs.Common.{◌≡◌, ℕ, Bool, true, false, List, [], ◌∷◌, None, refl, sym, ap, ◌∙◌, subst, arith, if◌then◌else◌}
 use Rattle.ivy_model.specs.declared.Config.{Config}
 use Rattle.ivy_wire.specs.Data.{Parcel}
 use Rattle.ivy_pagetable.specs.Manager.{Ops, Laws}
@@ -12,8 +12,7 @@ use Rattle.ivy_memory.specs.HeapCalls.{request}
 use Rattle.ivy_memory.specs.Memories.{taken_out}
 use Rattle.ivy_memory.proofs.Errands.{request_heap}
 use Rattle.ivy_memory.proofs.Pages.{is_of_pages}
-use Rattle.ivy_host.specs.Hosts.{Host, quietly, host_rules}
-use Rattle.ivy_host.specs.Sound.{IsSoundHost}
+use Rattle.ivy_host.specs.Hosts.{Host, host_rules}
 use Rattle.ivy_order.specs.Letters.{Net}
 use Rattle.ivy_order.specs.Rows.{IsKept}
 use Rattle.ivy_worlds.proofs.HeapDeliveries.{HeapDelivery}
@@ -32,7 +31,6 @@ TurnTells P c x f h out (goes_on s idle step is) flat = flat ≡ f
 TurnTells P c x f h out (refuses called code idle step refusal is) flat = flat ≡ f
 TurnTells {ops = ops} P c x f h out (asks_for called page word idle step of inside is_word few is) flat =
     Starts P c x f page word (number_of h) h.memory.coherence (asks ops h page word).need (asks ops h page word).after flat
-
 TurnTells P c x f h out (serves_heap called k heap idle step of there is) flat = flat ≡ f
 TurnTells P c x f h out (asks_heap called k idle step of none is) flat = flat ≡ f
 

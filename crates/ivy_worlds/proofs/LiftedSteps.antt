@@ -52,7 +52,7 @@ module _ {S : Type 0} {ops : Ops S} {P : (ℕ → S) → Net → (ℕ → List �
       let node : IsNode (managers_of spare o) mid x k = node_of spare o (one_more o.delivered source x) letters x t.core t.there good.me in
       let taken_first : P (managers_of spare o) mid f
       = kept.alike (managers_of spare o) (managers_of spare o) (taken (net_of o) source x t.message) mid f (letter_taken o source x t.message t.first about spare)
-          (kept.takes (managers_of spare o) (net_of o) f source x t.message refl (letter_first o source x t.message t.first about) h) in
+      (kept.takes (managers_of spare o) (net_of o) f source x t.message refl (letter_first o source x t.message t.first about) h) in
       let all = kept-handled laws c x (managers_of spare o) mid f k source t.message good.config good.me kept good.memory.coherent node sent.below sent.apart sent.fits refl taken_first in (
         all.0,
         all.1 (managers_of spare o') (net_of o')

@@ -1,6 +1,6 @@
 -- Each world that moves lead to from an opening is orderly, so its pages are exclusive. For every manager that keeps the
 -- laws, whatever the programs.
-use Rattle.std.proofs.Common.{◌≡◌, ◌⊎◌, ℕ, zero, suc, Bool, List, [], length, take, get_or, replicate, slice_get, Some, refl, sym, ap, ◌∙◌, inl, inr, if◌then◌else◌}
+use Rattle.std.proofs.Common.{◌≡◌, ◌⊎◌, ℕ, zero, suc, Bool, List, [], length, take, get_or, replicate, refl, ap, ◌∙◌, inl, inr, if◌then◌else◌}
 use Rattle.std.proofs.lemmas.Bool.{cases_eq, ne_eqb}
 use Rattle.std.proofs.lemmas.Option.{slice_get_cases}
 use Rattle.ivy_model.specs.declared.Config.{Config}
@@ -18,7 +18,7 @@ use Rattle.ivy_ether.specs.Following.{ordered_of}
 use Rattle.ivy_ether.proofs.Opening.{opening_follows}
 use Rattle.ivy_host.specs.Hosts.{Host, host_rules, first_host}
 use Rattle.ivy_host.specs.Holding.{IsExclusive}
-use Rattle.ivy_host.specs.Openings.{opening, first_nodes}
+use Rattle.ivy_host.specs.Openings.{opening}
 use Rattle.ivy_host.specs.Sound.{IsSoundHost}
 use Rattle.ivy_host.proofs.Tame.{opening_is}
 use Rattle.ivy_order.specs.Letters.{Net}

@@ -1,6 +1,7 @@
 -- The calls of the heap in an ordered world: the messages of the heap that are under way, and what they tell of the
 -- calls that node 0 was asked for.
-use Rattle.std.specs.Prelude.{◌≡◌, ◌≢◌, ℕ, not, List, [], ◌∷◌, drop, filter, slice_get, Option, Some, None}
+use Rattle.std.specs.Prelude.{◌≡◌, ◌≢◌, ℕ, not, List, [], ◌∷◌, drop, filter, slice_get}
+use Rattle.std.specs.Prelude.{Option, Some, None}
 use Rattle.ivy_model.specs.declared.Reply.{Reply}
 use Rattle.ivy_wire.specs.Data.{Content, Message}
 use Rattle.ivy_ether.specs.Ordered.{Ordered}
@@ -28,8 +29,8 @@ IsAtRest None = Unit {0}
 IsAtRest (Some (errand.Asked k number)) = ⊥
 IsAtRest (Some (errand.Told r)) = Unit {0}
 
--- The messages of the heap under way from a node to node 0 and back, by the call that node 0 was asked for: none where no
--- answer is owed; else the request alone, or the answer alone, which tells a reply.
+-- The messages of the heap under way from a node to node 0 and back, by the call that node 0 was asked for: none where
+-- no answer is owed; else the request alone, or the answer alone, which tells a reply.
 pub data IsErrandAt (node : ℕ) (e : Option Errand) (there back : List Message) : Type 0 where
   resting : IsAtRest e → there ≡ [] → back ≡ [] → IsErrandAt node e there back
   asking : (k : HeapCall) (number : ℕ) → e ≡ Some (errand.Asked k number)
@@ -47,7 +48,7 @@ pub record AreErrands {S : Type 0} (o : Ordered (Host S)) : Type 0 where
   pub each : (i : ℕ) (h : Host S) → i ≢ 0 → slice_get o.cores i ≡ Some h
       → IsErrandAt i h.memory.side.errand (heap_way o i 0) (heap_way o 0 i)
 
--- the reply of the call that node 0 was asked for: told, or on its way
+-- the reply of the call that node 0 was asked for: told, or in the message on its way back
 abbrev pub replied_by : Option Errand → List Message → Option Reply
 replied_by (Some (errand.Asked k number)) (m ∷ ms) = reply_in k m.content
 replied_by (Some (errand.Asked k number)) [] = None
