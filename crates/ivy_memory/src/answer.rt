@@ -5,7 +5,7 @@ use ivy_model::Reply;
 pub enum Answer {
     /// This reply.
     Given(Reply),
-    /// It is in progress, and its word waits from now on, or has no answer yet.
+    /// It is in progress: its word waits from now on or has no answer yet, or node 0 was asked for it.
     Awaited,
     /// Nothing changed: it did not begin, or has no reply yet.
     Unserved,

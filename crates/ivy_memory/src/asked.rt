@@ -16,7 +16,7 @@ pub enum Asked {
     Refused(u8),
     /// It is this word of this page.
     Word { page: u32, word: Word },
-    /// It is this call of the heap, which is not served yet.
+    /// It is this call of the heap.
     Heap(HeapCall),
 }
 

@@ -84,6 +84,13 @@ impl<M: Manager, A: Allocator + Copy> Memory<M, A> {
         self.asked
     }
 
+    /// How many messages fitted no rule, up to the greatest number. It takes no memory.
+    pub fn breaches(&self) -> u64
+        ensures { result ≡ self.now.coherence.breaches }
+    {
+        self.coherence.breaches()
+    }
+
     #[tactic(auto, unfolding(crate::specs::Memories::call_begun))]
     /// A call begins, as the one of this number [1, 17, 18]: it is answered at once, or it is in progress from now on.
     ///

@@ -1,4 +1,4 @@
-//! Messages about one page, as rows of tables.
+//! Messages about one page or of the heap, as rows of tables.
 ghost use Rattle.std.specs.Prelude.{◌≢◌, ◌<◌, IfOk, OnOk};
 ghost use Rattle.ivy_wire.specs.Lent.{owned_message};
 ghost use Rattle.ivy_wire.specs.Spelling.{FitsMessage};
@@ -25,7 +25,7 @@ static STORED: [u8; 64] = [
     0, 0, 0, 0, 0, 0, 0, 0, 0, 0, 0, 0, 0, 0, 0, 0, 0, 0, 0, 0, 0, 0, 0, 0, 0, 0, 0, 0, 0, 0, 0, 0,
 ];
 
-/// What a message says of its page.
+/// What a message says of its page, or of the heap.
 #[derive(Clone, Copy)]
 pub(crate) enum Said {
     /// Asks for a copy.
@@ -39,6 +39,12 @@ pub(crate) enum Said {
     /// The order of a node that is to write, and what acknowledges it.
     Order,
     Acknowledgement,
+    /// Asks for a block of so many bytes, and what answers it: a code and an address.
+    BlockRequest(u64),
+    Block(u8, u64),
+    /// Asks that the block at this address ends, and what answers it: a code.
+    EndRequest(u64),
+    End(u8),
 }
 
 /// A message, by what it says, the node whose call it is and the number of that call.
@@ -67,10 +73,14 @@ fn content(page: u32, said: Said) -> Content<&'static [u8]> {
         },
         Said::Order => Content::Inval { page },
         Said::Acknowledgement => Content::InvalAck { page },
+        Said::BlockRequest(size) => Content::AllocReq { size },
+        Said::Block(code, addr) => Content::AllocRep { code, addr },
+        Said::EndRequest(addr) => Content::FreeReq { addr },
+        Said::End(code) => Content::FreeRep { code },
     }
 }
 
-/// The message about a page.
+/// The message about a page. One of the heap is about none.
 pub(crate) fn message(page: u32, letter: Letter) -> Message<&'static [u8]> {
     let (said, origin, call) = letter;
     Message {

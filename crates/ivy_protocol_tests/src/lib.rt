@@ -13,6 +13,8 @@ mod ether;
 #[cfg(test)]
 mod fixed;
 #[cfg(test)]
+mod heap;
+#[cfg(test)]
 mod host;
 #[cfg(test)]
 mod letters;

@@ -2,11 +2,12 @@
 ghost use Rattle.ivy_model.specs.Legal.{HasWidth};
 
 use crate::letters::{Bytes, Letter, Said, message, received};
-use crate::posted::Posted;
+use crate::posted::{Posted, is_parcel};
 use ivy_fixed::FixedManager;
 use ivy_memory::{Answer, Memory};
 use ivy_model::{Call, Config, Fault, Kind, Reply};
-use std::alloc::Global;
+use ivy_wire::Message;
+use std::alloc::{Allocator, Global};
 use std::marker::Model;
 use std::process::Abort;
 use std::test::Fail;
@@ -21,12 +22,12 @@ const PAIR: Config = Config {
 
 /// One of the two nodes, and what it posts.
 #[derive(Drop)]
-struct Node {
-    memory: Memory<FixedManager<Global>, Global>,
+pub(crate) struct Node<A: Allocator> {
+    memory: Memory<FixedManager<A>, A>,
     posted: Posted,
 }
 
-impl Model for Node {
+impl<A: Allocator> Model for Node<A> {
     ghost use Rattle.std.specs.Prelude.{◌≡◌, ℕ, List};
     ghost use Rattle.ivy_model.specs.declared.Config as declared;
     ghost use Rattle.ivy_wire.specs.Data as wire;
@@ -47,30 +48,36 @@ impl Model for Node {
 }
 
 /// What a call comes to.
-type Outcome = Result<Answer, Fault>;
+pub(crate) type Outcome = Result<Answer, Fault>;
 
 /// What happens to a node, or what it shows.
-enum Step {
+#[derive(Clone, Copy)]
+pub(crate) enum Step {
     /// Its program makes a call, the one of this number: awaits that count 0 is at least this, reads or advances a
-    /// count, or wants a block of 8 bytes. What that comes to.
+    /// count, wants a block of so many bytes, or ends the block at an address. What that comes to.
     Awaits(u64, u64, Outcome),
     Reads(u64, u64, Outcome),
     Advances(u64, u64, Outcome),
-    Allocates(u64, Outcome),
+    Allocates(u64, u64, Outcome),
+    Frees(u64, u64, Outcome),
     /// The call of this number is asked for its reply.
     Polls(u64, Outcome),
-    /// A message about page 0 comes from the other node.
+    /// A message about page 0 or of the heap comes from the other node, and is taken, or is refused with 1.
     Comes(u8, Letter),
+    Refuses(u8, Letter),
     /// Whether its messages are refused from now on.
     IsFull(bool),
     /// So many messages were posted.
     Posted(usize),
     /// The call in progress.
     Asked(Option<Call>),
+    /// So many messages that came fitted no rule.
+    Breaches(u64),
 }
 
-impl Node {
-    fn new(alloc: Global, me: u8) -> Result<Node, Fail> {
+impl<A: Allocator + Copy> Node<A> {
+    /// Node `me`, with this memory. Its messages are kept in memory that refuses nothing.
+    pub(crate) fn new(alloc: A, kept: Global, me: u8) -> Result<Node<A>, Fail> {
         PAIR.check()?;
         if me >= PAIR.nodes {
             return Err("no such node".into());
@@ -78,7 +85,7 @@ impl Node {
         let manager = FixedManager::new(alloc, &PAIR, me)?;
         Ok(Node {
             memory: Memory::new(alloc, &PAIR, me, manager)?,
-            posted: Posted::new(alloc, PAIR, me),
+            posted: Posted::new(kept, PAIR, me),
         })
     }
 
@@ -106,15 +113,40 @@ impl Node {
         }
     }
 
-    /// A message of the other node comes.
-    fn deliver(&mut self, from: u8, letter: Letter) -> Result<(), Fail> {
-        let message = received(&PAIR, from, self.posted.node(), message(0, letter))?;
-        self.memory.handle(from, message, &mut self.posted)?;
-        Ok(())
+    /// Whether a message of the other node comes to this.
+    fn takes(
+        &mut self,
+        from: u8,
+        message: Message<&[u8]>,
+        outcome: Result<(), Fault>,
+    ) -> Result<bool, Fail> {
+        let message = received(&PAIR, from, self.posted.node(), message)?;
+        match self.memory.handle(from, message, &mut self.posted) {
+            Ok(()) => Ok(outcome == Ok(())),
+            Err(fault) => Ok(outcome == Err(fault)),
+        }
+    }
+
+    /// Whether the message that the other node posted last is this letter to this node, and is taken.
+    pub(crate) fn takes_last<B: Allocator>(
+        &mut self,
+        other: &Node<B>,
+        letter: Letter,
+    ) -> Result<bool, Fail> {
+        let Some(parcel) = other.posted.parcels().last() else {
+            return Ok(false);
+        };
+        let is_letter = is_parcel(
+            parcel,
+            other.posted.node(),
+            self.posted.node(),
+            message(0, letter),
+        );
+        Ok(is_letter && self.takes(parcel.source, parcel.message.lent(), Ok(()))?)
     }
 
     /// Whether the step goes as it says.
-    fn goes(&mut self, step: &Step) -> Result<bool, Fail> {
+    pub(crate) fn goes(&mut self, step: &Step) -> Result<bool, Fail> {
         match step {
             Step::Awaits(least, number, outcome) => {
                 let call = Call::Await {
@@ -131,13 +163,16 @@ impl Node {
             Step::Advances(k, number, outcome) => {
                 self.begins(Call::Advance { k: *k }, *number, *outcome)
             }
-            Step::Allocates(number, outcome) => {
-                self.begins(Call::Alloc { size: 8 }, *number, *outcome)
+            Step::Allocates(size, number, outcome) => {
+                self.begins(Call::Alloc { size: *size }, *number, *outcome)
+            }
+            Step::Frees(addr, number, outcome) => {
+                self.begins(Call::Free { addr: *addr }, *number, *outcome)
             }
             Step::Polls(number, outcome) => self.polls(*number, *outcome),
-            Step::Comes(from, letter) => {
-                self.deliver(*from, *letter)?;
-                Ok(true)
+            Step::Comes(from, letter) => self.takes(*from, message(0, *letter), Ok(())),
+            Step::Refuses(from, letter) => {
+                self.takes(*from, message(0, *letter), Err(Fault::Memory))
             }
             Step::IsFull(is_full) => {
                 self.posted.refuse(*is_full);
@@ -145,27 +180,37 @@ impl Node {
             }
             Step::Posted(number) => Ok(self.posted.parcels().len() == *number),
             Step::Asked(call) => Ok(self.memory.asked() == *call),
+            Step::Breaches(number) => Ok(self.memory.breaches() == *number),
         }
+    }
+
+    /// Whether these are all messages that it posted, in order: each with the node that it went to.
+    pub(crate) fn posted(&self, wanted: &[(u8, Letter)]) -> bool {
+        self.posted.are(0, wanted)
     }
 }
 
 /// The steps of a node, and all that it posts: each message with the node that it goes to.
-struct Scene<'a> {
-    me: u8,
-    steps: &'a [Step],
-    posted: &'a [(u8, Letter)],
+pub(crate) struct Scene<'a> {
+    pub(crate) me: u8,
+    pub(crate) steps: &'a [Step],
+    pub(crate) posted: &'a [(u8, Letter)],
 }
 
-fn check_node(rt: &impl Abort, node: &mut Node, scene: &Scene) -> Result<(), Fail> {
+pub(crate) fn check_node<A: Allocator + Copy>(
+    rt: &impl Abort,
+    node: &mut Node<A>,
+    scene: &Scene,
+) -> Result<(), Fail> {
     for (index, step) in scene.steps.iter().enumerate() {
         assert!(rt; node.goes(step)?, "step {index}");
     }
-    assert!(rt; node.posted.are(0, scene.posted));
+    assert!(rt; node.posted(scene.posted));
     Ok(())
 }
 
-fn check(rt: &impl Abort, alloc: Global, scene: &Scene) -> Result<(), Fail> {
-    let mut node = Node::new(alloc, scene.me)?;
+pub(crate) fn check(rt: &impl Abort, alloc: Global, scene: &Scene) -> Result<(), Fail> {
+    let mut node = Node::new(alloc, alloc, scene.me)?;
     check_node(rt, &mut node, scene)
 }
 
@@ -250,7 +295,7 @@ const BESIDE_ANOTHER: Scene = Scene {
         Step::Awaits(1, 1, Ok(Answer::Awaited)),
         Step::Reads(0, 1, Err(Fault::Busy)),
         Step::Reads(8, 2, Err(Fault::Busy)),
-        Step::Allocates(2, Err(Fault::Busy)),
+        Step::Allocates(8, 2, Err(Fault::Busy)),
         Step::Comes(1, (Said::WriteRequest, 1, 7)),
         Step::Advances(0, 2, Err(Fault::Busy)),
         Step::Posted(1),

@@ -113,6 +113,12 @@ impl Post for Posted {
     ghost refuses_none = { λ p fault why. why.0 refl };
 }
 
-fn is_parcel(parcel: &Parcel<Page<Global>>, source: u8, dest: u8, wanted: Message<&[u8]>) -> bool {
+/// Whether a parcel is this message of a node to another.
+pub(crate) fn is_parcel(
+    parcel: &Parcel<Page<Global>>,
+    source: u8,
+    dest: u8,
+    wanted: Message<&[u8]>,
+) -> bool {
     parcel.source == source && parcel.dest == dest && parcel.message.lent() == wanted
 }

@@ -1,0 +1,22 @@
+use Rattle.std.proofs.Common.{ap, sym, ◌∙◌}
+use Rattle.ivy_wire.specs.Lent.{owned_message}
+use Rattle.ivy_fixed.specs.Fixed.{fixed_ops}
+use Rattle.ivy_memory.proofs.Same.{told-same}
+use Rattle.ivy_protocol_tests.proofs.memory.Node.takes.Goals as goal
+use Rattle.ivy_protocol_tests.proofs.memory.Node.takes.Goals.{in-Ok, in-Err}
+
+pub invariant_of-self : goal.invariant_of-self
+invariant_of-self c =
+    let same = told-same fixed_ops c.self.inside.memory c.args.from (owned_message c.in_ok-message.message) in
+    elim c.match-handle.branch [
+      | in-Ok w ↦ (
+        ap (λ x. x.coherence.config) w.in-Ok.ensures.ok ∙ same.config ∙ c.self.invariant.0,
+        ap (λ p. p.0) w.in-Ok.ensures.posted ∙ c.self.invariant.1,
+        ap (λ p. p.1) w.in-Ok.ensures.posted ∙ c.self.invariant.2 ∙ sym same.me ∙ sym (ap (λ x. x.coherence.me) w.in-Ok.ensures.ok),
+      )
+      | in-Err w ↦ (
+        ap (λ x. x.coherence.config) w.in-Err.ensures.err.0 ∙ c.self.invariant.0,
+        ap (λ p. p.0) w.in-Err.ensures.err.1 ∙ c.self.invariant.1,
+        ap (λ p. p.1) w.in-Err.ensures.err.1 ∙ c.self.invariant.2 ∙ sym (ap (λ x. x.coherence.me) w.in-Err.ensures.err.0),
+      )
+    ]
