@@ -1,40 +1,49 @@
-"""What the scripts of this folder share: one run of `ivy`, timed, and the ratio of two of them. The time is
-that of the processor, so that other work on the machine does not count.
-"""
+"""What a measure is, and one run of a program, timed."""
 
 import os
 import subprocess
 import sys
+from collections.abc import Callable
+from dataclasses import dataclass
 from pathlib import Path
 
-IVY = Path(__file__).resolve().parent.parent / "ivy"
+LINEAR = 2.3
+LEAST_RUNS = 3
+LEAST_SECONDS = 2
 
 
-def run_once(words):
-    """The processor seconds that a run of `ivy` takes, and the greatest memory that it had, in MiB."""
-    run = subprocess.Popen([IVY, *words], stdout=subprocess.DEVNULL)
-    _, status, usage = os.wait4(run.pid, 0)
-    run.returncode = os.waitstatus_to_exitcode(status)
-    if run.returncode != 0:
-        sys.exit(f"ivy {' '.join(map(str, words))}: status {run.returncode}")
+@dataclass(frozen=True)
+class Measure:
+    """A command line of `ivy` for a number of units, whose files are written into a folder for it."""
+
+    name: str
+    unit: str
+    count: int
+    words: Callable[[Path, int], list]
+    limit: float = LINEAR
+    status: int = 0
+
+
+def write_lines(file, lines):
+    """Writes the lines one by one, so that this script stays smaller than what it measures."""
+    with file.open("w") as text:
+        text.writelines(f"{line}\n" for line in lines)
+    return file
+
+
+def run_once(words, status):
+    """The processor seconds that a run takes, and the greatest memory that it had, in MiB."""
+    run = subprocess.Popen(words, stdout=subprocess.DEVNULL, stderr=subprocess.DEVNULL)
+    _, ended, usage = os.wait4(run.pid, 0)
+    run.returncode = os.waitstatus_to_exitcode(ended)
+    if run.returncode != status:
+        sys.exit(f"{' '.join(map(str, words))}: status {run.returncode}")
     return usage.ru_utime + usage.ru_stime, usage.ru_maxrss / 1024
 
 
-def best(words):
-    """The best of three runs, and the greatest memory of all."""
-    runs = [run_once(words) for _ in range(3)]
-    return min(run[0] for run in runs), max(run[1] for run in runs)
-
-
-def compare(name, words_of, counts, unit="move"):
-    """Times the command of each number of moves, or of another unit. Prints the time of one, and the ratio of
-    the times.
-    """
-    # Without words it is a bad command line, before which the program is built where it has to be.
-    subprocess.run([IVY], stderr=subprocess.DEVNULL)
-    times = []
-    for count in counts:
-        seconds, memory = best(words_of(count))
-        times.append(seconds)
-        print(f"{name}, {count} {unit}s: {seconds / count * 1e6:.3f} us a {unit}, {memory:.0f} MiB")
-    print(f"{name}, ratio: {times[1] / times[0]:.3f}")
+def best(words, status):
+    """The best time of three runs, or of as many as take two seconds, and the greatest memory of all."""
+    runs = []
+    while len(runs) < LEAST_RUNS or sum(seconds for seconds, _ in runs) < LEAST_SECONDS:
+        runs.append(run_once(words, status))
+    return min(seconds for seconds, _ in runs), max(memory for _, memory in runs)
