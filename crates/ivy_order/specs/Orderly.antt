@@ -91,7 +91,7 @@ pub record IsAbout (c : Config) (l : Letter) (page : ℕ) : Type 0 where
 abbrev pub origin_entry : Net → Letter → ℕ → Entry
 origin_entry n l page = n.entry l.message.origin page
 
--- the letter's origin waits for what it asks or brings. Programs make no calls of the allocator yet.
+-- The letter's origin waits for what it asks or brings. A message of the heap is no letter.
 abbrev pub IsExpectedAs : Config → Net → Letter → Content → Type 0
 IsExpectedAs c n l (content.ReadReq page) =
     IsAbout c l page × AwaitsCopy (origin_entry n l page) l.message.call
