@@ -6,7 +6,7 @@ use Rattle.ivy_protocol_tests.proofs.memory.Node.takes.Goals as goal
 use Rattle.ivy_protocol_tests.proofs.memory.Node.takes.Goals.{in-Ok, in-Err}
 
 pub invariant_of-self : goal.invariant_of-self
-invariant_of-self c =
+invariant_of-self g c =
     let same = told-same fixed_ops c.self.inside.memory c.args.from (owned_message c.in_ok-message.message) in
     elim c.match-handle.branch [
       | in-Ok w ↦ (
