@@ -254,7 +254,8 @@ fn fault_at(memory: &Refusing<Global>, n: u64, text: &str) -> (Option<Fault>, bo
     (fault, met)
 }
 
-/// A refused growth is want of memory, or changes nothing: the words of a line ask a second time.
+/// A refused growth is want of memory. Or it changes nothing: where the words of a line are refused room
+/// for all of them at once, they ask for less.
 #[test]
 fn growths_of_a_text(rt: HostRuntime) {
     let memory = Refusing::new(rt.alloc());
