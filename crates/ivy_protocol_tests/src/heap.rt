@@ -64,14 +64,23 @@ fn check_rounds<A: Allocator + Copy>(
     Ok(())
 }
 
+/// Node 1 makes the calls of these rounds, with node 0.
+fn check_asking(rt: &impl Abort, alloc: Global, keeper: &mut Node<Global>) -> Result<(), Fail> {
+    let mut node = Node::new(alloc, alloc, 1)?;
+    check_rounds(rt, keeper, &mut node, &ROUNDS)?;
+    check_node(rt, &mut node, &ASKED)
+}
+
+fn check_keeper(rt: &impl Abort, alloc: Global) -> Result<(), Fail> {
+    let mut keeper = Node::new(alloc, alloc, 0)?;
+    check_asking(rt, alloc, &mut keeper)?;
+    check_node(rt, &mut keeper, &ANSWERED)
+}
+
 /// Each request and each answer is the one message that its node posts. What will be refused is asked for too.
 #[test]
 fn node_1_asks_node_0(rt: HostRuntime) -> Result<(), Fail> {
-    let mut keeper = Node::new(rt.alloc(), rt.alloc(), 0)?;
-    let mut node = Node::new(rt.alloc(), rt.alloc(), 1)?;
-    check_rounds(&rt, &mut keeper, &mut node, &ROUNDS)?;
-    check_node(&rt, &mut keeper, &ANSWERED)?;
-    check_node(&rt, &mut node, &ASKED)
+    check_keeper(&rt, rt.alloc())
 }
 
 const ROUNDS: [Round; 5] = [
