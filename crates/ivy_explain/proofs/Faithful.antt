@@ -5,7 +5,6 @@ use Rattle.std.proofs.lemmas.List.{append-nil}
 use Rattle.std.proofs.lemmas.Option.{same_Some, none-some}
 use Rattle.ivy_model.specs.declared.Config.{Config}
 use Rattle.ivy_model.specs.declared.Record.{Record}
-use Rattle.ivy_model.specs.Config.{IsConfig}
 use Rattle.ivy_model.specs.Memory.{Blocks, flat_page, first}
 use Rattle.ivy_model.specs.Memory as model
 use Rattle.ivy_model.specs.Legal.{ServesAll}

@@ -1,6 +1,6 @@
 -- A message of the heap keeps the ordered world faithful: a call that node 0 serves stands in the order from then on, and
 -- the answer is owed to its caller wherever it is.
-use Rattle.std.proofs.Common.{◌≡◌, ◌≢◌, ◌<◌, ℕ, List, [], ◌∷◌, ◌++◌, set, slice_get, Some, None, Option, refl, ap, sym, subst, ◌∙◌, inl, inr}
+use Rattle.std.proofs.Common.{◌≡◌, ◌≢◌, ◌<◌, ℕ, List, [], ◌∷◌, ◌++◌, set, slice_get, Some, None, refl, ap, sym, subst, ◌∙◌, inl, inr}
 use Rattle.std.proofs.lemmas.Bool.{cases_eq}
 use Rattle.std.proofs.lemmas.List.{append-nil}
 use Rattle.std.proofs.lemmas.Option.{same_Some}
@@ -102,12 +102,16 @@ module _ {S : Type 0} (ops : Ops S) (c : Config) (o o' : Ordered (Host S)) (orde
     pub serves_faithful : IsFaithful ops c o' (order ++ given ∷ [])
     serves_faithful = record {
       memory = memory_told f.memory heap k;
-      legal = leads-append c (first c) f.memory (memory_told f.memory heap k) order (given ∷ []) f.legal (memory_told f.memory heap k, record {
-        node = subst (λ i. i < c.nodes) good.me (subst (λ (d : Config). number_of asker < d.nodes) good.config good.memory.coherent.here);
-        width = good.memory.width called.call called.asked;
-        served = heap_served c f.memory heap (((f.sound.sound home core there).memory.side.home heap has).0 ∙ (f.sound.sound home core there).config) (f.blocks home core heap there has) called.call k
-            (subst (λ d. asked_of d called.call ≡ kinds.Heap k) good.config called.of);
-      }, refl);
+      legal = leads-append c (first c) f.memory (memory_told f.memory heap k) order (given ∷ []) f.legal (
+        memory_told f.memory heap k,
+        record {
+          node = subst (λ i. i < c.nodes) good.me (subst (λ (d : Config). number_of asker < d.nodes) good.config good.memory.coherent.here);
+          width = good.memory.width called.call called.asked;
+          served = heap_served c f.memory heap (((f.sound.sound home core there).memory.side.home heap has).0 ∙ (f.sound.sound home core there).config) (f.blocks home core heap there has) called.call k
+              (subst (λ d. asked_of d called.call ≡ kinds.Heap k) good.config called.of);
+        },
+        refl,
+      );
       pages = f.pages;
       shows = f.shows;
       sound = sound;

@@ -1,9 +1,8 @@
 -- A site stays what its events make, whatever its calls do.
-use Rattle.std.proofs.Common.{◌≡◌, ◌≢◌, ℕ, List, [], ◌∷◌, ◌++◌, Option, Some, None, map, refl, sym, ap, subst, ◌∙◌, append-nil, append_assoc}
+use Rattle.std.proofs.Common.{◌≡◌, ◌≢◌, ℕ, List, [], ◌∷◌, ◌++◌, Option, Some, None, refl, sym, ap, subst, ◌∙◌, append-nil, append_assoc}
 use Rattle.std.proofs.lemmas.Option.{none-some}
 use Rattle.ivy_model.specs.declared.Config.{Config}
 use Rattle.ivy_model.specs.Config.{IsConfig}
-use Rattle.ivy_wire.specs.Faults.{checked}
 use Rattle.ivy_wire.proofs.Frames.{spelled_once}
 use Rattle.ivy_link.specs.declared.Verdict.{Verdict}
 use Rattle.ivy_link.specs.Accepted.{offered}
@@ -13,9 +12,9 @@ use Rattle.ivy_host.specs.Hosts.{Host, host_rules}
 use Rattle.ivy_host.specs.Openings.{first_node}
 use Rattle.ivy_program.specs.declared.Instruction.{Instruction}
 use Rattle.ivy_ether.specs.Cores.{Core}
-use Rattle.ivy_ether.specs.Marks.{Mark, Turn, Delivery, Pulse}
+use Rattle.ivy_ether.specs.Marks.{Mark, Turn, Delivery}
 use Rattle.ivy_ether.specs.Nodes.{Node, Effect, stays, turned, turned_to, verdict_as, verdict_of, pulsing}
-use Rattle.ivy_ether.specs.Parts.{followed_by, pulse_marks, Happens, AllHappen}
+use Rattle.ivy_ether.specs.Parts.{followed_by, pulse_marks, AllHappen}
 use Rattle.ivy_ether.specs.Early.{early_as, early_in}
 use Rattle.ivy_ether.proofs.Early.{early-append}
 use Rattle.ivy_ether.proofs.Parts.{all-append, single, pulsing-marks}
@@ -25,7 +24,7 @@ use Rattle.ivy_node.proofs.Programs.{turned-program, posting-core, delivered-pro
 use Rattle.ivy_node.specs.Outboxes.{Outbox, Takes}
 use Rattle.ivy_node.specs.Shown.{Shown, after_event, after_delivery, after_pulse_to}
 use Rattle.ivy_node.specs.WorldSites.{early_at}
-use Rattle.ivy_node.specs.Sites.{IsSite, IsMadeByEvents, AfterTurn, Turns, AfterDelivery, first_shown}
+use Rattle.ivy_node.specs.Sites.{IsSite, IsMadeByEvents, AfterTurn, AfterDelivery, first_shown}
 
 abbrev rules : Core (Host Managed)
 rules = host_rules managed_ops

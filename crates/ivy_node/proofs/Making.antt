@@ -1,35 +1,27 @@
 -- One move over the sites of a world changes one site.
-use Rattle.std.proofs.Common.{◌≡◌, ◌⊎◌, ℕ, Bool, false, inl, inr, zero, suc, ◌+◌, ◌^◌, ◌<◌, List, [], ◌∷◌, ◌++◌, length, map, set, slice_get, Option, Some, None, Ok, MatchResult, Contains, option_map, true, false, nat_lt, if◌then◌else◌, ◌&&◌, ◌==◌, ◌≢◌, not, refl, sym, ap, subst, ◌∙◌, append-nil, ⊎_elim}
-use Rattle.std.proofs.lemmas.Bool.{cases_eq, lt-ltb, eq-eqb, ne_eqb}
+use Rattle.std.proofs.Common.{◌≡◌, ℕ, zero, suc, ◌<◌, List, [], ◌∷◌, ◌++◌, length, map, set, slice_get, Some, None, Ok, MatchResult, Contains, option_map, true, nat_lt, if◌then◌else◌, ◌&&◌, ◌==◌, ◌≢◌, not, refl, sym, ap, subst, ◌∙◌, append-nil, ⊎_elim}
+use Rattle.std.proofs.lemmas.Bool.{lt-ltb, ne_eqb}
 use Rattle.std.proofs.lemmas.List.{map-set, length-map}
-use Rattle.std.proofs.lemmas.Option.{same_Some, none-some, slice_get-map, slice_get_within, get_or_from_slice_get}
+use Rattle.std.proofs.lemmas.Option.{same_Some, slice_get-map, slice_get_within, get_or_from_slice_get}
 use Rattle.ivy_model.specs.declared.Config.{Config}
-use Rattle.ivy_model.specs.declared.Call.{Call}
 use Rattle.ivy_model.specs.declared.Fault.{Fault}
 use Rattle.ivy_model.specs.Wants.{IsWant}
 use Rattle.ivy_host.specs.Managers.{Managed, managed_ops}
-use Rattle.ivy_program.specs.Steps.{Step, Local, Asks, Ends, step_of, at_state}
-use Rattle.ivy_wire.specs.Data.{Parcel, Frame, Message}
+use Rattle.ivy_wire.specs.Data.{Frame}
 use Rattle.ivy_wire.specs.Faults.{checked}
 use Rattle.ivy_wire.specs.declared.FrameKind.{FrameKind}
 use Rattle.ivy_wire.proofs.Frames.{spelled_once}
 use Rattle.ivy_link.specs.declared.Verdict.{Verdict}
 use Rattle.ivy_link.specs.declared.Verdict.TheVariants as verdict
-use Rattle.ivy_link.specs.Accepted.{offered, accepted}
 use Rattle.ivy_model.specs.Config.{IsConfig}
-use Rattle.ivy_link.specs.Linked.{has_numbers, sends}
-use Rattle.ivy_wire.specs.Spelling.{spelling, Spells, frame_kind}
+use Rattle.ivy_wire.specs.Spelling.{frame_kind}
 use Rattle.ivy_ether.specs.declared.Move.{Move}
 use Rattle.ivy_ether.specs.declared.Move.TheVariants as move
-use Rattle.ivy_ether.specs.Cores.{Outcome}
-use Rattle.ivy_ether.specs.Nodes.{Node, Effect, stays, posting, turned, turned_to, pulsing, accepting, served, received_as, received, verdict_of, delivered_as, delivered}
+use Rattle.ivy_ether.specs.Nodes.{Node, Effect, stays, turned, turned_to, pulsing, received_as, verdict_of, delivered}
 use Rattle.ivy_ether.specs.Worlds as worlds
 use Rattle.ivy_node.specs.declared.turn.Turn as turn
 use Rattle.ivy_node.specs.declared.turn.Turn.TheVariants.{Idle, Moved, Ended}
-use Rattle.ivy_host.specs.Hosts.{Host, host_rules, turn_of, serving, turned_at, steps, begins, begins_as, begins_with, quietly, recorded}
-use Rattle.ivy_memory.specs.declared.Answer.{Answer}
-use Rattle.ivy_memory.specs.declared.Answer.TheVariants.{Given, Awaited, Unserved}
-use Rattle.ivy_memory.specs.Memories.{CallBegun, call_begun, polled}
+use Rattle.ivy_host.specs.Hosts.{Host, host_rules}
 use Rattle.ivy_host.specs.Holding.{AllSpell}
 use Rattle.ivy_node.specs.Runs.{IsRefusedBy}
 use Rattle.ivy_node.specs.Shown.{Shown, after_pulse_to, after_delivery}

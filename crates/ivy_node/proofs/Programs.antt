@@ -5,7 +5,7 @@ use Rattle.ivy_model.specs.declared.Config.{Config}
 use Rattle.ivy_model.specs.Config.{IsConfig}
 use Rattle.ivy_model.specs.declared.Call.{Call}
 use Rattle.ivy_wire.specs.Data.{Parcel, Frame, Message}
-use Rattle.ivy_wire.specs.Spelling.{spelling, Spells, frame_kind}
+use Rattle.ivy_wire.specs.Spelling.{spelling, Spells}
 use Rattle.ivy_wire.proofs.Frames.{spelled_once}
 use Rattle.ivy_link.specs.declared.Verdict.{Verdict}
 use Rattle.ivy_link.specs.declared.Verdict.TheVariants as verdict
