@@ -4,6 +4,7 @@ use ivy_model::{Call, Record, Reply, check_order};
 use ivy_node::Move;
 use ivy_wire::FrameKind;
 use std::alloc::Allocator;
+use std::process::Abort;
 use std::test::Fail;
 
 /// A block that is given at an address.
@@ -219,56 +220,72 @@ fn remote_alloc(rt: HostRuntime) -> Result<(), Fail> {
     )
 }
 
-/// Node 0 serves the call of node 1, and then its own. The reply is on its way to node 1.
-const SERVED: [Move; 5] = [
+/// Node 0 serves the call of node 1, and then its own. The reply to node 1 comes in the sixth move.
+const SERVED: [Move; 7] = [
     Move::Turn(1),
     Move::Turn(1),
     Move::Deliver { index: 0, to: 0 },
     Move::Turn(0),
     Move::Turn(0),
+    Move::Deliver { index: 1, to: 1 },
+    Move::Turn(1),
 ];
 
 /// Both nodes ask for eight bytes.
-const BOTH: Run = Run {
-    config: PAIR,
-    text: "node 0\nset r1 8\nalloc r2 r1\nnode 1\nset r1 8\nalloc r2 r1\n",
-    kinds: &[],
-    strings: &[],
-    nodes: &[],
-};
+const BOTH: &str = "node 0
+set r1 8
+alloc r2 r1
+node 1
+set r1 8
+alloc r2 r1
+";
+
+/// Makes the moves of both programs, which send two strings. Asserts what the nodes show.
+fn check_both<A: Allocator + Copy>(
+    rt: &impl Abort,
+    alloc: A,
+    moves: &[Move],
+    nodes: &[Shown],
+) -> Result<(), Fail> {
+    check_run(
+        rt,
+        alloc,
+        &Run {
+            config: PAIR,
+            text: BOTH,
+            kinds: &[],
+            strings: &[],
+            nodes,
+        },
+        &[(moves, 2)],
+    )
+}
 
 /// Node 0 is answered as if node 1, which has no reply yet, had been answered before.
 #[test]
 fn alloc_in_progress(rt: HostRuntime) -> Result<(), Fail> {
-    let waits = Shown {
-        node: 1,
-        answers: &[],
-        printed: &[],
-        ended: false,
-    };
     let order = [allocated(1, 8, 64), allocated(0, 8, 72)];
-    let nodes = [ended(0, &order[1..], &[]), waits];
-    let run = Run {
-        nodes: &nodes,
-        ..BOTH
+    let waits = Shown {
+        ended: false,
+        ..ended(1, &[], &[])
     };
-    check_run(&rt, rt.alloc(), &run, &[(&SERVED, 2)])?;
+    check_both(
+        &rt,
+        rt.alloc(),
+        &SERVED[..5],
+        &[ended(0, &order[1..], &[]), waits],
+    )?;
     PAIR.check()?;
     assert!(rt; check_order(rt.alloc(), &PAIR, &order)?);
     assert!(rt; !check_order(rt.alloc(), &PAIR, &order[1..])?);
     Ok(())
 }
 
-/// Later node 1 has that reply.
+/// Once that reply comes, node 1 is answered, too.
 #[test]
 fn alloc_answered_later(rt: HostRuntime) -> Result<(), Fail> {
-    let one = [allocated(1, 8, 64)];
     let zero = [allocated(0, 8, 72)];
+    let one = [allocated(1, 8, 64)];
     let nodes = [ended(0, &zero, &[]), ended(1, &one, &[])];
-    let run = Run {
-        nodes: &nodes,
-        ..BOTH
-    };
-    let later = [deliver(1, 1), Move::Turn(1)];
-    check_run(&rt, rt.alloc(), &run, &[(&SERVED, 2), (&later, 2)])
+    check_both(&rt, rt.alloc(), &SERVED, &nodes)
 }
