@@ -1,5 +1,5 @@
 -- A call that begins, and a message that comes, as the code has them.
-use Rattle.std.proofs.Common.{◌≡◌, ◌≢◌, ℕ, ◌^◌, ◌<◌, ◌≤◌, ◌⊎◌, inl, inr, Bool, true, false, List, [], length, is_some, Option, Some, None, Result, Ok, Err, OnOk, OnErr, IsErrAnd, IfErr, refl, sym, ap, ◌∙◌, subst, if◌then◌else◌}
+use Rattle.std.proofs.Common.{◌≡◌, ◌≢◌, ℕ, ◌^◌, ◌<◌, ◌≤◌, ◌⊎◌, inl, inr, Bool, true, false, List, [], ◌∷◌, length, is_some, Option, Some, None, Result, Ok, Err, OnOk, OnErr, IsErrAnd, IfErr, refl, sym, ap, ◌∙◌, subst, if◌then◌else◌}
 use Rattle.std.proofs.lemmas.Bool.{cases_Bool}
 use Rattle.ivy_model.specs.declared.Config.{Config}
 use Rattle.ivy_model.specs.declared.Call.{Call}
@@ -20,8 +20,9 @@ use Rattle.ivy_memory.specs.declared.answer.Answer.{Answer}
 use Rattle.ivy_coherence.proofs.Keeping.{begun-keeps}
 use Rattle.ivy_memory.specs.declared.asked.Asked.TheVariants as asked
 use Rattle.ivy_memory.specs.declared.heap_side.HeapCall.{HeapCall}
-use Rattle.ivy_memory.specs.Asking.{CanAsk, HasToAskFor, CallHasToAsk, IsOfHeap, asked_of}
-use Rattle.ivy_memory.specs.HeapCalls.{HeapBegun, HeapSide, HeapTold, heap_begun, heap_told}
+use Rattle.ivy_memory.specs.Asking.{CanAsk, HasToAskFor, CallHasToAsk, MayBeRefused, asked_of}
+use Rattle.ivy_model.specs.declared.Fault.{Fault}
+use Rattle.ivy_memory.specs.HeapCalls.{IsAddressPosted, IsGrowthPosted, HeapBegun, HeapSide, HeapTold, heap_begun, heap_told}
 use Rattle.ivy_memory.specs.Memories.{Memory, CallBegun, needed, asked_after, heap_answered, begun_as, call_begun, MemoryEffect, by_side, by_coherence, memory_handled_as, memory_handled, memory_told}
 use Rattle.ivy_memory.proofs.Asking.{can_ask}
 use Rattle.ivy_memory.specs.Sound.{IsSoundMemory}
@@ -118,7 +119,7 @@ module _ {S : Type 0} {ops : Ops S} (laws : Laws ops) where
     begun_is = ap (λ x. call_begun ops x c number) (sym l.same) ∙ ap (begun_as ops v c number) asking
 
     -- a call whose word has to be asked for
-    pub call_asks : {A E : Type 0} (r : Result A E) → HasToAsk v.coherence page w → OnErr r (CallHasToAsk n.coherence c ⊎ IsOfHeap (asked_of n.coherence.config c))
+    pub call_asks : {A E : Type 0} (r : Result A E) → HasToAsk v.coherence page w → OnErr r (CallHasToAsk n.coherence c ⊎ MayBeRefused (asked_of n.coherence.config c) (call_begun ops n c number).answer)
     call_asks (Ok a) asks = tt
     call_asks (Err x) asks =
         inl (subst (λ (m : Memory S). CallHasToAsk m.coherence c) l.same (subst (HasToAskFor v.coherence) (sym asking) asks))
@@ -168,6 +169,10 @@ module _ {S : Type 0} {ops : Ops S} (laws : Laws ops) (n v : Memory S) (k : Conf
       (subst (λ x. IsSoundMemory ops (record { coherence = v.coherence; asked = x; side = begins.after })) (ap (asked_after v.asked c) (sym told) ∙ waits)
       (subst (λ (x : CallBegun S). IsSoundMemory ops x.after) (ap (λ x. call_begun ops x c number) l.same ∙ heap_is)
       (call-sound laws v c number l.sound (ap (λ (x : Memory S). x.asked) l.same ∙ l.idle) l.legal l.least l.most).0))
+
+-- nothing posted is no address
+no_address : IsAddressPosted [] → ⊥
+no_address a = let none : [] ≡ a.0 ∷ [] = a.2 in absurd cc
 
 -- A message that comes, as the code has it: `v` is what the fields are seen as, `n` the value.
 pub record IsMessage {S : Type 0} (ops : Ops S) (n v : Memory S) (node from : ℕ) (m : Message) : Type 0 where
@@ -224,10 +229,11 @@ module _ {S : Type 0} {ops : Ops S} (laws : Laws ops) (n v : Memory S) (node fro
       ]
 
   -- what it is refused by
-  pub err_posts : {A E : Type 0} (r : Result A E) (G : E → Type 0) (R : List Parcel → E → Type 0) (e : E) → ((f : E) → R [] f → ⊥) → IsErrAnd r (λ x. x ≡ e) → G e ⊎ R heard.posted e → IfErr r (λ f. G f ⊎ R (memory_handled ops n from m).posted f)
-  err_posts r G R e none is why =
-      err_there r (λ f. G f ⊎ R (memory_handled ops n from m).posted f) e is
-      (elim why [ inl x ↦ inl x | inr x ↦ inr (side_posts (λ ps. R ps e) (none e) x) ])
+  pub err_posts : {A : Type 0} (r : Result A Fault) (Refuses : List Parcel → Fault → Type 0) (e : Fault) → ((f : Fault) → Refuses [] f → ⊥) → IsErrAnd r (λ x. x ≡ e) → IsGrowthPosted heard.posted e ⊎ Refuses heard.posted e
+      → IfErr r (λ f. IsGrowthPosted (memory_handled ops n from m).posted f ⊎ Refuses (memory_handled ops n from m).posted f)
+  err_posts r Refuses e none is why =
+      err_there r (λ f. IsGrowthPosted (memory_handled ops n from m).posted f ⊎ Refuses (memory_handled ops n from m).posted f) e is
+      (side_posts (λ ps. IsGrowthPosted ps e ⊎ Refuses ps e) (λ x. elim x [ inl grows ↦ no_address grows.0 | inr refuses ↦ none e refuses ]) why)
 
   -- the memory after the coherence had the message, or refused it
   pub left_memory : {A E : Type 0} (P : Type 0) (fits : Bool) (r : Result A E) (new : Coherent S) (side : HeapSide) → fits ≡ heard.fits → fits ≡ false → side ≡ v.side

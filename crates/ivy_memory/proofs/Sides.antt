@@ -1,33 +1,34 @@
 -- A node's side of the calls of the heap: what begins there and what comes to it, row by row.
-use Rattle.std.proofs.Common.{◌≡◌, ◌≢◌, ℕ, ◌^◌, ◌<◌, ◌≤◌, inl, inr, Bool, true, false, ◌&&◌, ◌==◌, [], length, Option, Some, None, refl, sym, ap, ◌∙◌, subst, arith, if◌then◌else◌, nat_lt}
+use Rattle.std.proofs.Common.{◌≡◌, ◌≢◌, ℕ, ◌^◌, ◌<◌, ◌≤◌, inl, inr, Bool, true, false, ◌&&◌, ◌==◌, [], length, Option, Some, None, Result, Err, MatchBool, refl, sym, ap, ◌∙◌, subst, arith, if◌then◌else◌, nat_lt}
 use Rattle.std.specs.Prelude.{All}
-use Rattle.std.proofs.lemmas.Bool.{eqb-true, eqb-false, ltb-true}
+use Rattle.std.proofs.lemmas.Bool.{eqb-true, eqb-false, ltb-true, ne_eqb}
 use Rattle.std.proofs.lemmas.Option.{same_Some, none-some}
 use Rattle.ivy_model.specs.declared.Config.{Config}
 use Rattle.ivy_model.specs.declared.Call.{Call}
+use Rattle.ivy_model.specs.declared.Call.TheVariants as call
 use Rattle.ivy_model.specs.declared.Fault.{Fault}
 use Rattle.ivy_model.specs.declared.Fault.TheVariants as fault
 use Rattle.ivy_model.specs.declared.Reply.{Reply}
 use Rattle.ivy_model.specs.declared.Reply.TheVariants.{Value, Done, Refused}
 use Rattle.ivy_model.specs.Config.{IsConfig}
+use Rattle.ivy_model.specs.Memory as model
+use Rattle.ivy_model.specs.Serves.{Serves, Refuses, Allocates, rounded}
 use Rattle.ivy_wire.specs.declared.Content.TheVariants as content
 use Rattle.ivy_wire.specs.Data.{Content, Message}
 use Rattle.ivy_wire.specs.Spelling.{FitsContent, FitsMessage, FitsParcel}
 use Rattle.ivy_serving.specs.Serving.{parcel_to}
 use Rattle.ivy_serving.proofs.IdleServing.{all_none, all_one}
-use Rattle.ivy_alloc.specs.Heap.{HeapState, first_heap}
-use Rattle.ivy_alloc.specs.Laws.{IsAllocReply, IsFreeReply}
-use Rattle.ivy_alloc.proofs.Answered.{has_replies}
+use Rattle.ivy_alloc.specs.Heap.{HeapState, HasNoRoom, first_heap}
+use Rattle.ivy_alloc.specs.Laws.{IsAllocReply, IsFreeReply, with_blocks}
+use Rattle.ivy_alloc.specs.Told.{alloc_told}
+use Rattle.ivy_alloc.proofs.Answered.{alloc_served, has_replies}
 use Rattle.ivy_alloc.proofs.Limits.{heap_small}
-use Rattle.ivy_memory.specs.declared.asked.Asked.{Asked}
-use Rattle.ivy_memory.specs.declared.asked.Asked.TheVariants as asked
 use Rattle.ivy_memory.specs.declared.heap_side.HeapCall.{HeapCall}
 use Rattle.ivy_memory.specs.declared.heap_side.HeapCall.TheVariants.{Alloc, Free}
 use Rattle.ivy_memory.specs.declared.heap_side.Errand.{Errand}
 use Rattle.ivy_memory.specs.declared.heap_side.Errand.TheVariants as errand
-use Rattle.ivy_memory.specs.declared.answer.Answer.TheVariants.{Unserved}
-use Rattle.ivy_memory.specs.Asking.{IsGrowthAsked}
-use Rattle.ivy_memory.specs.HeapCalls.{HeapSide, HeapBegun, HeapTold, IsGrowth, IsGrowthFor, first_side, told_of, request, number_in, answer_to, begun_at, heap_begun, misfit, served_at, served, learned, learns, answered_by, heap_told_as, heap_told}
+use Rattle.ivy_memory.specs.declared.answer.Answer.TheVariants.{Given, Unserved}
+use Rattle.ivy_memory.specs.HeapCalls.{HeapSide, HeapBegun, HeapTold, IsAddress, first_side, told_of, request, number_in, answer_to, begun_at, heap_begun, misfit, served_at, served, learned, learns, answered_by, heap_told_as, heap_told}
 use Rattle.ivy_memory.specs.Memories.{Memory, heap_answered}
 use Rattle.ivy_memory.specs.Sound.{IsErrandOf, IsSoundSide}
 
@@ -207,24 +208,22 @@ pub heap_unserved : {S : Type 0} (m : Memory S) (k : Call) (number : ℕ) (h : H
     → ((heap_answered m k (heap_begun m.coherence.me m.side h number)).after ≡ m) × ((heap_begun m.coherence.me m.side h number).posted ≡ [])
 heap_unserved m k number h is = unserved_at m k number h m.side.heap is
 
--- what the heap wants to grow is memory
-growth_is : (k : HeapCall) (f : Fault) → IsGrowth k f → f ≡ fault.Memory
-growth_is (Alloc size) f is = is
-growth_is (Free addr) f is = absurd is
+-- the heap wants memory only where there is room for the block: it has not refused it with 8 or 9
+address_or : (c : Config) (size : ℕ) (y : Reply) → IsAllocReply c size y → (size ≢ 0) → (y ≢ Refused 9) → IsAddress (Given y)
+address_or c size (Value addr) is some room = tt
+address_or c size Done is some room = absurd is
+address_or c size (Refused code) is some room = elim is [ inl x ↦ absurd (some x.0) | inr x ↦ absurd (room (ap Refused x.1)) ]
 
-pub growth_memory : (x : Asked) (f : Fault) → IsGrowthAsked x f → f ≡ fault.Memory
-growth_memory (asked.Refused code) f is = absurd is
-growth_memory (asked.Word page w) f is = absurd is
-growth_memory (asked.Heap k) f is = growth_is k f is
+no_room : (h : HeapState) (size : ℕ) → (size ≢ 0) → (told_of h (Alloc size)).reply ≡ Refused 9 → HasNoRoom h size
+no_room h size some is =
+    let m : model.Memory = record { bytes = []; counts = []; blocks = h.blocks } in
+    let served : Serves h.config m (call.Alloc size) (Refused 9) (with_blocks m (alloc_told h.config h.blocks size).blocks)
+    = subst (λ r. Serves h.config m (call.Alloc size) r (with_blocks m (alloc_told h.config h.blocks size).blocks)) is (alloc_served h.config m size) in
+    (subst (λ b. MatchBool b (Refuses m 8 (Refused 9) (with_blocks m (alloc_told h.config h.blocks size).blocks)) (Allocates h.config m (rounded size) (Refused 9) (with_blocks m (alloc_told h.config h.blocks size).blocks)))
+    (ne_eqb size 0 some) served).1
 
-pub growth_memory_for : (m : Content) (f : Fault) → IsGrowthFor m f → f ≡ fault.Memory
-growth_memory_for (content.AllocReq size) f is = is
-growth_memory_for (content.AllocRep code addr) f is = absurd is
-growth_memory_for (content.FreeReq addr) f is = absurd is
-growth_memory_for (content.FreeRep code) f is = absurd is
-growth_memory_for (content.ReadReq page) f is = absurd is
-growth_memory_for (content.WriteReq page) f is = absurd is
-growth_memory_for (content.ReadRep page bytes) f is = absurd is
-growth_memory_for (content.WriteRep page copies bytes) f is = absurd is
-growth_memory_for (content.Inval page) f is = absurd is
-growth_memory_for (content.InvalAck page) f is = absurd is
+pub alloc_grows : (h : HeapState) (size : ℕ) (r : Result ℕ Fault) → r ≡ Err fault.Memory → (size ≡ 0 → r ≡ Err fault.ZeroSize) → ((0 < size) × HasNoRoom h size → r ≡ Err fault.NoRoom) → IsAddress (Given (told_of h (Alloc size)).reply)
+alloc_grows h size r wants empty full =
+    let some : size ≢ 0 = λ none. (let e : Err fault.Memory ≡ Err fault.ZeroSize = sym wants ∙ empty none in absurd cc) in
+    address_or h.config size (told_of h (Alloc size)).reply (has_replies h.config h.blocks size).0 some
+    (λ is. (let more : 0 < size = omega (arith, some) in let e : Err fault.Memory ≡ Err fault.NoRoom = sym wants ∙ full (more, no_room h size some is) in absurd cc))

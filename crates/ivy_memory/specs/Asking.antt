@@ -1,5 +1,5 @@
 -- What a call is to the memory of a node: refused at once, a word of a page, or a call of the heap.
-use Rattle.std.specs.Prelude.{◌<◌, ℕ, ◌/◌, ◌%◌, Option, Some, None, Result, Ok, Err}
+use Rattle.std.specs.Prelude.{◌≡◌, ◌⊎◌, ◌<◌, ℕ, ◌/◌, ◌%◌, Option, Some, None, Result, Ok, Err}
 use Rattle.ivy_model.specs.declared.Config.{Config}
 use Rattle.ivy_model.specs.declared.Call.{Call}
 use Rattle.ivy_model.specs.declared.Call.TheVariants.{Load, Store, Count, Advance, Await, Alloc, Free}
@@ -15,7 +15,9 @@ use Rattle.ivy_coherence.specs.Faults.{HasToAsk}
 use Rattle.ivy_memory.specs.declared.asked.Asked.{Asked}
 use Rattle.ivy_memory.specs.declared.asked.Asked.TheVariants as asked
 use Rattle.ivy_memory.specs.declared.heap_side.HeapCall.TheVariants as heap
-use Rattle.ivy_memory.specs.HeapCalls.{IsGrowth}
+use Rattle.ivy_memory.specs.declared.answer.Answer.{Answer}
+use Rattle.ivy_memory.specs.declared.answer.Answer.TheVariants.{Awaited}
+use Rattle.ivy_memory.specs.HeapCalls.{IsAddress}
 
 -- the word of a page, unless it is refused
 abbrev pub word_unless : Option ℕ → ℕ → Word → Asked
@@ -55,11 +57,9 @@ IsOfHeap (asked.Refused code) = ⊥
 IsOfHeap (asked.Word page w) = ⊥
 IsOfHeap (asked.Heap k) = Unit {0}
 
--- the heap may want memory for it
-abbrev pub IsGrowthAsked : Asked → Fault → Type 0
-IsGrowthAsked (asked.Refused code) fault = ⊥
-IsGrowthAsked (asked.Word page w) fault = ⊥
-IsGrowthAsked (asked.Heap k) fault = IsGrowth k fault
+-- a call of the heap, so answered, that may be refused by a fault: it gives a block, or node 0 has to be asked
+abbrev pub MayBeRefused : Asked → Answer → Type 0
+MayBeRefused a answer = IsOfHeap a × (IsAddress answer ⊎ (answer ≡ Awaited))
 
 abbrev pub CallHasToAsk : {S : Type 0} → Coherent S → Call → Type 0
 CallHasToAsk c call = HasToAskFor c (asked_of c.config call)

@@ -18,7 +18,7 @@ use Rattle.ivy_memory.specs.declared.heap_side.HeapCall.TheVariants.{Alloc, Free
 use Rattle.ivy_memory.specs.declared.heap_side.Errand.{Errand}
 use Rattle.ivy_memory.specs.declared.heap_side.Errand.TheVariants as errand
 
--- `heap` is the heap, at node 0 alone; `errand` is the call in progress that node 0 was asked for
+-- `heap` is the heap, at node 0 alone; `errand` is where the call in progress stands that node 0 was asked for
 pub record HeapSide : Type 0 where
   pub heap : Option HeapState
   pub errand : Option Errand
@@ -31,24 +31,37 @@ first_side c me = record { heap = if me == 0 then Some (first_heap c) else None;
 abbrev pub closed : HeapSide → HeapSide
 closed s = record s { errand = None }
 
--- the heap may want memory for a block more, and for nothing else
-abbrev pub IsGrowth : HeapCall → Fault → Type 0
-IsGrowth (Alloc size) fault = fault ≡ Memory
-IsGrowth (Free addr) fault = ⊥
+-- the answer is the address of a block
+abbrev pub IsAddress : Answer → Type 0
+IsAddress (Given (Value addr)) = Unit {0}
+IsAddress (Given Done) = ⊥
+IsAddress (Given (Refused code)) = ⊥
+IsAddress Awaited = ⊥
+IsAddress Unserved = ⊥
 
--- and so it may for a request of a block
-abbrev pub IsGrowthFor : Content → Fault → Type 0
-IsGrowthFor (content.AllocReq size) fault = fault ≡ Memory
-IsGrowthFor body fault = ⊥
+-- the address of a block is posted, and nothing else
+abbrev pub IsAddressPosted : List Parcel → Type 0
+IsAddressPosted ps =
+    (p : Parcel) × (addr : ℕ) × (ps ≡ p ∷ []) × (p.message.content ≡ content.AllocRep 0 addr)
+
+-- a fault with which the heap refuses to give a block: want of memory, and only where there is room for the block
+abbrev pub IsGrowth : Answer → Fault → Type 0
+IsGrowth answer fault = IsAddress answer × (fault ≡ Memory)
+
+-- and so for a block whose address was to be posted
+abbrev pub IsGrowthPosted : List Parcel → Fault → Type 0
+IsGrowthPosted posted fault = IsAddressPosted posted × (fault ≡ Memory)
 
 -- what the heap answers to a call, and the heap after it
 abbrev pub told_of : HeapState → HeapCall → Told
 told_of h (Alloc size) = alloc_told h.config h.blocks size
 told_of h (Free addr) = free_told h.blocks addr
 
+-- the heap after it served a call
 abbrev pub after_told : HeapState → Told → HeapState
 after_told h t = record { config = h.config; blocks = t.blocks }
 
+-- the side of node 0 after its heap served a call
 abbrev pub kept : HeapSide → HeapState → Told → HeapSide
 kept s h t = record s { heap = Some (after_told h t) }
 
@@ -65,11 +78,12 @@ abbrev pub request : HeapCall → Content
 request (Alloc size) = content.AllocReq size
 request (Free addr) = content.FreeReq addr
 
+-- the number that the request carries
 abbrev pub number_in : HeapCall → ℕ
 number_in (Alloc size) = size
 number_in (Free addr) = addr
 
--- how it answers: with code 0, or with that of the refusal
+-- how node 0 answers: with code 0, or with that of the refusal
 abbrev pub answer_to : HeapCall → Reply → Content
 answer_to (Alloc size) (Value addr) = content.AllocRep 0 addr
 answer_to (Alloc size) Done = content.AllocRep 0 0
@@ -84,11 +98,13 @@ block_told size code addr =
     else (if code == 0 then Some (Value addr)
     else (if code == fault_number NoRoom then Some (Refused code) else None))
 
+-- the reply that the answer to a Free is
 abbrev pub end_told : ℕ → Option Reply
 end_told code =
     if code == 0 then Some Done
     else (if code == fault_number NotABlock then Some (Refused code) else None)
 
+-- the reply that an answer of node 0 is to this call
 abbrev pub reply_in : HeapCall → Content → Option Reply
 reply_in (Alloc size) (content.AllocRep code addr) = block_told size code addr
 reply_in (Free addr) (content.FreeRep code) = end_told code
@@ -115,6 +131,7 @@ begun_at me s k number None =
     }
     else record { answer = Unserved; after = s; posted = [] }
 
+-- a call of the heap begins, as the one of this number
 abbrev pub heap_begun : ℕ → HeapSide → HeapCall → ℕ → HeapBegun
 heap_begun me s k number = begun_at me s k number s.heap
 
@@ -124,6 +141,7 @@ pub record HeapTold : Type 0 where
   pub after : HeapSide
   pub posted : List Parcel
 
+-- a message that fits no rule of the heap changes nothing
 abbrev pub misfit : HeapSide → HeapTold
 misfit s = record { fits = false; after = s; posted = [] }
 
@@ -138,6 +156,7 @@ served_at me s from number k (Some h) =
     }
 served_at me s from number k None = misfit s
 
+-- node 0 serves nobody but the node that the request is from
 abbrev pub served : ℕ → HeapSide → ℕ → Message → HeapCall → HeapTold
 served me s from m k =
     if m.origin == from then served_at me s from m.call k s.heap else misfit s
@@ -148,16 +167,19 @@ learned s (Some r) =
     record { fits = true; after = record s { errand = Some (errand.Told r) }; posted = [] }
 learned s None = misfit s
 
+-- it counts once, and under the number of that call alone
 abbrev pub learns : HeapSide → ℕ → Content → Option Errand → HeapTold
 learns s number body (Some (errand.Asked k asked)) =
     if number == asked then learned s (reply_in k body) else misfit s
 learns s number body (Some (errand.Told r)) = misfit s
 learns s number body None = misfit s
 
+-- and from node 0 alone, about a call of this node
 abbrev pub answered_by : ℕ → HeapSide → ℕ → Message → HeapTold
 answered_by me s from m =
     if from == 0 && m.origin == me then learns s m.call m.content s.errand else misfit s
 
+-- which rule there is for a message, by what it is about
 abbrev pub heap_told_as : ℕ → HeapSide → ℕ → Message → Content → HeapTold
 heap_told_as me s from m (content.AllocReq size) = served me s from m (Alloc size)
 heap_told_as me s from m (content.FreeReq addr) = served me s from m (Free addr)
@@ -165,7 +187,7 @@ heap_told_as me s from m (content.AllocRep code addr) = answered_by me s from m
 heap_told_as me s from m (content.FreeRep code) = answered_by me s from m
 heap_told_as me s from m body = misfit s
 
--- a message of another node
+-- what a message of another node does to the side
 unfoldable pub heap_told : ℕ → HeapSide → ℕ → Message → HeapTold
 heap_told me s from m = heap_told_as me s from m m.content
 

@@ -5,8 +5,9 @@ ghost use Rattle.ivy_model.specs.Wants.{IsWant};
 ghost use Rattle.ivy_wire.specs.Lent.{owned_content, owned_message};
 ghost use Rattle.ivy_wire.specs.Spelling.{FitsMessage};
 ghost use Rattle.ivy_serving.specs.Serving.{parcel_to};
+ghost use Rattle.ivy_memory.specs.declared.answer.Answer.TheVariants as answers;
 ghost use Rattle.ivy_memory.specs.declared.heap_side.HeapCall.TheVariants as kinds;
-ghost use Rattle.ivy_memory.specs.HeapCalls.{first_side, closed, IsGrowth, IsGrowthFor, told_of, after_told, request, answer_to, block_told, end_told, reply_in, heap_begun, served_at, learns, heap_told, reply_told};
+ghost use Rattle.ivy_memory.specs.HeapCalls.{first_side, closed, IsGrowth, IsGrowthPosted, told_of, after_told, request, answer_to, block_told, end_told, reply_in, heap_begun, served_at, learns, heap_told, reply_told};
 
 use crate::answer::Answer;
 use ivy_alloc::Heap;
@@ -88,7 +89,7 @@ fn serve<A: Allocator + Copy>(heap: &mut Heap<A>, call: HeapCall) -> Result<Repl
     ensures reply { IfOk result (λ reply. reply ≡ (told_of heap.old call).reply) }
     ensures ok { OnOk result (heap.new ≡ after_told heap.old (told_of heap.old call)) }
     ensures err { OnErr result (heap.new ≡ heap.old) }
-    ensures fault { IfErr result (IsGrowth call) }
+    ensures fault { IfErr result (IsGrowth (answers.Given (told_of heap.old call).reply)) }
 {
     match call {
         HeapCall::Alloc { size } => match heap.alloc(size) {
@@ -159,7 +160,7 @@ fn give_block<A: Allocator + Copy, P: Post>(
     ensures posted { OnOk result (post.new ≡ P.after post.old (parcel_to me from from number (answer_to (kinds.Alloc size) (told_of heap.old (kinds.Alloc size)).reply) ∷ [])) }
     ensures took { OnOk result (P.takes post.old (parcel_to me from from number (answer_to (kinds.Alloc size) (told_of heap.old (kinds.Alloc size)).reply) ∷ [])) }
     ensures err { OnErr result ((heap.new ≡ heap.old) × (post.new ≡ post.old)) }
-    ensures fault { IfErr result (λ fault. (fault ≡ Fault.Memory) ⊎ P.refuses post.old (parcel_to me from from number (answer_to (kinds.Alloc size) (told_of heap.old (kinds.Alloc size)).reply) ∷ []) fault) }
+    ensures fault { IfErr result (λ fault. IsGrowth (answers.Given (told_of heap.old (kinds.Alloc size)).reply) fault ⊎ P.refuses post.old (parcel_to me from from number (answer_to (kinds.Alloc size) (told_of heap.old (kinds.Alloc size)).reply) ∷ []) fault) }
     ensures want { IfErr result IsWant }
 {
     match heap.alloc(size) {
@@ -248,7 +249,7 @@ impl<A: Allocator + Copy> HeapSide<A> {
         ensures posted { OnOk result (post.new ≡ P.after post.old (heap_begun me self.old call number).posted) }
         ensures took { OnOk result (P.takes post.old (heap_begun me self.old call number).posted) }
         ensures err { OnErr result ((self.new ≡ self.old) × (post.new ≡ post.old)) }
-        ensures fault { IfErr result (λ fault. IsGrowth call fault ⊎ P.refuses post.old (heap_begun me self.old call number).posted fault) }
+        ensures fault { IfErr result (λ fault. IsGrowth (heap_begun me self.old call number).answer fault ⊎ P.refuses post.old (heap_begun me self.old call number).posted fault) }
         ensures want { IfErr result IsWant }
     {
         if let Some(heap) = &mut self.heap {
@@ -278,7 +279,7 @@ impl<A: Allocator + Copy> HeapSide<A> {
         ensures posted { OnOk result (post.new ≡ P.after post.old (served_at me self.old from number call self.old.heap).posted) }
         ensures took { OnOk result (P.takes post.old (served_at me self.old from number call self.old.heap).posted) }
         ensures err { OnErr result ((self.new ≡ self.old) × (post.new ≡ post.old)) }
-        ensures fault { IfErr result (λ fault. IsGrowth call fault ⊎ P.refuses post.old (served_at me self.old from number call self.old.heap).posted fault) }
+        ensures fault { IfErr result (λ fault. IsGrowthPosted (served_at me self.old from number call self.old.heap).posted fault ⊎ P.refuses post.old (served_at me self.old from number call self.old.heap).posted fault) }
         ensures want { IfErr result IsWant }
     {
         let Some(heap) = &mut self.heap else {
@@ -337,7 +338,7 @@ impl<A: Allocator + Copy> HeapSide<A> {
         ensures posted { OnOk result (post.new ≡ P.after post.old (heap_told me self.old from (owned_message message.now)).posted) }
         ensures took { OnOk result (P.takes post.old (heap_told me self.old from (owned_message message.now)).posted) }
         ensures err { OnErr result ((self.new ≡ self.old) × (post.new ≡ post.old)) }
-        ensures fault { IfErr result (λ fault. IsGrowthFor (owned_content message.now.content) fault ⊎ P.refuses post.old (heap_told me self.old from (owned_message message.now)).posted fault) }
+        ensures fault { IfErr result (λ fault. IsGrowthPosted (heap_told me self.old from (owned_message message.now)).posted fault ⊎ P.refuses post.old (heap_told me self.old from (owned_message message.now)).posted fault) }
         ensures want { IfErr result IsWant }
     {
         let call = match &message.content {

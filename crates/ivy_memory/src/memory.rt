@@ -5,8 +5,8 @@ ghost use Rattle.ivy_model.specs.Legal.{HasWidth};
 ghost use Rattle.ivy_model.specs.Wants.{IsWant};
 ghost use Rattle.ivy_wire.specs.Lent.{owned_content, owned_message};
 ghost use Rattle.ivy_wire.specs.Spelling.{FitsMessage};
-ghost use Rattle.ivy_memory.specs.Asking.{CallHasToAsk, IsOfHeap, IsGrowthAsked, asked_of};
-ghost use Rattle.ivy_memory.specs.HeapCalls.{IsGrowthFor};
+ghost use Rattle.ivy_memory.specs.Asking.{CallHasToAsk, IsOfHeap, MayBeRefused, asked_of};
+ghost use Rattle.ivy_memory.specs.HeapCalls.{IsGrowth, IsGrowthPosted};
 ghost use Rattle.ivy_memory.specs.Memories.{first_memory, reply_of, reply_at, HasToAskAgain, call_begun, polled, memory_handled, memory_told};
 
 use crate::answer::Answer;
@@ -95,8 +95,8 @@ impl<M: Manager, A: Allocator + Copy> Memory<M, A> {
     /// A call begins, as the one of this number [1, 17, 18]: it is answered at once, or it is in progress from now on.
     ///
     /// Refused with 18 exactly where a call is in progress already. Else only a call that other nodes have to be asked
-    /// for, or one of the heap, is refused: any other takes no memory, and asks the post nothing. Node 0 serves the
-    /// calls of the heap at once, and any other node asks node 0.
+    /// for, or one that the heap gives a block for, is refused: any other takes no memory, and asks the post nothing.
+    /// Node 0 serves the calls of the heap at once, and any other node asks node 0.
     pub fn begin<P: Post>(&mut self, call: Call, number: u64, post: &mut P) -> Result<Answer, Fault>
         requires width { HasWidth call }
         requires number { 1 ≤ number }
@@ -109,8 +109,8 @@ impl<M: Manager, A: Allocator + Copy> Memory<M, A> {
         ensures posted { OnOk result (post.new ≡ P.after post.old (call_begun M.ops self.old call number).posted) }
         ensures took { OnOk result (P.takes post.old (call_begun M.ops self.old call number).posted) }
         ensures err { OnErr result ((self.new ≡ self.old) × (post.new ≡ post.old)) }
-        ensures fault { self.old.asked ≡ None → IfErr result (λ fault. IsGrowthAsked (asked_of self.old.coherence.config call) fault ⊎ P.refuses post.old (call_begun M.ops self.old call number).posted fault) }
-        ensures sure { self.old.asked ≡ None → OnErr result (CallHasToAsk self.old.coherence call ⊎ IsOfHeap (asked_of self.old.coherence.config call)) }
+        ensures fault { self.old.asked ≡ None → IfErr result (λ fault. (IsOfHeap (asked_of self.old.coherence.config call) × IsGrowth (call_begun M.ops self.old call number).answer fault) ⊎ P.refuses post.old (call_begun M.ops self.old call number).posted fault) }
+        ensures sure { self.old.asked ≡ None → OnErr result (CallHasToAsk self.old.coherence call ⊎ MayBeRefused (asked_of self.old.coherence.config call) (call_begun M.ops self.old call number).answer) }
         ensures want { self.old.asked ≡ None → IfErr result IsWant }
     {
         if self.asked.is_some() {
@@ -220,7 +220,7 @@ impl<M: Manager, A: Allocator + Copy> Memory<M, A> {
         ensures posted { OnOk result (post.new ≡ P.after post.old (memory_handled M.ops self.old from (owned_message message.entry)).posted) }
         ensures took { OnOk result (P.takes post.old (memory_handled M.ops self.old from (owned_message message.entry)).posted) }
         ensures err { OnErr result ((self.new ≡ self.old) × (post.new ≡ post.old)) }
-        ensures fault { IfErr result (λ fault. IsGrowthFor (owned_content message.entry.content) fault ⊎ P.refuses post.old (memory_handled M.ops self.old from (owned_message message.entry)).posted fault) }
+        ensures fault { IfErr result (λ fault. IsGrowthPosted (memory_handled M.ops self.old from (owned_message message.entry)).posted fault ⊎ P.refuses post.old (memory_handled M.ops self.old from (owned_message message.entry)).posted fault) }
         ensures want { IfErr result IsWant }
     {
         if self.side.handle(self.coherence.me(), from, &message, post)? {

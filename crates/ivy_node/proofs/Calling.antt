@@ -18,8 +18,9 @@ use Rattle.ivy_memory.specs.declared.Answer.{Answer}
 use Rattle.ivy_memory.specs.declared.Answer.TheVariants.{Given, Awaited, Unserved}
 use Rattle.ivy_memory.specs.declared.Asked.{Asked}
 use Rattle.ivy_memory.specs.declared.Asked.TheVariants as asked
-use Rattle.ivy_memory.specs.Asking.{IsGrowthAsked, asked_of}
-use Rattle.ivy_memory.proofs.Sides.{heap_unserved, growth_memory}
+use Rattle.ivy_memory.specs.Asking.{asked_of}
+use Rattle.ivy_memory.specs.HeapCalls.{IsGrowth}
+use Rattle.ivy_memory.proofs.Sides.{heap_unserved}
 use Rattle.ivy_memory.specs.Memories.{Memory, CallBegun, reply_of, reply_at, taken_out, answered, needed, again_unless, again, begun_as, call_begun, tried_as, polled_as, polled}
 use Rattle.ivy_memory.proofs.Polling.{polled_so}
 use Rattle.ivy_host.specs.Hosts.{Host, begins_as, begins_with, steps, turned_at, turn_of, number_of, recorded}
@@ -158,9 +159,9 @@ module _ (h : H) (k : Call) (a : CallBegun Managed) (calls : IsCall h k a) where
   cannot_call box f refuses spent = cannot_by box (subst (λ (x : Fault). IsRefused x box a.posted) spent refuses) a.answer refl
 
   -- nor is it for want of numbers that the heap does not grow
-  pub cannot_begin : (box : Outbox) (f : Fault) (x : Asked) → IsGrowthAsked x f ⊎ Refuses box a.posted f → HasNoNumbers h box f
-  cannot_begin box f x why spent =
+  pub cannot_begin : (box : Outbox) (f : Fault) (answer : Answer) (of_heap : Type 0) → (of_heap × IsGrowth answer f) ⊎ Refuses box a.posted f → HasNoNumbers h box f
+  cannot_begin box f answer of_heap why spent =
       elim why [
-        | inl grows ↦ let not : fault.Memory ≡ fault.NumbersSpent = sym (growth_memory x f grows) ∙ spent in absurd cc
+        | inl grows ↦ let not : fault.Memory ≡ fault.NumbersSpent = sym grows.1.1 ∙ spent in absurd cc
         | inr refuses ↦ cannot_call box f refuses spent
       ]

@@ -26,8 +26,7 @@ use Rattle.ivy_node.specs.Shown.{Shown, after_event, after_delivery}
 use Rattle.ivy_node.specs.Sites.{AfterDelivery, IsSpentDelivery, IsSite}
 use Rattle.ivy_node.proofs.Boxes.{as_many}
 use Rattle.ivy_node.proofs.Made.{delivery_made}
-use Rattle.ivy_memory.specs.HeapCalls.{IsGrowthFor}
-use Rattle.ivy_memory.proofs.Sides.{growth_memory_for}
+use Rattle.ivy_memory.specs.HeapCalls.{IsGrowthPosted}
 use Rattle.ivy_memory.proofs.Same.{told-same, told-asked}
 use Rattle.ivy_host.proofs.Tame.{IsAskingHost}
 
@@ -104,10 +103,10 @@ spent_post n v same k f bytes w r next m body e why spent =
 
 -- nor is it for want of numbers that the heap does not grow
 pub spent_message : (n v : Shown) → v ≡ n → (k : Config) (f : Frame) (bytes : List ℕ) (w : Verdict) → IsRead v k f bytes w → w ≡ verdict.Next → (m : Message) → f.body ≡ Some m → (e : Fault)
-    → IsGrowthFor m.content e ⊎ IsRefused e (box_of v) (memory_handled managed_ops v.node.core.memory f.source m).posted → IsSpentDelivery n bytes e
+    → IsGrowthPosted (memory_handled managed_ops v.node.core.memory f.source m).posted e ⊎ IsRefused e (box_of v) (memory_handled managed_ops v.node.core.memory f.source m).posted → IsSpentDelivery n bytes e
 spent_message n v same k f bytes w r next m body e why spent =
     elim why [
-      | inl grows ↦ let not : fault.Memory ≡ fault.NumbersSpent = sym (growth_memory_for m.content e grows) ∙ spent in absurd cc
+      | inl grows ↦ let not : fault.Memory ≡ fault.NumbersSpent = sym grows.1 ∙ spent in absurd cc
       | inr refuses ↦ spent_post n v same k f bytes w r next m body e refuses spent
     ]
 

@@ -235,8 +235,9 @@ impl<A: Allocator + Copy> World<A> {
     ///
     /// No page is writable at one node and readable at another; each history is a run of its program, and each
     /// output what that run printed; no node has met a message that fits no rule; each string sent spells a
-    /// frame; and whatever moves led here from the opening, at each of them one order of records explains what
-    /// the nodes were answered, growing from move to move.
+    /// frame; the world follows one in which each message is delivered once and in order, whoever waits there has
+    /// its message, and routes lead to each page; and whatever moves led here from the opening, at each of them one
+    /// order of records explains what the nodes were answered, growing from move to move.
     pub fn keeps(&self)
         ensures { Keeps self.now }
     {
@@ -258,8 +259,8 @@ impl<A: Allocator + Copy> World<A> {
         // move.
         ensures explained { (before : List Move) → IsLedTo self.old.config (opening_of self.old) before self.old.world → IsLedTo self.old.config (opening_of self.old) (before ++ made_of result moves.now) self.new.world × IsExplainedAlong self.old (before ++ made_of result moves.now) }
 
-        // And what is promised at every moment holds: `reached`, `exclusive`, `runs`, `no_breach`, `spelled` and
-        // `explained`.
+        // And what is promised at every moment holds: `reached`, `exclusive`, `runs`, `no_breach`, `spelled`,
+        // `ordered`, `waits`, `routes` and `explained`.
         ensures keeps { Keeps self.new }
     {
         self.reached();

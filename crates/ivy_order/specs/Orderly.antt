@@ -60,8 +60,8 @@ IsOwned n page node copies (In at) =
     (l : Letter) × (bits : ℕ) × (bytes : List ℕ) × IsAt n at l × (l.dest ≡ node)
     × (l.message.content ≡ content.WriteRep page bits bytes) × (copies ≡ nodes_with bits)
 
--- whose letter it is: of the word that waits at a node for a page, of the order from that node to another to give its
--- copy up, or of a call of the allocator
+-- whose letter it is: of the word that waits at a node for a page, or of the order from that node to another to give
+-- its copy up. A message of the heap is no letter, and its key is never looked at.
 pub data Key : Type 0 where
   Own : (origin page : ℕ) → Key
   Order : (origin target page : ℕ) → Key

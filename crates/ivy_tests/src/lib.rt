@@ -49,6 +49,17 @@ macro_rules! ended {
     };
 }
 
+/// The string at this place among those sent: its words, and the first word of its page where it has one.
+#[cfg(test)]
+macro_rules! string {
+    ($place:expr, $words:expr) => {
+        ($place, ($words, None))
+    };
+    ($place:expr, $words:expr, $first:expr) => {
+        ($place, ($words, Some($first)))
+    };
+}
+
 #[cfg(test)]
 mod common;
 #[cfg(test)]

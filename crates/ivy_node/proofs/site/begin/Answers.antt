@@ -8,7 +8,7 @@ pub returns-in_err-reply-clause-spent : goal.returns-in_err-reply-clause-spent
 returns-in_err-reply-clause-spent g c =
     err_there c.from_residual.result _ _ c.from_residual.ensures.1
     (cannot_begin (host_of c.args.memory.now c.args.machine.now c.args.history.now.items) c.args.call _
-    (begin_call (host_of c.args.memory.now c.args.machine.now c.args.history.now.items) c.args.call (c.len.result + 1) (record { is = ap (λ n. n + 1) (search rules); below = omega (arith, c.args.history.now.small) }) c.requires.idle c.requires.asks) c.args.outbox.now _ _ (c.in_err-reply.ensures.fault c.requires.idle))
+    (begin_call (host_of c.args.memory.now c.args.machine.now c.args.history.now.items) c.args.call (c.len.result + 1) (record { is = ap (λ n. n + 1) (search rules); below = omega (arith, c.args.history.now.small) }) c.requires.idle c.requires.asks) c.args.outbox.now _ _ _ (c.in_err-reply.ensures.fault c.requires.idle))
 
 pub returns-in-Given-clause-ok : goal.returns-in-Given-clause-ok
 returns-in-Given-clause-ok g c =

@@ -10,7 +10,7 @@ returns-in_err-handle-clause-few g c =
 pub returns-in_err-handle-clause-fault : goal.returns-in_err-handle-clause-fault
 returns-in_err-handle-clause-fault g c =
     err_posts g.met.M.Manager.laws _ _ c.me.result c.args.from (owned_message c.args.message) (record { same = c.self.view_is; sound = c.self.invariant; me = c.me.ensures; below = c.requires.from; foreign = c.requires.foreign; fits = c.requires.fits })
-    c.from_residual.result _ (g.P.Post.refuses c.args.post.now) _ (g.met.P.Post.refuses_none c.args.post.now) c.from_residual.ensures.1 c.in_err-handle.ensures.fault
+    c.from_residual.result (g.P.Post.refuses c.args.post.now) _ (g.met.P.Post.refuses_none c.args.post.now) c.from_residual.ensures.1 c.in_err-handle.ensures.fault
 
 pub invariant_of-self-then-branch : goal.invariant_of-self-then-branch
 invariant_of-self-then-branch g c =
