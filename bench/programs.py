@@ -92,8 +92,8 @@ def reading(text):
 
 
 SIMULATIONS = (
-    Measure("sim-fixed", "move", 500_000, simulation("fixed")),
-    Measure("sim-dynamic", "move", 500_000, simulation("dynamic")),
+    Measure("sim-fixed", "move", 500_000, simulation("fixed"), limit=2.8),
+    Measure("sim-dynamic", "move", 500_000, simulation("dynamic"), limit=2.8),
 )
 
 TEXTS = (
