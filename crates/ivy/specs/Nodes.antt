@@ -1,7 +1,7 @@
 -- What is printed of the nodes of a world: what their programs printed, and which of them have ended.
 use Rattle.std.specs.Prelude.{ℕ, ◌+◌, Bool, true, false, List, [], ◌∷◌, ◌++◌, flat_map}
 use Rattle.ivy_program.specs.Steps.{Process, Step, Local, Asks, Ends, step_of}
-use Rattle.ivy_ether.specs.Nodes.{Node}
+use Rattle.ivy_events.specs.Nodes.{Node}
 use Rattle.ivy_host.specs.Hosts.{Host}
 use Rattle.ivy_texts.specs.Lines.{value_line, end_line}
 

@@ -2,7 +2,7 @@
 use Rattle.std.specs.Prelude.{◌≡◌, ℕ, zero, suc, [], ◌∷◌}
 use Rattle.rand_pcg.specs.Lcg.{Lcg}
 use Rattle.ivy_model.specs.declared.Config.{Config}
-use Rattle.ivy_ether.specs.Worlds.{World}
+use Rattle.ivy_events.specs.Worlds.{World}
 use Rattle.ivy_host.specs.Hosts.{Host}
 use Rattle.ivy_host.specs.Managers.{Managed}
 use Rattle.ivy_node.specs.Runs.{IsLedTo}

@@ -13,7 +13,7 @@ use Rattle.ivy_model.proofs.Parts.{part-append, part-own, part-other, leads-appe
 use Rattle.ivy_wire.specs.Data.{Message}
 use Rattle.ivy_pagetable.specs.Manager.{Ops}
 use Rattle.ivy_alloc.specs.Heap.{HeapState}
-use Rattle.ivy_ether.specs.Ordered.{Ordered}
+use Rattle.ivy_events.specs.Ordered.{Ordered}
 use Rattle.ivy_memory.specs.declared.Asked.TheVariants as kinds
 use Rattle.ivy_memory.specs.declared.HeapCall.{HeapCall}
 use Rattle.ivy_memory.specs.declared.Errand.TheVariants as errand

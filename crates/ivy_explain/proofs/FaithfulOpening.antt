@@ -15,8 +15,8 @@ use Rattle.ivy_pagetable.specs.Manager.{Ops, Laws}
 use Rattle.ivy_program.specs.declared.Instruction.{Instruction}
 use Rattle.ivy_alloc.specs.Heap.{HeapState, first_heap}
 use Rattle.ivy_memory.specs.HeapCalls.{first_side}
-use Rattle.ivy_ether.specs.Ordered.{Ordered}
-use Rattle.ivy_ether.specs.Following.{ordered_of}
+use Rattle.ivy_events.specs.Ordered.{Ordered}
+use Rattle.ivy_events.specs.Following.{ordered_of}
 use Rattle.ivy_host.specs.Hosts.{Host, first_host}
 use Rattle.ivy_host.specs.Openings.{opening}
 use Rattle.ivy_order.specs.Letters.{Letter, Place, Underway, Aside, Loose, IsAt}

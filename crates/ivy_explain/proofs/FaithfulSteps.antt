@@ -13,8 +13,8 @@ use Rattle.ivy_link.specs.Paired.{posted}
 use Rattle.ivy_pagetable.specs.Manager.{Ops, Laws}
 use Rattle.ivy_serving.specs.Serving.{parcel_to}
 use Rattle.ivy_program.specs.declared.Instruction.{Instruction}
-use Rattle.ivy_ether.specs.Cores.{Outcome}
-use Rattle.ivy_ether.specs.Ordered.{Ordered, Steps, Delivers}
+use Rattle.ivy_events.specs.Cores.{Outcome}
+use Rattle.ivy_events.specs.Ordered.{Ordered, Steps, Delivers}
 use Rattle.ivy_memory.specs.declared.Errand.TheVariants as errand
 use Rattle.ivy_memory.specs.HeapCalls.{is_of_pages, told_of, request, answer_to}
 use Rattle.ivy_memory.proofs.Errands.{answer_heap, replied}

@@ -10,13 +10,13 @@ use Rattle.ivy_model.specs.Explains.{IsExplained}
 use Rattle.ivy_wire.specs.Data.{Message}
 use Rattle.ivy_pagetable.specs.Manager.{Ops, Laws}
 use Rattle.ivy_program.specs.declared.Instruction.{Instruction}
-use Rattle.ivy_ether.specs.declared.moves.Move.{Move}
-use Rattle.ivy_ether.specs.Nodes.{Node}
-use Rattle.ivy_ether.specs.Worlds.{World, Leads}
-use Rattle.ivy_ether.specs.Explained.{IsExplainedBy}
-use Rattle.ivy_ether.specs.Explained as explained
-use Rattle.ivy_ether.specs.Following.{ordered_of, Follows}
-use Rattle.ivy_ether.proofs.Kept.{IsKeptBySteps, move-keeps, moves-keep}
+use Rattle.ivy_events.specs.declared.moves.Move.{Move}
+use Rattle.ivy_events.specs.Nodes.{Node}
+use Rattle.ivy_events.specs.Worlds.{World, Leads}
+use Rattle.ivy_events.specs.Explained.{IsExplainedBy}
+use Rattle.ivy_events.specs.Explained as explained
+use Rattle.ivy_events.specs.Following.{ordered_of, Follows}
+use Rattle.ivy_events.proofs.Kept.{IsKeptBySteps, move-keeps, moves-keep}
 use Rattle.ivy_host.specs.Hosts.{Host, answered_by, host_rules, first_host}
 use Rattle.ivy_host.specs.Sound.{IsSoundHost}
 use Rattle.ivy_host.specs.Openings.{first_node, first_nodes, opening}

@@ -27,7 +27,7 @@ use Rattle.ivy_coherence.proofs.Same.{handled-same}
 use Rattle.ivy_program.specs.States.{State, first_state}
 use Rattle.ivy_program.specs.Steps.{Local, Asks, step_of, at_state}
 use Rattle.ivy_program.proofs.Running.{runs_on, runs_answered, asked_legal}
-use Rattle.ivy_ether.specs.Cores.{Outcome}
+use Rattle.ivy_events.specs.Cores.{Outcome}
 use Rattle.ivy_memory.specs.declared.Asked.TheVariants as kinds
 use Rattle.ivy_memory.specs.Asking.{asked_of}
 use Rattle.ivy_alloc.specs.Heap.{HeapState}

@@ -14,9 +14,9 @@ use Rattle.ivy_serving.proofs.IdleServing.{all_none}
 use Rattle.ivy_program.specs.declared.Instruction.{Instruction}
 use Rattle.ivy_program.specs.Steps.{Step, Local, Asks, Ends, step_of, at_state}
 use Rattle.ivy_program.proofs.Running.{asked_legal}
-use Rattle.ivy_ether.specs.Cores.{Outcome}
-use Rattle.ivy_ether.specs.Nodes.{Node}
-use Rattle.ivy_ether.specs.Following.{IsTame, IsOpening}
+use Rattle.ivy_events.specs.Cores.{Outcome}
+use Rattle.ivy_events.specs.Nodes.{Node}
+use Rattle.ivy_events.specs.Following.{IsTame, IsOpening}
 use Rattle.ivy_memory.specs.declared.Answer.{Answer}
 use Rattle.ivy_memory.specs.declared.Answer.TheVariants.{Given, Awaited, Unserved}
 use Rattle.ivy_memory.specs.Memories.{CallBegun, call_begun, polled}

@@ -16,9 +16,9 @@ use Rattle.ivy_link.specs.Accepted.{accepted}
 use Rattle.ivy_link.specs.Pulsed.{frames_again, after_pulse, pulsed}
 use Rattle.ivy_link.specs.Fitting.{FitsLink}
 use Rattle.ivy_link.proofs.Fits.{sends-me, accepted-me, first-fits, sends-fits, frames-fit, fits-within, heard-link-fits, pulsed-fits, again-fit, length-frames_of, few-again}
-use Rattle.ivy_ether.specs.Marks.{Pulse}
+use Rattle.ivy_events.specs.Marks.{Pulse}
 use Rattle.ivy_node.specs.Shown.{}
-use Rattle.ivy_ether.specs.Parts.{pulse_marks}
+use Rattle.ivy_events.specs.Parts.{pulse_marks}
 use Rattle.ivy_node.specs.Outboxes.{Outbox, IsSoundOutbox, with_sending, posted_by}
 
 -- how many strings are added

@@ -13,7 +13,7 @@ use Rattle.ivy_coherence.specs.declared.Need.TheVariants as need
 use Rattle.ivy_coherence.specs.Faults.{Begun, begun}
 use Rattle.ivy_host.specs.Managers.{Managed, managed_ops}
 use Rattle.ivy_program.specs.Steps.{Process, Asks, step_of, answered_with}
-use Rattle.ivy_ether.specs.Cores.{Outcome}
+use Rattle.ivy_events.specs.Cores.{Outcome}
 use Rattle.ivy_memory.specs.declared.Answer.{Answer}
 use Rattle.ivy_memory.specs.declared.Answer.TheVariants.{Given, Awaited, Unserved}
 use Rattle.ivy_memory.specs.declared.Asked.{Asked}

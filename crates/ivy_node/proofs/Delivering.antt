@@ -16,9 +16,9 @@ use Rattle.ivy_link.specs.declared.Verdict.TheVariants as verdict
 use Rattle.ivy_link.specs.Linked.{Linked, sends, has_numbers}
 use Rattle.ivy_link.specs.Accepted.{offered, accepted}
 use Rattle.ivy_host.specs.Managers.{Managed, managed_ops}
-use Rattle.ivy_ether.specs.Marks.{Mark, Delivery}
-use Rattle.ivy_ether.specs.Cores.{Core}
-use Rattle.ivy_ether.specs.Nodes.{Node, Effect, stays, posting, accepting, served, received, received_as, delivered, delivered_as}
+use Rattle.ivy_events.specs.Marks.{Mark, Delivery}
+use Rattle.ivy_events.specs.Cores.{Core}
+use Rattle.ivy_events.specs.Nodes.{Node, Effect, stays, posting, accepting, served, received, received_as, delivered, delivered_as}
 use Rattle.ivy_memory.specs.Memories.{Memory, memory_handled, memory_told}
 use Rattle.ivy_host.specs.Hosts.{Host, host_rules, serving}
 use Rattle.ivy_node.specs.Outboxes.{Outbox, HasNumbers, IsRefused, with_link, posted_by}

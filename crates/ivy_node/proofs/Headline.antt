@@ -7,12 +7,12 @@ use Rattle.ivy_wire.specs.Data.{Message}
 use Rattle.ivy_host.specs.Managers.{Managed, managed_ops}
 use Rattle.ivy_host.specs.ManagedLaws.{managed_laws}
 use Rattle.ivy_program.specs.declared.Instruction.{Instruction}
-use Rattle.ivy_ether.specs.declared.Move.{Move}
-use Rattle.ivy_ether.specs.Worlds.{World, Leads}
-use Rattle.ivy_ether.specs.Explained.{GoesOn}
-use Rattle.ivy_ether.specs.Following.{Follows, IsTame, IsString}
-use Rattle.ivy_ether.proofs.Kept.{led}
-use Rattle.ivy_ether.proofs.Opening.{opening_follows}
+use Rattle.ivy_events.specs.declared.Move.{Move}
+use Rattle.ivy_events.specs.Worlds.{World, Leads}
+use Rattle.ivy_events.specs.Explained.{GoesOn}
+use Rattle.ivy_events.specs.Following.{Follows, IsTame, IsString}
+use Rattle.ivy_events.proofs.Kept.{led}
+use Rattle.ivy_events.proofs.Opening.{opening_follows}
 use Rattle.ivy_host.specs.Hosts.{Host, host_rules, answered_by}
 use Rattle.ivy_host.specs.Sound.{IsSoundHost}
 use Rattle.ivy_host.specs.Openings.{opening}

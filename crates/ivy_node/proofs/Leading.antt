@@ -1,10 +1,10 @@
 -- Moves that follow one another.
 use Rattle.std.proofs.Common.{◌≡◌, List, [], ◌∷◌, ◌++◌, Some, refl, subst}
 use Rattle.ivy_model.specs.declared.Config.{Config}
-use Rattle.ivy_ether.specs.declared.Move.{Move}
-use Rattle.ivy_ether.specs.Cores.{Core}
-use Rattle.ivy_ether.specs.Worlds.{World, Leads, moved}
-use Rattle.ivy_ether.proofs.Kept.{stays-there}
+use Rattle.ivy_events.specs.declared.Move.{Move}
+use Rattle.ivy_events.specs.Cores.{Core}
+use Rattle.ivy_events.specs.Worlds.{World, Leads, moved}
+use Rattle.ivy_events.proofs.Kept.{stays-there}
 
 module _ {C : Type 0} (rules : Core C) (c : Config) where
   -- first these, then those

@@ -11,13 +11,13 @@ use Rattle.ivy_host.specs.Managers.{Managed, managed_ops}
 use Rattle.ivy_host.specs.Hosts.{Host, host_rules}
 use Rattle.ivy_host.specs.Openings.{first_node}
 use Rattle.ivy_program.specs.declared.Instruction.{Instruction}
-use Rattle.ivy_ether.specs.Cores.{Core}
-use Rattle.ivy_ether.specs.Marks.{Mark, Turn, Delivery}
-use Rattle.ivy_ether.specs.Nodes.{Node, Effect, stays, turned, turned_to, verdict_as, verdict_of, pulsing}
-use Rattle.ivy_ether.specs.Parts.{followed_by, pulse_marks, AllHappen}
-use Rattle.ivy_ether.specs.Early.{early_as, early_in}
-use Rattle.ivy_ether.proofs.Early.{early-append}
-use Rattle.ivy_ether.proofs.Parts.{all-append, single, pulsing-marks}
+use Rattle.ivy_events.specs.Cores.{Core}
+use Rattle.ivy_events.specs.Marks.{Mark, Turn, Delivery}
+use Rattle.ivy_events.specs.Nodes.{Node, Effect, stays, turned, turned_to, verdict_as, verdict_of, pulsing}
+use Rattle.ivy_events.specs.Parts.{followed_by, pulse_marks, AllHappen}
+use Rattle.ivy_events.specs.Early.{early_as, early_in}
+use Rattle.ivy_events.proofs.Early.{early-append}
+use Rattle.ivy_events.proofs.Parts.{all-append, single, pulsing-marks}
 use Rattle.ivy_node.specs.declared.turn.Turn as turn
 use Rattle.ivy_node.specs.declared.turn.Turn.TheVariants.{Idle, Moved, Ended}
 use Rattle.ivy_node.proofs.Programs.{turned-program, posting-core, delivered-program}

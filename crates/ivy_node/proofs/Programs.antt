@@ -12,8 +12,8 @@ use Rattle.ivy_link.specs.declared.Verdict.TheVariants as verdict
 use Rattle.ivy_link.specs.Linked.{has_numbers, sends}
 use Rattle.ivy_link.specs.Accepted.{offered, accepted}
 use Rattle.ivy_program.specs.Steps.{Step, Local, Asks, Ends, step_of, at_state}
-use Rattle.ivy_ether.specs.Cores.{Outcome}
-use Rattle.ivy_ether.specs.Nodes.{Node, Effect, stays, posting, accepting, served, received_as, received, delivered_as, delivered}
+use Rattle.ivy_events.specs.Cores.{Outcome}
+use Rattle.ivy_events.specs.Nodes.{Node, Effect, stays, posting, accepting, served, received_as, received, delivered_as, delivered}
 use Rattle.ivy_memory.specs.declared.Answer.{Answer}
 use Rattle.ivy_memory.specs.declared.Answer.TheVariants.{Given, Awaited, Unserved}
 use Rattle.ivy_memory.specs.Memories.{CallBegun, call_begun, polled}

@@ -3,11 +3,11 @@ use Rattle.std.proofs.Common.{◌≡◌, ◌≢◌, ℕ, Bool, true, false, List
 use Rattle.std.specs.Prelude.{IsTrue}
 use Rattle.ivy_wire.specs.Spelling.{spelling}
 use Rattle.ivy_link.specs.Pulsed.{frames_again, pulsed}
-use Rattle.ivy_ether.specs.Marks.{Mark, Pulse}
-use Rattle.ivy_ether.specs.Nodes.{pulsing}
+use Rattle.ivy_events.specs.Marks.{Mark, Pulse}
+use Rattle.ivy_events.specs.Nodes.{pulsing}
 use Rattle.ivy_node.specs.Outboxes.{Outbox, with_sending}
 use Rattle.ivy_node.specs.Shown.{Shown, after_pulse_to}
-use Rattle.ivy_ether.specs.Parts.{pulse_marks}
+use Rattle.ivy_events.specs.Parts.{pulse_marks}
 use Rattle.ivy_node.specs.Sites.{IsSite}
 use Rattle.ivy_host.proofs.Tame.{IsAskingHost}
 use Rattle.ivy_node.proofs.Boxes.{made-marks, none-marks}

@@ -8,7 +8,7 @@ use Rattle.ivy_host.specs.Managers.{Managed, managed_ops}
 use Rattle.ivy_program.specs.declared.machine.Next.{Next}
 use Rattle.ivy_program.specs.declared.machine.Next.TheVariants as next
 use Rattle.ivy_program.specs.Steps.{Process, Local, Ends, HasEnded, Steps, at_state}
-use Rattle.ivy_ether.specs.Marks.{Mark, Turn}
+use Rattle.ivy_events.specs.Marks.{Mark, Turn}
 use Rattle.ivy_memory.specs.Memories.{Memory}
 use Rattle.ivy_host.specs.Hosts.{Host, turn_of}
 use Rattle.ivy_node.specs.Outboxes.{Outbox}

@@ -6,9 +6,9 @@ use Rattle.ivy_wire.specs.Spelling.{spelling}
 use Rattle.ivy_link.specs.Linked.{sends, has_numbers}
 use Rattle.ivy_host.specs.Managers.{Managed, managed_ops}
 use Rattle.ivy_program.specs.Steps.{Step, step_of}
-use Rattle.ivy_ether.specs.Marks.{Mark, Turn}
-use Rattle.ivy_ether.specs.Cores.{Outcome}
-use Rattle.ivy_ether.specs.Nodes.{Node, Effect, posting, turned, turned_to}
+use Rattle.ivy_events.specs.Marks.{Mark, Turn}
+use Rattle.ivy_events.specs.Cores.{Outcome}
+use Rattle.ivy_events.specs.Nodes.{Node, Effect, posting, turned, turned_to}
 use Rattle.ivy_host.specs.Hosts.{Host, host_rules, turn_of, turned_at, steps, quietly}
 use Rattle.ivy_node.specs.Outboxes.{Outbox}
 use Rattle.ivy_node.specs.Shown.{Shown}

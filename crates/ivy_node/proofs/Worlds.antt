@@ -9,8 +9,8 @@ use Rattle.ivy_model.specs.declared.Fault.{Fault}
 use Rattle.ivy_model.specs.declared.Fault.TheVariants.{NoSuchFrame}
 use Rattle.ivy_host.specs.Managers.{Managed, managed_ops}
 use Rattle.ivy_program.specs.declared.Instruction.{Instruction}
-use Rattle.ivy_ether.specs.declared.Move.{Move}
-use Rattle.ivy_ether.specs.Worlds as worlds
+use Rattle.ivy_events.specs.declared.Move.{Move}
+use Rattle.ivy_events.specs.Worlds as worlds
 use Rattle.ivy_host.specs.Hosts.{Host, host_rules}
 use Rattle.ivy_host.specs.Openings.{first_nodes, opening}
 use Rattle.ivy_node.specs.Runs.{IsLedTo, IsRefusedBy, CannotBeNamed, IsNamedUnless}

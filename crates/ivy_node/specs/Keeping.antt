@@ -1,6 +1,6 @@
 -- What is promised of a world at every moment, whatever moves led there.
 use Rattle.std.specs.Prelude.{List}
-use Rattle.ivy_ether.specs.declared.Move.{Move}
+use Rattle.ivy_events.specs.declared.Move.{Move}
 use Rattle.ivy_host.specs.Holding.{IsExclusive, AreRuns, HasNoBreach, AllSpell}
 use Rattle.ivy_host.specs.Managers.{managed_ops}
 use Rattle.ivy_worlds.specs.Runs.{FollowsInOrder}

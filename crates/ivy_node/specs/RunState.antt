@@ -3,7 +3,7 @@ use Rattle.std.specs.Prelude.{List}
 use Rattle.ivy_model.specs.declared.Config.{Config}
 use Rattle.ivy_host.specs.Managers.{Managed}
 use Rattle.ivy_program.specs.declared.Instruction.{Instruction}
-use Rattle.ivy_ether.specs.Worlds as worlds
+use Rattle.ivy_events.specs.Worlds as worlds
 use Rattle.ivy_host.specs.Hosts.{Host}
 
 pub record Run : Type 0 where

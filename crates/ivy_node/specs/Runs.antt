@@ -4,9 +4,9 @@ use Rattle.ivy_model.specs.declared.Config.{Config}
 use Rattle.ivy_model.specs.declared.Fault.{Fault}
 use Rattle.ivy_model.specs.declared.Fault.TheVariants.{Memory, NumbersSpent, NoSuchFrame}
 use Rattle.ivy_host.specs.Managers.{Managed, managed_ops}
-use Rattle.ivy_ether.specs.declared.Move.{Move}
-use Rattle.ivy_ether.specs.Worlds.{World, is_named, HasNoneAfter, Leads}
-use Rattle.ivy_ether.specs.Explained.{GoesOn}
+use Rattle.ivy_events.specs.declared.Move.{Move}
+use Rattle.ivy_events.specs.Worlds.{World, is_named, HasNoneAfter, Leads}
+use Rattle.ivy_events.specs.Explained.{GoesOn}
 use Rattle.ivy_host.specs.Hosts.{Host, host_rules, answered_by}
 use Rattle.ivy_host.specs.Openings.{opening}
 use Rattle.ivy_node.specs.RunState.{Run}

@@ -4,9 +4,9 @@ use Rattle.ivy_model.specs.declared.Config.{Config}
 use Rattle.ivy_link.specs.declared.Verdict.{Verdict}
 use Rattle.ivy_link.specs.declared.Verdict.TheVariants as verdict
 use Rattle.ivy_host.specs.Managers.{Managed}
-use Rattle.ivy_ether.specs.Marks.{Mark, Delivery}
-use Rattle.ivy_ether.specs.Nodes.{Node, Effect}
-use Rattle.ivy_ether.specs.Parts.{pulse_marks}
+use Rattle.ivy_events.specs.Marks.{Mark, Delivery}
+use Rattle.ivy_events.specs.Nodes.{Node, Effect}
+use Rattle.ivy_events.specs.Parts.{pulse_marks}
 use Rattle.ivy_host.specs.Hosts.{Host}
 
 pub record Shown : Type 0 where

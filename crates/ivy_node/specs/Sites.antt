@@ -11,10 +11,10 @@ use Rattle.ivy_link.specs.declared.Verdict.{Verdict}
 use Rattle.ivy_program.specs.declared.Instruction.{Instruction}
 use Rattle.ivy_program.specs.Steps.{HasEnded, Asks, step_of}
 use Rattle.ivy_host.specs.Managers.{Managed, managed_ops}
-use Rattle.ivy_ether.specs.Marks.{Turn}
-use Rattle.ivy_ether.specs.Cores.{Outcome}
-use Rattle.ivy_ether.specs.Nodes.{Effect, posting, turned, delivered}
-use Rattle.ivy_ether.specs.Parts.{AllHappen}
+use Rattle.ivy_events.specs.Marks.{Turn}
+use Rattle.ivy_events.specs.Cores.{Outcome}
+use Rattle.ivy_events.specs.Nodes.{Effect, posting, turned, delivered}
+use Rattle.ivy_events.specs.Parts.{AllHappen}
 use Rattle.ivy_node.specs.declared.turn.Turn as turn
 use Rattle.ivy_node.specs.declared.turn.Turn.TheVariants.{Idle, Moved, Ended}
 use Rattle.ivy_model.specs.declared.Record.{Record}

@@ -8,7 +8,7 @@ mod site;
 mod turn;
 mod world;
 
-pub use ivy_ether::Move;
+pub use ivy_events::Move;
 pub use ivy_link::Verdict;
 pub use ivy_program::{Program, parse};
 pub use site::Site;

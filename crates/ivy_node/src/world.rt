@@ -3,8 +3,8 @@ ghost use Rattle.std.specs.Prelude.{◌≡◌, ◌+◌, ◌<◌, ◌≤◌, ◌�
 ghost use Rattle.ivy_model.specs.Config.{IsConfig};
 ghost use Rattle.ivy_program.specs.Steps.{HasEnded};
 ghost use Rattle.ivy_host.specs.Managers.{managed_ops};
-ghost use Rattle.ivy_ether.specs.declared.Move.{Move};
-ghost use Rattle.ivy_ether.specs.Worlds.{moved};
+ghost use Rattle.ivy_events.specs.declared.Move.{Move};
+ghost use Rattle.ivy_events.specs.Worlds.{moved};
 ghost use Rattle.ivy_host.specs.Hosts.{host_rules};
 ghost use Rattle.ivy_host.specs.Holding.{AllSpell};
 ghost use Rattle.ivy_node.specs.Keeping.{Keeps};
@@ -13,7 +13,7 @@ ghost use Rattle.ivy_node.specs.Runs.{made_of, IsRefusedBy, CannotBeNamed, IsNam
 ghost use Rattle.ivy_node.specs.WorldSites.{programs_of, world_of, AreSites, IsMemory, IsWorldWant, AreFirst};
 
 use crate::site::Site;
-use ivy_ether::Move;
+use ivy_events::Move;
 use ivy_model::{Config, Fault, Record};
 use ivy_program::Program;
 use ivy_wire::Bytes;

@@ -7,7 +7,7 @@ use Rattle.ivy_model.specs.declared.Config.{Config}
 use Rattle.ivy_wire.specs.Data.{Message}
 use Rattle.ivy_pagetable.specs.NodeSets.{Nodes}
 use Rattle.ivy_pagetable.specs.Entries.{put_offs, readable, writable, is_owner, copies_of}
-use Rattle.ivy_ether.specs.Ordered.{one_more}
+use Rattle.ivy_events.specs.Ordered.{one_more}
 use Rattle.ivy_order.specs.Letters.{Letter, Net, Place, Underway, Aside, Loose, IsAt, installs}
 use Rattle.ivy_order.specs.Orderly.{CanWait, HasCopy, reads, comes, Seat, At, In, IsOwned, IsExpected, IsOrderly}
 use Rattle.ivy_order.specs.Rows.{taken, dropped, AreAlike}

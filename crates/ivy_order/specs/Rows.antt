@@ -20,7 +20,7 @@ use Rattle.ivy_pagetable.specs.Words.{IsWord, carried_out}
 use Rattle.ivy_pagetable.specs.Manager.{Ops}
 use Rattle.ivy_serving.specs.Serving.{parcel_to, counted, invalidations}
 use Rattle.ivy_coherence.specs.Faults.{suffices, waiting_from}
-use Rattle.ivy_ether.specs.Ordered.{one_more}
+use Rattle.ivy_events.specs.Ordered.{one_more}
 use Rattle.ivy_order.specs.Letters.{Letter, Net, content_of, letter_of, goes_on, installs}
 use Rattle.ivy_order.specs.Orderly.{AwaitsCopy, AwaitsPage, Collects}
 

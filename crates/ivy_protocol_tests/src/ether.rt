@@ -1,5 +1,5 @@
 //! The list of a node's events.
-use ivy_ether::{Event, Events};
+use ivy_events::{Event, Events};
 use ivy_wire::Bytes;
 use std::alloc::Global;
 use std::process::Abort;

@@ -9,8 +9,8 @@ use Rattle.ivy_pagetable.specs.Entries.{owned}
 use Rattle.ivy_fixed.specs.Fixed.{Owners, first_owners, fixed_ops}
 use Rattle.ivy_dynamic.specs.Dynamic.{Hints, first_hints, dynamic_ops}
 use Rattle.ivy_program.specs.declared.Instruction.{Instruction}
-use Rattle.ivy_ether.specs.declared.moves.Move.{Move}
-use Rattle.ivy_ether.specs.Worlds.{World, Leads}
+use Rattle.ivy_events.specs.declared.moves.Move.{Move}
+use Rattle.ivy_events.specs.Worlds.{World, Leads}
 use Rattle.ivy_host.specs.Hosts.{Host, host_rules}
 use Rattle.ivy_host.specs.Holding.{HasNoBreach}
 use Rattle.ivy_host.specs.Managers.{Managed, Fixed, Dynamic, first_managed, managed_ops}

@@ -9,10 +9,10 @@ use Rattle.ivy_pagetable.specs.Entries.{nothing, owned}
 use Rattle.ivy_pagetable.specs.Tables.{entry_at, first_entry}
 use Rattle.ivy_pagetable.specs.Manager.{Ops, Laws}
 use Rattle.ivy_program.specs.declared.Instruction.{Instruction}
-use Rattle.ivy_ether.specs.declared.moves.Move.{Move}
-use Rattle.ivy_ether.specs.Ordered.{Ordered}
-use Rattle.ivy_ether.specs.Worlds.{World, Leads}
-use Rattle.ivy_ether.specs.Following.{ordered_of}
+use Rattle.ivy_events.specs.declared.moves.Move.{Move}
+use Rattle.ivy_events.specs.Ordered.{Ordered}
+use Rattle.ivy_events.specs.Worlds.{World, Leads}
+use Rattle.ivy_events.specs.Following.{ordered_of}
 use Rattle.ivy_host.specs.Hosts.{Host, host_rules, first_host}
 use Rattle.ivy_host.specs.Holding.{HasNoBreach}
 use Rattle.ivy_host.specs.Openings.{opening}

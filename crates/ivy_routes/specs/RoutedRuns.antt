@@ -5,7 +5,7 @@ use Rattle.ivy_model.specs.declared.Config.{Config}
 use Rattle.ivy_model.specs.declared.Kind.TheVariants as kind
 use Rattle.ivy_pagetable.specs.Manager.{Ops}
 use Rattle.ivy_program.specs.declared.Instruction.{Instruction}
-use Rattle.ivy_ether.specs.Ordered.{Ordered}
+use Rattle.ivy_events.specs.Ordered.{Ordered}
 use Rattle.ivy_host.specs.Hosts.{Host}
 use Rattle.ivy_order.specs.Orderly.{IsOrderly}
 use Rattle.ivy_worlds.specs.Errands.{AreErrands}

@@ -5,8 +5,8 @@ use Rattle.ivy_model.specs.declared.Call.TheVariants.{Load, Store, Count, Advanc
 use Rattle.ivy_model.specs.declared.Reply.{Reply}
 use Rattle.ivy_model.specs.declared.Reply.TheVariants.{Value, Done, Refused}
 use Rattle.ivy_model.specs.declared.Record.{Record}
-use Rattle.ivy_ether.specs.declared.Move.{Move}
-use Rattle.ivy_ether.specs.declared.Move.TheVariants.{Turn, Deliver, Pulse}
+use Rattle.ivy_events.specs.declared.Move.{Move}
+use Rattle.ivy_events.specs.declared.Move.TheVariants.{Turn, Deliver, Pulse}
 
 -- a blank and a number
 abbrev pub then_number : ℕ → List ℕ

@@ -5,7 +5,7 @@ ghost use Rattle.ivy_texts.specs.Lines.{value_line, end_line, verdict_line};
 ghost use Rattle.ivy_texts.specs.Printed.{call_text, reply_text, record_text, move_text};
 
 use itoa::Buffer;
-use ivy_ether::Move;
+use ivy_events::Move;
 use ivy_model::{Call, Record, Reply};
 use ivy_wire::FrameKind;
 use std::fmt;

@@ -2,7 +2,7 @@
 ghost use Rattle.std.specs.Prelude.{IfErr};
 ghost use Rattle.ivy_program.specs.Texts.{IsRefusal};
 
-use ivy_ether::Move;
+use ivy_events::Move;
 use ivy_model::Fault;
 use ivy_program::{parse_number, words_of};
 use std::alloc::Allocator;

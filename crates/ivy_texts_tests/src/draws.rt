@@ -2,7 +2,7 @@
 //! another program.
 ghost use Rattle.std.specs.Prelude.{◌≤◌, All, IfOk, length};
 
-use ivy_ether::Move;
+use ivy_events::Move;
 use ivy_texts::{draw, generator_of};
 use ivy_wire::Bytes;
 use std::alloc::Global;

@@ -13,8 +13,8 @@ use Rattle.ivy_pagetable.specs.Manager.{Ops}
 use Rattle.ivy_serving.specs.Serving.{parcel_to}
 use Rattle.ivy_serving.proofs.IdleServing.{all_none}
 use Rattle.ivy_alloc.specs.Heap.{HeapState}
-use Rattle.ivy_ether.specs.Cores.{Outcome}
-use Rattle.ivy_ether.specs.Ordered.{Ordered, Turns, Delivers}
+use Rattle.ivy_events.specs.Cores.{Outcome}
+use Rattle.ivy_events.specs.Ordered.{Ordered, Turns, Delivers}
 use Rattle.ivy_memory.specs.declared.Asked.TheVariants as kinds
 use Rattle.ivy_memory.specs.declared.HeapCall.{HeapCall}
 use Rattle.ivy_memory.specs.declared.Errand.{Errand}

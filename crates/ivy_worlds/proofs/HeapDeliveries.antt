@@ -9,7 +9,7 @@ use Rattle.ivy_wire.specs.Data.{Message}
 use Rattle.ivy_pagetable.specs.Manager.{Ops}
 use Rattle.ivy_serving.specs.Serving.{parcel_to}
 use Rattle.ivy_alloc.specs.Heap.{HeapState}
-use Rattle.ivy_ether.specs.Ordered.{Ordered, Delivers}
+use Rattle.ivy_events.specs.Ordered.{Ordered, Delivers}
 use Rattle.ivy_memory.specs.declared.HeapCall.{HeapCall}
 use Rattle.ivy_memory.specs.declared.Errand.TheVariants as errand
 use Rattle.ivy_memory.specs.HeapCalls.{told_of, kept, request, answer_to, reply_in}

@@ -17,7 +17,7 @@ use Rattle.ivy_alloc.specs.Heap.{HeapState}
 use Rattle.ivy_program.specs.States.{State}
 use Rattle.ivy_program.specs.Steps.{Step, Local, Asks, Ends, step_of, at_state}
 use Rattle.ivy_program.proofs.Running.{asked_legal}
-use Rattle.ivy_ether.specs.Cores.{Outcome}
+use Rattle.ivy_events.specs.Cores.{Outcome}
 use Rattle.ivy_memory.specs.declared.Answer.{Answer}
 use Rattle.ivy_memory.specs.declared.Answer.TheVariants.{Given, Awaited, Unserved}
 use Rattle.ivy_memory.specs.declared.Asked.{Asked}

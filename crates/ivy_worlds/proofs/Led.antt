@@ -7,12 +7,12 @@ use Rattle.ivy_model.specs.Config.{IsConfig}
 use Rattle.ivy_wire.specs.Data.{Message}
 use Rattle.ivy_pagetable.specs.Manager.{Ops}
 use Rattle.ivy_program.specs.declared.Instruction.{Instruction}
-use Rattle.ivy_ether.specs.declared.moves.Move.{Move}
-use Rattle.ivy_ether.specs.Nodes.{Node}
-use Rattle.ivy_ether.specs.Ordered.{Ordered, Steps}
-use Rattle.ivy_ether.specs.Worlds.{World, Leads}
-use Rattle.ivy_ether.specs.Following.{IsTame, Follows, ordered_of}
-use Rattle.ivy_ether.proofs.Kept.{moves-keep}
+use Rattle.ivy_events.specs.declared.moves.Move.{Move}
+use Rattle.ivy_events.specs.Nodes.{Node}
+use Rattle.ivy_events.specs.Ordered.{Ordered, Steps}
+use Rattle.ivy_events.specs.Worlds.{World, Leads}
+use Rattle.ivy_events.specs.Following.{IsTame, Follows, ordered_of}
+use Rattle.ivy_events.proofs.Kept.{moves-keep}
 use Rattle.ivy_host.specs.Hosts.{Host, host_rules, first_host}
 use Rattle.ivy_host.specs.Openings.{first_nodes, opening}
 use Rattle.ivy_host.specs.Sound.{IsSoundHost}

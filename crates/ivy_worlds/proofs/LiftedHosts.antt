@@ -6,8 +6,8 @@ use Rattle.ivy_pagetable.specs.Manager.{Ops, Laws}
 use Rattle.ivy_serving.specs.Serving.{parcel_to}
 use Rattle.ivy_coherence.specs.Coherent.{Coherent}
 use Rattle.ivy_coherence.specs.Steps.{handled}
-use Rattle.ivy_ether.specs.Cores.{Outcome}
-use Rattle.ivy_ether.specs.Ordered.{Ordered, Turns, Delivers, Steps, rests, turns, delivers}
+use Rattle.ivy_events.specs.Cores.{Outcome}
+use Rattle.ivy_events.specs.Ordered.{Ordered, Turns, Delivers, Steps, rests, turns, delivers}
 use Rattle.ivy_memory.specs.HeapCalls.{request}
 use Rattle.ivy_memory.specs.Memories.{taken_out}
 use Rattle.ivy_memory.proofs.Errands.{request_heap}

@@ -7,11 +7,11 @@ use Rattle.ivy_model.specs.Config.{IsConfig}
 use Rattle.ivy_pagetable.specs.Manager.{Ops, Laws}
 use Rattle.ivy_memory.proofs.Tame.{first_sound-memory}
 use Rattle.ivy_program.specs.declared.Instruction.{Instruction}
-use Rattle.ivy_ether.specs.declared.moves.Move.{Move}
-use Rattle.ivy_ether.specs.Nodes.{Node}
-use Rattle.ivy_ether.specs.Ordered.{Ordered}
-use Rattle.ivy_ether.specs.Worlds.{World, Leads}
-use Rattle.ivy_ether.specs.Following.{ordered_of}
+use Rattle.ivy_events.specs.declared.moves.Move.{Move}
+use Rattle.ivy_events.specs.Nodes.{Node}
+use Rattle.ivy_events.specs.Ordered.{Ordered}
+use Rattle.ivy_events.specs.Worlds.{World, Leads}
+use Rattle.ivy_events.specs.Following.{ordered_of}
 use Rattle.ivy_host.specs.Hosts.{Host, host_rules}
 use Rattle.ivy_host.specs.Openings.{opening}
 use Rattle.ivy_host.specs.Sound.{IsSoundHost}

@@ -10,8 +10,8 @@ use Rattle.ivy_wire.specs.Spelling.{FitsMessage, FitsParcel}
 use Rattle.ivy_link.specs.Paired.{posted, extended}
 use Rattle.ivy_pagetable.specs.Manager.{Ops}
 use Rattle.ivy_serving.proofs.IdleServing.{all_head, all_tail}
-use Rattle.ivy_ether.specs.Ordered.{Ordered, Delivers, Steps, rests, turns, delivers, one_more}
-use Rattle.ivy_ether.specs.Following.{IsTame}
+use Rattle.ivy_events.specs.Ordered.{Ordered, Delivers, Steps, rests, turns, delivers, one_more}
+use Rattle.ivy_events.specs.Following.{IsTame}
 use Rattle.ivy_host.specs.Hosts.{Host, host_rules}
 use Rattle.ivy_host.specs.Sound.{IsSoundHost}
 use Rattle.ivy_memory.proofs.Pages.{is_of_pages, IsOfPages}

@@ -7,8 +7,8 @@ use Rattle.ivy_link.specs.Linked.{Peer, fresh, first_link, peer_at}
 use Rattle.ivy_link.specs.Paired.{link_at}
 use Rattle.ivy_pagetable.specs.Manager.{Ops}
 use Rattle.ivy_program.specs.declared.Instruction.{Instruction}
-use Rattle.ivy_ether.specs.Nodes.{Node}
-use Rattle.ivy_ether.specs.Following.{ordered_of, links_of}
+use Rattle.ivy_events.specs.Nodes.{Node}
+use Rattle.ivy_events.specs.Following.{ordered_of, links_of}
 use Rattle.ivy_host.specs.Hosts.{Host}
 use Rattle.ivy_host.specs.Openings.{opening, first_nodes}
 

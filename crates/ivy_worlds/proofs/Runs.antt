@@ -9,10 +9,10 @@ use Rattle.ivy_pagetable.specs.declared.PutOff.{PutOff}
 use Rattle.ivy_pagetable.specs.Entries.{put_offs}
 use Rattle.ivy_pagetable.specs.Manager.{Ops, Laws}
 use Rattle.ivy_program.specs.declared.Instruction.{Instruction}
-use Rattle.ivy_ether.specs.declared.moves.Move.{Move}
-use Rattle.ivy_ether.specs.Ordered.{Ordered}
-use Rattle.ivy_ether.specs.Worlds.{World, Leads}
-use Rattle.ivy_ether.proofs.Opening.{opening_follows}
+use Rattle.ivy_events.specs.declared.moves.Move.{Move}
+use Rattle.ivy_events.specs.Ordered.{Ordered}
+use Rattle.ivy_events.specs.Worlds.{World, Leads}
+use Rattle.ivy_events.proofs.Opening.{opening_follows}
 use Rattle.ivy_host.specs.Hosts.{Host, host_rules}
 use Rattle.ivy_host.specs.Openings.{opening}
 use Rattle.ivy_host.specs.Sound.{IsSoundHost}

@@ -4,7 +4,7 @@ use Rattle.std.specs.Prelude.{◌≡◌, ◌≢◌, ℕ, not, List, [], ◌∷�
 use Rattle.std.specs.Prelude.{Option, Some, None}
 use Rattle.ivy_model.specs.declared.Reply.{Reply}
 use Rattle.ivy_wire.specs.Data.{Content, Message}
-use Rattle.ivy_ether.specs.Ordered.{Ordered}
+use Rattle.ivy_events.specs.Ordered.{Ordered}
 use Rattle.ivy_memory.specs.declared.HeapCall.{HeapCall}
 use Rattle.ivy_memory.specs.declared.Errand.{Errand}
 use Rattle.ivy_memory.specs.declared.Errand.TheVariants as errand

@@ -4,9 +4,9 @@ use Rattle.ivy_model.specs.declared.Config.{Config}
 use Rattle.ivy_wire.specs.Data.{Message}
 use Rattle.ivy_pagetable.specs.Manager.{Ops}
 use Rattle.ivy_program.specs.declared.Instruction.{Instruction}
-use Rattle.ivy_ether.specs.Ordered.{Ordered, Steps}
-use Rattle.ivy_ether.specs.Worlds.{World}
-use Rattle.ivy_ether.specs.Following.{Follows, ordered_of}
+use Rattle.ivy_events.specs.Ordered.{Ordered, Steps}
+use Rattle.ivy_events.specs.Worlds.{World}
+use Rattle.ivy_events.specs.Following.{Follows, ordered_of}
 use Rattle.ivy_host.specs.Hosts.{Host, host_rules}
 use Rattle.ivy_host.specs.Openings.{opening}
 use Rattle.ivy_host.specs.Sound.{IsSoundHost}

@@ -3,7 +3,7 @@ use Rattle.ivy_wire.specs.Lent.{owned_message, owned_body, owned_frame}
 use Rattle.ivy_link.specs.declared.Verdict.TheVariants as verdict
 use Rattle.ivy_link.specs.Linked.{Linked}
 use Rattle.ivy_link.specs.Accepted.{accepted}
-use Rattle.ivy_ether.specs.Marks.{Mark, Delivery}
+use Rattle.ivy_events.specs.Marks.{Mark, Delivery}
 use Rattle.ivy_node.specs.Outboxes.{Outbox, with_link}
 use Rattle.ivy_node.specs.Sites.{IsSpentDelivery, host_of}
 use Rattle.ivy_memory.proofs.Beginning.{err_there}

@@ -2,8 +2,8 @@ use Rattle.std.proofs.Common.{◌≡◌, get_or, slice_get, Some, rules, subst}
 use Rattle.std.proofs.lemmas.List.{take_more}
 use Rattle.std.proofs.lemmas.Option.{slice_get-get_or}
 use Rattle.ivy_host.specs.Managers.{managed_ops}
-use Rattle.ivy_ether.specs.declared.Move.TheVariants.{Turn}
-use Rattle.ivy_ether.specs.Worlds.{moved}
+use Rattle.ivy_events.specs.declared.Move.TheVariants.{Turn}
+use Rattle.ivy_events.specs.Worlds.{moved}
 use Rattle.ivy_host.specs.Hosts.{host_rules}
 use Rattle.ivy_node.proofs.Leading.{leads_one}
 use Rattle.ivy_node.proofs.Worlds.{named_exactly}

@@ -1,0 +1,24 @@
+-- One event of a node as definitions read it, and how a recorded list of events is read.
+use Rattle.std.specs.Prelude.{ℕ, zero, suc, List, [], ◌∷◌, ◌++◌}
+use Rattle.ivy_events.specs.Events.{Event}
+use Rattle.ivy_events.specs.declared.event.Event.TheVariants.{Turns, Delivered, Pulsed}
+
+-- a turn, a string delivered, a pulse to a node
+pub data Mark : Type 0 where
+  Turn : Mark
+  Delivery : List ℕ → Mark
+  Pulse : ℕ → Mark
+
+-- so many turns in a row are that many turns
+abbrev pub turns : ℕ → List Mark
+turns zero = []
+turns (suc n) = Turn ∷ turns n
+
+abbrev pub marks_of : Event → List Mark
+marks_of (Turns n) = turns n
+marks_of (Delivered bytes) = Delivery bytes ∷ []
+marks_of (Pulsed to) = Pulse to ∷ []
+
+abbrev pub marks : List Event → List Mark
+marks [] = []
+marks (e ∷ es) = marks_of e ++ marks es
