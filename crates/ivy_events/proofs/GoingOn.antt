@@ -14,6 +14,7 @@ use Rattle.ivy_events.specs.Marks.{Mark, Turn, Delivery, Pulse}
 use Rattle.ivy_events.specs.Nodes.{Node, Effect, stays, turned, verdict_of, delivered, pulsing}
 use Rattle.ivy_events.specs.Worlds.{World, gone_on, goes_on, remembered, remembering, turn_of, delivery_of, pulse_of, made_by, moved, MayGoOn, Moves, Leads}
 use Rattle.ivy_events.specs.Parts.{followed_by, delivery_marks, pulse_marks, CanBeMade, AllCanBeMade, Happens, AllHappen, turn_marks, turn_given, delivery_given, pulse_given, given_by, given_after, given_at, parts_of, AreParts, GoOn, PartsGoOn}
+use Rattle.ivy_events.proofs.Splitting.{part-sent, before-sent}
 use Rattle.ivy_events.proofs.Places.{set-same, set-there, set-elsewhere}
 
 -- this list at its node, and nothing elsewhere
@@ -44,12 +45,12 @@ pulsed-mark to (s ∷ strings) some = refl
 
 module _ {C : Type 0} where
   -- what could be made can be made still where more strings were sent
-  can-later : (v u : World C) (k : ℕ) (m : Mark) (strings : List (List ℕ)) → u.sent ≡ v.sent ++ strings → length u.nodes ≡ length v.nodes → CanBeMade v k m → CanBeMade u k m
+  can-later : (v u : World C) (k : ℕ) (m : Mark) (strings : List (List ℕ)) → u.sent ≡ v.sent ++ strings → length u.nodes ≡ length v.nodes → CanBeMade v.sent (length v.nodes) k m → CanBeMade u.sent (length u.nodes) k m
   can-later v u k Turn strings sent count can = can
   can-later v u k (Delivery bytes) strings sent count can = subst (λ l. Contains l bytes) (sym sent) (Contains-append_left v.sent strings bytes can)
   can-later v u k (Pulse to) strings sent count can = (rw count can.0, can.1)
 
-  all-later : (v u : World C) (k : ℕ) (ms : List Mark) (strings : List (List ℕ)) → u.sent ≡ v.sent ++ strings → length u.nodes ≡ length v.nodes → AllCanBeMade v k ms → AllCanBeMade u k ms
+  all-later : (v u : World C) (k : ℕ) (ms : List Mark) (strings : List (List ℕ)) → u.sent ≡ v.sent ++ strings → length u.nodes ≡ length v.nodes → AllCanBeMade v.sent (length v.nodes) k ms → AllCanBeMade u.sent (length u.nodes) k ms
   all-later v u k [] strings sent count can = can
   all-later v u k (m ∷ ms) strings sent count can = (can-later v u k m strings sent count can.0, all-later v u k ms strings sent count can.1)
 
@@ -79,13 +80,13 @@ module _ {C : Type 0} (rules : Core C) (c : Config) where
   runs-same w end parts parts' same a = record { moves = a.moves; leads = a.leads; are = λ j. same j ∙ a.are j }
 
   -- one node went on by these events, in moves of its own
-  record WentOn (v : World C) (k : ℕ) (ms : List Mark) (e : Effect C) : Type 0 where
+  record NodeWent (v : World C) (k : ℕ) (ms : List Mark) (e : Effect C) : Type 0 where
     pub end : World C
     pub run : AreParts rules c v (only_at k ms) end
     pub nodes : end.nodes ≡ set v.nodes k e.after
     pub sent : end.sent ≡ v.sent ++ e.sent
 
-  turn-went : (v : World C) (k : ℕ) (n : Node C) (e : Effect C) → slice_get v.nodes k ≡ Some n → Happens rules c n Turn e → WentOn v k (Turn ∷ []) e
+  turn-went : (v : World C) (k : ℕ) (n : Node C) (e : Effect C) → slice_get v.nodes k ≡ Some n → Happens rules c n Turn e → NodeWent v k (Turn ∷ []) e
   unfolding moved
   turn-went v k n e there h =
       let mid : World C = gone_on v k e in
@@ -104,7 +105,7 @@ module _ {C : Type 0} (rules : Core C) (c : Config) where
         sent = refl;
       }
 
-  delivery-went : (v : World C) (k : ℕ) (n : Node C) (bytes : List ℕ) (e : Effect C) → slice_get v.nodes k ≡ Some n → Happens rules c n (Delivery bytes) e → Contains v.sent bytes → WentOn v k (Delivery bytes ∷ []) e
+  delivery-went : (v : World C) (k : ℕ) (n : Node C) (bytes : List ℕ) (e : Effect C) → slice_get v.nodes k ≡ Some n → Happens rules c n (Delivery bytes) e → Contains v.sent bytes → NodeWent v k (Delivery bytes ∷ []) e
   unfolding moved
   delivery-went v k n bytes e there h sent =
       let index = sent.0 in
@@ -129,7 +130,7 @@ module _ {C : Type 0} (rules : Core C) (c : Config) where
         sent = refl;
       }
 
-  pulse-went : (v : World C) (k to : ℕ) (n : Node C) (e : Effect C) → slice_get v.nodes k ≡ Some n → Happens rules c n (Pulse to) e → CanBeMade v k (Pulse to) → WentOn v k (Pulse to ∷ []) e
+  pulse-went : (v : World C) (k to : ℕ) (n : Node C) (e : Effect C) → slice_get v.nodes k ≡ Some n → Happens rules c n (Pulse to) e → CanBeMade v.sent (length v.nodes) k (Pulse to) → NodeWent v k (Pulse to ∷ []) e
   unfolding moved
   pulse-went v k to n e there h can =
       let mid : World C = gone_on v k (pulsing n to) in
@@ -150,13 +151,13 @@ module _ {C : Type 0} (rules : Core C) (c : Config) where
         sent = ap (λ (x : Effect C). v.sent ++ x.sent) (sym h.0);
       }
 
-  one-went : (v : World C) (k : ℕ) (n : Node C) (m : Mark) (e : Effect C) → slice_get v.nodes k ≡ Some n → Happens rules c n m e → CanBeMade v k m → WentOn v k (m ∷ []) e
+  one-went : (v : World C) (k : ℕ) (n : Node C) (m : Mark) (e : Effect C) → slice_get v.nodes k ≡ Some n → Happens rules c n m e → CanBeMade v.sent (length v.nodes) k m → NodeWent v k (m ∷ []) e
   one-went v k n Turn e there h can = turn-went v k n e there h
   one-went v k n (Delivery bytes) e there h can = delivery-went v k n bytes e there h can
   one-went v k n (Pulse to) e there h can = pulse-went v k to n e there h can
 
   -- all events of one node
-  node-went : (v : World C) (k : ℕ) (n : Node C) (ms : List Mark) (e : Effect C) → slice_get v.nodes k ≡ Some n → AllHappen rules c n ms e → AllCanBeMade v k ms → WentOn v k ms e
+  node-went : (v : World C) (k : ℕ) (n : Node C) (ms : List Mark) (e : Effect C) → slice_get v.nodes k ≡ Some n → AllHappen rules c n ms e → AllCanBeMade v.sent (length v.nodes) k ms → NodeWent v k ms e
   node-went v k n [] e there h can = record {
     end = v;
     run = record { moves = []; leads = refl; are = λ j. only-none (k == j) };
@@ -165,11 +166,11 @@ module _ {C : Type 0} (rules : Core C) (c : Config) where
   }
   node-went v k n (m ∷ ms) e there h can =
       let first : Effect C = h.0 in
-      let a : WentOn v k (m ∷ []) first = one-went v k n m first there h.1 can.0 in
+      let a : NodeWent v k (m ∷ []) first = one-went v k n m first there h.1 can.0 in
       let after : slice_get a.end.nodes k ≡ Some first.after = ap (λ ns. slice_get ns k) a.nodes ∙ set-there v.nodes k first.after n there in
       let count : length a.end.nodes ≡ length v.nodes = ap length a.nodes ∙ length-set v.nodes k first.after in
       let rest : Effect C = h.2.0 in
-      let b : WentOn a.end k ms rest = node-went a.end k first.after ms rest after h.2.1 (all-later v a.end k ms first.sent a.sent count can.1) in
+      let b : NodeWent a.end k ms rest = node-went a.end k first.after ms rest after h.2.1 (all-later v a.end k ms first.sent a.sent count can.1) in
       record {
         end = b.end;
         run = runs-same v b.end (λ j. only_at k (m ∷ []) j ++ only_at k ms j) (only_at k (m ∷ ms)) (λ j. only-more m ms (k == j)) (runs-append v a.end b.end (only_at k (m ∷ [])) (only_at k ms) a.run b.run);
@@ -230,8 +231,8 @@ module _ {C : Type 0} (rules : Core C) (c : Config) where
       happen : (e : Effect C) × AllHappen rules c found.0 (more k) e
       happen = let h = on.each k found.0 found.1 in (h.0, subst (λ l. AllHappen rules c found.0 l h.0) here h.1)
 
-      went : WentOn v k (more k) happen.0
-      went = node-went v k found.0 (more k) happen.0 found.1 happen.1 (subst (AllCanBeMade v k) here (on.can k))
+      went : NodeWent v k (more k) happen.0
+      went = node-went v k found.0 (more k) happen.0 found.1 happen.1 (subst (AllCanBeMade v.sent (length v.nodes) k) here (on.can k))
 
       same_count : length went.end.nodes ≡ length v.nodes
       same_count = ap length went.nodes ∙ length-set v.nodes k happen.0.after
@@ -252,8 +253,8 @@ module _ {C : Type 0} (rules : Core C) (c : Config) where
               let h = on.each j n old in (h.0, subst (λ l. AllHappen rules c n l h.0) (sym (later j past)) h.1)
         ];
         can = λ j. elim (cases_lt j (k + 1)) [
-          | inl below ↦ subst (AllCanBeMade went.end j) (sym (before j below)) tt
-          | inr past ↦ subst (AllCanBeMade went.end j) (sym (later j past)) (all-later v went.end j (from_node more k j) happen.0.sent went.sent same_count (on.can j))
+          | inl below ↦ subst (AllCanBeMade went.end.sent (length went.end.nodes) j) (sym (before j below)) tt
+          | inr past ↦ subst (AllCanBeMade went.end.sent (length went.end.nodes) j) (sym (later j past)) (all-later v went.end j (from_node more k j) happen.0.sent went.sent same_count (on.can j))
         ];
         none = λ j past. elim (cases_lt j (k + 1)) [
           | inl below ↦ before j below
@@ -281,8 +282,16 @@ module _ {C : Type 0} (rules : Core C) (c : Config) where
       let all : (j : ℕ) → from_node more 0 j ≡ more j = (λ j. ap (λ b. if b then [] else more j) (le-ltb j 0 (omega arith))) in
       let from : GoOn rules c end (from_node more 0) = record {
         each = λ j n there. (let h = on.each j n there in (h.0, subst (λ l. AllHappen rules c n l h.0) (sym (all j)) h.1));
-        can = λ j. subst (AllCanBeMade end j) (sym (all j)) (on.can j);
+        can = λ j. subst (AllCanBeMade end.sent (length end.nodes) j) (sym (all j)) (on.can j);
         none = λ j past. all j ∙ on.none j past;
       } in
       let went = nodes-went (length end.nodes) 0 end more (omega arith) from in
-      (went.0, runs-append w end went.0 parts more run (runs-same end went.0 (from_node more 0) more (λ j. sym (all j)) went.1))
+      let on_end : AreParts rules c end more went.0 =
+          runs-same end went.0 (from_node more 0) more (λ j. sym (all j)) went.1 in (
+        went.0,
+        record {
+          run = runs-append w end went.0 parts more run on_end;
+          before = λ s. before-sent rules c end went.0 more s on_end;
+          sent = λ j n there e happen s. part-sent rules c end went.0 more j n e s on_end there happen;
+        },
+      )

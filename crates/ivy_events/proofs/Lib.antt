@@ -5,5 +5,6 @@ pub mod Following
 pub mod Opening
 pub mod Kept
 pub mod Parts
+pub mod Splitting
 pub mod Early
 pub mod GoingOn

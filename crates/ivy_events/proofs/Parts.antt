@@ -1,8 +1,9 @@
 -- Each node of a run is what its part makes of it, and the strings sent are those of the parts.
-use Rattle.std.proofs.Common.{◌≡◌, ◌≢◌, ℕ, zero, suc, ◌+◌, List, [], ◌∷◌, ◌++◌, length, map, set, replicate, slice_get, Bool, true, false, Option, Some, None, Result, Ok, Err, if◌then◌else◌, ◌==◌, refl, sym, ap, subst, ◌∙◌, inl, inr, arith, length-set, append-nil, append_assoc}
+use Rattle.std.proofs.Common.{◌≡◌, ◌≢◌, ℕ, zero, suc, ◌+◌, List, [], ◌∷◌, ◌++◌, length, map, set, replicate, slice_get, All, ◌<◌, Bool, true, false, Option, Some, None, Result, Ok, Err, if◌then◌else◌, ◌==◌, refl, sym, ap, subst, ◌∙◌, inl, inr, arith, length-set, append-nil, append_assoc}
 use Rattle.std.proofs.lemmas.Bool.{eq-eqb, ne_eqb, eqb-true, cases_eq}
 use Rattle.std.proofs.lemmas.List.{set-set, length-append, length-replicate}
-use Rattle.std.proofs.lemmas.Option.{same_Some, none-some}
+use Rattle.std.proofs.lemmas.List.Elements.{All-nil, All-append, All-replicate}
+use Rattle.std.proofs.lemmas.Option.{same_Some, none-some, slice_get_within}
 use Rattle.ivy_model.specs.declared.Config.{Config}
 use Rattle.ivy_model.specs.declared.Fault.{Fault}
 use Rattle.ivy_wire.specs.declared.FrameKind.{FrameKind}
@@ -177,6 +178,9 @@ module _ {C : Type 0} (rules : Core C) (c : Config) where
     count =
         length-append (replicate (length a.effect.sent) i) made.senders ∙ ap (λ k. k + length made.senders) (length-replicate (length a.effect.sent) i)
         ∙ ap (λ k. length a.effect.sent + k) made.count ∙ sym (length-append a.effect.sent made.strings);
+    inside = All-append (λ j. j < length w.nodes) (replicate (length a.effect.sent) i) made.senders
+        (All-replicate (λ j. j < length w.nodes) (length a.effect.sent) i (slice_get_within w.nodes i a.node a.there))
+        (subst (λ k. All (λ j. j < k) made.senders) (ap length a.nodes ∙ length-set w.nodes i a.effect.after) made.inside);
     nodes = made.nodes ∙ ap length a.nodes ∙ length-set w.nodes i a.effect.after;
     each = λ j n there. elim (cases_eq i j) [ inl same ↦ own j same n there | inr apart ↦ other j apart n there ];
   }
@@ -209,6 +213,7 @@ module _ {C : Type 0} (rules : Core C) (c : Config) where
     sent = ap (λ (v : World C). v.sent) lead ∙ sym (append-nil w.sent);
     senders = [];
     count = refl;
+    inside = All-nil _;
     nodes = ap (λ (v : World C). length v.nodes) lead;
     each = λ j n there. (stays n, refl, ap (λ (v : World C). slice_get v.nodes j) lead ∙ there, refl);
   }
@@ -222,6 +227,7 @@ module _ {C : Type 0} (rules : Core C) (c : Config) where
     sent = made.sent;
     senders = made.senders;
     count = made.count;
+    inside = made.inside;
     nodes = made.nodes;
     each = λ j n there. (let b = made.each j n there in (b.0, subst (λ l. AllHappen rules c n l b.0) (sym (same j)) b.1, b.2, b.3));
   }

@@ -1,7 +1,7 @@
 -- The parts of a run: the events of each node, in order, that its moves give. What a node's own events make of it, and
 -- the laws that threads rest on: each node of a run is what its part makes of it, and parts that go on by further
 -- events are parts of a run again.
-use Rattle.std.specs.Prelude.{◌≡◌, ◌≢◌, ℕ, ◌<◌, ◌≤◌, ◌==◌, List, [], ◌∷◌, ◌++◌, length, slice_get, Contains, Option, Some, None, if◌then◌else◌}
+use Rattle.std.specs.Prelude.{◌≡◌, ◌≢◌, ℕ, ◌<◌, ◌≤◌, ◌==◌, List, [], ◌∷◌, ◌++◌, length, slice_get, All, Contains, Option, Some, None, if◌then◌else◌}
 use Rattle.ivy_model.specs.declared.Config.{Config}
 use Rattle.ivy_link.specs.declared.Verdict.{Verdict}
 use Rattle.ivy_link.specs.declared.Verdict.TheVariants as verdict
@@ -40,16 +40,17 @@ sent_from j (i ∷ is) [] = []
 sent_from j (i ∷ is) (s ∷ strings) =
     if i == j then s ∷ sent_from j is strings else sent_from j is strings
 
-module _ {C : Type 0} where
-  -- what the event needs of the world that it is made in: a string that was sent, another node
-  abbrev pub CanBeMade : World C → ℕ → Mark → Type 0
-  CanBeMade w j Turn = Unit {0}
-  CanBeMade w j (Delivery bytes) = Contains w.sent bytes
-  CanBeMade w j (Pulse to) = (to < length w.nodes) × (j ≢ to)
+-- what an event of node j needs: that the string that it delivers is one of these, and that its pulse goes to another
+-- of so many nodes
+abbrev pub CanBeMade : List (List ℕ) → ℕ → ℕ → Mark → Type 0
+CanBeMade strings nodes j Turn = Unit {0}
+CanBeMade strings nodes j (Delivery bytes) = Contains strings bytes
+CanBeMade strings nodes j (Pulse to) = (to < nodes) × (j ≢ to)
 
-  abbrev pub AllCanBeMade : World C → ℕ → List Mark → Type 0
-  AllCanBeMade w j [] = Unit {0}
-  AllCanBeMade w j (m ∷ ms) = CanBeMade w j m × AllCanBeMade w j ms
+abbrev pub AllCanBeMade : List (List ℕ) → ℕ → ℕ → List Mark → Type 0
+AllCanBeMade strings nodes j [] = Unit {0}
+AllCanBeMade strings nodes j (m ∷ ms) =
+    CanBeMade strings nodes j m × AllCanBeMade strings nodes j ms
 
 module _ {C : Type 0} (rules : Core C) (c : Config) where
   -- the event happens at the node, with this effect: the turn changes something, the frame is for this node, the pulse
@@ -133,6 +134,7 @@ module _ {C : Type 0} (rules : Core C) (c : Config) where
     pub sent : end.sent ≡ w.sent ++ strings
     pub senders : List ℕ
     pub count : length senders ≡ length strings
+    pub inside : All (λ j. j < length w.nodes) senders
     pub nodes : length end.nodes ≡ length w.nodes
     pub each : (j : ℕ) → IsMadeByPart w parts end j (sent_from j senders strings)
 
@@ -140,8 +142,16 @@ module _ {C : Type 0} (rules : Core C) (c : Config) where
   pub record GoOn (w : World C) (more : ℕ → List Mark) : Type 0 where
     pub each : (j : ℕ) (n : Node C) → slice_get w.nodes j ≡ Some n
         → (e : Effect C) × AllHappen n (more j) e
-    pub can : (j : ℕ) → AllCanBeMade w j (more j)
+    pub can : (j : ℕ) → AllCanBeMade w.sent (length w.nodes) j (more j)
     pub none : (j : ℕ) → length w.nodes ≤ j → more j ≡ []
+
+  -- the run went on by these further events: the lists with them are the parts of a run, each string that was sent
+  -- before was sent in it too, and so was what the further events send
+  pub record WentOn (w end : World C) (parts more : ℕ → List Mark) (further : World C) : Type 0 where
+    pub run : AreParts w (λ j. parts j ++ more j) further
+    pub before : (s : List ℕ) → Contains end.sent s → Contains further.sent s
+    pub sent : (j : ℕ) (n : Node C) → slice_get end.nodes j ≡ Some n → (e : Effect C)
+        → AllHappen n (more j) e → (s : List ℕ) → Contains e.sent s → Contains further.sent s
 
   -- the two laws
   abbrev pub RunsAreTheirParts : Type 0
@@ -150,7 +160,7 @@ module _ {C : Type 0} (rules : Core C) (c : Config) where
 
   abbrev pub PartsGoOn : Type 0
   PartsGoOn = (w end : World C) (parts more : ℕ → List Mark) → AreParts w parts end
-      → GoOn end more → (further : World C) × AreParts w (λ j. parts j ++ more j) further
+      → GoOn end more → (further : World C) × WentOn w end parts more further
 
 -- so it is whatever the rules of the core
 abbrev pub RunsOfAnyRules : (C : Type 0) → Type 0
