@@ -287,7 +287,7 @@ module _ {C : Type 0} (rules : Core C) (c : Config) where
       } in
       let went = nodes-went (length end.nodes) 0 end more (omega arith) from in
       let on_end : AreParts rules c end more went.0 =
-          runs-same end went.0 (from_node more 0) more (λ j. sym (all j)) went.1 in (
+      runs-same end went.0 (from_node more 0) more (λ j. sym (all j)) went.1 in (
         went.0,
         record {
           run = runs-append w end went.0 parts more run on_end;

@@ -1,5 +1,6 @@
 -- How lists of events are read.
-use Rattle.std.proofs.Common.{◌≡◌, ℕ, zero, suc, List, [], ◌∷◌, ◌++◌, refl, sym, ap, ◌∙◌, append_assoc, append-nil}
+use Rattle.std.proofs.Common.{◌≡◌, ℕ, zero, suc, List, [], ◌∷◌, ◌++◌, refl, sym, ap, ◌∙◌, append_assoc, append-nil, ◌+◌, ◌<◌, take, get_or, length}
+use Rattle.std.proofs.lemmas.List.{take_more}
 use Rattle.ivy_events.specs.Events.{Event}
 use Rattle.ivy_events.specs.declared.event.Event.TheVariants.{Turns}
 use Rattle.ivy_events.specs.Marks.{Turn, turns, marks_of, marks}
@@ -25,3 +26,24 @@ noted_again a old new n m e was is = ap marks is ∙ marks-turn a n m e ∙ ap (
 
 pub noted_new : (old mid new : List Event) → mid ≡ old → new ≡ mid ++ Turns 1 ∷ [] → marks new ≡ marks old ++ Turn ∷ []
 noted_new old mid new was is = ap marks is ∙ marks_push mid (Turns 1) ∙ ap (λ l. marks l ++ Turn ∷ []) was
+
+-- two lists, entry by entry
+marks-take : (xs : List Event) (i : ℕ) (x : Event) → i < length xs → x ≡ get_or xs i x
+    → marks (take (i + 1) xs) ≡ marks (take i xs) ++ marks_of x
+marks-take xs i x within is =
+    ap marks (take_more xs i x within) ∙ marks_push (take i xs) (get_or xs i x)
+    ∙ ap (λ e. marks (take i xs) ++ marks_of e) (sym is)
+
+pub marks_copied : (old new xs : List Event) (i : ℕ) (x e : Event) → i < length xs
+    → x ≡ get_or xs i x → new ≡ old ++ e ∷ [] → marks_of e ≡ marks_of x
+    → marks old ≡ marks (take i xs) → marks new ≡ marks (take (i + 1) xs)
+marks_copied old new xs i x e within is more same was =
+    ap marks more ∙ marks_push old e ∙ ap (λ l. l ++ marks_of e) was
+    ∙ ap (λ l. marks (take i xs) ++ l) same ∙ sym (marks-take xs i x within is)
+
+pub marks_both : (xs ys : List Event) (i : ℕ) (x y : Event) → i < length xs → i < length ys
+    → x ≡ get_or xs i x → y ≡ get_or ys i y → marks_of x ≡ marks_of y
+    → marks (take i xs) ≡ marks (take i ys) → marks (take (i + 1) xs) ≡ marks (take (i + 1) ys)
+marks_both xs ys i x y a b is is' same was =
+    marks-take xs i x a is ∙ ap (λ l. l ++ marks_of x) was ∙ ap (λ l. marks (take i ys) ++ l) same
+    ∙ sym (marks-take ys i y b is')

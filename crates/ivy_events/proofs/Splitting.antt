@@ -88,7 +88,7 @@ module _ {C : Type 0} (rules : Core C) (c : Config) where
   same-effect n (m ∷ ms) e e' h h' =
       let first : h.0 ≡ h'.0 = one-effect n m h.0 h'.0 h.1 h'.1 in
       let rest : h.2.0 ≡ h'.2.0 = same-effect h.0.after ms h.2.0 h'.2.0 h.2.1
-          (subst (λ (x : Effect C). AllHappen rules c x.after ms h'.2.0) (sym first) h'.2.1) in
+      (subst (λ (x : Effect C). AllHappen rules c x.after ms h'.2.0) (sym first) h'.2.1) in
       h.2.2 ∙ (λ k. followed_by (first k) (rest k)) ∙ sym h'.2.2
 
   -- what a part of a run sends was sent in it
@@ -99,9 +99,9 @@ module _ {C : Type 0} (rules : Core C) (c : Config) where
       let made = runs_are_their_parts rules c w end parts run in
       let b = made.each j n there in
       let own : e.sent ≡ sent_from j made.senders made.strings =
-          ap (λ (x : Effect C). x.sent) (same-effect n (parts j) e b.0 happen b.1) ∙ sym b.3 in
+      ap (λ (x : Effect C). x.sent) (same-effect n (parts j) e b.0 happen b.1) ∙ sym b.3 in
       let in_run : Contains made.strings s =
-          from-sent j made.senders made.strings s (subst (λ l. Contains l s) own sent) in
+      from-sent j made.senders made.strings s (subst (λ l. Contains l s) own sent) in
       subst (λ l. Contains l s) (sym made.sent)
       (Contains-append_right w.sent made.strings s in_run)
 

@@ -1,8 +1,9 @@
 //! The events of a node, as it lists them.
-ghost use Rattle.std.specs.Prelude.{◌≡◌, [], ◌∷◌, ◌++◌, true, OnOk, IsTrue};
+ghost use Rattle.std.specs.Prelude.{◌≡◌, [], ◌∷◌, ◌++◌, true, IfOk, OnOk, IsTrue};
 ghost use Rattle.ivy_events.specs.Marks.{Turn, Delivery, Pulse, marks};
 
 use crate::note::note_turn;
+use crate::same::{are_same, copy_events};
 use ivy_wire::Bytes;
 use std::alloc::{AllocError, Allocator};
 use std::marker::Model;
@@ -84,5 +85,23 @@ impl<A: Allocator> Events<A> {
         ensures { self.new.marks ≡ self.old.marks ++ Pulse to ∷ [] }
     {
         self.entries.push_reserved(Event::Pulsed(to));
+    }
+
+    /// Whether the other list has the same entries.
+    pub fn is_same(&self, other: &Events<A>) -> bool
+        ensures { IsTrue result → self.now.marks ≡ other.now.marks }
+    {
+        are_same(&self.entries, &other.entries)
+    }
+}
+
+impl<A: Allocator + Copy> Events<A> {
+    /// A copy of the list. Err only where the allocator has no memory.
+    pub fn copy(&self, alloc: A) -> Result<Events<A>, AllocError>
+        ensures { IfOk result (λ copy. copy.marks ≡ self.now.marks) }
+    {
+        Ok(Events {
+            entries: copy_events(alloc, &self.entries)?,
+        })
     }
 }

@@ -8,6 +8,7 @@ mod event;
 mod laws;
 mod moves;
 mod note;
+mod same;
 
 pub use event::{Event, Events};
 pub use laws::{parts_go_on, runs_are_their_parts};
