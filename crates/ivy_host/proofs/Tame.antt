@@ -146,7 +146,7 @@ module _ {S : Type 0} {ops : Ops S} (laws : Laws ops) where
     serve = λ i source n m s below foreign fits. serve-tame c i source n m s below foreign fits;
   }
 
-first_length : {S : Type 0} (ops : Ops S) (c : Config) (me : ℕ) (ps : List (List Instruction)) → length (first_nodes ops c me ps) ≡ length ps
+pub first_length : {S : Type 0} (ops : Ops S) (c : Config) (me : ℕ) (ps : List (List Instruction)) → length (first_nodes ops c me ps) ≡ length ps
 first_length ops c me [] = refl
 first_length ops c me (p ∷ ps) = ap suc (first_length ops c (me + 1) ps)
 

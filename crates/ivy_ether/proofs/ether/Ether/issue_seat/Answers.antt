@@ -1,0 +1,22 @@
+use Rattle.std.proofs.Common.{sym, subst, ap, ◌∙◌}
+use Rattle.crossbeam_queue.specs.Passes.{view}
+use Rattle.ivy_host.specs.Hosts.{host_rules}
+use Rattle.ivy_host.specs.Managers.{managed_ops}
+use Rattle.ivy_ether.specs.Held.{Held}
+use Rattle.ivy_ether.specs.Programs.{beginning, MayGive, SendsFrom}
+use Rattle.std.proofs.Common.{true, length, ◌≡◌, ◌<◌}
+use Rattle.ivy_ether.specs.Rule.{times}
+use Rattle.ivy_host.proofs.Tame.{first_length}
+use Rattle.ivy_ether.proofs.Keeps.{issues}
+use Rattle.ivy_ether.proofs.ether.Ether.issue_seat.Goals as goal
+
+pub push_as-requires-clause-rule : goal.push_as-requires-clause-rule
+push_as-requires-clause-rule g c =
+    let config = g.S.Setup.config in
+    let programs = g.S.Setup.programs in
+    let starts = subst (λ (h : Held). h.known.starts ≡ true) (sym c.pass.view_is) c.requires.starter in
+    let new = subst (λ (h : Held). times c.args.node h.known.issued ≡ 0) (sym c.pass.view_is) c.requires.new in
+    let inside = subst (λ k. c.args.node < k) (sym (first_length managed_ops config 0 programs)) c.requires.node in (
+      issues (host_rules managed_ops) config (beginning config programs) _ _ (view c.pass.inside.token) c.args.node starts inside new,
+      λ _ _ _ _. tt,
+    )

@@ -1,0 +1,14 @@
+use Rattle.std.proofs.Common.{sym, subst, ap, ◌∙◌}
+use Rattle.crossbeam_queue.specs.Passes.{view}
+use Rattle.ivy_host.specs.Hosts.{host_rules}
+use Rattle.ivy_host.specs.Managers.{managed_ops}
+use Rattle.ivy_ether.specs.Held.{Held}
+use Rattle.ivy_ether.specs.Programs.{beginning, MayGive, SendsFrom}
+use Rattle.ivy_ether.proofs.Keeps.{learns}
+use Rattle.ivy_ether.proofs.ether.Ether.learn.Goals as goal
+
+pub learn_as-requires-clause-rule : goal.learn_as-requires-clause-rule
+learn_as-requires-clause-rule g c =
+    let config = g.S.Setup.config in
+    let programs = g.S.Setup.programs in
+    learns (host_rules managed_ops) config (beginning config programs) _ (view c.pass.inside.token)

@@ -1,0 +1,15 @@
+use Rattle.std.proofs.Common.{rules, ap, ◌∙◌}
+use Rattle.crossbeam_queue.specs.Passes.{view}
+use Rattle.ivy_host.specs.Hosts.{host_rules}
+use Rattle.ivy_host.specs.Managers.{managed_ops}
+use Rattle.ivy_ether.specs.Programs.{beginning}
+use Rattle.ivy_ether.proofs.Keeps.{begins, forks}
+use Rattle.ivy_ether.proofs.ether.Ether.new.Goals as goal
+
+pub ruled-requires-clause-rule : goal.ruled-requires-clause-rule
+ruled-requires-clause-rule g c =
+    begins (host_rules managed_ops) g.S.Setup.config (beginning g.S.Setup.config g.S.Setup.programs)
+
+pub another-token-requires-clause-rule : goal.another-token-requires-clause-rule
+another-token-requires-clause-rule g c =
+    forks (host_rules managed_ops) g.S.Setup.config (beginning g.S.Setup.config g.S.Setup.programs) _ _

@@ -1,0 +1,18 @@
+use Rattle.std.proofs.Common.{sym, subst, ap, ◌∙◌}
+use Rattle.crossbeam_queue.specs.Passes.{view}
+use Rattle.ivy_host.specs.Hosts.{host_rules}
+use Rattle.ivy_host.specs.Managers.{managed_ops}
+use Rattle.ivy_ether.specs.Held.{Held}
+use Rattle.ivy_ether.specs.Programs.{beginning, MayGive, SendsFrom}
+use Rattle.ivy_ether.proofs.Keeps.{takes}
+use Rattle.ivy_ether.proofs.ether.Ether.take_given.Goals as goal
+
+pub pop_as-requires-clause-rule : goal.pop_as-requires-clause-rule
+pop_as-requires-clause-rule g c =
+    let config = g.S.Setup.config in
+    let programs = g.S.Setup.programs in
+    let may = subst (λ (h : Held). MayGive config programs h.known g.E.Given.events)
+    (sym c.pass.view_is) c.requires.events in (
+      takes (host_rules managed_ops) config (beginning config programs) _ (view c.pass.inside.token) g.E.Given.events may,
+      λ _ _ _ _. tt,
+    )

@@ -1,0 +1,8 @@
+pub mod Data
+pub mod Views
+pub mod Held
+pub mod Items
+pub mod Going
+pub mod Rule
+pub mod Programs
+pub mod Words

@@ -1,0 +1,104 @@
+-- The rule over what the ether holds and over what its passes know, and what a step asks of a pass.
+use Rattle.std.specs.Prelude.{◌≡◌, ℕ, ◌+◌, ◌<◌, ◌≤◌, ◌==◌, Bool, true, false, Option, Some, None, List, [], ◌∷◌, length, Contains, if◌then◌else◌}
+use mathlib.Core.Option.{some}
+use lib.ListN.{get_elem?}
+use Rattle.ivy_model.specs.declared.Config.{Config}
+use Rattle.ivy_events.specs.Cores.{Core}
+use Rattle.ivy_events.specs.Marks.{Mark}
+use Rattle.ivy_events.specs.Parts.{AreParts}
+use Rattle.ivy_events.specs.Worlds.{World}
+use Rattle.ivy_ether.specs.Data.{Item}
+use Rattle.ivy_ether.specs.declared.item.Item.TheVariants.{Seat, Frame, Report}
+use Rattle.ivy_ether.specs.Going.{GoesOn, Sends}
+use Rattle.ivy_ether.specs.Views.{View}
+
+-- the sum of f over a list
+abbrev pub total : {X : Type 0} → (X → ℕ) → List X → ℕ
+total f [] = 0
+total f (x ∷ xs) = f x + total f xs
+
+abbrev pub one_if : Bool → ℕ
+one_if b = if b then 1 else 0
+
+-- 1 at the number i, else 0
+abbrev pub is_number : ℕ → Option ℕ → ℕ
+is_number i None = 0
+is_number i (Some j) = one_if (j == i)
+
+-- 1 where the pass took the seat of node i
+abbrev pub sits : ℕ → View → ℕ
+sits i v = is_number i v.node
+
+-- 1 where the item is the seat of node i
+abbrev pub seat_in : ℕ → Item → ℕ
+seat_in i (Seat j) = one_if (j == i)
+seat_in i (Frame b) = 0
+seat_in i (Report j es) = 0
+
+-- how often i stands in the list
+abbrev pub times : ℕ → List ℕ → ℕ
+times i xs = total (λ j. one_if (j == i)) xs
+
+-- the pass of node i has reported this list
+pub record Reported (views : List View) (i : ℕ) (list : List Mark) : Type 0 where
+  pub pass : ℕ
+  pub view : View
+  pub there : get_elem? views pass ≡ some view
+  pub node : view.node ≡ Some i
+  pub reported : view.reported ≡ true
+  pub events : view.events ≡ list
+
+module _ {C : Type 0} (rules : Core C) (c : Config) (opening : World C) where
+  -- what is known of one view: who is the starter, and what it issued; that a site's list is its part of the run; that
+  -- what the pass took was sent; that what the starter was told was reported
+  pub record Fits (starter : ℕ) (issued : List ℕ) (parts : ℕ → List Mark) (end : World C)
+      (views : List View) (pass : ℕ) (v : View) : Type 0 where
+    pub starts : v.starts ≡ true → (pass ≡ starter) × (v.issued ≡ issued)
+    pub sitting : (i : ℕ) → v.node ≡ Some i → (i < length opening.nodes) × (parts i ≡ v.events)
+    pub took : (bytes : List ℕ) → Contains v.took bytes → Contains end.sent bytes
+    pub reports : (i : ℕ) (events : List Mark) → Contains v.reports (i, events)
+        → Reported views i events
+
+  -- a seat is one of a node, a frame was sent, a report is what its pass reported
+  abbrev pub FitsItem : World C → List View → Item → Type 0
+  FitsItem end views (Seat i) = i < length opening.nodes
+  FitsItem end views (Frame b) = Contains end.sent b
+  FitsItem end views (Report i es) = Reported views i es.marks
+
+  -- the lists of all views, with an empty list for a node that has none, are the parts of a run; the seats of each node,
+  -- in the ether and in views, are no more than were issued, which is one at most; and each view and item fits
+  pub record IsKept (items : List Item) (views : List View) (starter : ℕ) (issued : List ℕ)
+      (parts : ℕ → List Mark) (end : World C) : Type 0 where
+    pub run : AreParts rules c opening parts end
+    pub seats : (i : ℕ) → total (seat_in i) items + total (sits i) views ≤ times i issued
+    pub once : (i : ℕ) → times i issued ≤ 1
+    pub fresh : (i : ℕ) → total (sits i) views ≡ 0 → parts i ≡ []
+    pub fits : (p : ℕ) (v : View) → get_elem? views p ≡ some v
+        → Fits starter issued parts end views p v
+    pub holds : (x : Item) → Contains items x → FitsItem end views x
+
+  -- the rule
+  abbrev pub Kept : List Item → List View → Type 0
+  Kept items views = (starter : ℕ) × (issued : List ℕ) × (parts : ℕ → List Mark) × (end : World C)
+      × IsKept items views starter issued parts end
+
+  -- a step with this list may be made: the pass took a seat and has not reported, and the list goes on from what it
+  -- gave before, by deliveries of strings that it took
+  pub record MayGive (v : View) (es : List Mark) : Type 0 where
+    pub node : ℕ
+    pub sits : v.node ≡ Some node
+    pub unreported : v.reported ≡ false
+    pub goes_on : GoesOn rules c opening node v.events v.took es
+
+  -- the events of the pass's node send the string
+  pub record SendsFrom (v : View) (es : List Mark) (bytes : List ℕ) : Type 0 where
+    pub node : ℕ
+    pub sits : v.node ≡ Some node
+    pub sends : Sends rules c opening node es bytes
+
+  -- the reports that the starter took are of parts of one run
+  pub record Told (v : View) : Type 0 where
+    pub parts : ℕ → List Mark
+    pub end : World C
+    pub run : AreParts rules c opening parts end
+    pub told : (i : ℕ) (events : List Mark) → Contains v.reports (i, events) → parts i ≡ events

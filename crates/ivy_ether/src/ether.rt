@@ -1,0 +1,253 @@
+//! The ether: a queue of seats, frames and reports, under the rule.
+ghost use Rattle.std.specs.Prelude.{◌≡◌, ◌⊎◌, ◌<◌, ℕ, List, Some, None, ◌∷◌, [], false, true, Contains, MatchOption, MatchResult, MatchBool, IfOk, IsOkUnless, length, vec_len};
+ghost use Rattle.crossbeam_queue.specs.Passes.{view, IsPassOf};
+ghost use Rattle.ivy_ether.specs.Programs.{MayGive, SendsFrom, Told};
+ghost use Rattle.ivy_ether.specs.Rule.{times};
+ghost use Rattle.ivy_ether.specs.Views.{with_events, with_taken, with_report, with_issued, with_seat, with_told};
+ghost use Rattle.ivy_ether.specs.Items.{strings_in};
+ghost use Rattle.ivy_ether.specs.Words.{MatchPut, AreFresh};
+
+use crate::item::{Item, View, Wired};
+use crate::law::{Law, Setup};
+use crate::pass::{Pass, unseated};
+use crate::steps::{Beside, Given, Issues, Parts, Puts, Reports, Sits, Takes, Tells};
+use crossbeam_queue::RuledArrayQueue;
+use ivy_events::Events;
+use ivy_model::{Config, Fault};
+use ivy_program::Program;
+use ivy_wire::Bytes;
+use std::alloc::Allocator;
+use std::marker::{Brand, Model};
+use std::sync::Wait;
+
+/// The ether of a session: what its nodes send lies in one bounded queue, from which anybody takes the first item.
+///
+/// Each step is one push or one pop, and changes what the pass that makes it knows and nothing else. A list that is lent
+/// to a step is read by its contract alone, so the step costs the same however long it is. Contracts see an ether as its
+/// name.
+#[derive(Drop)]
+pub struct Ether<S: Setup, A: Allocator> {
+    queue: RuledArrayQueue<Wired<A>, View, Law<S>, A>,
+}
+
+impl<S: Setup, A: Allocator> Model for Ether<S, A> {
+    ghost use Rattle.atomic_table.specs.Seated.{TableId};
+
+    ghost Value = { TableId };
+
+    ghost view = { λ e. e.queue.table.shared.table_id };
+}
+
+/// What became of a frame that was put.
+#[derive(Drop)]
+pub enum Put<B> {
+    /// It stands in the ether.
+    Sent,
+    /// The ether was full at some moment; the frame comes back.
+    Lost(B),
+}
+
+impl<S: Setup, A: Allocator + Copy> Ether<S, A> {
+    /// An empty ether of so many items, and so many passes of it, of which the last is the starter's [1].
+    pub fn new(
+        alloc: A,
+        config: &Config,
+        programs: &[Program<A>],
+        capacity: usize,
+        passes: usize,
+    ) -> Result<(Self, Vec<Pass<Wired<A>>, A>), Fault>
+        requires config { config.now ≡ S.config }
+        requires programs { programs.now ≡ S.programs }
+        requires capacity { 0 < capacity }
+        requires passes { 0 < passes }
+        ensures fresh { IfOk result (λ r. AreFresh r.0 r.1.items) }
+        ensures each { IfOk result (λ r. vec_len r.1 ≡ passes) }
+        ensures memory { IsOkUnless result Fault.Memory }
+    {
+        let _ = config;
+        let _ = programs;
+        let (queue, mut first) = RuledArrayQueue::<Wired<A>, View, Law<S>, A>::ruled(
+            alloc, capacity,
+        )?;
+        let mut all = Vec::new(alloc);
+        for _ in 1..passes {
+            let token = queue.another::<Beside>(&mut first);
+            let pass = unseated(token);
+            all.reserve(1)?;
+            all.push_reserved(pass);
+        }
+        let starter = unseated(first);
+        all.reserve(1)?;
+        all.push_reserved(starter);
+        Ok((Ether { queue }, all))
+    }
+
+    fn take_given<E: Given, R: Wait>(
+        &self,
+        rt: &R,
+        pass: &mut Pass<Wired<A>>,
+        events: &Events<A>,
+    ) -> Option<Wired<A>>
+        requires pass { pass.old.ether ≡ self.now }
+        requires given { E.events ≡ events.now.marks }
+        requires events { MayGive S.config S.programs pass.old.known E.events }
+        ensures pass { pass.new.ether ≡ pass.old.ether }
+        ensures known { MatchOption result (pass.new.known ≡ pass.old.known) (λ x. pass.new.known ≡ with_taken pass.old.known E.events (strings_in x)) }
+    {
+        let _ = events;
+        self.queue.pop_as::<Takes<E>, R>(rt, &mut pass.token)
+    }
+
+    /// Takes the first item. None only where the ether was empty at some moment.
+    ///
+    /// `events` is the whole event list of the pass's site. A string that is taken is known to have been sent.
+    pub fn take<R: Wait>(
+        &self,
+        rt: &R,
+        pass: &mut Pass<Wired<A>>,
+        events: &Events<A>,
+    ) -> Option<Wired<A>>
+        requires pass { pass.old.ether ≡ self.now }
+        requires events { MayGive S.config S.programs pass.old.known events.now.marks }
+        ensures pass { pass.new.ether ≡ pass.old.ether }
+        ensures known { MatchOption result (pass.new.known ≡ pass.old.known) (λ x. pass.new.known ≡ with_taken pass.old.known events.now.marks (strings_in x)) }
+    {
+        self.take_given::<Brand, R>(rt, pass, events)
+    }
+
+    fn put_given<E: Given, R: Wait>(
+        &self,
+        rt: &R,
+        pass: &mut Pass<Wired<A>>,
+        events: &Events<A>,
+        frame: Bytes<A>,
+    ) -> Put<Bytes<A>>
+        requires pass { pass.old.ether ≡ self.now }
+        requires given { E.events ≡ events.now.marks }
+        requires events { MayGive S.config S.programs pass.old.known E.events }
+        requires frame { SendsFrom S.config S.programs pass.old.known E.events frame ⊎ Contains pass.old.known.took frame }
+        ensures pass { pass.new.ether ≡ pass.old.ether }
+        ensures known { MatchPut result (pass.new.known ≡ with_events pass.old.known E.events) (λ back. (back ≡ frame) × (pass.new.known ≡ pass.old.known)) }
+    {
+        let _ = events;
+        match self
+            .queue
+            .push_as::<Puts<E>, R>(rt, &mut pass.token, Item::Frame(frame))
+        {
+            Ok(()) => Put::Sent,
+            Err(Item::Frame(back)) => Put::Lost(back),
+            Err(_) => unreachable!(),
+        }
+    }
+
+    /// Puts a frame that the events of the pass's site send. Lost only where the ether was full at some moment.
+    pub fn put<R: Wait>(
+        &self,
+        rt: &R,
+        pass: &mut Pass<Wired<A>>,
+        events: &Events<A>,
+        frame: Bytes<A>,
+    ) -> Put<Bytes<A>>
+        requires pass { pass.old.ether ≡ self.now }
+        requires events { MayGive S.config S.programs pass.old.known events.now.marks }
+        requires frame { SendsFrom S.config S.programs pass.old.known events.now.marks frame }
+        ensures pass { pass.new.ether ≡ pass.old.ether }
+        ensures known { MatchPut result (pass.new.known ≡ with_events pass.old.known events.now.marks) (λ back. (back ≡ frame) × (pass.new.known ≡ pass.old.known)) }
+    {
+        self.put_given::<Brand, R>(rt, pass, events, frame)
+    }
+
+    /// Puts back a frame that this pass took. Lost only where the ether was full at some moment.
+    pub fn put_back<R: Wait>(
+        &self,
+        rt: &R,
+        pass: &mut Pass<Wired<A>>,
+        events: &Events<A>,
+        frame: Bytes<A>,
+    ) -> Put<Bytes<A>>
+        requires pass { pass.old.ether ≡ self.now }
+        requires events { MayGive S.config S.programs pass.old.known events.now.marks }
+        requires frame { Contains pass.old.known.took frame }
+        ensures pass { pass.new.ether ≡ pass.old.ether }
+        ensures known { MatchPut result (pass.new.known ≡ with_events pass.old.known events.now.marks) (λ back. (back ≡ frame) × (pass.new.known ≡ pass.old.known)) }
+    {
+        self.put_given::<Brand, R>(rt, pass, events, frame)
+    }
+
+    /// Issues the seat of a node, with the starter's pass. False only where the ether was full at some moment.
+    pub fn issue_seat<R: Wait>(&self, rt: &R, pass: &mut Pass<Wired<A>>, node: u8) -> bool
+        requires pass { pass.old.ether ≡ self.now }
+        requires starter { pass.old.known.starts ≡ true }
+        requires node { node < length S.programs }
+        requires new { times node pass.old.known.issued ≡ 0 }
+        ensures pass { pass.new.ether ≡ pass.old.ether }
+        ensures known { MatchBool result (pass.new.known ≡ with_issued pass.old.known node) (pass.new.known ≡ pass.old.known) }
+    {
+        self.queue
+            .push_as::<Issues, R>(rt, &mut pass.token, Item::Seat(node))
+            .is_ok()
+    }
+
+    /// Takes a seat, with a pass that has none. None only where the ether was empty, or gave another item.
+    pub fn take_seat<R: Wait>(&self, rt: &R, pass: &mut Pass<Wired<A>>) -> Option<u8>
+        requires pass { pass.old.ether ≡ self.now }
+        requires none { pass.old.known.node ≡ None }
+        ensures pass { pass.new.ether ≡ pass.old.ether }
+        ensures known { MatchOption result (pass.new.known ≡ pass.old.known) (λ i. pass.new.known ≡ with_seat pass.old.known i) }
+    {
+        match self.queue.pop_as::<Sits, R>(rt, &mut pass.token) {
+            Some(Item::Seat(node)) => {
+                pass.node = Some(node);
+                Some(node)
+            }
+            _ => None,
+        }
+    }
+
+    /// Puts the report of the pass's node: its whole event list, which comes back only where the ether was full at some
+    /// moment. After it the pass makes no step.
+    pub fn put_report<R: Wait>(
+        &self,
+        rt: &R,
+        pass: &mut Pass<Wired<A>>,
+        events: Events<A>,
+    ) -> Result<(), Events<A>>
+        requires pass { pass.old.ether ≡ self.now }
+        requires events { MayGive S.config S.programs pass.old.known events.marks }
+        ensures pass { pass.new.ether ≡ pass.old.ether }
+        ensures known { MatchResult result (λ _. pass.new.known ≡ with_report pass.old.known events.marks) (λ back. (back ≡ events) × (pass.new.known ≡ pass.old.known)) }
+    {
+        let Some(node) = pass.node else {
+            unreachable!()
+        };
+        match self
+            .queue
+            .push_as::<Reports, R>(rt, &mut pass.token, Item::Report(node, events))
+        {
+            Ok(()) => Ok(()),
+            Err(Item::Report(_, back)) => Err(back),
+            Err(_) => unreachable!(),
+        }
+    }
+
+    /// Takes a report, with the starter's pass. None only where the ether was empty, or gave another item.
+    pub fn take_report<R: Wait>(&self, rt: &R, pass: &mut Pass<Wired<A>>) -> Option<(u8, Events<A>)>
+        requires pass { pass.old.ether ≡ self.now }
+        ensures pass { pass.new.ether ≡ pass.old.ether }
+        ensures known { MatchOption result (pass.new.known ≡ pass.old.known) (λ r. pass.new.known ≡ with_told pass.old.known r.0 r.1.marks) }
+    {
+        match self.queue.pop_as::<Tells, R>(rt, &mut pass.token) {
+            Some(Item::Report(node, events)) => Some((node, events)),
+            _ => None,
+        }
+    }
+
+    /// What the reports that the pass took tell: they are of the parts of one run. It makes no step.
+    pub fn learn(&self, pass: &mut Pass<Wired<A>>)
+        requires pass { pass.old.ether ≡ self.now }
+        ensures same { pass.new ≡ pass.old }
+        ensures told { Told S.config S.programs pass.new.known }
+    {
+        self.queue.learn_as::<Parts<S>>(&mut pass.token);
+    }
+}

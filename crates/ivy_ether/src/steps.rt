@@ -1,0 +1,139 @@
+//! What each step tells the pass that makes it.
+use crate::item::{View, Wired};
+use crate::law::Setup;
+use crossbeam_queue::protocol::{Lesson, Outcome, Split};
+use std::alloc::Allocator;
+use std::marker::{Brand, PhantomData};
+
+/// The event list that a step is given. Each step picks it.
+pub trait Given {
+    ghost use Rattle.std.specs.Prelude.{List};
+    ghost use Rattle.ivy_events.specs.Marks.{Mark};
+
+    ghost events: { List Mark };
+}
+
+impl Given for Brand {
+    ghost use Rattle.std.specs.Prelude.{[]};
+
+    ghost events = { [] };
+}
+
+/// A frame is put.
+pub struct Puts<E: Given>(PhantomData<E>);
+
+impl<E: Given, A: Allocator> Outcome<Wired<A>, View> for Puts<E> {
+    ghost use Rattle.std.specs.Prelude.{◌≡◌};
+    ghost use Rattle.ivy_ether.specs.Views.{with_events};
+
+    ghost then = { λ v x w. w ≡ with_events v E.events };
+}
+
+impl<E: Given, A: Allocator> Lesson<Wired<A>, View> for Puts<E> {
+    ghost use Rattle.ivy_ether.specs.Words.{AnyItems};
+
+    ghost fact = { λ v items. AnyItems items };
+}
+
+/// An item is taken.
+pub struct Takes<E: Given>(PhantomData<E>);
+
+impl<E: Given, A: Allocator> Outcome<Wired<A>, View> for Takes<E> {
+    ghost use Rattle.std.specs.Prelude.{◌≡◌};
+    ghost use Rattle.ivy_ether.specs.Views.{with_taken};
+    ghost use Rattle.ivy_ether.specs.Items.{strings_in};
+
+    ghost then = { λ v x w. w ≡ with_taken v E.events (strings_in x) };
+}
+
+impl<E: Given, A: Allocator> Lesson<Wired<A>, View> for Takes<E> {
+    ghost use Rattle.ivy_ether.specs.Words.{AnyItems};
+
+    ghost fact = { λ v items. AnyItems items };
+}
+
+/// A report is put.
+pub struct Reports;
+
+impl<A: Allocator> Outcome<Wired<A>, View> for Reports {
+    ghost use Rattle.std.specs.Prelude.{◌≡◌};
+    ghost use Rattle.ivy_ether.specs.Views.{with_report};
+    ghost use Rattle.ivy_ether.specs.Items.{events_in};
+
+    ghost then = { λ v x w. w ≡ with_report v (events_in x) };
+}
+
+impl<A: Allocator> Lesson<Wired<A>, View> for Reports {
+    ghost use Rattle.ivy_ether.specs.Words.{AnyItems};
+
+    ghost fact = { λ v items. AnyItems items };
+}
+
+/// A seat is issued.
+pub struct Issues;
+
+impl<A: Allocator> Outcome<Wired<A>, View> for Issues {
+    ghost use Rattle.std.specs.Prelude.{◌≡◌};
+    ghost use Rattle.ivy_ether.specs.Views.{with_issued};
+    ghost use Rattle.ivy_ether.specs.Items.{seat_of};
+
+    ghost then = { λ v x w. w ≡ with_issued v (seat_of x) };
+}
+
+impl<A: Allocator> Lesson<Wired<A>, View> for Issues {
+    ghost use Rattle.ivy_ether.specs.Words.{AnyItems};
+
+    ghost fact = { λ v items. AnyItems items };
+}
+
+/// A seat is taken.
+pub struct Sits;
+
+impl<A: Allocator> Outcome<Wired<A>, View> for Sits {
+    ghost use Rattle.std.specs.Prelude.{◌≡◌};
+    ghost use Rattle.ivy_ether.specs.Items.{after_seat};
+
+    ghost then = { λ v x w. w ≡ after_seat v x };
+}
+
+impl<A: Allocator> Lesson<Wired<A>, View> for Sits {
+    ghost use Rattle.ivy_ether.specs.Words.{AnyItems};
+
+    ghost fact = { λ v items. AnyItems items };
+}
+
+/// A report is taken.
+pub struct Tells;
+
+impl<A: Allocator> Outcome<Wired<A>, View> for Tells {
+    ghost use Rattle.std.specs.Prelude.{◌≡◌};
+    ghost use Rattle.ivy_ether.specs.Items.{after_told};
+
+    ghost then = { λ v x w. w ≡ after_told v x };
+}
+
+impl<A: Allocator> Lesson<Wired<A>, View> for Tells {
+    ghost use Rattle.ivy_ether.specs.Words.{AnyItems};
+
+    ghost fact = { λ v items. AnyItems items };
+}
+
+/// What the reports that the starter took tell.
+pub struct Parts<S: Setup>(PhantomData<S>);
+
+impl<S: Setup, A: Allocator> Lesson<Wired<A>, View> for Parts<S> {
+    ghost use Rattle.ivy_ether.specs.Programs.{Told};
+
+    ghost fact = { λ v items. Told S.config S.programs v };
+}
+
+/// A newcomer beside a pass.
+pub struct Beside;
+
+impl Split<View> for Beside {
+    ghost use Rattle.ivy_ether.specs.Views.{newcomer};
+
+    ghost left = { λ v. v };
+
+    ghost right = { λ v. newcomer };
+}
