@@ -1,5 +1,7 @@
 -- A site stays what its events make, whatever its calls do.
-use Rattle.std.proofs.Common.{◌≡◌, ◌≢◌, ℕ, List, [], ◌∷◌, ◌++◌, Option, Some, None, refl, sym, ap, subst, ◌∙◌, append-nil, append_assoc}
+use Rattle.std.proofs.Common.{◌≡◌, ◌≢◌, ℕ, List, [], ◌∷◌, ◌++◌, Option, Some, None, Contains, refl, sym, ap, subst, ◌∙◌, append-nil, append_assoc}
+use Rattle.std.specs.Prelude.{IfSome}
+use Rattle.std.proofs.lemmas.List.Elements.{Contains-append_left, Contains-append_right, Contains-push}
 use Rattle.std.proofs.lemmas.Option.{none-some}
 use Rattle.ivy_model.specs.declared.Config.{Config}
 use Rattle.ivy_model.specs.Config.{IsConfig}
@@ -24,7 +26,7 @@ use Rattle.ivy_node.proofs.Programs.{turned-program, posting-core, delivered-pro
 use Rattle.ivy_node.specs.Outboxes.{Outbox, Takes}
 use Rattle.ivy_node.specs.Shown.{Shown, after_event, after_delivery, after_pulse_to}
 use Rattle.ivy_node.specs.WorldSites.{early_at}
-use Rattle.ivy_node.specs.Sites.{IsSite, IsMadeByEvents, AfterTurn, AfterDelivery, first_shown}
+use Rattle.ivy_node.specs.Sites.{IsSite, IsMadeByEvents, AfterTurn, AfterDelivery, first_shown, IsSentBy}
 
 abbrev rules : Core (Host Managed)
 rules = host_rules managed_ops
@@ -193,3 +195,17 @@ early_after bytes v old new limits h d verdict.Ahead is =
 pub delivery_early : (bytes : List ℕ) (v : Verdict) (old new : Shown) → IsConfig old.config → IsMadeByEvents old → (d : AfterDelivery bytes v old new)
     → (verdict_of old.config old.node bytes ≡ v) × (early_at new ≡ early_at old ++ early_as v bytes)
 delivery_early bytes v old new limits h d = (read_verdict bytes v old new limits d, early_after bytes v old new limits h d v refl)
+
+-- which its events sent
+pub take_sent : (n v : Shown) → v ≡ n → (bytes : Option (List ℕ)) (box : Outbox) → IsSite v
+    → Takes bytes (box_of v) box → IfSome bytes (IsSentBy n)
+take_sent n v same None box s takes = tt
+take_sent n v same (Some bytes) box s takes =
+    let whole : s.made.effect.sent ≡ s.made.taken ++ bytes ∷ box.waiting =
+    s.made.waits ∙ ap (λ l. s.made.taken ++ l) takes.0 in
+    subst (λ (x : Shown). IsSentBy x bytes) same (record {
+      made = s.made;
+      sent = subst (λ l. Contains l bytes) (sym whole)
+          (Contains-append_right s.made.taken (bytes ∷ box.waiting) bytes
+          (Contains-append_left (bytes ∷ []) box.waiting bytes (Contains-push [] bytes)));
+    })

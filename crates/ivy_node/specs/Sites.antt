@@ -1,5 +1,5 @@
 -- What the calls of a site do.
-use Rattle.std.specs.Prelude.{◌≡◌, ℕ, List, [], ◌∷◌, ◌++◌, Bool, true, false, Option, Some, None}
+use Rattle.std.specs.Prelude.{◌≡◌, ℕ, List, [], ◌∷◌, ◌++◌, Bool, true, false, Option, Some, None, Contains}
 use Rattle.ivy_model.specs.declared.Config.{Config}
 use Rattle.ivy_model.specs.declared.Call.{Call}
 use Rattle.ivy_model.specs.declared.Fault.{Fault}
@@ -79,6 +79,11 @@ pub record IsMadeByEvents (s : Shown) : Type 0 where
   pub node : s.node ≡ effect.after
   pub taken : List (List ℕ)
   pub waits : effect.sent ≡ taken ++ s.waiting
+
+-- the site's events send the string
+pub record IsSentBy (s : Shown) (bytes : List ℕ) : Type 0 where
+  pub made : IsMadeByEvents s
+  pub sent : Contains made.effect.sent bytes
 
 -- what holds of a site, beside what its parts keep
 pub record IsSite (s : Shown) : Type 0 where

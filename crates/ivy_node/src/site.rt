@@ -1,5 +1,5 @@
 //! One node: its program, its memory, its link, and the strings that wait to be put on the wire.
-ghost use Rattle.std.specs.Prelude.{◌≡◌, ◌↔◌, ◌≢◌, ◌+◌, ◌<◌, ◌≤◌, ◌++◌, ◌∷◌, [], None, Some, Err, length, vec_len, vec_capacity, IsTrue, IfOk, IfErr, OnOk, OnErr, IsOkUnless, MatchResult, MatchOption};
+ghost use Rattle.std.specs.Prelude.{◌≡◌, ◌↔◌, ◌≢◌, ◌+◌, ◌<◌, ◌≤◌, ◌++◌, ◌∷◌, [], None, Some, Err, length, vec_len, vec_capacity, IsTrue, IfOk, IfErr, OnOk, OnErr, IfSome, IsOkUnless, MatchResult, MatchOption};
 ghost use Rattle.ivy_model.specs.Config.{IsConfig};
 ghost use Rattle.ivy_model.specs.Wants.{IsWant};
 ghost use Rattle.ivy_wire.specs.Faults.{checked};
@@ -8,7 +8,7 @@ ghost use Rattle.ivy_host.specs.Managers.{managed_ops};
 ghost use Rattle.ivy_events.specs.Nodes.{pulsing};
 ghost use Rattle.ivy_node.specs.Outboxes.{most_sent};
 ghost use Rattle.ivy_node.specs.Shown.{after_pulse_to};
-ghost use Rattle.ivy_node.specs.Sites.{first_shown, host_of, AfterHostTurn, HasNoNumbers, AfterTurn, AfterDelivery, IsSpentTurn, IsSpentDelivery, TakesFrame, IsSameNode, IsMadeByEvents};
+ghost use Rattle.ivy_node.specs.Sites.{first_shown, host_of, AfterHostTurn, HasNoNumbers, AfterTurn, AfterDelivery, IsSpentTurn, IsSpentDelivery, TakesFrame, IsSameNode, IsMadeByEvents, IsSentBy};
 ghost use Rattle.ivy_events.specs.Marks.{marks};
 ghost use Rattle.ivy_model.specs.Legal.{HasWidth};
 
@@ -171,9 +171,10 @@ impl<A: Allocator + Copy> Site<A> {
         self.machine.ended()
     }
 
-    /// The first string that waits to be put on the wire, taken out. It takes no memory.
+    /// The first string that waits to be put on the wire, taken out. The site's events sent it. It takes no memory.
     pub fn take_frame(&mut self) -> Option<Bytes<A>>
         ensures taken { TakesFrame result self.old self.new }
+        ensures sent { IfSome result (IsSentBy self.old) }
         ensures same { IsSameNode self.old self.new }
     {
         self.outbox.take()
@@ -280,5 +281,20 @@ impl<A: Allocator + Copy> Site<A> {
         ensures made { IsMadeByEvents self.now }
     {
         self.events.entries()
+    }
+
+    /// The list of those events, lent whole. It takes no memory.
+    pub fn event_list(&self) -> &Events<A>
+        ensures is { result.now.marks ≡ self.now.events }
+        ensures made { IsMadeByEvents self.now }
+    {
+        &self.events
+    }
+
+    /// The number of this node. It takes no memory.
+    pub fn me(&self) -> u8
+        ensures { result ≡ self.now.me }
+    {
+        self.outbox.me()
     }
 }

@@ -1,0 +1,285 @@
+-- A seated site stays seated, and may give its list.
+use Rattle.std.proofs.Common.{◌≡◌, ◌≢◌, ◌⊎◌, ℕ, zero, suc, ◌+◌, ◌<◌, List, [], ◌∷◌, ◌++◌, length, slice_get, Contains, Option, Some, None, true, false, refl, sym, ap, subst, ◌∙◌, inl, inr, arith, append-nil, append_assoc}
+use Rattle.std.specs.Prelude.{IfSome}
+use Rattle.std.proofs.lemmas.List.Elements.{Contains-append_left, Contains-append_right, Contains-push}
+use Rattle.std.proofs.lemmas.Option.{none-some, same_Some}
+use Rattle.atomic_table.specs.Seated.{TableId}
+use Rattle.ivy_model.specs.declared.Config.{Config}
+use Rattle.ivy_model.specs.Config.{IsConfig}
+use Rattle.ivy_program.specs.declared.Instruction.{Instruction}
+use Rattle.ivy_link.specs.declared.Verdict.{Verdict}
+use Rattle.ivy_link.specs.declared.Verdict.TheVariants as verdict
+use Rattle.ivy_events.specs.Marks.{Mark, Turn, Delivery, Pulse}
+use Rattle.ivy_events.specs.Nodes.{Node, Effect, pulsing}
+use Rattle.ivy_events.specs.Parts.{AllHappen, AllCanBeMade, pulse_marks}
+use Rattle.ivy_events.proofs.Splitting.{can-append, can-more, none-in}
+use Rattle.ivy_host.specs.Hosts.{Host, host_rules}
+use Rattle.ivy_host.specs.Managers.{Managed, managed_ops}
+use Rattle.ivy_host.specs.Openings.{first_node, first_nodes}
+use Rattle.ivy_host.proofs.Tame.{first_length}
+use Rattle.ivy_ether.specs.Going.{IsListOf, GoesOn, Sends}
+use Rattle.ivy_ether.specs.Held.{Held, held}
+use Rattle.ivy_ether.specs.Programs.{beginning, MayGive, SendsFrom}
+use Rattle.ivy_ether.specs.Views.{View, newcomer, with_seat, with_events, with_taken}
+use Rattle.ivy_node.specs.declared.turn.Turn as turn
+use Rattle.ivy_node.specs.declared.turn.Turn.TheVariants.{Idle, Moved, Ended}
+use Rattle.ivy_node.specs.Shown.{Shown, after_event, after_delivery, after_pulse_to}
+use Rattle.ivy_node.specs.Sites.{first_shown, IsMadeByEvents, IsSentBy, AfterTurn, AfterDelivery}
+use Rattle.ivy_node.proofs.Programs.{turned-program, posting-core, delivered-program}
+use Rattle.ivy_session.specs.Places.{HasGiven, IsSeated, IsFreshSeat}
+
+abbrev program_in : Shown → List Instruction
+program_in s = s.node.core.process.program
+
+-- the first node of a program
+first_there : (c : Config) (me k : ℕ) (programs : List (List Instruction)) (i : ℕ)
+    (program : List Instruction) → me + i ≡ k → slice_get programs i ≡ Some program
+    → slice_get (first_nodes managed_ops c me programs) i ≡ Some (first_node managed_ops c k program)
+first_there c me k [] i program at is = absurd (none-some program is)
+first_there c me k (p ∷ ps) zero program at is =
+    (λ j. Some (first_node managed_ops c ((the_same : me ≡ k) j) (same_Some p program is j)))
+  where
+    the_same : me ≡ k
+    the_same = omega (arith, at)
+first_there c me k (p ∷ ps) (suc i) program at is =
+    first_there c (me + 1) k ps i program (omega (arith, at)) is
+
+module _ (c : Config) (programs : List (List Instruction)) where
+  -- the site's list is one of its node
+  pub its_list : (s : Shown) (made : IsMadeByEvents s) → s.config ≡ c
+      → slice_get programs s.me ≡ Some (program_in s)
+      → IsListOf (host_rules managed_ops) c (beginning c programs) s.me s.events made.effect
+  its_list s made config program = record {
+    node = first_node managed_ops c s.me (program_in s);
+    there = first_there c 0 s.me programs s.me (program_in s) (omega arith) program;
+    happen = subst
+        (λ k. AllHappen (host_rules managed_ops) k (first_node managed_ops k s.me (program_in s)) s.events made.effect)
+        config made.happen;
+  }
+
+  -- so it may be given
+  pub may_give : (wire : TableId) (s : Shown) (p : Held) (es : List Mark) → es ≡ s.events
+      → IsSeated wire c programs s p → IsMadeByEvents s → MayGive c programs p.known es
+  may_give wire s p es is h made = subst (MayGive c programs p.known) (sym is) (record {
+    node = s.me;
+    sits = h.node;
+    unreported = h.unreported;
+    goes_on = record {
+      more = h.given.more;
+      is = h.given.is;
+      effect = made.effect;
+      list = its_list s made h.config h.program;
+      can = subst (λ k. AllCanBeMade p.known.took k s.me h.given.more)
+          (sym (first_length managed_ops c 0 programs)) h.given.can;
+    };
+  })
+
+  -- and sends what its events sent
+  pub sends_from : (wire : TableId) (s s' : Shown) (p : Held) (es : List Mark) (bytes : List ℕ)
+      → es ≡ s'.events → s' ≡ record s { waiting = s'.waiting } → IsSeated wire c programs s p
+      → IsSentBy s bytes → SendsFrom c programs p.known es bytes
+  sends_from wire s s' p es bytes is same h sent =
+      subst (λ l. SendsFrom c programs p.known l bytes) (sym (is ∙ ap (λ (x : Shown). x.events) same)) (record {
+        node = s.me;
+        sits = h.node;
+        sends = record {
+          effect = sent.made.effect;
+          list = its_list s sent.made h.config h.program;
+          sent = sent.sent;
+        };
+      })
+
+  -- one more event, or none
+  record StaysAt (s s' : Shown) (took : List (List ℕ)) : Type 0 where
+    me : s'.me ≡ s.me
+    config : s'.config ≡ s.config
+    program : program_in s' ≡ program_in s
+    ms : List Mark
+    events : s'.events ≡ s.events ++ ms
+    can : AllCanBeMade took (length programs) s.me ms
+
+  stays_same : (s s' : Shown) (took : List (List ℕ)) → s' ≡ s → StaysAt s s' took
+  stays_same s s' took same = record {
+    me = ap (λ (x : Shown). x.me) same;
+    config = ap (λ (x : Shown). x.config) same;
+    program = ap program_in same;
+    ms = [];
+    events = ap (λ (x : Shown). x.events) same ∙ sym (append-nil s.events);
+    can = tt;
+  }
+
+  stays_seated : (wire : TableId) (s s' : Shown) (p : Held) → IsSeated wire c programs s p
+      → StaysAt s s' p.known.took → IsSeated wire c programs s' p
+  stays_seated wire s s' p h on = record {
+    limits = h.limits;
+    each = h.each;
+    ether = h.ether;
+    node = h.node ∙ ap Some (sym on.me);
+    unreported = h.unreported;
+    config = on.config ∙ h.config;
+    program = ap (slice_get programs) on.me ∙ h.program ∙ ap Some (sym on.program);
+    given = record {
+      more = h.given.more ++ on.ms;
+      is = on.events ∙ ap (λ l. l ++ on.ms) h.given.is
+          ∙ append_assoc p.known.events h.given.more on.ms;
+      can = subst (λ i. AllCanBeMade p.known.took (length programs) i (h.given.more ++ on.ms))
+          (sym on.me)
+          (can-append p.known.took (length programs) s.me h.given.more on.ms h.given.can on.can);
+    };
+  }
+
+  -- after a turn
+  turn_stays : (t : turn.Turn) (s s' : Shown) (took : List (List ℕ)) → AfterTurn t s s'
+      → StaysAt s s' took
+  turn_stays Idle s s' took after = stays_same s s' took after.1
+  turn_stays Ended s s' took after = stays_same s s' took after.2
+  turn_stays Moved s s' took after = record {
+    me = ap (λ (x : Shown). x.me) after.after;
+    config = ap (λ (x : Shown). x.config) after.after;
+    program = ap program_in after.after
+        ∙ ap (λ (k : Host Managed). k.process.program)
+        (posting-core s.node after.outcome.after after.outcome.posted after.effect after.sent)
+        ∙ turned-program s.node.core after.outcome after.turn;
+    ms = Turn ∷ [];
+    events = ap (λ (x : Shown). x.events) after.after;
+    can = (tt, tt);
+  }
+
+  pub turn_seated : (wire : TableId) (t : turn.Turn) (s s' : Shown) (p : Held)
+      → IsSeated wire c programs s p → AfterTurn t s s' → IsSeated wire c programs s' p
+  turn_seated wire t s s' p h after =
+      stays_seated wire s s' p h (turn_stays t s s' p.known.took after)
+
+  -- after a delivery of a string that the pass took
+  listed : (bytes : List ℕ) (v : Verdict) (s s' : Shown) (took : List (List ℕ)) → IsConfig s.config
+      → Contains took bytes → (d : AfterDelivery bytes v s s')
+      → s' ≡ after_event s (Delivery bytes) d.effect → StaysAt s s' took
+  listed bytes v s s' took limits there d after = record {
+    me = ap (λ (x : Shown). x.me) after;
+    config = ap (λ (x : Shown). x.config) after;
+    program = ap program_in after
+        ∙ delivered-program s.config limits s.node d.frame bytes d.effect d.spelled d.delivered;
+    ms = Delivery bytes ∷ [];
+    events = ap (λ (x : Shown). x.events) after;
+    can = (there, tt);
+  }
+
+  delivery_as : (bytes : List ℕ) (v w : Verdict) (s s' : Shown) (took : List (List ℕ)) → v ≡ w
+      → IsConfig s.config → Contains took bytes → (d : AfterDelivery bytes v s s')
+      → StaysAt s s' took
+  delivery_as bytes v verdict.NotMine s s' took is limits there d =
+      stays_same s s' took (d.after ∙ ap (λ x. after_delivery s bytes x d.effect) is)
+  delivery_as bytes v verdict.Next s s' took is limits there d =
+      listed bytes v s s' took limits there d (d.after ∙ ap (λ x. after_delivery s bytes x d.effect) is)
+  delivery_as bytes v verdict.Repeat s s' took is limits there d =
+      listed bytes v s s' took limits there d (d.after ∙ ap (λ x. after_delivery s bytes x d.effect) is)
+  delivery_as bytes v verdict.Ahead s s' took is limits there d =
+      listed bytes v s s' took limits there d (d.after ∙ ap (λ x. after_delivery s bytes x d.effect) is)
+
+  pub delivery_seated : (wire : TableId) (bytes : List ℕ) (v : Verdict) (s s' : Shown) (p : Held)
+      → IsSeated wire c programs s p → Contains p.known.took bytes → AfterDelivery bytes v s s'
+      → IsSeated wire c programs s' p
+  delivery_seated wire bytes v s s' p h there d =
+      stays_seated wire s s' p h
+      (delivery_as bytes v v s s' p.known.took refl (subst IsConfig (sym h.config) h.limits) there d)
+
+  -- after a pulse to another node
+  pulse_can : (to : ℕ) (me nodes : ℕ) (took strings : List (List ℕ)) → to < nodes → me ≢ to
+      → AllCanBeMade took nodes me (pulse_marks to strings)
+  pulse_can to me nodes took [] below apart = tt
+  pulse_can to me nodes took (x ∷ xs) below apart = ((below, apart), tt)
+
+  pub pulse_seated : (wire : TableId) (to : ℕ) (s s' : Shown) (p : Held)
+      → IsSeated wire c programs s p → to < s.config.nodes → to ≢ s.me
+      → s' ≡ after_pulse_to s to (pulsing s.node to) → IsSeated wire c programs s' p
+  unfolding pulsing
+  pulse_seated wire to s s' p h below apart after =
+      let inside : to < length programs =
+          subst (λ k. to < k) (ap (λ (k : Config). k.nodes) h.config ∙ sym h.each) below in
+      stays_seated wire s s' p h (record {
+        me = ap (λ (x : Shown). x.me) after;
+        config = ap (λ (x : Shown). x.config) after;
+        program = ap program_in after;
+        ms = pulse_marks to (pulsing s.node to).sent;
+        events = ap (λ (x : Shown). x.events) after;
+        can = pulse_can to s.me (length programs) p.known.took (pulsing s.node to).sent inside
+            (λ same. apart (sym same));
+      })
+
+  -- after a step that gave the list
+  record Gives (old new : Held) (es : List Mark) : Type 0 where
+    ether : new.ether ≡ old.ether
+    node : new.known.node ≡ old.known.node
+    reported : new.known.reported ≡ old.known.reported
+    events : new.known.events ≡ es
+
+  gave_seated : (wire : TableId) (s : Shown) (p p' : Held) → IsSeated wire c programs s p
+      → Gives p p' s.events → IsSeated wire c programs s p'
+  gave_seated wire s p p' h g = record {
+    limits = h.limits;
+    each = h.each;
+    ether = g.ether ∙ h.ether;
+    node = g.node ∙ h.node;
+    unreported = g.reported ∙ h.unreported;
+    config = h.config;
+    program = h.program;
+    given = record { more = []; is = sym (append-nil p'.known.events ∙ g.events); can = tt };
+  }
+
+  pub events_seated : (wire : TableId) (s : Shown) (p p' : Held) (es : List Mark) → es ≡ s.events
+      → p'.ether ≡ p.ether → p'.known ≡ with_events p.known es → IsSeated wire c programs s p
+      → IsSeated wire c programs s p'
+  events_seated wire s p p' es is ether known h = gave_seated wire s p p' h (record {
+    ether = ether;
+    node = ap (λ (v : View). v.node) known;
+    reported = ap (λ (v : View). v.reported) known;
+    events = ap (λ (v : View). v.events) known ∙ is;
+  })
+
+  pub taken_seated : (wire : TableId) (s : Shown) (p p' : Held) (es : List Mark)
+      (strings : List (List ℕ)) → es ≡ s.events → p'.ether ≡ p.ether
+      → p'.known ≡ with_taken p.known es strings → IsSeated wire c programs s p
+      → IsSeated wire c programs s p'
+  taken_seated wire s p p' es strings is ether known h = gave_seated wire s p p' h (record {
+    ether = ether;
+    node = ap (λ (v : View). v.node) known;
+    reported = ap (λ (v : View). v.reported) known;
+    events = ap (λ (v : View). v.events) known ∙ is;
+  })
+
+  pub same_seated : (wire : TableId) (s : Shown) (p p' : Held) → p'.ether ≡ p.ether
+      → p'.known ≡ p.known → IsSeated wire c programs s p → IsSeated wire c programs s p'
+  same_seated wire s p p' ether known h =
+      subst (IsSeated wire c programs s) (λ k. held (sym ether k) (sym known k)) h
+
+  -- a string less waits
+  pub less_seated : (wire : TableId) (s s' : Shown) (p : Held)
+      → s' ≡ record s { waiting = s'.waiting } → IsSeated wire c programs s p
+      → IsSeated wire c programs s' p
+  less_seated wire s s' p same h = stays_seated wire s s' p h (record {
+    me = ap (λ (x : Shown). x.me) same;
+    config = ap (λ (x : Shown). x.config) same;
+    program = ap program_in same;
+    ms = [];
+    events = ap (λ (x : Shown). x.events) same ∙ sym (append-nil s.events);
+    can = tt;
+  })
+
+  -- at first
+  pub fresh_seated : (wire : TableId) (s : Shown) (p : Held) → IsFreshSeat wire c programs s p
+      → IsSeated wire c programs s p
+  fresh_seated wire s p f = record {
+    limits = f.limits;
+    each = f.each;
+    ether = f.ether;
+    node = ap (λ (v : View). v.node) f.pass;
+    unreported = ap (λ (v : View). v.reported) f.pass;
+    config = ap (λ (x : Shown). x.config) f.site;
+    program = f.there ∙ ap Some (sym (ap program_in f.site));
+    given = record {
+      more = [];
+      is = ap (λ (x : Shown). x.events) f.site ∙ sym (ap (λ (v : View). v.events) f.pass)
+          ∙ sym (append-nil p.known.events);
+      can = tt;
+    };
+  }

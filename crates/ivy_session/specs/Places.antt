@@ -1,0 +1,48 @@
+-- What contracts see of a seated site: the site and its pass; and what holds of the two.
+use Rattle.std.specs.Prelude.{◌≡◌, ℕ, false, List, ◌++◌, length, slice_get, Some}
+use Rattle.atomic_table.specs.Seated.{TableId}
+use Rattle.ivy_model.specs.declared.Config.{Config}
+use Rattle.ivy_model.specs.Config.{IsConfig}
+use Rattle.ivy_program.specs.declared.Instruction.{Instruction}
+use Rattle.ivy_events.specs.Marks.{Mark}
+use Rattle.ivy_events.specs.Parts.{AllCanBeMade}
+use Rattle.ivy_node.specs.Shown.{Shown}
+use Rattle.ivy_node.specs.Sites.{first_shown}
+use Rattle.ivy_ether.specs.Held.{Held}
+use Rattle.ivy_ether.specs.Views.{newcomer, with_seat}
+
+pub record Place : Type 0 where
+  pub site : Shown
+  pub pass : Held
+
+-- the site's list goes on from what the pass gave, by deliveries of strings that the pass took
+pub record HasGiven (nodes : ℕ) (s : Shown) (p : Held) : Type 0 where
+  pub more : List Mark
+  pub is : s.events ≡ p.known.events ++ more
+  pub can : AllCanBeMade p.known.took nodes s.me more
+
+-- the pass is of this ether, sits at the site's node and has not reported; the site runs the node's program
+pub record IsSeated (wire : TableId) (c : Config) (programs : List (List Instruction))
+    (s : Shown) (p : Held) : Type 0 where
+  pub limits : IsConfig c
+  pub each : length programs ≡ c.nodes
+  pub ether : p.ether ≡ wire
+  pub node : p.known.node ≡ Some s.me
+  pub unreported : p.known.reported ≡ false
+  pub config : s.config ≡ c
+  pub program : slice_get programs s.me ≡ Some s.node.core.process.program
+  pub given : HasGiven (length programs) s p
+
+abbrev pub place : Shown → Held → Place
+place s p = record { site = s; pass = p }
+
+-- a site of the node's program as it begins, and a pass of this ether that took the node's seat
+pub record IsFreshSeat (wire : TableId) (c : Config) (programs : List (List Instruction))
+    (s : Shown) (p : Held) : Type 0 where
+  pub limits : IsConfig c
+  pub each : length programs ≡ c.nodes
+  pub ether : p.ether ≡ wire
+  pub pass : p.known ≡ with_seat newcomer s.me
+  pub program : List Instruction
+  pub there : slice_get programs s.me ≡ Some program
+  pub site : s ≡ first_shown c s.me program

@@ -1,0 +1,70 @@
+-- What a finished session says of its report.
+use Rattle.std.specs.Prelude.{◌≡◌, ℕ, List, [], length, map, slice_get, slice_index_or, Some}
+use Rattle.ivy_model.specs.declared.Config.{Config}
+use Rattle.ivy_model.specs.declared.Record.{Record}
+use Rattle.ivy_model.specs.Explains.{part}
+use Rattle.ivy_model.specs.Legal.{Legal}
+use Rattle.ivy_program.specs.declared.Instruction.{Instruction}
+use Rattle.ivy_program.specs.Runs.{IsWholeRun}
+use Rattle.ivy_program.specs.Steps.{HasEnded}
+use Rattle.ivy_events.specs.Marks.{Mark}
+use Rattle.ivy_events.specs.Nodes.{Effect}
+use Rattle.ivy_events.specs.Parts.{AreParts}
+use Rattle.ivy_events.specs.Worlds.{World}
+use Rattle.ivy_host.specs.Holding.{IsExclusive, HasNoBreach}
+use Rattle.ivy_host.specs.Hosts.{Host, host_rules}
+use Rattle.ivy_host.specs.Managers.{Managed, managed_ops}
+use Rattle.ivy_node.specs.Shown.{Shown}
+use Rattle.ivy_ether.specs.Going.{IsListOf}
+use Rattle.ivy_ether.specs.Programs.{beginning}
+
+-- of a node: what it was answered, what its program printed, and its event list
+pub record NodeReport : Type 0 where
+  pub history : List Record
+  pub output : List ℕ
+  pub events : List Mark
+
+abbrev pub report_of : Shown → NodeReport
+report_of s = record {
+  history = s.node.core.history;
+  output = s.node.core.process.state.output;
+  events = s.events;
+}
+
+module _ (c : Config) (programs : List (List Instruction)) where
+  -- history and output are those that node i's events give, by the definitions, for this list
+  pub record IsOf (i : ℕ) (n : NodeReport) : Type 0 where
+    pub effect : Effect (Host Managed)
+    pub list : IsListOf (host_rules managed_ops) c (beginning c programs) i n.events effect
+    pub history : n.history ≡ effect.after.core.history
+    pub output : n.output ≡ effect.after.core.process.state.output
+
+  -- a site of node i whose program has ended
+  pub record IsDone (i : ℕ) (s : Shown) : Type 0 where
+    pub of : IsOf i (report_of s)
+    pub ended : HasEnded of.effect.after.core.process
+
+  -- the event list of node i in a report, empty where there is no such node
+  abbrev pub events_of : List NodeReport → ℕ → List Mark
+  events_of nodes i = slice_index_or (map (λ (n : NodeReport). n.events) nodes) i []
+
+  -- the order is legal, and each node's part of it is exactly its history
+  pub record ExplainsWhole (order : List Record) (nodes : List NodeReport) : Type 0 where
+    pub legal : Legal c order
+    pub parts : (i : ℕ) (n : NodeReport) → slice_get nodes i ≡ Some n → part i order ≡ n.history
+
+  -- each node's history and output are those of its event list; the lists are the parts of one run of these programs;
+  -- each history is the whole run of its program, with that output; some order explains the histories; at the end of
+  -- the run no page is writable at one node and readable at another, and no node has met a message that fits no rule
+  pub record IsReport (nodes : List NodeReport) : Type 0 where
+    pub all : length nodes ≡ length programs
+    pub each : (i : ℕ) (n : NodeReport) → slice_get nodes i ≡ Some n → IsOf i n
+    pub end : World (Host Managed)
+    pub run : AreParts (host_rules managed_ops) c (beginning c programs) (events_of nodes) end
+    pub whole : (i : ℕ) (n : NodeReport) → slice_get nodes i ≡ Some n
+        → (program : List Instruction) × (slice_get programs i ≡ Some program)
+        × IsWholeRun program n.history n.output
+    pub order : List Record
+    pub explained : ExplainsWhole order nodes
+    pub exclusive : IsExclusive end
+    pub no_breach : HasNoBreach end

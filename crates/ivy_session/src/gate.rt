@@ -1,0 +1,24 @@
+//! What a session tells of its turns.
+
+/// Which of a node's two workers.
+#[derive(Clone, Copy, Debug, PartialEq, Eq)]
+pub enum Role {
+    /// The one that makes the turns of the program.
+    Program,
+    /// The one that puts and takes frames.
+    Wire,
+}
+
+/// Is told of each turn of a session, by the worker that is about to make it.
+pub trait Gate: Sync {
+    /// A turn of a node, by its number, begins. Its site is locked, and its history has so many records.
+    fn enter(&self, node: u8, role: Role, records: u64);
+}
+
+/// A gate that does nothing.
+#[derive(Clone, Copy, Debug)]
+pub struct OpenGate;
+
+impl Gate for OpenGate {
+    fn enter(&self, _node: u8, _role: Role, _records: u64) {}
+}
