@@ -1,5 +1,5 @@
 -- What holds of each world that moves lead to from its opening.
-use Rattle.std.proofs.Common.{◌≡◌, ℕ, List, [], ◌++◌, length}
+use Rattle.std.proofs.Common.{◌≡◌, ℕ, List, [], ◌++◌, length, slice_get, Some}
 use Rattle.std.proofs.lemmas.List.Elements.{All-contains}
 use Rattle.ivy_model.specs.declared.Config.{Config}
 use Rattle.ivy_model.specs.Config.{IsConfig}
@@ -8,6 +8,7 @@ use Rattle.ivy_host.specs.Managers.{Managed, managed_ops}
 use Rattle.ivy_host.specs.ManagedLaws.{managed_laws}
 use Rattle.ivy_program.specs.declared.Instruction.{Instruction}
 use Rattle.ivy_events.specs.declared.Move.{Move}
+use Rattle.ivy_events.specs.Nodes.{Node}
 use Rattle.ivy_events.specs.Worlds.{World, Leads}
 use Rattle.ivy_events.specs.Explained.{GoesOn}
 use Rattle.ivy_events.specs.Following.{Follows, IsTame, IsString}
@@ -53,6 +54,16 @@ module _ (c : Config) (programs : List (List Instruction)) (config : IsConfig c)
       = led (host_rules managed_ops) c (IsSoundHost managed_ops c) config tamed (opening managed_ops c programs) w (λ i j. []) moves opened h in
       let s : IsString c f.0 bytes = All-contains (IsString c f.0) w.sent bytes f.1.strings there in
       (s.0, s.1)
+
+  pub sound-led : (moves : List Move) (w : World (Host Managed))
+      → Leads (host_rules managed_ops) c (opening managed_ops c programs) moves w
+      → (i : ℕ) (n : Node (Host Managed)) → slice_get w.nodes i ≡ Some n
+      → IsSoundHost managed_ops c i n.core
+  sound-led moves w h =
+      let f : (posted : ℕ → ℕ → List Message) × Follows c (IsSoundHost managed_ops c) w posted
+      = led (host_rules managed_ops) c (IsSoundHost managed_ops c) config tamed
+          (opening managed_ops c programs) w (λ i j. []) moves opened h in
+      f.1.sound
 
 -- what is promised of each world that was reached
 pub keeps-reached : (r : Run) → IsConfig r.config → length r.programs ≡ r.config.nodes → IsReached r → Keeps r

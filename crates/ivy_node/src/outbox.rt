@@ -118,6 +118,13 @@ impl<A: Allocator + Copy> Outbox<A> {
         self.waiting.pop_front()
     }
 
+    /// Whether a string waits.
+    pub(crate) fn has_frame(&self) -> bool
+        ensures { IsTrue result ↔ (self.now.waiting ≢ []) }
+    {
+        !self.waiting.is_empty()
+    }
+
     /// What a frame is to this node.
     pub(crate) fn offer<B>(&self, frame: &Frame<B>) -> Verdict
         requires source { frame.now.source < self.now.config.nodes }

@@ -180,6 +180,13 @@ impl<A: Allocator + Copy> Site<A> {
         self.outbox.take()
     }
 
+    /// Whether a string waits to be put on the wire. It takes no memory.
+    pub fn has_frame(&self) -> bool
+        ensures { IsTrue result ↔ (self.now.waiting ≢ []) }
+    {
+        self.outbox.has_frame()
+    }
+
     /// One turn of the program: the call in progress is asked for its reply, which is recorded, or an instruction is
     /// carried out, or a call begins [1, 17]. A refused turn changes nothing.
     pub fn program_turn(&mut self) -> Result<Turn, Fault>
@@ -296,5 +303,13 @@ impl<A: Allocator + Copy> Site<A> {
         ensures { result ≡ self.now.me }
     {
         self.outbox.me()
+    }
+
+    /// The configuration of the nodes, which is within its limits. It takes no memory.
+    pub fn config(&self) -> Config
+        ensures is { result ≡ self.now.config }
+        ensures limits { IsConfig result }
+    {
+        self.outbox.config()
     }
 }

@@ -1,6 +1,11 @@
 -- A seated site stays seated, and may give its list.
 use Rattle.std.proofs.Common.{◌≡◌, ◌≢◌, ◌⊎◌, ℕ, zero, suc, ◌+◌, ◌<◌, List, [], ◌∷◌, ◌++◌, length, slice_get, Contains, Option, Some, None, true, false, refl, sym, ap, subst, ◌∙◌, inl, inr, arith, append-nil, append_assoc}
-use Rattle.std.specs.Prelude.{IfSome}
+use Rattle.std.specs.Prelude.{IfSome, MatchResult, MatchOption, Result, Ok, Err}
+use Rattle.ivy_model.specs.declared.Fault.{Fault}
+use Rattle.ivy_ether.specs.Data.{Put, Item}
+use Rattle.ivy_ether.specs.Items.{strings_in}
+use Rattle.ivy_ether.specs.Words.{MatchPut}
+use Rattle.ivy_ether.specs.declared.ether.Put.TheVariants.{Sent, Lost}
 use Rattle.std.proofs.lemmas.List.Elements.{Contains-append_left, Contains-append_right, Contains-push}
 use Rattle.std.proofs.lemmas.Option.{none-some, same_Some}
 use Rattle.atomic_table.specs.Seated.{TableId}
@@ -26,7 +31,9 @@ use Rattle.ivy_node.specs.declared.turn.Turn.TheVariants.{Idle, Moved, Ended}
 use Rattle.ivy_node.specs.Shown.{Shown, after_event, after_delivery, after_pulse_to}
 use Rattle.ivy_node.specs.Sites.{first_shown, IsMadeByEvents, IsSentBy, AfterTurn, AfterDelivery}
 use Rattle.ivy_node.proofs.Programs.{turned-program, posting-core, delivered-program}
+use Rattle.ivy_program.specs.Steps.{HasEnded}
 use Rattle.ivy_session.specs.Places.{HasGiven, IsSeated, IsFreshSeat}
+use Rattle.ivy_session.specs.Reports.{IsDone}
 
 abbrev program_in : Shown → List Instruction
 program_in s = s.node.core.process.program
@@ -37,10 +44,9 @@ first_there : (c : Config) (me k : ℕ) (programs : List (List Instruction)) (i 
     → slice_get (first_nodes managed_ops c me programs) i ≡ Some (first_node managed_ops c k program)
 first_there c me k [] i program at is = absurd (none-some program is)
 first_there c me k (p ∷ ps) zero program at is =
-    (λ j. Some (first_node managed_ops c ((the_same : me ≡ k) j) (same_Some p program is j)))
-  where
-    the_same : me ≡ k
-    the_same = omega (arith, at)
+    let here : me ≡ k = omega (arith, at) in
+    ap (λ j. Some (first_node managed_ops c j p)) here
+    ∙ ap (λ q. Some (first_node managed_ops c k q)) (same_Some p program is)
 first_there c me k (p ∷ ps) (suc i) program at is =
     first_there c (me + 1) k ps i program (omega (arith, at)) is
 
@@ -195,7 +201,7 @@ module _ (c : Config) (programs : List (List Instruction)) where
   unfolding pulsing
   pulse_seated wire to s s' p h below apart after =
       let inside : to < length programs =
-          subst (λ k. to < k) (ap (λ (k : Config). k.nodes) h.config ∙ sym h.each) below in
+      subst (λ k. to < k) (ap (λ (k : Config). k.nodes) h.config ∙ sym h.each) below in
       stays_seated wire s s' p h (record {
         me = ap (λ (x : Shown). x.me) after;
         config = ap (λ (x : Shown). x.config) after;
@@ -283,3 +289,67 @@ module _ (c : Config) (programs : List (List Instruction)) where
       can = tt;
     };
   }
+
+  -- as the calls of a site answer
+  pub turned : (wire : TableId) (r : Result turn.Turn Fault) (s s' : Shown) (p : Held)
+      → MatchResult r (λ t. AfterTurn t s s') (λ _. s' ≡ s) → IsSeated wire c programs s p
+      → IsSeated wire c programs s' p
+  turned wire (Ok t) s s' p after h = turn_seated wire t s s' p h after
+  turned wire (Err fault) s s' p same h =
+      stays_seated wire s s' p h (stays_same s s' p.known.took same)
+
+  pub delivered : (wire : TableId) (r : Result Verdict Fault) (bytes : List ℕ) (s s' : Shown)
+      (p : Held) → MatchResult r (λ v. AfterDelivery bytes v s s') (λ _. s' ≡ s)
+      → Contains p.known.took bytes → IsSeated wire c programs s p → IsSeated wire c programs s' p
+  delivered wire (Ok v) bytes s s' p after there h = delivery_seated wire bytes v s s' p h there after
+  delivered wire (Err fault) bytes s s' p same there h =
+      stays_seated wire s s' p h (stays_same s s' p.known.took same)
+
+  pub pulsed : (wire : TableId) (r : Result (Unit {0}) Fault) (to : ℕ) (s s' : Shown) (p : Held)
+      → MatchResult r (λ _. s' ≡ after_pulse_to s to (pulsing s.node to)) (λ _. s' ≡ s)
+      → to < s.config.nodes → to ≢ s.me → IsSeated wire c programs s p
+      → IsSeated wire c programs s' p
+  pulsed wire (Ok done) to s s' p after below apart h = pulse_seated wire to s s' p h below apart after
+  pulsed wire (Err fault) to s s' p same below apart h =
+      stays_seated wire s s' p h (stays_same s s' p.known.took same)
+
+  -- and those of the ether
+  pub put_seated : (wire : TableId) (r : Put) (s : Shown) (p p' : Held) (es : List Mark)
+      (frame : List ℕ) → es ≡ s.events → p'.ether ≡ p.ether
+      → MatchPut r (p'.known ≡ with_events p.known es) (λ back. (back ≡ frame) × (p'.known ≡ p.known))
+      → IsSeated wire c programs s p → IsSeated wire c programs s p'
+  put_seated wire Sent s p p' es frame is ether known h = events_seated wire s p p' es is ether known h
+  put_seated wire (Lost back) s p p' es frame is ether known h =
+      same_seated wire s p p' ether known.1 h
+
+  pub take_seated : (wire : TableId) (r : Option Item) (s : Shown) (p p' : Held) (es : List Mark)
+      → es ≡ s.events → p'.ether ≡ p.ether
+      → MatchOption r (p'.known ≡ p.known) (λ x. p'.known ≡ with_taken p.known es (strings_in x))
+      → IsSeated wire c programs s p → IsSeated wire c programs s p'
+  take_seated wire None s p p' es is ether known h = same_seated wire s p p' ether known h
+  take_seated wire (Some x) s p p' es is ether known h =
+      taken_seated wire s p p' es (strings_in x) is ether known h
+
+  -- a site whose program has ended is done
+  pub is_done : (wire : TableId) (s : Shown) (p : Held) (i : ℕ) → IsSeated wire c programs s p
+      → IsMadeByEvents s → s.me ≡ i → HasEnded s.node.core.process → IsDone c programs i s
+  is_done wire s p i h made at ended = record {
+    of = record {
+      effect = made.effect;
+      list = subst
+          (λ j. IsListOf (host_rules managed_ops) c (beginning c programs) j s.events made.effect)
+          at (its_list s made h.config h.program);
+      history = ap (λ (n : Node (Host Managed)). n.core.history) made.node;
+      output = ap (λ (n : Node (Host Managed)). n.core.process.state.output) made.node;
+    };
+    ended = subst (λ (n : Node (Host Managed)). HasEnded n.core.process) made.node ended;
+  }
+
+-- what was taken is known to the pass
+pub took_item : (r : Option Item) (p p' : Held) (es : List Mark)
+    → MatchOption r (p'.known ≡ p.known) (λ x. p'.known ≡ with_taken p.known es (strings_in x))
+    → IfSome r (λ x. (bytes : List ℕ) → Contains (strings_in x) bytes → Contains p'.known.took bytes)
+took_item None p p' es known = tt
+took_item (Some x) p p' es known = λ bytes there.
+    subst (λ (v : View). Contains v.took bytes) (sym known)
+    (Contains-append_right p.known.took (strings_in x) bytes there)

@@ -3,3 +3,4 @@ pub mod Faults
 pub mod Places
 pub mod Wire
 pub mod Reports
+pub mod Told

@@ -1,5 +1,5 @@
 -- What a finished session says of its report.
-use Rattle.std.specs.Prelude.{◌≡◌, ℕ, List, [], length, map, slice_get, slice_index_or, Some}
+use Rattle.std.specs.Prelude.{◌≡◌, ℕ, List, length, slice_get, Some}
 use Rattle.ivy_model.specs.declared.Config.{Config}
 use Rattle.ivy_model.specs.declared.Record.{Record}
 use Rattle.ivy_model.specs.Explains.{part}
@@ -44,10 +44,6 @@ module _ (c : Config) (programs : List (List Instruction)) where
     pub of : IsOf i (report_of s)
     pub ended : HasEnded of.effect.after.core.process
 
-  -- the event list of node i in a report, empty where there is no such node
-  abbrev pub events_of : List NodeReport → ℕ → List Mark
-  events_of nodes i = slice_index_or (map (λ (n : NodeReport). n.events) nodes) i []
-
   -- the order is legal, and each node's part of it is exactly its history
   pub record ExplainsWhole (order : List Record) (nodes : List NodeReport) : Type 0 where
     pub legal : Legal c order
@@ -59,8 +55,10 @@ module _ (c : Config) (programs : List (List Instruction)) where
   pub record IsReport (nodes : List NodeReport) : Type 0 where
     pub all : length nodes ≡ length programs
     pub each : (i : ℕ) (n : NodeReport) → slice_get nodes i ≡ Some n → IsOf i n
+    pub parts : ℕ → List Mark
+    pub lists : (i : ℕ) (n : NodeReport) → slice_get nodes i ≡ Some n → parts i ≡ n.events
     pub end : World (Host Managed)
-    pub run : AreParts (host_rules managed_ops) c (beginning c programs) (events_of nodes) end
+    pub run : AreParts (host_rules managed_ops) c (beginning c programs) parts end
     pub whole : (i : ℕ) (n : NodeReport) → slice_get nodes i ≡ Some n
         → (program : List Instruction) × (slice_get programs i ≡ Some program)
         × IsWholeRun program n.history n.output

@@ -1,5 +1,5 @@
 -- What the turns of a seated site leave.
-use Rattle.std.specs.Prelude.{◌≡◌, ◌≢◌, ℕ, List, [], ◌∷◌, Contains}
+use Rattle.std.specs.Prelude.{◌≡◌, ◌≢◌, ◌<◌, ◌≤◌, ℕ, List, [], ◌∷◌, Contains}
 use Rattle.ivy_model.specs.declared.Fault.{Fault}
 use Rattle.ivy_link.specs.declared.Verdict.{Verdict}
 use Rattle.ivy_link.specs.declared.Verdict.TheVariants as verdict
@@ -34,3 +34,9 @@ AfterWire Empty old new = Rests old new
 AfterWire (Served v) old new = Serves v old new
 AfterWire Returned old new = Rests old new
 AfterWire Dropped old new = Rests old new
+
+-- the other node that follows this one, where the first follows the last
+pub record IsNextOther (nodes me last to : ℕ) : Type 0 where
+  pub inside : to < nodes
+  pub other : to ≢ me
+  pub next : (j : ℕ) → last < j → j < nodes → j ≢ me → (last < to) × (to ≤ j)

@@ -1,12 +1,25 @@
 //! Sessions: the programs of all nodes run, two threads a node, over one shared memory.
+//!
+//! Each node's site stands behind its own lock, and nothing is shared between nodes but the ether. Whatever the threads
+//! do, the event lists of the sites are, at every moment, the parts of one run of the world.
+//!
+//! In a comment, numbers in brackets as [1, 17] are the fault numbers that a call may answer.
 #![tactic(auto)]
 
+mod bells;
 mod gate;
 mod limits;
+mod report;
 mod seated;
+mod seating;
+mod session;
+mod shared;
 mod wire_turn;
+mod workers;
 
 pub use gate::{Gate, OpenGate, Role};
 pub use limits::Limits;
+pub use report::Report;
 pub use seated::Seated;
+pub use session::Session;
 pub use wire_turn::WireTurn;

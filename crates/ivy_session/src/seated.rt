@@ -1,17 +1,14 @@
 //! A site that is seated at an ether.
-ghost use Rattle.std.specs.Prelude.{◌≡◌, ◌≢◌, ◌<◌, ◌∷◌, [], Some, Contains, MatchOption, MatchResult, IfOk, IfErr, IfSome, OnOk, IsOkUnless, slice_get};
+ghost use Rattle.std.specs.Prelude.{◌≡◌, ◌≢◌, ◌↔◌, ◌⊎◌, ◌<◌, ◌∷◌, [], ℕ, List, Some, Contains, IsTrue, ◌≤◌, MatchOption, MatchResult, IfOk, IfErr, IfSome, OnOk, IsOkUnless, slice_get};
 ghost use Rattle.ivy_model.specs.Wants.{IsWant};
 ghost use Rattle.ivy_events.specs.Nodes.{pulsing};
-ghost use Rattle.ivy_host.specs.Managers.{managed_ops};
 ghost use Rattle.ivy_program.specs.Steps.{HasEnded};
 ghost use Rattle.ivy_ether.specs.Items.{strings_in};
 ghost use Rattle.ivy_ether.specs.Views.{with_seat};
 ghost use Rattle.ivy_node.specs.Shown.{after_pulse_to};
 ghost use Rattle.ivy_node.specs.Sites.{first_shown, AfterTurn, AfterDelivery};
-ghost use Rattle.ivy_session.specs.Faults.{IsStop};
 ghost use Rattle.ivy_session.specs.Places.{place, IsSeated, IsFreshSeat};
-ghost use Rattle.ivy_session.specs.Reports.{IsDone};
-ghost use Rattle.ivy_session.specs.Wire.{AfterWire, Leaves};
+ghost use Rattle.ivy_session.specs.Wire.{AfterWire, Leaves, IsNextOther};
 
 use crate::wire_turn::WireTurn;
 use ivy_ether::{Ether, Item, Pass, Put, Setup, Wired};
@@ -50,6 +47,21 @@ impl<'e, S: Setup, A: Allocator> Model for Seated<'e, S, A> {
     ghost invariant = { λ s. IsSeated s.ether.now S.config S.programs s.site s.pass };
 }
 
+/// The node after this one, round, that is not `me`.
+fn next_other(nodes: u8, me: u8, last: u8) -> u8
+    requires { 2 ≤ nodes }
+    ensures { IsNextOther nodes me last result }
+{
+    let next = if last < nodes - 1 { last + 1 } else { 0 };
+    if next != me {
+        next
+    } else if next < nodes - 1 {
+        next + 1
+    } else {
+        0
+    }
+}
+
 impl<'e, S: Setup, A: Allocator + Copy> Seated<'e, S, A> {
     /// Seats a site that has made no event yet, with a pass that took the seat of its node.
     pub fn new(ether: &'e Ether<S, A>, site: Site<A>, pass: Pass<Wired<A>>) -> Self
@@ -62,6 +74,13 @@ impl<'e, S: Setup, A: Allocator + Copy> Seated<'e, S, A> {
     /// How many records the site's history has.
     pub fn records(&self) -> u64 {
         self.site.history().len() as u64
+    }
+
+    /// Whether a frame waits to be put.
+    pub fn has_frame(&self) -> bool
+        ensures { IsTrue result ↔ (self.now.site.waiting ≢ []) }
+    {
+        self.site.has_frame()
     }
 
     /// One turn of the site's program [1, 17]. A refused turn changes nothing.
@@ -83,6 +102,18 @@ impl<'e, S: Setup, A: Allocator + Copy> Seated<'e, S, A> {
         ensures memory { IsOkUnless result Fault.Memory }
     {
         self.site.pulse(to)
+    }
+
+    /// A pulse to the other node that follows this one, in ascending order and round, which is the answer [1].
+    pub fn pulse_next(&mut self, last: u8) -> Result<u8, Fault>
+        ensures pass { self.new.pass ≡ self.old.pass }
+        ensures done { MatchResult result (λ to. self.new.site ≡ after_pulse_to self.old.site to (pulsing self.old.site.node to)) (λ _. self.new ≡ self.old) }
+        ensures to { IfOk result (λ to. IsNextOther self.old.site.config.nodes self.old.site.me last to) }
+        ensures memory { IsOkUnless result Fault.Memory }
+    {
+        let to = next_other(self.site.config().nodes, self.site.me(), last);
+        self.pulse(to)?;
+        Ok(to)
     }
 
     /// A string that the pass took is delivered to the site [1, 11 to 17]. A refused delivery changes nothing.
@@ -167,21 +198,11 @@ impl<'e, S: Setup, A: Allocator + Copy> Seated<'e, S, A> {
         }
     }
 
-    /// Puts the report of the site, whose program has ended, and hands out the site [1, 21].
-    pub fn finish<R: Wait>(self, rt: &R, alloc: A) -> Result<Site<A>, Fault>
-        ensures done { IfOk result (λ site. IsDone S.config S.programs self.site.me site) }
-        ensures same { IfOk result (λ site. site ≡ self.site) }
-        ensures stop { IfErr result IsStop }
+    /// The ether, the site and its pass.
+    pub(crate) fn into_parts(self) -> (&'e Ether<S, A>, Site<A>, Pass<Wired<A>>)
+        ensures { IsSeated result.0.now S.config S.programs result.1 result.2 }
     {
         let Seated { ether, site, pass } = self;
-        let mut pass = pass;
-        if !site.ended() {
-            return Err(Fault::TurnLimit);
-        }
-        let copy = site.event_list().copy(alloc)?;
-        if ether.put_report(rt, &mut pass, copy).is_err() {
-            return Err(Fault::TurnLimit);
-        }
-        Ok(site)
+        (ether, site, pass)
     }
 }

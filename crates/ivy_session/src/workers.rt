@@ -2,6 +2,7 @@
 ghost use Rattle.std.specs.Prelude.{IfErr};
 ghost use Rattle.ivy_session.specs.Faults.{IsStop};
 
+use crate::bells::Idle;
 use crate::gate::{Gate, Role};
 use crate::limits::Limits;
 use crate::seated::Seated;
@@ -15,33 +16,31 @@ use std::sync::{Mutex, Wait};
 use std::thread;
 use std::thread::Threads;
 
-/// A node's place in a session: its site behind its lock, and its number.
-struct Post<'p, 'e, S: Setup, A: Allocator> {
-    seat: &'p Mutex<Seated<'e, S, A>>,
-    node: u8,
-}
-
 /// Makes the turns of a node's program, one turn a lock, until it has ended.
-fn program_worker<S: Setup, A: Allocator + Copy, R: Wait, G: Gate>(
+fn run_program<S: Setup, A: Allocator + Copy, R: Wait, G: Gate>(
     rt: &R,
     seat: &Mutex<Seated<'_, S, A>>,
     node: u8,
     limits: Limits,
-    shared: &Shared,
+    shared: &Shared<A>,
     gate: &G,
 ) {
+    let mut idle = Idle::new();
     for _ in 0..limits.turns {
         if shared.is_stopped() {
             return;
         }
         let mut seated = seat.lock(rt);
         gate.enter(node, Role::Program, seated.records());
-        match seated.program_turn() {
-            Ok(Turn::Moved) => {}
-            Ok(Turn::Idle) => {
-                drop(seated);
-                thread::yield_now();
-            }
+        let turn = seated.program_turn();
+        let waits = seated.has_frame();
+        drop(seated);
+        if waits {
+            shared.ring_wire(node);
+        }
+        match turn {
+            Ok(Turn::Moved) => idle.end(),
+            Ok(Turn::Idle) => shared.rest(rt, node, Role::Program, &mut idle),
             Ok(Turn::Ended) => {
                 shared.end();
                 return;
@@ -53,4 +52,116 @@ fn program_worker<S: Setup, A: Allocator + Copy, R: Wait, G: Gate>(
         }
     }
     shared.stop(rt, Fault::TurnLimit);
+}
+
+/// When a wire worker pulses, and to whom.
+#[derive(Drop)]
+struct Pulses {
+    every: u64,
+    turns: u64,
+    last: u8,
+}
+
+impl Pulses {
+    /// Each such turn begins with a pulse.
+    fn new(every: u64) -> Pulses {
+        Pulses {
+            every,
+            turns: 0,
+            last: u8::MAX,
+        }
+    }
+
+    /// One turn on the wire, with a pulse before it where it is time for one [1, 17].
+    fn turn<S: Setup, A: Allocator + Copy, R: Wait>(
+        &mut self,
+        rt: &R,
+        seated: &mut Seated<'_, S, A>,
+    ) -> Result<WireTurn, Fault>
+        ensures { IfErr result IsStop }
+    {
+        self.turns = self.turns.saturating_add(1);
+        if self.turns >= self.every {
+            self.turns = 0;
+            self.last = seated.pulse_next(self.last)?;
+        }
+        seated.wire_turn(rt)
+    }
+}
+
+/// Makes the turns of a node on the wire, one turn a lock, until all programs have ended.
+fn run_wire<S: Setup, A: Allocator + Copy, R: Wait, G: Gate>(
+    rt: &R,
+    seat: &Mutex<Seated<'_, S, A>>,
+    node: u8,
+    limits: Limits,
+    shared: &Shared<A>,
+    gate: &G,
+) {
+    let mut idle = Idle::new();
+    let mut pulses = Pulses::new(limits.pulse_every);
+    for _ in 0..limits.turns {
+        if shared.is_over() {
+            return;
+        }
+        let mut seated = seat.lock(rt);
+        gate.enter(node, Role::Wire, seated.records());
+        let turn = pulses.turn(rt, &mut seated);
+        let waits = seated.has_frame();
+        drop(seated);
+        match turn {
+            Ok(WireTurn::Sent | WireTurn::Returned) => {
+                idle.end();
+                shared.ring_others(node);
+            }
+            Ok(WireTurn::Served(_)) => {
+                idle.end();
+                shared.ring_program(node);
+            }
+            Ok(WireTurn::Lost | WireTurn::Empty | WireTurn::Dropped) if waits => idle.end(),
+            Ok(WireTurn::Lost | WireTurn::Empty | WireTurn::Dropped) => {
+                shared.rest(rt, node, Role::Wire, &mut idle);
+            }
+            Err(fault) => {
+                shared.stop(rt, fault);
+                return;
+            }
+        }
+    }
+    shared.stop(rt, Fault::TurnLimit);
+}
+
+/// Runs two workers for each node, and joins them all [1, 17, 21].
+pub(crate) fn run_workers<S, A, R, G>(
+    rt: &R,
+    alloc: A,
+    seats: &[Mutex<Seated<'_, S, A>>],
+    limits: Limits,
+    gate: &G,
+) -> Result<(), Fault>
+where
+    S: Setup + Send + Sync,
+    A: Allocator + Copy + Send + Sync,
+    R: Threads + Wait + Sync,
+    G: Gate,
+    ensures { IfErr result IsStop }
+{
+    let shared = Shared::new(alloc, seats.len())?;
+    let all = &shared;
+    thread::scope(thread::scope_env(), rt, |scope| {
+        let mut next = 0u8;
+        for seat in seats {
+            let node = next;
+            let program = scope.spawn(move || run_program(rt, seat, node, limits, all, gate));
+            let wire = scope.spawn(move || run_wire(rt, seat, node, limits, all, gate));
+            if program.is_err() || wire.is_err() {
+                all.stop(rt, Fault::Memory);
+            }
+            next = node.saturating_add(1);
+        }
+    });
+    match shared.into_stop() {
+        None => Ok(()),
+        Some(fault) => Err(fault),
+    }
 }

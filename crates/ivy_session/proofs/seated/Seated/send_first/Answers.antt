@@ -1,0 +1,16 @@
+use Rattle.ivy_session.proofs.Seats.{may_give, less_seated, sends_from}
+use Rattle.ivy_session.proofs.seated.Seated.send_first.Goals as goal
+
+pub put-requires-clause-events : goal.put-requires-clause-events
+put-requires-clause-events g c =
+    may_give g.S.Setup.config g.S.Setup.programs _ c.take_frame.new.self c.self.inside.pass _
+    c.event_list.ensures.is
+    (less_seated g.S.Setup.config g.S.Setup.programs _ c.self.inside.site c.take_frame.new.self
+    c.self.inside.pass c.in_ok-frame.ensures.taken.1 c.self.invariant)
+    c.event_list.ensures.made
+
+pub put-requires-clause-frame : goal.put-requires-clause-frame
+put-requires-clause-frame g c =
+    sends_from g.S.Setup.config g.S.Setup.programs _ c.self.inside.site c.take_frame.new.self
+    c.self.inside.pass _ c.in_ok-frame.frame c.event_list.ensures.is c.in_ok-frame.ensures.taken.1
+    c.self.invariant c.in_ok-frame.ensures.sent

@@ -1,0 +1,11 @@
+use Rattle.ivy_session.proofs.Seats.{may_give, took_item}
+use Rattle.ivy_session.proofs.seated.Seated.take_item.Goals as goal
+
+pub take-requires-clause-events : goal.take-requires-clause-events
+take-requires-clause-events g c =
+    may_give g.S.Setup.config g.S.Setup.programs _ c.self.inside.site c.self.inside.pass _
+    c.event_list.ensures.is c.self.invariant c.event_list.ensures.made
+
+pub returns-clause-took : goal.returns-clause-took
+returns-clause-took g c =
+    took_item c.take.result c.self.inside.pass c.take.new.pass _ c.take.ensures.known

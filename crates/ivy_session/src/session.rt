@@ -1,0 +1,94 @@
+//! Sessions.
+ghost use Rattle.std.specs.Prelude.{◌≡◌, ◌↔◌, ◌<◌, IsErrOf, IfOk, IfErr, length};
+ghost use Rattle.ivy_model.specs.Config.{IsConfig};
+ghost use Rattle.ivy_session.specs.Faults.{IsStop, IsSessionFault};
+ghost use Rattle.ivy_session.specs.Limits.{AreLimits};
+ghost use Rattle.ivy_session.specs.Reports.{IsReport};
+
+use crate::gate::Gate;
+use crate::limits::Limits;
+use crate::report::Report;
+use crate::seating::{seat_all, take_all};
+use crate::workers::run_workers;
+use ivy_ether::{Ether, Setup};
+use ivy_model::{Config, Fault};
+use ivy_program::Program;
+use std::alloc::Allocator;
+use std::marker::Brand;
+use std::sync::Wait;
+use std::thread::Threads;
+
+/// Runs the programs of all nodes in threads.
+pub struct Session;
+
+/// Seats the nodes, runs their workers, and takes their reports [1, 17, 21].
+fn play<S, A, R, G>(
+    rt: &R,
+    alloc: A,
+    config: &Config,
+    programs: Vec<Program<A>, A>,
+    limits: Limits,
+    gate: &G,
+) -> Result<Report<A>, Fault>
+where
+    S: Setup + Send + Sync,
+    A: Allocator + Copy + Send + Sync,
+    R: Threads + Wait + Sync,
+    G: Gate,
+    requires config { config.now ≡ S.config }
+    requires limits { IsConfig config.now }
+    requires programs { programs.items ≡ S.programs }
+    requires each { length programs.items ≡ config.now.nodes }
+    requires capacity { 0 < limits.capacity }
+    ensures report { IfOk result (λ report. IsReport S.config S.programs report) }
+    ensures stop { IfErr result IsStop }
+{
+    let nodes = programs.len();
+    let (ether, mut passes) = Ether::<S, A>::new(
+        alloc,
+        config,
+        &programs,
+        limits.capacity as usize,
+        nodes + 1,
+    )?;
+    let Some(mut starter) = passes.pop() else {
+        unreachable!()
+    };
+    let seats = seat_all(rt, alloc, &ether, config, &mut starter, passes, programs)?;
+    run_workers(rt, alloc, &seats, limits, gate)?;
+    if let Some(first) = seats.first() {
+        first.lock(rt).drain(rt, limits.capacity);
+    }
+    let sites = take_all(rt, alloc, &ether, &mut starter, seats)?;
+    if sites.len() != nodes {
+        return Err(Fault::TurnLimit);
+    }
+    ether.learn(&mut starter);
+    Ok(Report::new(sites))
+}
+
+impl Session {
+    /// Runs the programs, one for each node, until all have ended [1, 2, 17, 21].
+    pub fn run<A, R, G>(
+        rt: &R,
+        alloc: A,
+        config: Config,
+        programs: Vec<Program<A>, A>,
+        limits: Limits,
+        gate: &G,
+    ) -> Result<Report<A>, Fault>
+    where
+        A: Allocator + Copy + Send + Sync,
+        R: Threads + Wait + Sync,
+        G: Gate,
+        ensures report { IfOk result (λ report. IsReport config programs.items report) }
+        ensures bad { IsErrOf result Fault.BadConfig ↔ ¬ (IsConfig config × (length programs.items ≡ config.nodes) × AreLimits limits) }
+        ensures fault { IfErr result IsSessionFault }
+    {
+        config.check()?;
+        if programs.len() != usize::from(config.nodes) || !limits.are_fair() {
+            return Err(Fault::BadConfig);
+        }
+        play::<Brand, A, R, G>(rt, alloc, &config, programs, limits, gate)
+    }
+}
