@@ -1,3 +1,4 @@
+# shellcheck shell=bash
 # Functions of the script `ivy`, which prove the crates that its program needs, several side by side.
 #
 # `rt` locks a crate and all below it, so of two checks over one library the second would wait. Here
@@ -11,6 +12,11 @@ proved=0
 
 say() {
     echo "ivy: $*" >&2
+}
+
+fail() {
+    say "$@"
+    exit 4
 }
 
 tell_proved() {
@@ -171,7 +177,7 @@ plan() {
     ((jobs <= 4)) || jobs=4
 }
 
-# Proves crates, given each after those below it. Gives 1 where one is refused, whose log it prints.
+# Proves crates, given each after those below it.
 prove() {
     local crate left=()
     local -A open=()
@@ -183,7 +189,7 @@ prove() {
     while ((${#open[@]})); do
         start_ready
         sleep 0.2
-        end_ended || return 1
+        end_ended
     done
 }
 
@@ -206,6 +212,7 @@ start_ready() {
     done
 }
 
+# Takes what has ended. A crate that is refused ends all, with its log.
 end_ended() {
     local crate status
     for crate in "${!running[@]}"; do
@@ -215,8 +222,7 @@ end_ended() {
         unset "running[$crate]" "open[$crate]"
         if ((status != 0)); then
             cat "$rooms/$crate/log" >&2
-            say "$crate is not proved"
-            return 1
+            fail "$crate is not proved, so the program could not be built"
         fi
         touch -r "$rooms/$crate/begun" "$rooms/$crate/crates/$crate/out/rlib/stamp"
         clear_room "$crate"
