@@ -193,21 +193,21 @@ prove() {
     done
 }
 
-# Starts what can begin, the longest way first. A crate near the longest way has many jobs, and there
-# is always a place for it. One far from it has one job, and takes what time the others leave.
+# Starts what can begin, the longest way first. A crate near the longest way of those that wait has
+# many jobs, and there is always a place for it. One far from it has one job, and takes what time the
+# others leave.
 start_ready() {
     local crate it first=
     for crate in "${left[@]}"; do
-        [[ ${open[$crate]-} ]] || continue
+        [[ ${open[$crate]-} && -z ${running[$crate]-} ]] || continue
         first=${first:-$crate}
-        [[ -z ${running[$crate]-} ]] || continue
         for it in ${below[$crate]}; do
             [[ -z ${open[$it]-} ]] || continue 2
         done
         if ((way[$crate] * 10 >= way[$first] * 9)); then
             ((${#running[@]} >= places)) || start "$crate" "$jobs" 0
         else
-            ((${#running[@]} > 0 && ${#running[@]} >= places - 1)) || start "$crate" 1 10
+            ((${#running[@]} > 0 && ${#running[@]} >= places - 1)) || start "$crate" 1 5
         fi
     done
 }
