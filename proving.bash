@@ -68,6 +68,29 @@ is_newest() {
     [[ -z $(find "${folders[@]}" -name out -prune -o -type f -newer "$1" -print -quit) ]]
 }
 
+# The sum of all that a check of a crate reads: the kit, and below a root the sources of the crate and
+# of those below it. It is kept beside what was built, which `rt` removes with all that lies there
+# before it builds anew.
+sum_of() {
+    local it part folders=()
+    {
+        echo "$kit"
+        for it in ${below[$2]} "$2"; do
+            echo "${line[$it]}"
+            for part in src specs proofs; do
+                [[ ! -d $1/crates/$it/$part ]] || folders+=("crates/$it/$part")
+            done
+        done
+        cd "$1"
+        find "${folders[@]}" -type f -print0 | LC_ALL=C sort -z | xargs -0 sha256sum
+    } | sha256sum
+}
+
+is_built() {
+    local kept=$crates/$1/out/rlib/sum
+    [[ -f $kept && $(<"$kept") == "$(sum_of "$root" "$1")" ]]
+}
+
 # The processors that this process may use, or fewer by the quota of its group.
 processors() {
     local found quota=max period=1
@@ -113,7 +136,6 @@ find_ways() {
 make_room() {
     local room=$rooms/$1 it part
     mkdir -p "$room"
-    touch "$room/begun"
     for it in ${below[$1]} "$1"; do
         echo "${line[$it]}"
         mkdir -p "$room/crates/$it"
@@ -224,7 +246,7 @@ end_ended() {
             cat "$rooms/$crate/log" >&2
             fail "$crate is not proved, so the program could not be built"
         fi
-        touch -r "$rooms/$crate/begun" "$rooms/$crate/crates/$crate/out/rlib/stamp"
+        sum_of "$rooms/$crate" "$crate" >"$rooms/$crate/crates/$crate/out/rlib/sum"
         clear_room "$crate"
         tell_proved "$crate is proved"
     done
