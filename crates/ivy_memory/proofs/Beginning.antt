@@ -34,9 +34,9 @@ none_of None h = refl
 none_of (Some a) h = absurd cc
 
 -- what holds of a result either way
-pub of_either : {A B X : Type 0} (P : Type 0) (F : X → Type 0) (r : Result A B) (new good old : X) → OnOk r (new ≡ good) → OnErr r ((new ≡ old) × P) → F good → F old → F new
-of_either P F (Ok a) new good old h k x y = subst F (sym h) x
-of_either P F (Err e) new good old h k x y = subst F (sym k.0) y
+pub of_either : {A B X : Type 0} (F : X → Type 0) (r : Result A B) (new good old : X) → OnOk r (new ≡ good) → OnErr r (new ≡ old) → F good → F old → F new
+of_either F (Ok a) new good old h k x y = subst F (sym h) x
+of_either F (Err e) new good old h k x y = subst F (sym k) y
 
 -- what holds of the fault that a result is
 pub err_there : {A E : Type 0} (r : Result A E) (F : E → Type 0) (e : E) → IsErrAnd r (λ x. x ≡ e) → F e → IfErr r F
@@ -228,16 +228,16 @@ module _ {S : Type 0} {ops : Ops S} (laws : Laws ops) (n v : Memory S) (node fro
         | inr misfits ↦ absurd (none (subst R (misfit_stays node v.side from m misfits).1 why))
       ]
 
-  -- what it is refused by
-  pub err_posts : {A : Type 0} (r : Result A Fault) (Refuses : List Parcel → Fault → Type 0) (e : Fault) → ((f : Fault) → Refuses [] f → ⊥) → IsErrAnd r (λ x. x ≡ e) → IsGrowthPosted heard.posted e ⊎ Refuses heard.posted e
-      → IfErr r (λ f. IsGrowthPosted (memory_handled ops n from m).posted f ⊎ Refuses (memory_handled ops n from m).posted f)
-  err_posts r Refuses e none is why =
-      err_there r (λ f. IsGrowthPosted (memory_handled ops n from m).posted f ⊎ Refuses (memory_handled ops n from m).posted f) e is
-      (side_posts (λ ps. IsGrowthPosted ps e ⊎ Refuses ps e) (λ x. elim x [ inl grows ↦ no_address grows.0 | inr refuses ↦ none e refuses ]) why)
+  -- what it is refused by: the heap does not grow, so that something else is `Unasked`; or the post refuses
+  pub err_posts : {A : Type 0} (r : Result A Fault) (Unasked : Type 0) (Refuses : List Parcel → Fault → Type 0) (e : Fault) → ((f : Fault) → Refuses [] f → ⊥) → IsErrAnd r (λ x. x ≡ e) → (IsGrowthPosted heard.posted e × Unasked) ⊎ Refuses heard.posted e
+      → IfErr r (λ f. (IsGrowthPosted (memory_handled ops n from m).posted f × Unasked) ⊎ Refuses (memory_handled ops n from m).posted f)
+  err_posts r Unasked Refuses e none is why =
+      err_there r (λ f. (IsGrowthPosted (memory_handled ops n from m).posted f × Unasked) ⊎ Refuses (memory_handled ops n from m).posted f) e is
+      (side_posts (λ ps. (IsGrowthPosted ps e × Unasked) ⊎ Refuses ps e) (λ x. elim x [ inl grows ↦ no_address grows.0.0 | inr refuses ↦ none e refuses ]) why)
 
   -- the memory after the coherence had the message, or refused it
-  pub left_memory : {A E : Type 0} (P : Type 0) (fits : Bool) (r : Result A E) (new : Coherent S) (side : HeapSide) → fits ≡ heard.fits → fits ≡ false → side ≡ v.side
-      → OnOk r (new ≡ (handled ops v.coherence from m).after) → OnErr r ((new ≡ v.coherence) × P) → IsSoundMemory ops (record { coherence = new; asked = v.asked; side = side })
-  left_memory P fits r new side same is kept good bad =
+  pub left_memory : {A E : Type 0} (fits : Bool) (r : Result A E) (new : Coherent S) (side : HeapSide) → fits ≡ heard.fits → fits ≡ false → side ≡ v.side
+      → OnOk r (new ≡ (handled ops v.coherence from m).after) → OnErr r (new ≡ v.coherence) → IsSoundMemory ops (record { coherence = new; asked = v.asked; side = side })
+  left_memory fits r new side same is kept good bad =
       subst (λ x. IsSoundMemory ops (record { coherence = new; asked = v.asked; side = x })) (sym kept)
-      (of_either P (λ x. IsSoundMemory ops (record { coherence = x; asked = v.asked; side = v.side })) r new _ _ good bad (coherence_memory fits same is) l.sound)
+      (of_either (λ x. IsSoundMemory ops (record { coherence = x; asked = v.asked; side = v.side })) r new _ _ good bad (coherence_memory fits same is) l.sound)

@@ -5,6 +5,7 @@ ghost use Rattle.ivy_model.specs.Legal.{HasWidth};
 ghost use Rattle.ivy_model.specs.Wants.{IsWant};
 ghost use Rattle.ivy_wire.specs.Lent.{owned_content, owned_message};
 ghost use Rattle.ivy_wire.specs.Spelling.{FitsMessage};
+ghost use Rattle.ivy_serving.specs.Outcomes.{HasRefused};
 ghost use Rattle.ivy_memory.specs.Asking.{CallHasToAsk, IsOfHeap, MayBeRefused, asked_of};
 ghost use Rattle.ivy_memory.specs.HeapCalls.{IsGrowth, IsGrowthPosted};
 ghost use Rattle.ivy_memory.specs.Memories.{first_memory, reply_of, reply_at, HasToAskAgain, call_begun, polled, memory_handled, memory_told};
@@ -103,13 +104,14 @@ impl<M: Manager, A: Allocator + Copy> Memory<M, A> {
         requires config { P.config post.old ≡ self.old.coherence.config }
         requires node { P.node post.old ≡ self.old.coherence.me }
         ensures busy { IsErrOf result Fault.Busy ↔ IsSome self.old.asked }
+        ensures unasked { IsSome self.old.asked → post.new ≡ post.old }
         ensures few { length (call_begun M.ops self.old call number).posted ≤ 8 }
         ensures reply { IfOk result (λ answer. answer ≡ (call_begun M.ops self.old call number).answer) }
         ensures ok { OnOk result (self.new ≡ (call_begun M.ops self.old call number).after) }
         ensures posted { OnOk result (post.new ≡ P.after post.old (call_begun M.ops self.old call number).posted) }
         ensures took { OnOk result (P.takes post.old (call_begun M.ops self.old call number).posted) }
-        ensures err { OnErr result ((self.new ≡ self.old) × (post.new ≡ post.old)) }
-        ensures fault { self.old.asked ≡ None → IfErr result (λ fault. (IsOfHeap (asked_of self.old.coherence.config call) × IsGrowth (call_begun M.ops self.old call number).answer fault) ⊎ P.refuses post.old (call_begun M.ops self.old call number).posted fault) }
+        ensures err { OnErr result (self.new ≡ self.old) }
+        ensures fault { self.old.asked ≡ None → IfErr result (λ fault. (IsOfHeap (asked_of self.old.coherence.config call) × IsGrowth (call_begun M.ops self.old call number).answer fault × (post.new ≡ post.old)) ⊎ HasRefused P.refuses P.after_refusal post.old post.new (call_begun M.ops self.old call number).posted fault) }
         ensures sure { self.old.asked ≡ None → OnErr result (CallHasToAsk self.old.coherence call ⊎ MayBeRefused (asked_of self.old.coherence.config call) (call_begun M.ops self.old call number).answer) }
         ensures want { self.old.asked ≡ None → IfErr result IsWant }
     {
@@ -167,8 +169,8 @@ impl<M: Manager, A: Allocator + Copy> Memory<M, A> {
         ensures ok { OnOk result (self.new ≡ (polled M.ops self.old number).after) }
         ensures posted { OnOk result (post.new ≡ P.after post.old (polled M.ops self.old number).posted) }
         ensures took { OnOk result (P.takes post.old (polled M.ops self.old number).posted) }
-        ensures err { OnErr result ((self.new ≡ self.old) × (post.new ≡ post.old)) }
-        ensures fault { IfErr result (P.refuses post.old (polled M.ops self.old number).posted) }
+        ensures err { OnErr result (self.new ≡ self.old) }
+        ensures fault { IfErr result (HasRefused P.refuses P.after_refusal post.old post.new (polled M.ops self.old number).posted) }
         ensures sure { OnErr result (HasToAskAgain self.old) }
         ensures want { IfErr result IsWant }
     {
@@ -219,8 +221,8 @@ impl<M: Manager, A: Allocator + Copy> Memory<M, A> {
         ensures ok { OnOk result (self.new ≡ memory_told M.ops self.old from (owned_message message.entry)) }
         ensures posted { OnOk result (post.new ≡ P.after post.old (memory_handled M.ops self.old from (owned_message message.entry)).posted) }
         ensures took { OnOk result (P.takes post.old (memory_handled M.ops self.old from (owned_message message.entry)).posted) }
-        ensures err { OnErr result ((self.new ≡ self.old) × (post.new ≡ post.old)) }
-        ensures fault { IfErr result (λ fault. IsGrowthPosted (memory_handled M.ops self.old from (owned_message message.entry)).posted fault ⊎ P.refuses post.old (memory_handled M.ops self.old from (owned_message message.entry)).posted fault) }
+        ensures err { OnErr result (self.new ≡ self.old) }
+        ensures fault { IfErr result (λ fault. (IsGrowthPosted (memory_handled M.ops self.old from (owned_message message.entry)).posted fault × (post.new ≡ post.old)) ⊎ HasRefused P.refuses P.after_refusal post.old post.new (memory_handled M.ops self.old from (owned_message message.entry)).posted fault) }
         ensures want { IfErr result IsWant }
     {
         if self.side.handle(self.coherence.me(), from, &message, post)? {

@@ -1,5 +1,5 @@
 -- A call of the program that begins, or is asked for its reply, as the code has it.
-use Rattle.std.proofs.Common.{◌≡◌, ℕ, ◌+◌, ◌<◌, ◌≤◌, ◌^◌, ◌⊎◌, inl, inr, true, false, List, [], ◌∷◌, ◌++◌, length, Option, Some, None, refl, sym, ap, ◌∙◌, subst, arith, if◌then◌else◌}
+use Rattle.std.proofs.Common.{◌≡◌, ℕ, ◌+◌, ◌<◌, ◌≤◌, ◌^◌, ◌⊎◌, inl, inr, true, false, List, [], ◌∷◌, ◌++◌, length, Option, Some, None, Result, Ok, Err, OnErr, refl, sym, ap, ◌∙◌, subst, arith, if◌then◌else◌}
 use Rattle.std.proofs.lemmas.Bool.{lt-ltb}
 use Rattle.ivy_model.specs.declared.Call.{Call}
 use Rattle.ivy_model.specs.declared.Fault.{Fault}
@@ -70,6 +70,16 @@ tried-changes m k number (asked.Heap h) is = (refl, refl)
 polled-changes : (m : Memory Managed) (k : Call) (number : ℕ) (r : Option Reply) → ChangesNothing m (polled_as managed_ops m k number r)
 polled-changes m k number None is = tried-changes m k number (asked_of m.coherence.config k) is
 polled-changes m k number (Some r) is = absurd cc
+
+-- what holds where a result is none of the value
+pub on_err : {A E : Type 0} (r : Result A E) (P : Type 0) → P → OnErr r P
+on_err (Ok a) P h = tt
+on_err (Err e) P h = h
+
+-- an outbox that was not asked, or refused, is as it was
+pub unposted : {B C D : Type 0} {box new : Outbox} → (B × C × (new ≡ box)) ⊎ (D × (new ≡ box)) → new ≡ box
+unposted (inl grows) = grows.2
+unposted (inr refuses) = refuses.1
 
 -- few strings are added
 pub called_few : (box after : Outbox) (posted : List Parcel) → length posted ≤ 8 → after ≡ posted_by box posted → length after.waiting ≤ length box.waiting + 8
@@ -159,9 +169,9 @@ module _ (h : H) (k : Call) (a : CallBegun Managed) (calls : IsCall h k a) where
   cannot_call box f refuses spent = cannot_by box (subst (λ (x : Fault). IsRefused x box a.posted) spent refuses) a.answer refl
 
   -- nor is it for want of numbers that the heap does not grow
-  pub cannot_begin : (box : Outbox) (f : Fault) (answer : Answer) (of_heap : Type 0) → (of_heap × IsGrowth answer f) ⊎ Refuses box a.posted f → HasNoNumbers h box f
-  cannot_begin box f answer of_heap why spent =
+  pub cannot_begin : (box new : Outbox) (f : Fault) (answer : Answer) (of_heap : Type 0) → (of_heap × IsGrowth answer f × (new ≡ box)) ⊎ (Refuses box a.posted f × (new ≡ box)) → HasNoNumbers h box f
+  cannot_begin box new f answer of_heap why spent =
       elim why [
         | inl grows ↦ let not : fault.Memory ≡ fault.NumbersSpent = sym grows.1.1 ∙ spent in absurd cc
-        | inr refuses ↦ cannot_call box f refuses spent
+        | inr refuses ↦ cannot_call box f refuses.0 spent
       ]

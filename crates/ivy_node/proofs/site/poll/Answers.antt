@@ -8,7 +8,7 @@ pub returns-in_err-reply-clause-spent : goal.returns-in_err-reply-clause-spent
 returns-in_err-reply-clause-spent g c =
     err_there c.from_residual.result _ _ c.from_residual.ensures.1
     (cannot_call (host_of c.args.memory.now c.args.machine.now c.args.history.now.items) c.args.call _
-    (poll_call (host_of c.args.memory.now c.args.machine.now c.args.history.now.items) c.args.call (c.len.result + 1) (record { is = ap (λ n. n + 1) (search rules); below = omega (arith, c.args.history.now.small) }) c.requires.asked) c.args.outbox.now _ c.in_err-reply.ensures.fault)
+    (poll_call (host_of c.args.memory.now c.args.machine.now c.args.history.now.items) c.args.call (c.len.result + 1) (record { is = ap (λ n. n + 1) (search rules); below = omega (arith, c.args.history.now.small) }) c.requires.asked) c.args.outbox.now _ c.in_err-reply.ensures.fault.0)
 
 pub returns-in-Given-clause-ok : goal.returns-in-Given-clause-ok
 returns-in-Given-clause-ok g c =

@@ -1,4 +1,5 @@
 use Rattle.std.proofs.Common.{rules, ◌∙◌, sym, ap, arith}
+use Rattle.ivy_serving.specs.Outcomes.{HasRefused}
 use Rattle.ivy_memory.proofs.Beginning.{no_call, can, wide, had_memory, started_memory, busy_memory, busy_is, call_posts, few_posted, err_refuses, call_asks, heap_memory}
 use Rattle.ivy_memory.proofs.memory.Memory.begin.Goals as goal
 
@@ -41,7 +42,7 @@ returns-in-Busy-clause-posted g c =
 
 pub returns-in_err-out-in-Word-clause-fault : goal.returns-in_err-out-in-Word-clause-fault
 returns-in_err-out-in-Word-clause-fault g c =
-    λ idle. err_refuses c.from_residual.result _ (g.P.Post.refuses c.args.post.now) _ _ _ (call_posts g.met.M.Manager.laws _ _ c.config.result c.args.call c.args.number c.in-Word.page c.in-Word.word (record { same = c.self.view_is; sound = c.self.invariant; config = c.config.ensures; idle = no_call _ _ c.self.view_is c.is_some.ensures c.if-is_some.false; legal = c.requires.width; least = c.requires.number; most = omega arith; asks = sym c.asked_of.ensures.is ∙ c.in-Word.is })) c.from_residual.ensures.1 c.in_err-out-in-Word.ensures.fault
+    λ idle. err_refuses c.from_residual.result _ (HasRefused g.P.Post.refuses g.P.Post.after_refusal c.args.post.now c.need.new.post) _ _ _ (call_posts g.met.M.Manager.laws _ _ c.config.result c.args.call c.args.number c.in-Word.page c.in-Word.word (record { same = c.self.view_is; sound = c.self.invariant; config = c.config.ensures; idle = no_call _ _ c.self.view_is c.is_some.ensures c.if-is_some.false; legal = c.requires.width; least = c.requires.number; most = omega arith; asks = sym c.asked_of.ensures.is ∙ c.in-Word.is })) c.from_residual.ensures.1 c.in_err-out-in-Word.ensures.fault
 
 pub returns-in_err-out-in-Word-clause-sure : goal.returns-in_err-out-in-Word-clause-sure
 returns-in_err-out-in-Word-clause-sure g c =

@@ -1,4 +1,5 @@
 use Rattle.std.proofs.Common.{IfErr, ◌∙◌, sym, ap, subst, arith}
+use Rattle.ivy_serving.specs.Outcomes.{HasRefused}
 use Rattle.ivy_memory.specs.Memories.{CallBegun}
 use Rattle.ivy_memory.proofs.Beginning.{err_there}
 use Rattle.ivy_memory.proofs.Polling.{retry_can, given_is, quiet_is, starts_is, waits_is, poll_memory, poll_posts, retry_asks, polled-few}
@@ -14,7 +15,7 @@ returns-in_err-out-clause-few g c = polled-few _ _ _ c.self.view_is c.self.invar
 
 pub returns-in_err-out-clause-fault : goal.returns-in_err-out-clause-fault
 returns-in_err-out-clause-fault g c =
-    subst (λ x. IfErr c.from_residual.result (g.P.Post.refuses c.args.post.now x))
+    subst (λ x. IfErr c.from_residual.result (HasRefused g.P.Post.refuses g.P.Post.after_refusal c.args.post.now c.need.new.post x))
     (poll_posts g.met.M.Manager.laws _ _ c.config.result c.in-Some.call c.args.number c.in-Word.page c.in-Word.word
     (record { same = c.self.view_is; sound = c.self.invariant; config = c.config.ensures; called = c.in-Some.is; untold = sym c.reply.ensures ∙ c.in_default-reply.is; least = c.requires.number; most = omega arith; asks = sym c.asked_of.ensures.is ∙ c.in-Word.is }))
     (err_there c.from_residual.result _ _ c.from_residual.ensures.1 c.in_err-out.ensures.fault)
