@@ -18,11 +18,7 @@ use ivy_wire::{Content, Message, Post};
 use std::alloc::Allocator;
 use std::marker::Model;
 
-/// The refusals of the heap: of no bytes, of more than there is room for, and of the end of a block that is not there.
-const ZERO_SIZE: u8 = 8;
-
-const NO_ROOM: u8 = 9;
-
+/// The refusal of the end of a block that is not there.
 const NOT_A_BLOCK: u8 = 10;
 
 /// A call of the heap.
@@ -105,39 +101,37 @@ fn serve<A: Allocator + Copy>(heap: &mut Heap<A>, call: HeapCall) -> Result<Repl
     }
 }
 
-/// The reply that the answer to an Alloc is, if the call can have it.
-fn block_told(size: u64, code: u8, addr: u64) -> Option<Reply>
-    ensures { result ≡ block_told size code addr }
+/// The reply that the answer to an Alloc is.
+fn block_told(code: u8, addr: u64) -> Reply
+    ensures { result ≡ block_told code addr }
 {
-    match (size, code) {
-        (0, ZERO_SIZE) => Some(Reply::Refused(ZERO_SIZE)),
-        (0, _) => None,
-        (_, 0) => Some(Reply::Value(addr)),
-        (_, NO_ROOM) => Some(Reply::Refused(NO_ROOM)),
-        (_, _) => None,
+    if code == 0 {
+        Reply::Value(addr)
+    } else {
+        Reply::Refused(code)
     }
 }
 
 /// The reply that the answer to a Free is.
-fn end_told(code: u8) -> Option<Reply>
+fn end_told(code: u8) -> Reply
     ensures { result ≡ end_told code }
 {
-    match code {
-        0 => Some(Reply::Done),
-        NOT_A_BLOCK => Some(Reply::Refused(NOT_A_BLOCK)),
-        _ => None,
+    if code == 0 {
+        Reply::Done
+    } else {
+        Reply::Refused(code)
     }
 }
 
-/// The reply that an answer of node 0 is, if the call can have it.
+/// The reply that an answer of node 0 is, if it answers such a call.
 fn reply_in(call: HeapCall, content: &Content<&[u8]>) -> Option<Reply>
     ensures { result ≡ reply_in call (owned_content content.now) }
 {
     match (call, content) {
-        (HeapCall::Alloc { size }, Content::AllocRep { code, addr }) => {
-            block_told(size, *code, *addr)
+        (HeapCall::Alloc { .. }, Content::AllocRep { code, addr }) => {
+            Some(block_told(*code, *addr))
         }
-        (HeapCall::Free { .. }, Content::FreeRep { code }) => end_told(*code),
+        (HeapCall::Free { .. }, Content::FreeRep { code }) => Some(end_told(*code)),
         _ => None,
     }
 }
@@ -293,8 +287,8 @@ impl<A: Allocator + Copy> HeapSide<A> {
         Ok(true)
     }
 
-    /// An answer of node 0 comes. It says whether the call that node 0 was asked for has this number and can have
-    /// that answer; else nothing changes.
+    /// An answer of node 0 comes. It says whether node 0 was asked for a call of this number that is so answered;
+    /// else nothing changes.
     fn learn(&mut self, number: u64, content: &Content<&[u8]>) -> bool
         ensures fits { result ≡ (learns self.old number (owned_content content.now) self.old.errand).fits }
         ensures after { self.new ≡ (learns self.old number (owned_content content.now) self.old.errand).after }
