@@ -204,10 +204,10 @@ module _ {S : Type 0} (ops : Ops S) (c : Config) (config : IsConfig c) (x : ℕ)
   call_waits : (k : Coherent S) (called : Call) (flat : ℕ → List ℕ) → n.memory.asked ≡ None → step_of n.process ≡ Asks called → k.done ≡ n.memory.coherence.done
       → ((p : ℕ) → p < c.pages → flat p ≡ flat_page c mem p)
       → ((page : ℕ) (word : Word) (number : ℕ) → k.locked ≡ Some page → WaitsAt (entry_at k.table page) word number → IsWordOf c called page word)
-      → Adds c mem x n (record n { memory = record n.memory { coherence = k; asked = Some called } }) ms flat
+      → Adds c mem x n (record n { memory = record n.memory { coherence = k; asked = Some called; number = length n.history + 1 } }) ms flat
   call_waits k called flat idle step done pages waiting =
       let untold : reply_owed n.memory.side.errand ms k.done ≡ None = word_owed k.done (idle_errand idle) ∙ ap reply_there (done ∙ good.memory.done idle) in
-      owing (record n { memory = record n.memory { coherence = k; asked = Some called } }) flat called None mem (asked_width n called step) refl pages
+      owing (record n { memory = record n.memory { coherence = k; asked = Some called; number = length n.history + 1 } }) flat called None mem (asked_width n called step) refl pages
       (ap (λ xs. n.history ++ xs) (owed-untold k.me (Some called) (reply_owed n.memory.side.errand ms k.done) untold)
       ∙ owing_history n.history (pending n ms) [] (owed-unasked (number_of n) n.memory.asked (reply_owed n.memory.side.errand ms n.memory.coherence.done) idle))
       (record {
@@ -220,11 +220,11 @@ module _ {S : Type 0} (ops : Ops S) (c : Config) (config : IsConfig c) (x : ℕ)
 
   -- node 0 is asked for a call of the heap
   errand_waits : (called : Call) (k : HeapCall) (number : ℕ) (flat : ℕ → List ℕ) → flat ≡ f → n.memory.asked ≡ None → step_of n.process ≡ Asks called → ms ≡ []
-      → Adds c mem x n (record n { memory = record n.memory { asked = Some called; side = record n.memory.side { errand = Some (errand.Asked k number) } } }) ms flat
+      → Adds c mem x n (record n { memory = record n.memory { asked = Some called; number = number; side = record n.memory.side { errand = Some (errand.Asked k number) } } }) ms flat
   errand_waits called k number flat same idle step none =
       let untold : reply_owed (Some (errand.Asked k number)) ms n.memory.coherence.done ≡ None
       = ap (λ (l : List Message). reply_owed (Some (errand.Asked k number)) l n.memory.coherence.done) none ∙ ap reply_there (good.memory.done idle) in
-      owing (record n { memory = record n.memory { asked = Some called; side = record n.memory.side { errand = Some (errand.Asked k number) } } }) flat called None mem (asked_width n called step) refl (same_pages flat same)
+      owing (record n { memory = record n.memory { asked = Some called; number = number; side = record n.memory.side { errand = Some (errand.Asked k number) } } }) flat called None mem (asked_width n called step) refl (same_pages flat same)
       (ap (λ xs. n.history ++ xs) (owed-untold (number_of n) (Some called) (reply_owed (Some (errand.Asked k number)) ms n.memory.coherence.done) untold)
       ∙ owing_history n.history (pending n ms) [] (owed-unasked (number_of n) n.memory.asked (reply_owed n.memory.side.errand ms n.memory.coherence.done) idle))
       (record {
@@ -241,10 +241,10 @@ module _ {S : Type 0} (ops : Ops S) (c : Config) (config : IsConfig c) (x : ℕ)
 
     -- a word that is carried out at once gives the call's reply, or none yet
     hit_adds : (e : Outcome (Host S)) (flat : ℕ → List ℕ) (o : Option Reply) (new : model.Memory) → begun_now.after.done ≡ n.memory.coherence.done → begun_now.after.locked ≡ n.memory.coherence.locked
-        → Answers c mem called o new → ((p : ℕ) → p < c.pages → flat p ≡ flat_page c new p) → new.blocks ≡ mem.blocks → begins_as n called (answered n.memory called begun_now o) ≡ Some e → Adds c mem x n e.after ms flat
+        → Answers c mem called o new → ((p : ℕ) → p < c.pages → flat p ≡ flat_page c new p) → new.blocks ≡ mem.blocks → begins_as n called (answered n.memory called (length n.history + 1) begun_now o) ≡ Some e → Adds c mem x n e.after ms flat
     hit_adds e flat None new done locked given pages blocks is =
         subst (λ (z : Outcome (Host S)). Adds c mem x n z.after ms flat)
-        (same_Some (record { after = record n { memory = record n.memory { coherence = begun_now.after; asked = Some called } }; posted = begun_now.posted }) e is)
+        (same_Some (record { after = record n { memory = record n.memory { coherence = begun_now.after; asked = Some called; number = length n.history + 1 } }; posted = begun_now.posted }) e is)
         (call_waits begun_now.after called flat idle step done (λ p inside. pages p inside ∙ ap (λ m. flat_page c m p) given)
         (λ q w number lock there. absurd (none-some q (sym (good.memory.locked idle) ∙ sym locked ∙ lock))))
     hit_adds e flat (Some r) new done locked given pages blocks is =
@@ -252,16 +252,16 @@ module _ {S : Type 0} (ops : Ops S) (c : Config) (config : IsConfig c) (x : ℕ)
         (same_Some (record { after = recorded n (record n.memory { coherence = begun_now.after; asked = None }) called r; posted = begun_now.posted }) e is)
         (records_call (record n.memory { coherence = begun_now.after; asked = None }) called r new idle step refl given flat pages (blocks_stay blocks refl))
 
-    starts_adds : (e : Outcome (Host S)) (flat : ℕ → List ℕ) (number : ℕ) → begins_as n called (needed n.memory called begun_now begun_now.need) ≡ Some e
+    starts_adds : (e : Outcome (Host S)) (flat : ℕ → List ℕ) (number : ℕ) → begins_as n called (needed n.memory called (length n.history + 1) begun_now begun_now.need) ≡ Some e
         → Starts (Copies {S = S} c) c x f page word number n.memory.coherence begun_now.need begun_now.after flat → Adds c mem x n e.after ms flat
     starts_adds e flat number is (busy q lock needs after same) = absurd (none-some q (sym (good.memory.locked idle) ∙ lock))
     starts_adds e flat number is (hits out needs done locked carries) =
         let k : Came c mem called out flat = came page word out flat called (asked_width n called step) of carries in
-        hit_adds e flat (reply_of out) k.new done locked k.gives k.shows k.blocks (sym (ap (λ d. begins_as n called (needed n.memory called begun_now d)) needs) ∙ is)
+        hit_adds e flat (reply_of out) k.new done locked k.gives k.shows k.blocks (sym (ap (λ d. begins_as n called (needed n.memory called (length n.history + 1) begun_now d)) needs) ∙ is)
     starts_adds e flat number is (waits needs same done locked there) =
         subst (λ (z : Outcome (Host S)). Adds c mem x n z.after ms flat)
-        (same_Some (record { after = record n { memory = record n.memory { coherence = begun_now.after; asked = Some called } }; posted = begun_now.posted }) e
-        (sym (ap (λ d. begins_as n called (needed n.memory called begun_now d)) needs) ∙ is))
+        (same_Some (record { after = record n { memory = record n.memory { coherence = begun_now.after; asked = Some called; number = length n.history + 1 } }; posted = begun_now.posted }) e
+        (sym (ap (λ d. begins_as n called (needed n.memory called (length n.history + 1) begun_now d)) needs) ∙ is))
         (call_waits begun_now.after called flat idle step done (same_pages flat same)
         (λ q w j lock waiting. (
         let at : page ≡ q = same_Some page q (sym locked ∙ lock) in

@@ -198,14 +198,14 @@ pub heap_begun-few : (me : ℕ) (s : HeapSide) (k : HeapCall) (number : ℕ) →
 heap_begun-few me s k number = few_if me s k number s.heap
 
 unserved_at : {S : Type 0} (m : Memory S) (k : Call) (number : ℕ) (h : HeapCall) (o : Option HeapState) → (begun_at m.coherence.me m.side h number o).answer ≡ Unserved
-    → ((heap_answered m k (begun_at m.coherence.me m.side h number o)).after ≡ m) × ((begun_at m.coherence.me m.side h number o).posted ≡ [])
+    → ((heap_answered m k number (begun_at m.coherence.me m.side h number o)).after ≡ m) × ((begun_at m.coherence.me m.side h number o).posted ≡ [])
 unserved_at m k number h (Some g) is = absurd cc
 unserved_at m k number h None is =
-    either (λ (b : HeapBegun). b.answer ≡ Unserved → ((heap_answered m k b).after ≡ m) × (b.posted ≡ [])) (nat_lt (number_in h) (2 ^ 64)) _ _ (λ asks. absurd cc) (λ none. (refl, refl)) is
+    either (λ (b : HeapBegun). b.answer ≡ Unserved → ((heap_answered m k number b).after ≡ m) × (b.posted ≡ [])) (nat_lt (number_in h) (2 ^ 64)) _ _ (λ asks. absurd cc) (λ none. (refl, refl)) is
 
 -- a call of the heap that does not begin changes nothing
 pub heap_unserved : {S : Type 0} (m : Memory S) (k : Call) (number : ℕ) (h : HeapCall) → (heap_begun m.coherence.me m.side h number).answer ≡ Unserved
-    → ((heap_answered m k (heap_begun m.coherence.me m.side h number)).after ≡ m) × ((heap_begun m.coherence.me m.side h number).posted ≡ [])
+    → ((heap_answered m k number (heap_begun m.coherence.me m.side h number)).after ≡ m) × ((heap_begun m.coherence.me m.side h number).posted ≡ [])
 heap_unserved m k number h is = unserved_at m k number h m.side.heap is
 
 -- the heap wants memory only where there is room for the block: it has not refused it with 8 or 9

@@ -1,5 +1,5 @@
 -- What holds of a node's memory, whatever comes to it.
-use Rattle.std.specs.Prelude.{◌≡◌, ◌≢◌, ℕ, Option, None, Some}
+use Rattle.std.specs.Prelude.{◌≡◌, ◌≢◌, ◌≤◌, ◌<◌, ◌^◌, ℕ, Option, None, Some}
 use Rattle.ivy_model.specs.declared.Config.{Config}
 use Rattle.ivy_model.specs.declared.Call.{Call}
 use Rattle.ivy_model.specs.Legal.{HasWidth}
@@ -34,13 +34,16 @@ pub record IsSoundSide (c : Config) (me : ℕ) (in_progress : Option Call) (s : 
   pub errand : IsErrandOf c in_progress s.errand
 
 -- Without a call in progress no word waits, and none was carried out; nor does a word wait beside one carried out, or
--- beside a call of the heap that node 0 was asked for. The call in progress has a width that the memory knows.
+-- beside a call of the heap that node 0 was asked for. The call in progress has a width that the memory knows, and a
+-- number that a message can carry.
 pub record IsSoundMemory {S : Type 0} (ops : Ops S) (m : Memory S) : Type 0 where
   pub coherent : IsSound ops m.coherence
   pub done : m.asked ≡ None → m.coherence.done ≡ None
   pub locked : m.asked ≡ None → m.coherence.locked ≡ None
   pub answered : (o : Out) → m.coherence.done ≡ Some o → m.coherence.locked ≡ None
   pub width : (call : Call) → m.asked ≡ Some call → HasWidth call
+  pub numbered : (call : Call) → m.asked ≡ Some call → 1 ≤ m.number
+  pub small : m.number < 2 ^ 64
   pub side : IsSoundSide m.coherence.config m.coherence.me m.asked m.side
   pub apart : (e : Errand) → m.side.errand ≡ Some e
       → (m.coherence.locked ≡ None) × (m.coherence.done ≡ None)

@@ -239,6 +239,7 @@ impl<A: Allocator + Copy> HeapSide<A> {
         requires node { P.node post.old ≡ me }
         requires here { me < (P.config post.old).nodes }
         requires away { self.old.heap ≡ None → me ≢ 0 }
+        ensures begins { IfOk result (λ answer. answer ≢ Answer.Unserved) }
         ensures reply { IfOk result (λ answer. answer ≡ (heap_begun me self.old call number).answer) }
         ensures ok { OnOk result (self.new ≡ (heap_begun me self.old call number).after) }
         ensures posted { OnOk result (post.new ≡ P.after post.old (heap_begun me self.old call number).posted) }

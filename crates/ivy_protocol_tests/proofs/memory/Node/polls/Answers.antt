@@ -6,7 +6,7 @@ use Rattle.ivy_protocol_tests.proofs.memory.Node.polls.Goals.{in-Ok, in-Err}
 
 pub invariant_of-self : goal.invariant_of-self
 invariant_of-self g c =
-    let same = polled-same fixed_ops c.self.inside.memory c.args.number in
+    let same = polled-same fixed_ops c.self.inside.memory in
     elim c.match-poll_reply.branch [
       | in-Ok w ↦ (
         ap (λ x. x.coherence.config) w.in-Ok.ensures.ok ∙ same.config ∙ c.self.invariant.0,
