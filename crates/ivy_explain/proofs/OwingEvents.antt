@@ -1,5 +1,6 @@
 -- What each event of a node adds to the order of all records, but for a message of the heap. For every manager.
-use Rattle.std.proofs.Common.{◌≡◌, ◌<◌, ℕ, ◌+◌, List, [], ◌++◌, length, Option, Some, None, refl, ap, sym, ◌∙◌, subst, if◌then◌else◌, ◌==◌, true}
+use Rattle.std.proofs.Common.{◌≡◌, ◌<◌, ℕ, ◌+◌, List, [], ◌++◌, length, Option, Some, None, refl, ap, sym, ◌∙◌, subst, inl, inr, if◌then◌else◌, ◌==◌, true}
+use Rattle.std.proofs.lemmas.Bool.{cases_eq}
 use Rattle.std.proofs.lemmas.List.{append-nil}
 use Rattle.std.proofs.lemmas.Option.{same_Some, none-some}
 use Rattle.ivy_model.specs.declared.Config.{Config}
@@ -18,7 +19,7 @@ use Rattle.ivy_pagetable.specs.declared.Entry.TheVariants as entry
 use Rattle.ivy_pagetable.specs.declared.Out.{Out}
 use Rattle.ivy_pagetable.specs.declared.Word.{Word}
 use Rattle.ivy_pagetable.specs.Tables.{entry_at}
-use Rattle.ivy_pagetable.specs.Words.{carried_out}
+use Rattle.ivy_pagetable.specs.Words.{Carried, carried_out}
 use Rattle.ivy_pagetable.specs.Manager.{Ops}
 use Rattle.ivy_coherence.specs.Coherent.{Coherent}
 use Rattle.ivy_coherence.specs.Steps.{handled}
@@ -48,9 +49,9 @@ use Rattle.ivy_worlds.proofs.LiftedEvents.{WaitsAt, Carries, Tells, quiet, answe
 use Rattle.ivy_worlds.proofs.HostTurns.{asks as access, HostTurn, answers, tries_again, goes_on, refuses, asks_for, serves_heap, asks_heap, without_call}
 use Rattle.ivy_worlds.proofs.LiftedHosts.{TurnTells}
 use Rattle.ivy_explain.specs.Copied.{IsCopied}
-use Rattle.ivy_explain.proofs.CopiedWords.{bytes_there}
-use Rattle.ivy_explain.proofs.WordsServed.{Answers, IsServed}
-use Rattle.ivy_explain.proofs.CallsServed.{word_served, refusal_served}
+use Rattle.ivy_explain.proofs.CopiedWords.{with_page-here, with_page-other, bytes_there}
+use Rattle.ivy_memory.specs.Flat.{Answers, IsServed}
+use Rattle.ivy_memory.proofs.CallsServed.{word_served, refusal_served}
 use Rattle.ivy_explain.proofs.HeapServed.{memory_told, heap_served}
 use Rattle.ivy_explain.proofs.Owing.{owed, reply_owed, pending, told-owed, owed-unasked, owed-untold, owed-leads, owed-own, owed-other, told_history, served_history, owing_history, IsWordOf, IsRunning, GoOn, blocks_stay, blocks_change, Adds}
 
@@ -71,6 +72,13 @@ one_word (entry.AwaitAcks s) w v j k a b = sym a.0 ∙ b.0
 
 with_page-same : (f g : ℕ → List ℕ) (p q : ℕ) (b d : List ℕ) → b ≡ d → f q ≡ g q → with_page f p b q ≡ with_page g p d q
 with_page-same f g p q b d e h = ap (λ z. if q == p then z else f q) e ∙ ap (λ z. if q == p then d else z) h
+
+-- the pages after a call that one page's bytes came to
+served_pages : (c : Config) (old : model.Memory) (called : Call) (page : ℕ) (came : Carried) (s : IsServed c old called page came) (q : ℕ) → q < c.pages → flat_page c s.new q ≡ with_page (flat_page c old) page came.bytes q
+served_pages c old called page came s q inside = elim (cases_eq q page) [
+  | inl same ↦ ap (flat_page c s.new) same ∙ s.here ∙ sym (with_page-here (flat_page c old) page came.bytes q same)
+  | inr ne ↦ s.others q inside ne ∙ sym (with_page-other (flat_page c old) page came.bytes q ne)
+]
 
 -- what a word that was carried out came to
 record Came (c : Config) (mem : model.Memory) (called : Call) (out : Out) (pages : ℕ → List ℕ) : Type 0 where
@@ -153,7 +161,7 @@ module _ {S : Type 0} (ops : Ops S) (c : Config) (config : IsConfig c) (x : ℕ)
         shows = λ p inside.
             ap (λ g. g p) k.after
             ∙ with_page-same f (flat_page c mem) page p (carried_out word (f page)).bytes (carried_out word (flat_page c mem page)).bytes (ap (λ b. (carried_out word b).bytes) (shows page k.inside)) (shows p inside)
-            ∙ sym (served.pages p inside);
+            ∙ sym (served_pages c mem called page (carried_out word (flat_page c mem page)) served p inside);
         blocks = served.blocks;
       }
 
