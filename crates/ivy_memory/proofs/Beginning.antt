@@ -30,9 +30,9 @@ use Rattle.ivy_model.specs.declared.Fault.{Fault}
 use Rattle.ivy_memory.specs.HeapCalls.{IsAddressPosted, IsGrowthPosted, HeapBegun, HeapSide, HeapTold, heap_begun, heap_told}
 use Rattle.ivy_memory.specs.Memories.{Memory, CallBegun, needed, asked_after, number_after, heap_answered, begun_as, call_begun, MemoryEffect, by_side, by_coherence, memory_handled_as, memory_handled, memory_told}
 use Rattle.ivy_memory.proofs.Asking.{can_ask}
-use Rattle.ivy_memory.specs.Sound.{IsSoundMemory}
+use Rattle.ivy_memory.specs.Sound.{IsInProgress, IsSoundMemory}
 use Rattle.ivy_memory.proofs.Tame.{Begins, begun-begins, one_wide, had-sound, started-sound, told-sound, needed-posted, call-few, call-sound, told-few}
-use Rattle.ivy_memory.proofs.Sides.{misfit_stays}
+use Rattle.ivy_memory.proofs.Sides.{idle_words, word_words, misfit_stays}
 
 none_of : {A : Type 0} (o : Option A) → is_some o ≡ false → o ≡ None
 none_of None h = refl
@@ -116,14 +116,22 @@ module _ {S : Type 0} {ops : Ops S} (laws : Laws ops) where
     resting : v.asked ≡ None
     resting = ap (λ (x : Memory S). x.asked) l.same ∙ l.idle
 
-    pub had_memory : (new : Coherent S) (told : Need) (o : Out) (a : Option Call) (k : ℕ) → ((j : Call) → a ≡ Some j → HasWidth j) → ((j : Call) → a ≡ Some j → 1 ≤ k) → k < 2 ^ 64 → new ≡ access.after → told ≡ access.need → told ≡ need.Have o
+    -- the call is none of the heap
+    pub words_now : (h : HeapCall) → IsInProgress v.coherence.config (Some c) h → ⊥
+    words_now = word_words v.coherence.config c page w asking
+
+    -- nor is one in progress before
+    pub words_before : (h : HeapCall) → IsInProgress v.coherence.config v.asked h → ⊥
+    words_before = subst (λ x. (h : HeapCall) → IsInProgress v.coherence.config x h → ⊥) (sym resting) (idle_words v.coherence.config)
+
+    pub had_memory : (new : Coherent S) (told : Need) (o : Out) (a : Option Call) (k : ℕ) → ((j : Call) → a ≡ Some j → HasWidth j) → ((j : Call) → a ≡ Some j → 1 ≤ k) → k < 2 ^ 64 → ((h : HeapCall) → IsInProgress v.coherence.config a h → ⊥) → new ≡ access.after → told ≡ access.need → told ≡ need.Have o
         → IsSoundMemory ops (record { coherence = new; asked = a; number = k; side = v.side })
-    had_memory new told o a k wide least most is was had =
-        subst (λ x. IsSoundMemory ops (record { coherence = x; asked = a; number = k; side = v.side })) (sym is) (had-sound v access o a k wide least most l.sound resting access-begins access-sound (sym was ∙ had))
+    had_memory new told o a k wide least most words is was had =
+        subst (λ x. IsSoundMemory ops (record { coherence = x; asked = a; number = k; side = v.side })) (sym is) (had-sound v access o a k wide least most words l.sound resting access-begins access-sound (sym was ∙ had))
 
     pub started_memory : (new : Coherent S) → new ≡ access.after → IsSoundMemory ops (record { coherence = new; asked = Some c; number = number; side = v.side })
     started_memory new is =
-        subst (λ x. IsSoundMemory ops (record { coherence = x; asked = Some c; number = number; side = v.side })) (sym is) (started-sound v access c number l.legal l.least l.most l.sound resting access-begins access-sound)
+        subst (λ x. IsSoundMemory ops (record { coherence = x; asked = Some c; number = number; side = v.side })) (sym is) (started-sound v access c number l.legal l.least l.most words_now l.sound resting access-begins access-sound)
 
     -- the call in progress is that call
     pub wide : (j : Call) → Some c ≡ Some j → HasWidth j

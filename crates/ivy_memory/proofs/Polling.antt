@@ -29,6 +29,7 @@ use Rattle.ivy_memory.specs.HeapCalls.{HeapSide, closed}
 use Rattle.ivy_memory.specs.Memories.{Memory, CallBegun, HasToAskAgain, reply_of, reply_at, taken_out, answered, unserved, needed, again_unless, again, tried_as, polled_as, polled_at, polled}
 use Rattle.ivy_memory.specs.Sound.{IsSoundMemory}
 use Rattle.ivy_memory.proofs.Asking.{can_ask}
+use Rattle.ivy_memory.proofs.Sides.{word_words}
 use Rattle.ivy_memory.proofs.Tame.{SameNode, Begins, begun-begins, taken-sound, with_done-sound, again-sound, KeepsMemory, IsBegun, again-begun, unserved-begun}
 
 -- the call in progress as the definitions have it
@@ -124,21 +125,21 @@ module _ {S : Type 0} {ops : Ops S} (laws : Laws ops) (m : Memory S) (k : Call) 
   quiet-keeps : IsSoundMemory ops m × All (FitsParcel m.coherence.config m.coherence.me) []
   quiet-keeps = (s, all_none (FitsParcel m.coherence.config m.coherence.me))
 
-  tried-keeps : (x : Asked) → CanAsk m.coherence.config x
+  tried-keeps : (x : Asked) → asked_of m.coherence.config k ≡ x → CanAsk m.coherence.config x
       → IsSoundMemory ops (tried_as ops m k x).after × All (FitsParcel m.coherence.config m.coherence.me) (tried_as ops m k x).posted
-  tried-keeps (asked.Refused code) can = quiet-keeps
-  tried-keeps (asked.Word page w) can =
+  tried-keeps (asked.Refused code) of can = quiet-keeps
+  tried-keeps (asked.Word page w) of can =
       let b : Begun S = retry ops m k page w in
       let bs : Begins (taken_out m).coherence b = marks ops m k page w in
       let kept = begun-keeps laws (taken_out m).coherence page w m.number (with_done-sound m.coherence None s.coherent) can.0 can.1 (s.numbered k called) s.small in (
-        again-sound m k m.number b b.need (s.width k called) (s.numbered k called) s.small s bs kept.0 refl,
+        again-sound m k m.number b b.need (s.width k called) (s.numbered k called) s.small (word_words m.coherence.config k page w of) s bs kept.0 refl,
         subst (All (FitsParcel m.coherence.config m.coherence.me)) (sym (again-posted m k m.number b b.need bs refl)) kept.1,
       )
-  tried-keeps (asked.Heap k) can = quiet-keeps
+  tried-keeps (asked.Heap k) of can = quiet-keeps
 
   as-keeps : (r : Option Reply) → reply_at m ≡ r
       → IsSoundMemory ops (polled_as ops m k r).after × All (FitsParcel m.coherence.config m.coherence.me) (polled_as ops m k r).posted
-  as-keeps None is = tried-keeps (asked_of m.coherence.config k) (can_ask m.coherence.config k s.coherent.limits (s.width k called))
+  as-keeps None is = tried-keeps (asked_of m.coherence.config k) refl (can_ask m.coherence.config k s.coherent.limits (s.width k called))
   as-keeps (Some r) is = (taken-sound m r s is, all_none (FitsParcel m.coherence.config m.coherence.me))
 
   -- what asking for the reply keeps

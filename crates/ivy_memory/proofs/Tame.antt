@@ -45,8 +45,8 @@ use Rattle.ivy_memory.specs.Asking.{CanAsk, asked_of}
 use Rattle.ivy_memory.specs.HeapCalls.{HeapBegun, HeapTold, number_in, request, begun_at, heap_begun, heap_told, reply_told}
 use Rattle.ivy_memory.specs.Memories.{Memory, CallBegun, MemoryEffect, first_memory, reply_of, reply_there, first_reply, reply_at, taken_out, answered, unserved, needed, again_unless, again, asked_after, number_after, heap_answered, begun_as, call_begun, by_side, by_coherence, memory_handled, memory_told}
 use Rattle.ivy_memory.proofs.Asking.{can_ask}
-use Rattle.ivy_memory.specs.Sound.{IsSoundMemory, IsSoundSide}
-use Rattle.ivy_memory.proofs.Sides.{KeepsSide, either, no_errand, same_side, quiet_side, closed_side, kept_side, request_sent, told-keeps, first_sound-side, heap_begun-few}
+use Rattle.ivy_memory.specs.Sound.{IsInProgress, IsSoundMemory, IsSoundSide}
+use Rattle.ivy_memory.proofs.Sides.{KeepsSide, either, no_errand, same_side, quiet_side, idle_words, word_words, closed_side, kept_side, request_sent, told-keeps, first_sound-side, heap_begun-few}
 
 -- the node stays who it is
 pub record SameNode {S : Type 0} (old new : Coherent S) : Type 0 where
@@ -195,15 +195,15 @@ module _ {S : Type 0} {ops : Ops S} where
   pub idle_side : (m : Memory S) → IsSoundMemory ops m → m.asked ≡ None → m.side.errand ≡ None
   idle_side m s idle = no_errand m.coherence.config m.asked m.side.errand idle s.side.errand
 
-  started_side : (m : Memory S) (b : Begun S) (a : Option Call) → IsSoundMemory ops m → m.asked ≡ None → Begins m.coherence b → IsSoundSide b.after.config b.after.me a m.side
-  started_side m b a s idle bs =
-      quiet_side b.after.config b.after.me m.asked a m.side (idle_side m s idle)
+  started_side : (m : Memory S) (b : Begun S) (a : Option Call) → ((k : HeapCall) → IsInProgress m.coherence.config a k → ⊥) → IsSoundMemory ops m → m.asked ≡ None → Begins m.coherence b → IsSoundSide b.after.config b.after.me a m.side
+  started_side m b a words s idle bs =
+      quiet_side b.after.config b.after.me m.asked a m.side (idle_side m s idle) (subst (λ d. (k : HeapCall) → IsInProgress d a k → ⊥) (sym bs.same.config) words)
       (same_side m.coherence.config b.after.config m.coherence.me b.after.me m.asked m.side bs.same.config bs.same.me s.side)
 
   -- the memory after an access, by what it was told
-  pub had-sound : (m : Memory S) (b : Begun S) (o : Out) (a : Option Call) (number : ℕ) → ((j : Call) → a ≡ Some j → HasWidth j) → ((j : Call) → a ≡ Some j → 1 ≤ number) → number < 2 ^ 64 → IsSoundMemory ops m → m.asked ≡ None → Begins m.coherence b → IsSound ops b.after → b.need ≡ need.Have o
+  pub had-sound : (m : Memory S) (b : Begun S) (o : Out) (a : Option Call) (number : ℕ) → ((j : Call) → a ≡ Some j → HasWidth j) → ((j : Call) → a ≡ Some j → 1 ≤ number) → number < 2 ^ 64 → ((k : HeapCall) → IsInProgress m.coherence.config a k → ⊥) → IsSoundMemory ops m → m.asked ≡ None → Begins m.coherence b → IsSound ops b.after → b.need ≡ need.Have o
       → IsSoundMemory ops (record { coherence = b.after; asked = a; number = number; side = m.side })
-  had-sound m b o a number wide least most s idle bs good is = record {
+  had-sound m b o a number wide least most words s idle bs good is = record {
     width = wide;
     numbered = least;
     small = most;
@@ -211,13 +211,14 @@ module _ {S : Type 0} {ops : Ops S} where
     done = λ h. bs.done ∙ s.done idle;
     locked = λ h. bs.lock o is ∙ s.locked idle;
     answered = λ p h. bs.lock o is ∙ s.locked idle;
-    side = started_side m b a s idle bs;
+    side = started_side m b a words s idle bs;
+    under = λ k n h. absurd (none-some (errand.Asked k n) (sym (idle_side m s idle) ∙ h));
     apart = λ e h. absurd (none-some e (sym (idle_side m s idle) ∙ h));
   }
 
-  pub started-sound : (m : Memory S) (b : Begun S) (c : Call) (number : ℕ) → HasWidth c → 1 ≤ number → number < 2 ^ 64 → IsSoundMemory ops m → m.asked ≡ None → Begins m.coherence b → IsSound ops b.after
+  pub started-sound : (m : Memory S) (b : Begun S) (c : Call) (number : ℕ) → HasWidth c → 1 ≤ number → number < 2 ^ 64 → ((k : HeapCall) → IsInProgress m.coherence.config (Some c) k → ⊥) → IsSoundMemory ops m → m.asked ≡ None → Begins m.coherence b → IsSound ops b.after
       → IsSoundMemory ops (record { coherence = b.after; asked = Some c; number = number; side = m.side })
-  started-sound m b c number wide least most s idle bs good = record {
+  started-sound m b c number wide least most words s idle bs good = record {
     width = one_wide c wide;
     numbered = λ j h. least;
     small = most;
@@ -225,20 +226,21 @@ module _ {S : Type 0} {ops : Ops S} where
     done = λ h. absurd (none-some c (sym h));
     locked = λ h. absurd (none-some c (sym h));
     answered = λ o h. absurd (none-some o (sym (bs.done ∙ s.done idle) ∙ h));
-    side = started_side m b (Some c) s idle bs;
+    side = started_side m b (Some c) words s idle bs;
+    under = λ k n h. absurd (none-some (errand.Asked k n) (sym (idle_side m s idle) ∙ h));
     apart = λ e h. absurd (none-some e (sym (idle_side m s idle) ∙ h));
   }
 
-  answered-sound : (m : Memory S) (c : Call) (number : ℕ) (b : Begun S) (o : Out) (r : Option Reply) → HasWidth c → 1 ≤ number → number < 2 ^ 64 → IsSoundMemory ops m → m.asked ≡ None → Begins m.coherence b → IsSound ops b.after → b.need ≡ need.Have o
+  answered-sound : (m : Memory S) (c : Call) (number : ℕ) (b : Begun S) (o : Out) (r : Option Reply) → HasWidth c → 1 ≤ number → number < 2 ^ 64 → ((k : HeapCall) → IsInProgress m.coherence.config (Some c) k → ⊥) → IsSoundMemory ops m → m.asked ≡ None → Begins m.coherence b → IsSound ops b.after → b.need ≡ need.Have o
       → IsSoundMemory ops (answered m c number b r).after
-  answered-sound m c number b o None wide least most s idle bs good is = had-sound m b o (Some c) number (one_wide c wide) (λ j h. least) most s idle bs good is
-  answered-sound m c number b o (Some r) wide least most s idle bs good is = had-sound m b o None m.number (λ j h. absurd (none-some j h)) (λ j h. absurd (none-some j h)) s.small s idle bs good is
+  answered-sound m c number b o None wide least most words s idle bs good is = had-sound m b o (Some c) number (one_wide c wide) (λ j h. least) most words s idle bs good is
+  answered-sound m c number b o (Some r) wide least most words s idle bs good is = had-sound m b o None m.number (λ j h. absurd (none-some j h)) (λ j h. absurd (none-some j h)) s.small (idle_words m.coherence.config) s idle bs good is
 
-  needed-sound : (m : Memory S) (c : Call) (number : ℕ) (b : Begun S) (n : Need) → HasWidth c → 1 ≤ number → number < 2 ^ 64 → IsSoundMemory ops m → m.asked ≡ None → Begins m.coherence b → IsSound ops b.after → b.need ≡ n
+  needed-sound : (m : Memory S) (c : Call) (number : ℕ) (b : Begun S) (n : Need) → HasWidth c → 1 ≤ number → number < 2 ^ 64 → ((k : HeapCall) → IsInProgress m.coherence.config (Some c) k → ⊥) → IsSoundMemory ops m → m.asked ≡ None → Begins m.coherence b → IsSound ops b.after → b.need ≡ n
       → IsSoundMemory ops (needed m c number b n).after
-  needed-sound m c number b (need.Have o) wide least most s idle bs good is = answered-sound m c number b o (reply_of o) wide least most s idle bs good is
-  needed-sound m c number b need.Started wide least most s idle bs good is = started-sound m b c number wide least most s idle bs good
-  needed-sound m c number b need.Busy wide least most s idle bs good is = s
+  needed-sound m c number b (need.Have o) wide least most words s idle bs good is = answered-sound m c number b o (reply_of o) wide least most words s idle bs good is
+  needed-sound m c number b need.Started wide least most words s idle bs good is = started-sound m b c number wide least most words s idle bs good
+  needed-sound m c number b need.Busy wide least most words s idle bs good is = s
 
   pub told-memory : (m : Memory S) (new : Coherent S) → IsSoundMemory ops m → Told m.coherence new → IsSound ops new → IsSoundMemory ops (record { coherence = new; asked = m.asked; number = m.number; side = m.side })
   told-memory m new s told good =
@@ -251,6 +253,7 @@ module _ {S : Type 0} {ops : Ops S} where
           width = s.width;
           numbered = s.numbered;
           small = s.small;
+          under = s.under;
           side = same_side m.coherence.config new.config m.coherence.me new.me m.asked m.side told.0.config told.0.me s.side;
           apart = λ e h. (x.0 ∙ (s.apart e h).0, x.1 ∙ (s.apart e h).1);
         }
@@ -262,6 +265,7 @@ module _ {S : Type 0} {ops : Ops S} where
           width = s.width;
           numbered = s.numbered;
           small = s.small;
+          under = s.under;
           side = same_side m.coherence.config new.config m.coherence.me new.me m.asked m.side told.0.config told.0.me s.side;
           apart = λ e h. absurd (none-some x.0 (sym (s.apart e h).0 ∙ x.1));
         }
@@ -296,7 +300,8 @@ module _ {S : Type 0} {ops : Ops S} where
     width = λ j h. absurd (none-some j h);
     numbered = λ j h. absurd (none-some j h);
     small = s.small;
-    side = closed_side m.coherence.config m.coherence.me m.asked None m.side s.side;
+    side = closed_side m.coherence.config m.coherence.me m.asked m.side s.side;
+    under = λ k n h. absurd (none-some (errand.Asked k n) h);
     apart = λ e h. absurd (none-some e h);
   }
 
@@ -308,16 +313,16 @@ module _ {S : Type 0} {ops : Ops S} where
   pub taken-sound : (m : Memory S) (r : Reply) → IsSoundMemory ops m → reply_at m ≡ Some r → IsSoundMemory ops (taken_out m)
   taken-sound m r s there = without-sound m s (free_at m r s m.side.errand refl there)
 
-  again_unless-sound : (m : Memory S) (c : Call) (number : ℕ) (b : Begun S) (o : Out) (r : Option Reply) → HasWidth c → 1 ≤ number → number < 2 ^ 64 → IsSoundMemory ops m → Begins (taken_out m).coherence b → IsSound ops b.after → b.need ≡ need.Have o
+  again_unless-sound : (m : Memory S) (c : Call) (number : ℕ) (b : Begun S) (o : Out) (r : Option Reply) → HasWidth c → 1 ≤ number → number < 2 ^ 64 → ((k : HeapCall) → IsInProgress m.coherence.config (Some c) k → ⊥) → IsSoundMemory ops m → Begins (taken_out m).coherence b → IsSound ops b.after → b.need ≡ need.Have o
       → IsSoundMemory ops (again_unless m (answered (taken_out m) c number b r) r).after
-  again_unless-sound m c number b o None wide least most s bs good is = s
-  again_unless-sound m c number b o (Some r) wide least most s bs good is = answered-sound (taken_out m) c number b o (Some r) wide least most (without-sound m s (bs.free o is)) refl bs good is
+  again_unless-sound m c number b o None wide least most words s bs good is = s
+  again_unless-sound m c number b o (Some r) wide least most words s bs good is = answered-sound (taken_out m) c number b o (Some r) wide least most words (without-sound m s (bs.free o is)) refl bs good is
 
-  pub again-sound : (m : Memory S) (c : Call) (number : ℕ) (b : Begun S) (n : Need) → HasWidth c → 1 ≤ number → number < 2 ^ 64 → IsSoundMemory ops m → Begins (taken_out m).coherence b → IsSound ops b.after → b.need ≡ n
+  pub again-sound : (m : Memory S) (c : Call) (number : ℕ) (b : Begun S) (n : Need) → HasWidth c → 1 ≤ number → number < 2 ^ 64 → ((k : HeapCall) → IsInProgress m.coherence.config (Some c) k → ⊥) → IsSoundMemory ops m → Begins (taken_out m).coherence b → IsSound ops b.after → b.need ≡ n
       → IsSoundMemory ops (again m (needed (taken_out m) c number b n) n).after
-  again-sound m c number b (need.Have o) wide least most s bs good is = again_unless-sound m c number b o (reply_of o) wide least most s bs good is
-  again-sound m c number b need.Started wide least most s bs good is = started-sound (taken_out m) b c number wide least most (without-sound m s (bs.start is)) refl bs good
-  again-sound m c number b need.Busy wide least most s bs good is = s
+  again-sound m c number b (need.Have o) wide least most words s bs good is = again_unless-sound m c number b o (reply_of o) wide least most words s bs good is
+  again-sound m c number b need.Started wide least most words s bs good is = started-sound (taken_out m) b c number wide least most words (without-sound m s (bs.start is)) refl bs good
+  again-sound m c number b need.Busy wide least most words s bs good is = s
 
 -- what a call that begins keeps
 abbrev pub KeepsMemory : {S : Type 0} → Ops S → Memory S → CallBegun S → Type 0
@@ -334,6 +339,7 @@ module _ {S : Type 0} {ops : Ops S} (laws : Laws ops) where
     numbered = λ j h. absurd (none-some j h);
     small = omega arith;
     side = first_sound-side c me;
+    under = λ k n h. absurd (none-some (errand.Asked k n) h);
     apart = λ e h. absurd (none-some e h);
   }
 
@@ -348,6 +354,7 @@ module _ {S : Type 0} {ops : Ops S} (laws : Laws ops) where
     numbered = s.numbered;
     small = s.small;
     side = kept.sound;
+    under = λ k n h. s.under k n (kept.under k n h);
     apart = λ e h. (let d = kept.apart e h in s.apart d.0 d.1);
   }
 
@@ -380,7 +387,14 @@ module _ {S : Type 0} {ops : Ops S} (laws : Laws ops) where
         width = one_wide k wide;
         numbered = λ j x. least;
         small = most;
-        side = record { away = s.side.away; home = s.side.home; errand = record { call = k; asked = refl; of = of } };
+        side = record {
+          away = s.side.away;
+          home = s.side.home;
+          errand = record { call = k; asked = refl; of = of };
+          owed = λ j in_progress. (errand.Asked h number, refl);
+          none = λ zero. absurd (s.side.away away zero);
+        };
+        under = λ j n x. (let e : errand.Asked h number ≡ errand.Asked j n = same_Some _ _ x in let i : n ≡ number = cc in i);
         apart = λ e x. (s.locked idle, s.done idle);
       },
       all_one (FitsParcel m.coherence.config m.coherence.me) _ (request_sent m.coherence.config m.coherence.me m.asked m.side s.side s.coherent.limits s.coherent.here h number away small least most),
@@ -399,6 +413,7 @@ module _ {S : Type 0} {ops : Ops S} (laws : Laws ops) where
         numbered = s.numbered;
         small = s.small;
         side = kept_side m.coherence.config m.coherence.me m.asked m.side g h there s.side;
+        under = s.under;
         apart = s.apart;
       },
       all_none (FitsParcel m.coherence.config m.coherence.me),
@@ -413,7 +428,7 @@ module _ {S : Type 0} {ops : Ops S} (laws : Laws ops) where
       let b : Begun S = begun ops m.coherence page w number in
       let kept = begun-keeps laws m.coherence page w number s.coherent can.0 can.1 least most in
       let marks : Begins m.coherence b = begun-begins ops m.coherence page w number in
-      (needed-sound m k number b b.need wide least most s idle marks kept.0 refl, needed-fits m.coherence.config m.coherence.me m k number b b.need kept.1, needed-same m k number b b.need marks.same)
+      (needed-sound m k number b b.need wide least most (word_words m.coherence.config k page w of) s idle marks kept.0 refl, needed-fits m.coherence.config m.coherence.me m k number b b.need kept.1, needed-same m k number b b.need marks.same)
 
   -- a call that begins
   pub call-sound : (m : Memory S) (k : Call) (number : ℕ) → IsSoundMemory ops m → m.asked ≡ None → HasWidth k → 1 ≤ number → number < 2 ^ 64 → KeepsMemory ops m (call_begun ops m k number)

@@ -1,6 +1,6 @@
 -- The calls of the heap in an ordered world: the messages of the heap that are under way, and what they tell of the
 -- calls that node 0 was asked for.
-use Rattle.std.specs.Prelude.{◌≡◌, ◌≢◌, ◌⊎◌, ◌<◌, ℕ, not, List, [], ◌∷◌, drop, filter, slice_get}
+use Rattle.std.specs.Prelude.{◌≡◌, ◌≢◌, ◌⊎◌, ◌<◌, ◌+◌, ℕ, length, not, List, [], ◌∷◌, drop, filter, slice_get}
 use Rattle.std.specs.Prelude.{Option, Some, None}
 use Rattle.ivy_model.specs.declared.Fault.TheVariants.{ZeroSize, NoRoom}
 use Rattle.ivy_model.specs.declared.Reply.{Reply}
@@ -14,6 +14,7 @@ use Rattle.ivy_memory.specs.declared.HeapCall.TheVariants.{Alloc, Free}
 use Rattle.ivy_memory.specs.declared.Errand.{Errand}
 use Rattle.ivy_memory.specs.declared.Errand.TheVariants as errand
 use Rattle.ivy_memory.specs.HeapCalls.{is_of_pages, request, reply_in}
+use Rattle.ivy_memory.specs.Sound.{IsInProgress}
 use Rattle.ivy_host.specs.Hosts.{Host}
 
 -- the messages of the heap among these, in their order
@@ -67,3 +68,17 @@ replied_by (Some (errand.Asked k number)) (m ∷ ms) = reply_in k m.content
 replied_by (Some (errand.Asked k number)) [] = None
 replied_by (Some (errand.Told r)) ms = Some r
 replied_by None ms = None
+
+-- node 0 was asked for this call under this number, or has answered
+abbrev pub IsErrandFor : HeapCall → ℕ → Option Errand → Type 0
+IsErrandFor k number None = ⊥
+IsErrandFor k number (Some (errand.Asked j n)) = (j ≡ k) × (n ≡ number)
+IsErrandFor k number (Some (errand.Told r)) = Unit {0}
+
+-- for each call of the heap that is in progress at a node, node 0 was asked, under the number of the call, or has
+-- answered; node 0 asks for none
+pub record HaveErrands {S : Type 0} (o : Ordered (Host S)) : Type 0 where
+  pub each : (i : ℕ) (h : Host S) (k : HeapCall) → slice_get o.cores i ≡ Some h
+      → IsInProgress h.memory.coherence.config h.memory.asked k
+      → IsErrandFor k (length h.history + 1) h.memory.side.errand
+  pub none : (h : Host S) → slice_get o.cores 0 ≡ Some h → h.memory.side.errand ≡ None

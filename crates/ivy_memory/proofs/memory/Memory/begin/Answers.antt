@@ -1,6 +1,6 @@
 use Rattle.std.proofs.Common.{rules, ◌∙◌, sym, ap, arith}
 use Rattle.ivy_serving.specs.Outcomes.{HasRefused}
-use Rattle.ivy_memory.proofs.Beginning.{no_call, can, wide, had_memory, started_memory, busy_memory, busy_is, not_busy, call_posts, few_posted, err_refuses, call_asks, heap_memory}
+use Rattle.ivy_memory.proofs.Beginning.{no_call, can, wide, words_now, words_before, had_memory, started_memory, busy_memory, busy_is, not_busy, call_posts, few_posted, err_refuses, call_asks, heap_memory}
 use Rattle.ivy_memory.proofs.memory.Memory.begin.Goals as goal
 
 pub need-requires-clause-page : goal.need-requires-clause-page
@@ -14,12 +14,12 @@ need-requires-clause-word g c =
 pub invariant_of-self-in-Some : goal.invariant_of-self-in-Some
 invariant_of-self-in-Some g c =
     had_memory g.met.M.Manager.laws _ _ c.config.result c.args.call c.args.number c.in-Word.page c.in-Word.word (record { same = c.self.view_is; sound = c.self.invariant; config = c.config.ensures; idle = no_call _ _ c.self.view_is c.is_some.ensures c.if-is_some.false; legal = c.requires.width; least = c.requires.number; most = omega arith; asks = sym c.asked_of.ensures.is ∙ c.in-Word.is })
-    c.need.new.self c.in_ok-out-in-Word.field-0 c.in-Have.out c.self.inside.asked c.self.inside.number c.self.invariant.width c.self.invariant.numbered c.self.invariant.small c.in_ok-out-in-Word.ensures.ok c.in_ok-out-in-Word.ensures.need c.in-Have.is
+    c.need.new.self c.in_ok-out-in-Word.field-0 c.in-Have.out c.self.inside.asked c.self.inside.number c.self.invariant.width c.self.invariant.numbered c.self.invariant.small (words_before g.met.M.Manager.laws _ _ c.config.result c.args.call c.args.number c.in-Word.page c.in-Word.word (record { same = c.self.view_is; sound = c.self.invariant; config = c.config.ensures; idle = no_call _ _ c.self.view_is c.is_some.ensures c.if-is_some.false; legal = c.requires.width; least = c.requires.number; most = omega arith; asks = sym c.asked_of.ensures.is ∙ c.in-Word.is })) c.in_ok-out-in-Word.ensures.ok c.in_ok-out-in-Word.ensures.need c.in-Have.is
 
 pub invariant_of-self-in-None : goal.invariant_of-self-in-None
 invariant_of-self-in-None g c =
     had_memory g.met.M.Manager.laws _ _ c.config.result c.args.call c.args.number c.in-Word.page c.in-Word.word (record { same = c.self.view_is; sound = c.self.invariant; config = c.config.ensures; idle = no_call _ _ c.self.view_is c.is_some.ensures c.if-is_some.false; legal = c.requires.width; least = c.requires.number; most = omega arith; asks = sym c.asked_of.ensures.is ∙ c.in-Word.is })
-    c.need.new.self c.in_ok-out-in-Word.field-0 c.in-Have.out _ c.args.number (wide g.met.M.Manager.laws _ _ c.config.result c.args.call c.args.number c.in-Word.page c.in-Word.word (record { same = c.self.view_is; sound = c.self.invariant; config = c.config.ensures; idle = no_call _ _ c.self.view_is c.is_some.ensures c.if-is_some.false; legal = c.requires.width; least = c.requires.number; most = omega arith; asks = sym c.asked_of.ensures.is ∙ c.in-Word.is })) (λ j h. c.requires.number) (omega arith) c.in_ok-out-in-Word.ensures.ok c.in_ok-out-in-Word.ensures.need c.in-Have.is
+    c.need.new.self c.in_ok-out-in-Word.field-0 c.in-Have.out _ c.args.number (wide g.met.M.Manager.laws _ _ c.config.result c.args.call c.args.number c.in-Word.page c.in-Word.word (record { same = c.self.view_is; sound = c.self.invariant; config = c.config.ensures; idle = no_call _ _ c.self.view_is c.is_some.ensures c.if-is_some.false; legal = c.requires.width; least = c.requires.number; most = omega arith; asks = sym c.asked_of.ensures.is ∙ c.in-Word.is })) (λ j h. c.requires.number) (omega arith) (words_now g.met.M.Manager.laws _ _ c.config.result c.args.call c.args.number c.in-Word.page c.in-Word.word (record { same = c.self.view_is; sound = c.self.invariant; config = c.config.ensures; idle = no_call _ _ c.self.view_is c.is_some.ensures c.if-is_some.false; legal = c.requires.width; least = c.requires.number; most = omega arith; asks = sym c.asked_of.ensures.is ∙ c.in-Word.is })) c.in_ok-out-in-Word.ensures.ok c.in_ok-out-in-Word.ensures.need c.in-Have.is
 
 pub invariant_of-self-in-Started : goal.invariant_of-self-in-Started
 invariant_of-self-in-Started g c =
