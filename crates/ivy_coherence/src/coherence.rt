@@ -6,7 +6,7 @@ ghost use Rattle.ivy_wire.specs.Spelling.{FitsMessage};
 ghost use Rattle.ivy_pagetable.specs.Tables.{entry_at, page_at};
 ghost use Rattle.ivy_pagetable.specs.Words.{IsWord, needs_write};
 ghost use Rattle.ivy_coherence.specs.Faults.{suffices, IsIdleAt, HasToAsk, fault_entry, fault_posted, begun};
-ghost use Rattle.ivy_serving.specs.Outcomes.{HasPosted};
+ghost use Rattle.ivy_serving.specs.Outcomes.{HasPosted, HasRefused};
 ghost use Rattle.ivy_coherence.specs.Sound.{first_coherent, IsSound};
 
 use crate::need::Need;
@@ -150,7 +150,7 @@ impl<M: Manager, A: Allocator> Coherence<M, A> {
         requires config { P.config post.old ≡ self.now.config }
         requires node { P.node post.old ≡ self.now.me }
         ensures entry { IfOk result (λ e. e ≡ fault_entry word call idle.now) }
-        ensures posted { HasPosted P.takes P.after P.refuses post.old post.new result
+        ensures posted { HasPosted P.takes P.after P.refuses P.after_refusal post.old post.new result
             (fault_posted M.ops self.now page word call idle.now) }
     {
         let waiting = Waiting::new(word, call);
@@ -199,10 +199,10 @@ impl<M: Manager, A: Allocator> Coherence<M, A> {
         ensures ok { OnOk result (self.new ≡ (begun M.ops self.old page word call).after) }
         ensures posted { OnOk result
             (post.new ≡ P.after post.old (begun M.ops self.old page word call).posted) }
-        ensures err { OnErr result ((self.new ≡ self.old) × (post.new ≡ post.old)) }
+        ensures err { OnErr result (self.new ≡ self.old) }
         ensures took { OnOk result (P.takes post.old (begun M.ops self.old page word call).posted) }
-        ensures fault { IfErr result
-            (P.refuses post.old (begun M.ops self.old page word call).posted) }
+        ensures fault { IfErr result (HasRefused P.refuses P.after_refusal post.old post.new
+            (begun M.ops self.old page word call).posted) }
         ensures want { IfErr result IsWant }
     {
         if self.locked.is_some() {

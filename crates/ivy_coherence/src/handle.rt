@@ -9,6 +9,7 @@ ghost use Rattle.ivy_pagetable.specs.Tables.{entry_at, page_at};
 ghost use Rattle.ivy_pagetable.specs.NodeSets.{IsBelow};
 ghost use Rattle.ivy_serving.specs.Sound.{CanBeServed, AreOthers};
 ghost use Rattle.ivy_serving.specs.Limits.{most_posted};
+ghost use Rattle.ivy_serving.specs.Outcomes.{HasRefused};
 ghost use Rattle.ivy_coherence.specs.Outcomes.{IsStep};
 ghost use Rattle.ivy_coherence.specs.Steps.{IsWaiting, IsCollecting, is_none, unlocked_as, unlocked_by_reply, unlocked_by_last, put_aside_at, given_up, asked_at, copy_came_at, owned_with, page_came_at, left_with, acknowledged_at, handled};
 
@@ -47,7 +48,7 @@ impl<M: Manager, A: Allocator> Coherence<M, A> {
         requires message { CanBeServed self.old.config self.old.me message }
         requires config { P.config post.old ≡ self.old.config }
         requires node { P.node post.old ≡ self.old.me }
-        ensures { IsStep P.takes P.after P.refuses post.old post.new result self.old self.new
+        ensures { IsStep P.takes P.after P.refuses P.after_refusal post.old post.new result self.old self.new
             (asked_at M.ops self.old page message) }
     {
         match self.table.entry(page) {
@@ -115,7 +116,7 @@ impl<M: Manager, A: Allocator> Coherence<M, A> {
         requires waits { IsWaiting (entry_at self.old.table page) true waiting }
         requires config { P.config post.old ≡ self.old.config }
         requires node { P.node post.old ≡ self.old.me }
-        ensures { IsStep P.takes P.after P.refuses post.old post.new result self.old self.new
+        ensures { IsStep P.takes P.after P.refuses P.after_refusal post.old post.new result self.old self.new
             (given_up M.ops self.old page waiting message) }
     {
         let PutOff { origin, call, .. } = message;
@@ -151,7 +152,7 @@ impl<M: Manager, A: Allocator> Coherence<M, A> {
         requires waits { IsWaiting (entry_at self.old.table page) write waiting.now }
         requires config { P.config post.old ≡ self.old.config }
         requires node { P.node post.old ≡ self.old.me }
-        ensures { IsStep P.takes P.after P.refuses post.old post.new result self.old self.new
+        ensures { IsStep P.takes P.after P.refuses P.after_refusal post.old post.new result self.old self.new
             (unlocked_by_reply M.ops self.old from page write bytes.now waiting.now) }
     {
         self.spare.copy_from(bytes);
@@ -189,7 +190,7 @@ impl<M: Manager, A: Allocator> Coherence<M, A> {
         requires sized { length bytes.now ≡ self.old.config.page_size }
         requires config { P.config post.old ≡ self.old.config }
         requires node { P.node post.old ≡ self.old.me }
-        ensures { IsStep P.takes P.after P.refuses post.old post.new result self.old self.new
+        ensures { IsStep P.takes P.after P.refuses P.after_refusal post.old post.new result self.old self.new
             (copy_came_at M.ops self.old from call page bytes.now) }
     {
         match self.table.entry(page) {
@@ -220,7 +221,7 @@ impl<M: Manager, A: Allocator> Coherence<M, A> {
         requires copies { IsBelow self.old.config.nodes copies }
         requires config { P.config post.old ≡ self.old.config }
         requires node { P.node post.old ≡ self.old.me }
-        ensures { IsStep P.takes P.after P.refuses post.old post.new result self.old self.new
+        ensures { IsStep P.takes P.after P.refuses P.after_refusal post.old post.new result self.old self.new
             (page_came_at M.ops self.old from call page copies bytes.now) }
     {
         match self.table.entry(page) {
@@ -255,7 +256,7 @@ impl<M: Manager, A: Allocator> Coherence<M, A> {
         requires waits { IsWaiting (entry_at self.old.table page) true waiting }
         requires config { P.config post.old ≡ self.old.config }
         requires node { P.node post.old ≡ self.old.me }
-        ensures { IsStep P.takes P.after P.refuses post.old post.new result self.old self.new
+        ensures { IsStep P.takes P.after P.refuses P.after_refusal post.old post.new result self.old self.new
             (owned_with M.ops self.old from call page copies bytes.now waiting) }
     {
         if is_none(&copies) {
@@ -283,7 +284,7 @@ impl<M: Manager, A: Allocator> Coherence<M, A> {
         requires page { page < self.old.config.pages }
         requires config { P.config post.old ≡ self.old.config }
         requires node { P.node post.old ≡ self.old.me }
-        ensures { IsStep P.takes P.after P.refuses post.old post.new result self.old self.new
+        ensures { IsStep P.takes P.after P.refuses P.after_refusal post.old post.new result self.old self.new
             (acknowledged_at M.ops self.old from call page) }
     {
         match self.table.entry(page) {
@@ -315,7 +316,7 @@ impl<M: Manager, A: Allocator> Coherence<M, A> {
         requires waits { IsCollecting (entry_at self.old.table page) waiting }
         requires config { P.config post.old ≡ self.old.config }
         requires node { P.node post.old ≡ self.old.me }
-        ensures { IsStep P.takes P.after P.refuses post.old post.new result self.old self.new
+        ensures { IsStep P.takes P.after P.refuses P.after_refusal post.old post.new result self.old self.new
             (left_with M.ops self.old from page left waiting) }
     {
         if is_none(&left) {
@@ -342,7 +343,7 @@ impl<M: Manager, A: Allocator> Coherence<M, A> {
         requires waits { IsCollecting (entry_at self.old.table page) waiting.now }
         requires config { P.config post.old ≡ self.old.config }
         requires node { P.node post.old ≡ self.old.me }
-        ensures { IsStep P.takes P.after P.refuses post.old post.new result self.old self.new
+        ensures { IsStep P.takes P.after P.refuses P.after_refusal post.old post.new result self.old self.new
             (unlocked_by_last M.ops self.old from page waiting.now) }
     {
         let word = waiting.word();
@@ -402,11 +403,11 @@ impl<M: Manager, A: Allocator> Coherence<M, A> {
         ensures few { length (handled M.ops self.old from (owned_message message.entry)).posted ≤ most_posted }
         ensures posted { OnOk result
             (post.new ≡ P.after post.old (handled M.ops self.old from (owned_message message.entry)).posted) }
-        ensures err { OnErr result ((self.new ≡ self.old) × (post.new ≡ post.old)) }
+        ensures err { OnErr result (self.new ≡ self.old) }
         ensures took { OnOk result
             (P.takes post.old (handled M.ops self.old from (owned_message message.entry)).posted) }
-        ensures fault { IfErr result
-            (P.refuses post.old (handled M.ops self.old from (owned_message message.entry)).posted) }
+        ensures fault { IfErr result (HasRefused P.refuses P.after_refusal post.old post.new
+            (handled M.ops self.old from (owned_message message.entry)).posted) }
         ensures want { IfErr result IsWant }
     {
         self.sound();

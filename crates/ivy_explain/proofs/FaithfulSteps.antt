@@ -118,7 +118,7 @@ module _ {S : Type 0} (ops : Ops S) (laws : Laws ops) (c : Config) (config : IsC
         at : IsErrandAt x core.memory.side.errand (heap_way o x 0) (heap_way o 0 x) → heap_way o 0 x ≡ []
         at (resting quiet there back) = back
         at (asking k number asks there back) = back
-        at (answered k number body r asks there back reply) = absurd (none-some (errand.Asked k number) (sym rest ∙ asks))
+        at (answered k number body r asks there back reply can) = absurd (none-some (errand.Asked k number) (sym rest ∙ asks))
 
     tells_on : WorldTells ops (Copies {S = S} c) c f.pages o o' pages → GoesOn ops c o o' order
     tells_on (rested same flat) = record {

@@ -1,10 +1,8 @@
 pub mod CopiedSteps
 pub mod CopiedWords
 pub mod CopiedRows
-pub mod WordsServed
 pub mod HeapServed
 pub mod Owing
-pub mod CallsServed
 pub mod OwingEvents
 pub mod Faithful
 pub mod FaithfulHeap

@@ -29,7 +29,7 @@ use Rattle.ivy_memory.specs.Memories.{first_reply, reply_there}
 use Rattle.ivy_host.specs.Hosts.{Host, number_of}
 use Rattle.ivy_worlds.specs.Errands.{replied_by}
 use Rattle.ivy_worlds.proofs.LiftedEvents.{WaitsAt}
-use Rattle.ivy_explain.proofs.WordsServed.{Answers}
+use Rattle.ivy_memory.specs.Flat.{Answers}
 
 -- of the call in progress, once its reply is there
 abbrev pub owed : ℕ → Option Call → Option Reply → List Record

@@ -1,5 +1,6 @@
 -- What each event of a node adds to the order of all records, but for a message of the heap. For every manager.
-use Rattle.std.proofs.Common.{◌≡◌, ◌<◌, ℕ, ◌+◌, List, [], ◌++◌, length, Option, Some, None, refl, ap, sym, ◌∙◌, subst, if◌then◌else◌, ◌==◌, true}
+use Rattle.std.proofs.Common.{◌≡◌, ◌<◌, ℕ, ◌+◌, List, [], ◌++◌, length, Option, Some, None, refl, ap, sym, ◌∙◌, subst, inl, inr, if◌then◌else◌, ◌==◌, true}
+use Rattle.std.proofs.lemmas.Bool.{cases_eq}
 use Rattle.std.proofs.lemmas.List.{append-nil}
 use Rattle.std.proofs.lemmas.Option.{same_Some, none-some}
 use Rattle.ivy_model.specs.declared.Config.{Config}
@@ -18,7 +19,7 @@ use Rattle.ivy_pagetable.specs.declared.Entry.TheVariants as entry
 use Rattle.ivy_pagetable.specs.declared.Out.{Out}
 use Rattle.ivy_pagetable.specs.declared.Word.{Word}
 use Rattle.ivy_pagetable.specs.Tables.{entry_at}
-use Rattle.ivy_pagetable.specs.Words.{carried_out}
+use Rattle.ivy_pagetable.specs.Words.{Carried, carried_out}
 use Rattle.ivy_pagetable.specs.Manager.{Ops}
 use Rattle.ivy_coherence.specs.Coherent.{Coherent}
 use Rattle.ivy_coherence.specs.Steps.{handled}
@@ -48,9 +49,9 @@ use Rattle.ivy_worlds.proofs.LiftedEvents.{WaitsAt, Carries, Tells, quiet, answe
 use Rattle.ivy_worlds.proofs.HostTurns.{asks as access, HostTurn, answers, tries_again, goes_on, refuses, asks_for, serves_heap, asks_heap, without_call}
 use Rattle.ivy_worlds.proofs.LiftedHosts.{TurnTells}
 use Rattle.ivy_explain.specs.Copied.{IsCopied}
-use Rattle.ivy_explain.proofs.CopiedWords.{bytes_there}
-use Rattle.ivy_explain.proofs.WordsServed.{Answers, IsServed}
-use Rattle.ivy_explain.proofs.CallsServed.{word_served, refusal_served}
+use Rattle.ivy_explain.proofs.CopiedWords.{with_page-here, with_page-other, bytes_there}
+use Rattle.ivy_memory.specs.Flat.{Answers, IsServed}
+use Rattle.ivy_memory.proofs.CallsServed.{word_served, refusal_served}
 use Rattle.ivy_explain.proofs.HeapServed.{memory_told, heap_served}
 use Rattle.ivy_explain.proofs.Owing.{owed, reply_owed, pending, told-owed, owed-unasked, owed-untold, owed-leads, owed-own, owed-other, told_history, served_history, owing_history, IsWordOf, IsRunning, GoOn, blocks_stay, blocks_change, Adds}
 
@@ -71,6 +72,13 @@ one_word (entry.AwaitAcks s) w v j k a b = sym a.0 ∙ b.0
 
 with_page-same : (f g : ℕ → List ℕ) (p q : ℕ) (b d : List ℕ) → b ≡ d → f q ≡ g q → with_page f p b q ≡ with_page g p d q
 with_page-same f g p q b d e h = ap (λ z. if q == p then z else f q) e ∙ ap (λ z. if q == p then d else z) h
+
+-- the pages after a call that one page's bytes came to
+served_pages : (c : Config) (old : model.Memory) (called : Call) (page : ℕ) (came : Carried) (s : IsServed c old called page came) (q : ℕ) → q < c.pages → flat_page c s.new q ≡ with_page (flat_page c old) page came.bytes q
+served_pages c old called page came s q inside = elim (cases_eq q page) [
+  | inl same ↦ ap (flat_page c s.new) same ∙ s.here ∙ sym (with_page-here (flat_page c old) page came.bytes q same)
+  | inr ne ↦ s.others q inside ne ∙ sym (with_page-other (flat_page c old) page came.bytes q ne)
+]
 
 -- what a word that was carried out came to
 record Came (c : Config) (mem : model.Memory) (called : Call) (out : Out) (pages : ℕ → List ℕ) : Type 0 where
@@ -153,7 +161,7 @@ module _ {S : Type 0} (ops : Ops S) (c : Config) (config : IsConfig c) (x : ℕ)
         shows = λ p inside.
             ap (λ g. g p) k.after
             ∙ with_page-same f (flat_page c mem) page p (carried_out word (f page)).bytes (carried_out word (flat_page c mem page)).bytes (ap (λ b. (carried_out word b).bytes) (shows page k.inside)) (shows p inside)
-            ∙ sym (served.pages p inside);
+            ∙ sym (served_pages c mem called page (carried_out word (flat_page c mem page)) served p inside);
         blocks = served.blocks;
       }
 
@@ -204,10 +212,10 @@ module _ {S : Type 0} (ops : Ops S) (c : Config) (config : IsConfig c) (x : ℕ)
   call_waits : (k : Coherent S) (called : Call) (flat : ℕ → List ℕ) → n.memory.asked ≡ None → step_of n.process ≡ Asks called → k.done ≡ n.memory.coherence.done
       → ((p : ℕ) → p < c.pages → flat p ≡ flat_page c mem p)
       → ((page : ℕ) (word : Word) (number : ℕ) → k.locked ≡ Some page → WaitsAt (entry_at k.table page) word number → IsWordOf c called page word)
-      → Adds c mem x n (record n { memory = record n.memory { coherence = k; asked = Some called } }) ms flat
+      → Adds c mem x n (record n { memory = record n.memory { coherence = k; asked = Some called; number = length n.history + 1 } }) ms flat
   call_waits k called flat idle step done pages waiting =
       let untold : reply_owed n.memory.side.errand ms k.done ≡ None = word_owed k.done (idle_errand idle) ∙ ap reply_there (done ∙ good.memory.done idle) in
-      owing (record n { memory = record n.memory { coherence = k; asked = Some called } }) flat called None mem (asked_width n called step) refl pages
+      owing (record n { memory = record n.memory { coherence = k; asked = Some called; number = length n.history + 1 } }) flat called None mem (asked_width n called step) refl pages
       (ap (λ xs. n.history ++ xs) (owed-untold k.me (Some called) (reply_owed n.memory.side.errand ms k.done) untold)
       ∙ owing_history n.history (pending n ms) [] (owed-unasked (number_of n) n.memory.asked (reply_owed n.memory.side.errand ms n.memory.coherence.done) idle))
       (record {
@@ -220,11 +228,11 @@ module _ {S : Type 0} (ops : Ops S) (c : Config) (config : IsConfig c) (x : ℕ)
 
   -- node 0 is asked for a call of the heap
   errand_waits : (called : Call) (k : HeapCall) (number : ℕ) (flat : ℕ → List ℕ) → flat ≡ f → n.memory.asked ≡ None → step_of n.process ≡ Asks called → ms ≡ []
-      → Adds c mem x n (record n { memory = record n.memory { asked = Some called; side = record n.memory.side { errand = Some (errand.Asked k number) } } }) ms flat
+      → Adds c mem x n (record n { memory = record n.memory { asked = Some called; number = number; side = record n.memory.side { errand = Some (errand.Asked k number) } } }) ms flat
   errand_waits called k number flat same idle step none =
       let untold : reply_owed (Some (errand.Asked k number)) ms n.memory.coherence.done ≡ None
       = ap (λ (l : List Message). reply_owed (Some (errand.Asked k number)) l n.memory.coherence.done) none ∙ ap reply_there (good.memory.done idle) in
-      owing (record n { memory = record n.memory { asked = Some called; side = record n.memory.side { errand = Some (errand.Asked k number) } } }) flat called None mem (asked_width n called step) refl (same_pages flat same)
+      owing (record n { memory = record n.memory { asked = Some called; number = number; side = record n.memory.side { errand = Some (errand.Asked k number) } } }) flat called None mem (asked_width n called step) refl (same_pages flat same)
       (ap (λ xs. n.history ++ xs) (owed-untold (number_of n) (Some called) (reply_owed (Some (errand.Asked k number)) ms n.memory.coherence.done) untold)
       ∙ owing_history n.history (pending n ms) [] (owed-unasked (number_of n) n.memory.asked (reply_owed n.memory.side.errand ms n.memory.coherence.done) idle))
       (record {
@@ -241,10 +249,10 @@ module _ {S : Type 0} (ops : Ops S) (c : Config) (config : IsConfig c) (x : ℕ)
 
     -- a word that is carried out at once gives the call's reply, or none yet
     hit_adds : (e : Outcome (Host S)) (flat : ℕ → List ℕ) (o : Option Reply) (new : model.Memory) → begun_now.after.done ≡ n.memory.coherence.done → begun_now.after.locked ≡ n.memory.coherence.locked
-        → Answers c mem called o new → ((p : ℕ) → p < c.pages → flat p ≡ flat_page c new p) → new.blocks ≡ mem.blocks → begins_as n called (answered n.memory called begun_now o) ≡ Some e → Adds c mem x n e.after ms flat
+        → Answers c mem called o new → ((p : ℕ) → p < c.pages → flat p ≡ flat_page c new p) → new.blocks ≡ mem.blocks → begins_as n called (answered n.memory called (length n.history + 1) begun_now o) ≡ Some e → Adds c mem x n e.after ms flat
     hit_adds e flat None new done locked given pages blocks is =
         subst (λ (z : Outcome (Host S)). Adds c mem x n z.after ms flat)
-        (same_Some (record { after = record n { memory = record n.memory { coherence = begun_now.after; asked = Some called } }; posted = begun_now.posted }) e is)
+        (same_Some (record { after = record n { memory = record n.memory { coherence = begun_now.after; asked = Some called; number = length n.history + 1 } }; posted = begun_now.posted }) e is)
         (call_waits begun_now.after called flat idle step done (λ p inside. pages p inside ∙ ap (λ m. flat_page c m p) given)
         (λ q w number lock there. absurd (none-some q (sym (good.memory.locked idle) ∙ sym locked ∙ lock))))
     hit_adds e flat (Some r) new done locked given pages blocks is =
@@ -252,16 +260,16 @@ module _ {S : Type 0} (ops : Ops S) (c : Config) (config : IsConfig c) (x : ℕ)
         (same_Some (record { after = recorded n (record n.memory { coherence = begun_now.after; asked = None }) called r; posted = begun_now.posted }) e is)
         (records_call (record n.memory { coherence = begun_now.after; asked = None }) called r new idle step refl given flat pages (blocks_stay blocks refl))
 
-    starts_adds : (e : Outcome (Host S)) (flat : ℕ → List ℕ) (number : ℕ) → begins_as n called (needed n.memory called begun_now begun_now.need) ≡ Some e
+    starts_adds : (e : Outcome (Host S)) (flat : ℕ → List ℕ) (number : ℕ) → begins_as n called (needed n.memory called (length n.history + 1) begun_now begun_now.need) ≡ Some e
         → Starts (Copies {S = S} c) c x f page word number n.memory.coherence begun_now.need begun_now.after flat → Adds c mem x n e.after ms flat
     starts_adds e flat number is (busy q lock needs after same) = absurd (none-some q (sym (good.memory.locked idle) ∙ lock))
     starts_adds e flat number is (hits out needs done locked carries) =
         let k : Came c mem called out flat = came page word out flat called (asked_width n called step) of carries in
-        hit_adds e flat (reply_of out) k.new done locked k.gives k.shows k.blocks (sym (ap (λ d. begins_as n called (needed n.memory called begun_now d)) needs) ∙ is)
+        hit_adds e flat (reply_of out) k.new done locked k.gives k.shows k.blocks (sym (ap (λ d. begins_as n called (needed n.memory called (length n.history + 1) begun_now d)) needs) ∙ is)
     starts_adds e flat number is (waits needs same done locked there) =
         subst (λ (z : Outcome (Host S)). Adds c mem x n z.after ms flat)
-        (same_Some (record { after = record n { memory = record n.memory { coherence = begun_now.after; asked = Some called } }; posted = begun_now.posted }) e
-        (sym (ap (λ d. begins_as n called (needed n.memory called begun_now d)) needs) ∙ is))
+        (same_Some (record { after = record n { memory = record n.memory { coherence = begun_now.after; asked = Some called; number = length n.history + 1 } }; posted = begun_now.posted }) e
+        (sym (ap (λ d. begins_as n called (needed n.memory called (length n.history + 1) begun_now d)) needs) ∙ is))
         (call_waits begun_now.after called flat idle step done (same_pages flat same)
         (λ q w j lock waiting. (
         let at : page ≡ q = same_Some page q (sym locked ∙ lock) in

@@ -37,8 +37,8 @@ module _ {S : Type 0} (ops : Ops S) where
 
   at-same : (n : Host S) (a : Option Call) (o : Outcome (Host S)) → turned_at ops n a ≡ Some o → IsSame n o
   at-same n (Some c) o is =
-      let a : CallBegun S = polled ops n.memory (length n.history + 1) in
-      with-same n c a a.answer o (polled-same ops n.memory (length n.history + 1)) is
+      let a : CallBegun S = polled ops n.memory in
+      with-same n c a a.answer o (polled-same ops n.memory) is
   at-same n None o is = steps-same n (step_of n.process) o is
 
   -- the node stays who it is

@@ -26,14 +26,14 @@ use Rattle.ivy_host.specs.Hosts.{Host, recorded, quietly, begins_with, begins_as
 use Rattle.ivy_host.specs.Openings.{first_node, first_nodes, opening}
 use Rattle.ivy_memory.proofs.Tame.{SameNode, KeepsMemory, IsBegun, first_sound-memory, told-sound, call-sound, call-begun}
 use Rattle.ivy_memory.proofs.Polling.{polled-keeps, polled-begun}
-use Rattle.ivy_memory.proofs.Same.{told-same, told-asked}
+use Rattle.ivy_memory.proofs.Same.{told-same, told-asked, told-number}
 
 -- a call in progress is the one that the program makes
 abbrev pub IsAskingHost : {S : Type 0} → Host S → Type 0
 IsAskingHost n = (k : Call) → n.memory.asked ≡ Some k → step_of n.process ≡ Asks k
 
 module _ {S : Type 0} where
-  pub begins_with-asking : (n : Host S) (k : Call) (a : CallBegun S) (r : Answer) (o : Outcome (Host S)) → step_of n.process ≡ Asks k → IsBegun k a → a.answer ≡ r → begins_with n k a r ≡ Some o → IsAskingHost o.after
+  pub begins_with-asking : {i : ℕ} (n : Host S) (k : Call) (a : CallBegun S) (r : Answer) (o : Outcome (Host S)) → step_of n.process ≡ Asks k → IsBegun k i a → a.answer ≡ r → begins_with n k a r ≡ Some o → IsAskingHost o.after
   begins_with-asking n k a Awaited o asks begun is at =
       subst (λ (x : Outcome (Host S)). IsAskingHost x.after) (same_Some (record { after = record n { memory = a.after }; posted = a.posted }) o at) (λ j h. asks ∙ ap Asks (begun.same j h))
   begins_with-asking n k a (Given r) o asks begun is at =
@@ -60,8 +60,8 @@ module _ {S : Type 0} (ops : Ops S) where
 
   at-asking : (n : Host S) (a : Option Call) (o : Outcome (Host S)) → IsAskingHost n → n.memory.asked ≡ a → turned_at ops n a ≡ Some o → IsAskingHost o.after
   at-asking n (Some k) o asking at is =
-      let a : CallBegun S = polled ops n.memory (length n.history + 1) in
-      begins_with-asking n k a a.answer o (asking k at) (polled-begun ops n.memory k (length n.history + 1) at) refl is
+      let a : CallBegun S = polled ops n.memory in
+      begins_with-asking n k a a.answer o (asking k at) (polled-begun ops n.memory k at) refl is
   at-asking n None o asking at is = steps-asking n (step_of n.process) o at refl is
 
   -- after a turn, a call in progress is the one that the program makes, if it was so before
@@ -83,22 +83,22 @@ module _ {S : Type 0} {ops : Ops S} (laws : Laws ops) where
   Tamed c i o = IsSoundHost ops c i o.after × All (FitsParcel c i) o.posted
 
   tamed : (c : Config) (i : ℕ) (n : Host S) (o : Outcome (Host S)) → IsSoundHost ops c i n → IsSoundMemory ops o.after.memory → SameNode n.memory.coherence o.after.memory.coherence
-      → All (FitsParcel n.memory.coherence.config n.memory.coherence.me) o.posted → ((k : Call) → o.after.memory.asked ≡ Some k → length o.after.history + 1 < 2 ^ 64) → IsAskingHost o.after → Tamed c i o
+      → All (FitsParcel n.memory.coherence.config n.memory.coherence.me) o.posted → ((k : Call) → o.after.memory.asked ≡ Some k → o.after.memory.number ≡ length o.after.history + 1) → IsAskingHost o.after → Tamed c i o
   tamed c i n o s good same fits numbered asking = (
     record { memory = good; config = same.config ∙ s.config; me = same.me ∙ s.me; asking = asking; numbered = numbered },
     subst (λ k. All (FitsParcel k i) o.posted) s.config (subst (λ j. All (FitsParcel n.memory.coherence.config j) o.posted) s.me fits),
   )
 
   begins_with-tame : (c : Config) (i : ℕ) (n : Host S) (k : Call) (a : CallBegun S) (r : Answer) (o : Outcome (Host S)) → IsSoundHost ops c i n → KeepsMemory ops n.memory a
-      → length n.history + 1 < 2 ^ 64 → IsBegun k a → a.answer ≡ r → IsAskingHost o.after → begins_with n k a r ≡ Some o → Tamed c i o
-  begins_with-tame c i n k a (Given r) o s h small begun given asking is =
+      → IsBegun k (length n.history + 1) a → a.answer ≡ r → IsAskingHost o.after → begins_with n k a r ≡ Some o → Tamed c i o
+  begins_with-tame c i n k a (Given r) o s h begun given asking is =
       let same : record { after = recorded n a.after k r; posted = a.posted } ≡ o = same_Some _ o is in
       subst (Tamed c i) same
       (tamed c i n (record { after = recorded n a.after k r; posted = a.posted }) s h.0 h.2 h.1 (λ j asked. absurd (none-some j (sym (begun.over r given) ∙ asked))) (subst (λ (x : Outcome (Host S)). IsAskingHost x.after) (sym same) asking))
-  begins_with-tame c i n k a Awaited o s h small begun given asking is =
+  begins_with-tame c i n k a Awaited o s h begun given asking is =
       let same : record { after = record n { memory = a.after }; posted = a.posted } ≡ o = same_Some _ o is in
-      subst (Tamed c i) same (tamed c i n (record { after = record n { memory = a.after }; posted = a.posted }) s h.0 h.2 h.1 (λ j asked. small) (subst (λ (x : Outcome (Host S)). IsAskingHost x.after) (sym same) asking))
-  begins_with-tame c i n k a Unserved o s h small begun given asking is = absurd (none-some o is)
+      subst (Tamed c i) same (tamed c i n (record { after = record n { memory = a.after }; posted = a.posted }) s h.0 h.2 h.1 begun.numbered (subst (λ (x : Outcome (Host S)). IsAskingHost x.after) (sym same) asking))
+  begins_with-tame c i n k a Unserved o s h begun given asking is = absurd (none-some o is)
 
   begins_if-tame : (c : Config) (i : ℕ) (n : Host S) (k : Call) (b : Bool) (o : Outcome (Host S)) → IsSoundHost ops c i n → n.memory.asked ≡ None → HasWidth k → nat_lt (length n.history + 1) (2 ^ 64) ≡ b → IsAskingHost o.after
       → (if b then begins_as n k (call_begun ops n.memory k (length n.history + 1)) else None) ≡ Some o → Tamed c i o
@@ -107,7 +107,7 @@ module _ {S : Type 0} {ops : Ops S} (laws : Laws ops) where
       let number : ℕ = length n.history + 1 in
       let a : CallBegun S = call_begun ops n.memory k number in
       let below : number < 2 ^ 64 = ltb-true number (2 ^ 64) small in
-      begins_with-tame c i n k a a.answer o s (call-sound laws n.memory k number s.memory idle w (omega arith) below) below (call-begun ops n.memory k number idle) refl asking is
+      begins_with-tame c i n k a a.answer o s (call-sound laws n.memory k number s.memory idle w (omega arith) below) (call-begun ops n.memory k number idle) refl asking is
 
   begins-tame : (c : Config) (i : ℕ) (n : Host S) (k : Call) (o : Outcome (Host S)) → IsSoundHost ops c i n → n.memory.asked ≡ None → step_of n.process ≡ Asks k → begins ops n k ≡ Some o → Tamed c i o
   begins-tame c i n k o s idle asks is =
@@ -123,10 +123,8 @@ module _ {S : Type 0} {ops : Ops S} (laws : Laws ops) where
 
   at-tame : (c : Config) (i : ℕ) (n : Host S) (a : Option Call) (o : Outcome (Host S)) → IsSoundHost ops c i n → n.memory.asked ≡ a → turned_at ops n a ≡ Some o → Tamed c i o
   at-tame c i n (Some k) o s at is =
-      let number : ℕ = length n.history + 1 in
-      let a : CallBegun S = polled ops n.memory number in
-      let small : number < 2 ^ 64 = s.numbered k at in
-      begins_with-tame c i n k a a.answer o s (polled-keeps laws n.memory k number s.memory at (omega arith) small) small (polled-begun ops n.memory k number at) refl (at-asking ops n (Some k) o s.asking at is) is
+      let a : CallBegun S = polled ops n.memory in
+      begins_with-tame c i n k a a.answer o s (polled-keeps laws n.memory k s.memory at) (subst (λ number. IsBegun k number a) (s.numbered k at) (polled-begun ops n.memory k at)) refl (at-asking ops n (Some k) o s.asking at is) is
   at-tame c i n None o s at is = steps-tame c i n _ o s at refl is
 
   turn-tame : (c : Config) (i : ℕ) (n : Host S) (o : Outcome (Host S)) → IsSoundHost ops c i n → turn_of ops n ≡ Some o → Tamed c i o
@@ -137,7 +135,7 @@ module _ {S : Type 0} {ops : Ops S} (laws : Laws ops) where
   unfolding serving
   serve-tame c i source n m s below foreign fits =
       let told = told-sound laws n.memory source m s.memory (subst (λ k. source < k.nodes) (sym s.config) below) (subst (λ j. source ≢ j) (sym s.me) foreign) (subst (λ k. FitsMessage k m) (sym s.config) fits) in
-      tamed c i n _ s told.0 (told-same ops n.memory source m) told.1 (λ k asked. s.numbered k (sym (told-asked ops n.memory source m) ∙ asked)) (λ k asked. s.asking k (sym (told-asked ops n.memory source m) ∙ asked))
+      tamed c i n _ s told.0 (told-same ops n.memory source m) told.1 (λ k asked. told-number ops n.memory source m ∙ s.numbered k (sym (told-asked ops n.memory source m) ∙ asked)) (λ k asked. s.asking k (sym (told-asked ops n.memory source m) ∙ asked))
 
   -- turns and messages keep what holds of a node, and post only what can be sent
   pub tame : (c : Config) → IsTame (host_rules ops) c (IsSoundHost ops c)

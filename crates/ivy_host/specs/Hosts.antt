@@ -62,9 +62,9 @@ module _ {S : Type 0} (ops : Ops S) where
   steps n (Asks c) = begins n c
   steps n Ends = None
 
-  -- the call in progress is the one after the records, and is asked for its reply
+  -- the call in progress is asked for its reply
   abbrev pub turned_at : Host S → Option Call → Option (Outcome (Host S))
-  turned_at n (Some c) = begins_as n c (polled ops n.memory (length n.history + 1))
+  turned_at n (Some c) = begins_as n c (polled ops n.memory)
   turned_at n None = steps n (step_of n.process)
 
   -- one turn of the program; none where it changes nothing

@@ -1,5 +1,5 @@
 -- What holds of a node but for its link, whatever comes to it.
-use Rattle.std.specs.Prelude.{◌≡◌, ℕ, ◌+◌, ◌^◌, ◌<◌, length, Some}
+use Rattle.std.specs.Prelude.{◌≡◌, ℕ, ◌+◌, length, Some}
 use Rattle.ivy_model.specs.declared.Config.{Config}
 use Rattle.ivy_model.specs.declared.Call.{Call}
 use Rattle.ivy_pagetable.specs.Manager.{Ops}
@@ -14,5 +14,6 @@ pub record IsSoundHost {S : Type 0} (ops : Ops S) (c : Config) (i : ℕ) (n : Ho
   pub me : n.memory.coherence.me ≡ i
   -- the call in progress is the one that the program makes
   pub asking : (call : Call) → n.memory.asked ≡ Some call → step_of n.process ≡ Asks call
-  -- and has a number
-  pub numbered : (call : Call) → n.memory.asked ≡ Some call → length n.history + 1 < 2 ^ 64
+  -- and has the number after those of the records
+  pub numbered : (call : Call) → n.memory.asked ≡ Some call
+      → n.memory.number ≡ length n.history + 1

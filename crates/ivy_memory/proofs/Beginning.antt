@@ -1,6 +1,7 @@
 -- A call that begins, and a message that comes, as the code has them.
 use Rattle.std.proofs.Common.{◌≡◌, ◌≢◌, ℕ, ◌^◌, ◌<◌, ◌≤◌, ◌⊎◌, inl, inr, Bool, true, false, List, [], ◌∷◌, length, is_some, Option, Some, None, Result, Ok, Err, OnOk, OnErr, IsErrAnd, IfErr, refl, sym, ap, ◌∙◌, subst, if◌then◌else◌}
 use Rattle.std.proofs.lemmas.Bool.{cases_Bool}
+use Rattle.std.proofs.lemmas.Option.{none-some}
 use Rattle.ivy_model.specs.declared.Config.{Config}
 use Rattle.ivy_model.specs.declared.Call.{Call}
 use Rattle.ivy_model.specs.Legal.{HasWidth}
@@ -13,7 +14,11 @@ use Rattle.ivy_pagetable.specs.Manager.{Ops, Laws}
 use Rattle.ivy_coherence.specs.declared.Need.{Need}
 use Rattle.ivy_coherence.specs.declared.Need.TheVariants as need
 use Rattle.ivy_coherence.specs.Coherent.{Coherent}
-use Rattle.ivy_coherence.specs.Faults.{Begun, HasToAsk, begun}
+use Rattle.ivy_coherence.specs.Faults.{Begun, HasToAsk, suffices, hit, faulted, accessed, begun_at, begun}
+use Rattle.ivy_pagetable.specs.declared.Entry.{Entry}
+use Rattle.ivy_pagetable.specs.declared.Entry.TheVariants as entry
+use Rattle.ivy_pagetable.specs.Entries.{is_locked}
+use Rattle.ivy_pagetable.specs.Tables.{entry_at}
 use Rattle.ivy_coherence.specs.Sound.{IsSound}
 use Rattle.ivy_coherence.specs.Steps.{handled}
 use Rattle.ivy_memory.specs.declared.answer.Answer.{Answer}
@@ -23,20 +28,20 @@ use Rattle.ivy_memory.specs.declared.heap_side.HeapCall.{HeapCall}
 use Rattle.ivy_memory.specs.Asking.{CanAsk, HasToAskFor, CallHasToAsk, MayBeRefused, asked_of}
 use Rattle.ivy_model.specs.declared.Fault.{Fault}
 use Rattle.ivy_memory.specs.HeapCalls.{IsAddressPosted, IsGrowthPosted, HeapBegun, HeapSide, HeapTold, heap_begun, heap_told}
-use Rattle.ivy_memory.specs.Memories.{Memory, CallBegun, needed, asked_after, heap_answered, begun_as, call_begun, MemoryEffect, by_side, by_coherence, memory_handled_as, memory_handled, memory_told}
+use Rattle.ivy_memory.specs.Memories.{Memory, CallBegun, needed, asked_after, number_after, heap_answered, begun_as, call_begun, MemoryEffect, by_side, by_coherence, memory_handled_as, memory_handled, memory_told}
 use Rattle.ivy_memory.proofs.Asking.{can_ask}
-use Rattle.ivy_memory.specs.Sound.{IsSoundMemory}
+use Rattle.ivy_memory.specs.Sound.{IsInProgress, IsSoundMemory}
 use Rattle.ivy_memory.proofs.Tame.{Begins, begun-begins, one_wide, had-sound, started-sound, told-sound, needed-posted, call-few, call-sound, told-few}
-use Rattle.ivy_memory.proofs.Sides.{misfit_stays}
+use Rattle.ivy_memory.proofs.Sides.{idle_words, word_words, misfit_stays}
 
 none_of : {A : Type 0} (o : Option A) → is_some o ≡ false → o ≡ None
 none_of None h = refl
 none_of (Some a) h = absurd cc
 
 -- what holds of a result either way
-pub of_either : {A B X : Type 0} (P : Type 0) (F : X → Type 0) (r : Result A B) (new good old : X) → OnOk r (new ≡ good) → OnErr r ((new ≡ old) × P) → F good → F old → F new
-of_either P F (Ok a) new good old h k x y = subst F (sym h) x
-of_either P F (Err e) new good old h k x y = subst F (sym k.0) y
+pub of_either : {A B X : Type 0} (F : X → Type 0) (r : Result A B) (new good old : X) → OnOk r (new ≡ good) → OnErr r (new ≡ old) → F good → F old → F new
+of_either F (Ok a) new good old h k x y = subst F (sym h) x
+of_either F (Err e) new good old h k x y = subst F (sym k) y
 
 -- what holds of the fault that a result is
 pub err_there : {A E : Type 0} (r : Result A E) (F : E → Type 0) (e : E) → IsErrAnd r (λ x. x ≡ e) → F e → IfErr r F
@@ -66,6 +71,24 @@ pub record IsBeginning {S : Type 0} (ops : Ops S) (n v : Memory S) (k : Config) 
 pub few_posted : {S : Type 0} {ops : Ops S} (n v : Memory S) → v ≡ n → IsSoundMemory ops v → (c : Call) (number : ℕ) → length (call_begun ops n c number).posted ≤ 8
 few_posted {S} {ops} n v same s c number = subst (λ (x : Memory S). length (call_begun ops x c number).posted ≤ 8) same (call-few ops v c number s.coherent)
 
+-- where no word waits, a word is carried out, or has to be asked for
+module _ {S : Type 0} (ops : Ops S) (c : Coherent S) (page : ℕ) (w : Word) (number : ℕ) where
+  either_need : (b : Bool) (x y : Begun S) → x.need ≢ need.Busy → y.need ≢ need.Busy → (if b then x else y).need ≢ need.Busy
+  either_need true x y h k = h
+  either_need false x y h k = k
+
+  entry_serves : (e : Entry) → (is_locked e ≡ true → ⊥) → (accessed ops c page w number e).need ≢ need.Busy
+  entry_serves (entry.Idle s) free = either_need (suffices s.access w) (hit ops c page w) (faulted ops c page w number s) (λ e. absurd cc) (λ e. absurd cc)
+  entry_serves (entry.AwaitRead s) free = absurd (free refl)
+  entry_serves (entry.AwaitWrite s) free = absurd (free refl)
+  entry_serves (entry.AwaitAcks s) free = absurd (free refl)
+
+  never_busy : IsSound ops c → c.locked ≡ None → (begun ops c page w number).need ≢ need.Busy
+  unfolding begun
+  never_busy sound free =
+      subst (λ o. (begun_at ops c page w number o).need ≢ need.Busy) (sym free)
+      (entry_serves (entry_at c.table page) (λ locked. none-some page (sym free ∙ sound.others page locked)))
+
 module _ {S : Type 0} {ops : Ops S} (laws : Laws ops) where
   pub message_memory : (n v : Memory S) → v ≡ n → IsSoundMemory ops v → (from : ℕ) (message : Message) → from < n.coherence.config.nodes → from ≢ n.coherence.me → FitsMessage n.coherence.config message → IsSoundMemory ops (memory_told ops v from message)
   message_memory n v same s from message below foreign fits =
@@ -93,14 +116,22 @@ module _ {S : Type 0} {ops : Ops S} (laws : Laws ops) where
     resting : v.asked ≡ None
     resting = ap (λ (x : Memory S). x.asked) l.same ∙ l.idle
 
-    pub had_memory : (new : Coherent S) (told : Need) (o : Out) (a : Option Call) → ((j : Call) → a ≡ Some j → HasWidth j) → new ≡ access.after → told ≡ access.need → told ≡ need.Have o
-        → IsSoundMemory ops (record { coherence = new; asked = a; side = v.side })
-    had_memory new told o a wide is was had =
-        subst (λ x. IsSoundMemory ops (record { coherence = x; asked = a; side = v.side })) (sym is) (had-sound v access o a wide l.sound resting access-begins access-sound (sym was ∙ had))
+    -- the call is none of the heap
+    pub words_now : (h : HeapCall) → IsInProgress v.coherence.config (Some c) h → ⊥
+    words_now = word_words v.coherence.config c page w asking
 
-    pub started_memory : (new : Coherent S) → new ≡ access.after → IsSoundMemory ops (record { coherence = new; asked = Some c; side = v.side })
+    -- nor is one in progress before
+    pub words_before : (h : HeapCall) → IsInProgress v.coherence.config v.asked h → ⊥
+    words_before = subst (λ x. (h : HeapCall) → IsInProgress v.coherence.config x h → ⊥) (sym resting) (idle_words v.coherence.config)
+
+    pub had_memory : (new : Coherent S) (told : Need) (o : Out) (a : Option Call) (k : ℕ) → ((j : Call) → a ≡ Some j → HasWidth j) → ((j : Call) → a ≡ Some j → 1 ≤ k) → k < 2 ^ 64 → ((h : HeapCall) → IsInProgress v.coherence.config a h → ⊥) → new ≡ access.after → told ≡ access.need → told ≡ need.Have o
+        → IsSoundMemory ops (record { coherence = new; asked = a; number = k; side = v.side })
+    had_memory new told o a k wide least most words is was had =
+        subst (λ x. IsSoundMemory ops (record { coherence = x; asked = a; number = k; side = v.side })) (sym is) (had-sound v access o a k wide least most words l.sound resting access-begins access-sound (sym was ∙ had))
+
+    pub started_memory : (new : Coherent S) → new ≡ access.after → IsSoundMemory ops (record { coherence = new; asked = Some c; number = number; side = v.side })
     started_memory new is =
-        subst (λ x. IsSoundMemory ops (record { coherence = x; asked = Some c; side = v.side })) (sym is) (started-sound v access c l.legal l.sound resting access-begins access-sound)
+        subst (λ x. IsSoundMemory ops (record { coherence = x; asked = Some c; number = number; side = v.side })) (sym is) (started-sound v access c number l.legal l.least l.most words_now l.sound resting access-begins access-sound)
 
     -- the call in progress is that call
     pub wide : (j : Call) → Some c ≡ Some j → HasWidth j
@@ -110,11 +141,11 @@ module _ {S : Type 0} {ops : Ops S} (laws : Laws ops) where
     busy_stays new told is was busy = is ∙ access-begins.busy (sym was ∙ busy)
 
     pub busy_memory : (new : Coherent S) (told : Need) → new ≡ access.after → told ≡ access.need → told ≡ need.Busy
-        → IsSoundMemory ops (record { coherence = new; asked = v.asked; side = v.side })
+        → IsSoundMemory ops (record { coherence = new; asked = v.asked; number = v.number; side = v.side })
     busy_memory new told is was busy =
-        subst (λ x. IsSoundMemory ops (record { coherence = x; asked = v.asked; side = v.side })) (sym (busy_stays new told is was busy)) l.sound
+        subst (λ x. IsSoundMemory ops (record { coherence = x; asked = v.asked; number = v.number; side = v.side })) (sym (busy_stays new told is was busy)) l.sound
 
-    begun_is : call_begun ops n c number ≡ needed v c access access.need
+    begun_is : call_begun ops n c number ≡ needed v c number access access.need
     unfolding call_begun
     begun_is = ap (λ x. call_begun ops x c number) (sym l.same) ∙ ap (begun_as ops v c number) asking
 
@@ -124,19 +155,23 @@ module _ {S : Type 0} {ops : Ops S} (laws : Laws ops) where
     call_asks (Err x) asks =
         inl (subst (λ (m : Memory S). CallHasToAsk m.coherence c) l.same (subst (HasToAskFor v.coherence) (sym asking) asks))
 
+    -- no word waits before it
+    pub not_busy : (told : Need) → told ≡ access.need → told ≡ need.Busy → ⊥
+    not_busy told was busy = never_busy ops v.coherence page w number l.sound.coherent (l.sound.locked resting) (sym was ∙ busy)
+
     -- what the call comes to, by what its access does
-    pub begun_by : (told : Need) → told ≡ access.need → call_begun ops n c number ≡ needed v c access told
-    begun_by told was = begun_is ∙ ap (needed v c access) (sym was)
+    pub begun_by : (told : Need) → told ≡ access.need → call_begun ops n c number ≡ needed v c number access told
+    begun_by told was = begun_is ∙ ap (needed v c number access) (sym was)
 
     -- what a call posts is what its access posts
     pub call_posts : access.posted ≡ (call_begun ops n c number).posted
-    call_posts = sym (ap (λ (x : CallBegun S). x.posted) begun_is ∙ needed-posted v c access access.need access-begins refl)
+    call_posts = sym (ap (λ (x : CallBegun S). x.posted) begun_is ∙ needed-posted v c number access access.need access-begins refl)
 
     pub busy_is : (new : Coherent S) (told : Need) → new ≡ access.after → told ≡ access.need → told ≡ need.Busy
-        → record { coherence = new; asked = v.asked; side = v.side } ≡ (call_begun ops n c number).after
+        → record { coherence = new; asked = v.asked; number = v.number; side = v.side } ≡ (call_begun ops n c number).after
     busy_is new told is was busy =
-        ap (λ x. record { coherence = x; asked = v.asked; side = v.side }) (busy_stays new told is was busy)
-        ∙ sym (ap (λ (x : CallBegun S). x.after) (begun_by told was) ∙ ap (λ x. (needed v c access x).after) busy)
+        ap (λ x. record { coherence = x; asked = v.asked; number = v.number; side = v.side }) (busy_stays new told is was busy)
+        ∙ sym (ap (λ (x : CallBegun S). x.after) (begun_by told was) ∙ ap (λ x. (needed v c number access x).after) busy)
 
 -- A call that begins as one of the heap, as the code has it: `v` is what the fields are seen as, `n` the value.
 pub record IsHeapBeginning {S : Type 0} (ops : Ops S) (n v : Memory S) (k : Config) (c : Call) (number : ℕ) (h : HeapCall) (node : ℕ) : Type 0 where
@@ -158,17 +193,18 @@ module _ {S : Type 0} {ops : Ops S} (laws : Laws ops) (n v : Memory S) (k : Conf
   heap_asking = ap (λ x. asked_of x c) (sym l.config) ∙ l.asks
 
   -- what the call comes to
-  pub heap_is : call_begun ops n c number ≡ heap_answered v c begins
+  pub heap_is : call_begun ops n c number ≡ heap_answered v c number begins
   unfolding call_begun
-  heap_is = ap (λ x. call_begun ops x c number) (sym l.same) ∙ ap (begun_as ops v c number) heap_asking ∙ ap (λ i. heap_answered v c (heap_begun i v.side h number)) (sym l.me)
+  heap_is = ap (λ x. call_begun ops x c number) (sym l.same) ∙ ap (begun_as ops v c number) heap_asking ∙ ap (λ i. heap_answered v c number (heap_begun i v.side h number)) (sym l.me)
 
   -- the memory after it is sound
-  pub heap_memory : (answer : Answer) (new : HeapSide) (a : Option Call) → answer ≡ begins.answer → new ≡ begins.after → asked_after v.asked c answer ≡ a → IsSoundMemory ops (record { coherence = v.coherence; asked = a; side = new })
-  heap_memory answer new a told after waits =
-      subst (λ x. IsSoundMemory ops (record { coherence = v.coherence; asked = a; side = x })) (sym after)
-      (subst (λ x. IsSoundMemory ops (record { coherence = v.coherence; asked = x; side = begins.after })) (ap (asked_after v.asked c) (sym told) ∙ waits)
+  pub heap_memory : (answer : Answer) (new : HeapSide) (a : Option Call) (i : ℕ) → answer ≡ begins.answer → new ≡ begins.after → asked_after v.asked c answer ≡ a → number_after v.number number answer ≡ i → IsSoundMemory ops (record { coherence = v.coherence; asked = a; number = i; side = new })
+  heap_memory answer new a i told after waits counts =
+      subst (λ x. IsSoundMemory ops (record { coherence = v.coherence; asked = a; number = i; side = x })) (sym after)
+      (subst (λ x. IsSoundMemory ops (record { coherence = v.coherence; asked = a; number = x; side = begins.after })) (ap (number_after v.number number) (sym told) ∙ counts)
+      (subst (λ x. IsSoundMemory ops (record { coherence = v.coherence; asked = x; number = number_after v.number number begins.answer; side = begins.after })) (ap (asked_after v.asked c) (sym told) ∙ waits)
       (subst (λ (x : CallBegun S). IsSoundMemory ops x.after) (ap (λ x. call_begun ops x c number) l.same ∙ heap_is)
-      (call-sound laws v c number l.sound (ap (λ (x : Memory S). x.asked) l.same ∙ l.idle) l.legal l.least l.most).0))
+      (call-sound laws v c number l.sound (ap (λ (x : Memory S). x.asked) l.same ∙ l.idle) l.legal l.least l.most).0)))
 
 -- nothing posted is no address
 no_address : IsAddressPosted [] → ⊥
@@ -208,9 +244,9 @@ module _ {S : Type 0} {ops : Ops S} (laws : Laws ops) (n v : Memory S) (node fro
   pub side_is : (fits : Bool) → fits ≡ heard.fits → fits ≡ true → memory_handled ops n from m ≡ by_side v heard
   side_is fits same is = heard_is ∙ ap (λ b. if b then by_side v heard else by_coherence ops v from m) (sym same ∙ is)
 
-  pub side_memory : (fits : Bool) (new : HeapSide) → fits ≡ heard.fits → fits ≡ true → new ≡ heard.after → IsSoundMemory ops (record { coherence = v.coherence; asked = v.asked; side = new })
+  pub side_memory : (fits : Bool) (new : HeapSide) → fits ≡ heard.fits → fits ≡ true → new ≡ heard.after → IsSoundMemory ops (record { coherence = v.coherence; asked = v.asked; number = v.number; side = new })
   side_memory fits new same is after =
-      subst (λ x. IsSoundMemory ops (record { coherence = v.coherence; asked = v.asked; side = x })) (sym after)
+      subst (λ x. IsSoundMemory ops (record { coherence = v.coherence; asked = v.asked; number = v.number; side = x })) (sym after)
       (subst (λ (e : MemoryEffect S). IsSoundMemory ops e.after) (side_is fits same is) told_memory)
 
   -- it is none
@@ -228,16 +264,16 @@ module _ {S : Type 0} {ops : Ops S} (laws : Laws ops) (n v : Memory S) (node fro
         | inr misfits ↦ absurd (none (subst R (misfit_stays node v.side from m misfits).1 why))
       ]
 
-  -- what it is refused by
-  pub err_posts : {A : Type 0} (r : Result A Fault) (Refuses : List Parcel → Fault → Type 0) (e : Fault) → ((f : Fault) → Refuses [] f → ⊥) → IsErrAnd r (λ x. x ≡ e) → IsGrowthPosted heard.posted e ⊎ Refuses heard.posted e
-      → IfErr r (λ f. IsGrowthPosted (memory_handled ops n from m).posted f ⊎ Refuses (memory_handled ops n from m).posted f)
-  err_posts r Refuses e none is why =
-      err_there r (λ f. IsGrowthPosted (memory_handled ops n from m).posted f ⊎ Refuses (memory_handled ops n from m).posted f) e is
-      (side_posts (λ ps. IsGrowthPosted ps e ⊎ Refuses ps e) (λ x. elim x [ inl grows ↦ no_address grows.0 | inr refuses ↦ none e refuses ]) why)
+  -- what it is refused by: the heap does not grow, so that something else is `Unasked`; or the post refuses
+  pub err_posts : {A : Type 0} (r : Result A Fault) (Unasked : Type 0) (Refuses : List Parcel → Fault → Type 0) (e : Fault) → ((f : Fault) → Refuses [] f → ⊥) → IsErrAnd r (λ x. x ≡ e) → (IsGrowthPosted heard.posted e × Unasked) ⊎ Refuses heard.posted e
+      → IfErr r (λ f. (IsGrowthPosted (memory_handled ops n from m).posted f × Unasked) ⊎ Refuses (memory_handled ops n from m).posted f)
+  err_posts r Unasked Refuses e none is why =
+      err_there r (λ f. (IsGrowthPosted (memory_handled ops n from m).posted f × Unasked) ⊎ Refuses (memory_handled ops n from m).posted f) e is
+      (side_posts (λ ps. (IsGrowthPosted ps e × Unasked) ⊎ Refuses ps e) (λ x. elim x [ inl grows ↦ no_address grows.0.0 | inr refuses ↦ none e refuses ]) why)
 
   -- the memory after the coherence had the message, or refused it
-  pub left_memory : {A E : Type 0} (P : Type 0) (fits : Bool) (r : Result A E) (new : Coherent S) (side : HeapSide) → fits ≡ heard.fits → fits ≡ false → side ≡ v.side
-      → OnOk r (new ≡ (handled ops v.coherence from m).after) → OnErr r ((new ≡ v.coherence) × P) → IsSoundMemory ops (record { coherence = new; asked = v.asked; side = side })
-  left_memory P fits r new side same is kept good bad =
-      subst (λ x. IsSoundMemory ops (record { coherence = new; asked = v.asked; side = x })) (sym kept)
-      (of_either P (λ x. IsSoundMemory ops (record { coherence = x; asked = v.asked; side = v.side })) r new _ _ good bad (coherence_memory fits same is) l.sound)
+  pub left_memory : {A E : Type 0} (fits : Bool) (r : Result A E) (new : Coherent S) (side : HeapSide) → fits ≡ heard.fits → fits ≡ false → side ≡ v.side
+      → OnOk r (new ≡ (handled ops v.coherence from m).after) → OnErr r (new ≡ v.coherence) → IsSoundMemory ops (record { coherence = new; asked = v.asked; number = v.number; side = side })
+  left_memory fits r new side same is kept good bad =
+      subst (λ x. IsSoundMemory ops (record { coherence = new; asked = v.asked; number = v.number; side = x })) (sym kept)
+      (of_either (λ x. IsSoundMemory ops (record { coherence = x; asked = v.asked; number = v.number; side = v.side })) r new _ _ good bad (coherence_memory fits same is) l.sound)

@@ -1,12 +1,9 @@
 -- A call of the heap that node 0 is asked for: what node 0 does with the request, and the node that asked with the answer.
-use Rattle.std.proofs.Common.{◌≡◌, ℕ, ◌<◌, inl, inr, false, ◌==◌, Option, Some, None, refl, sym, ap, ◌∙◌, subst, arith, eq-eqb, if◌then◌else◌}
-use Rattle.std.proofs.lemmas.Bool.{ne_eqb}
+use Rattle.std.proofs.Common.{◌≡◌, ℕ, inl, inr, false, Some, refl, sym, ap, ◌∙◌, subst, eq-eqb, if◌then◌else◌}
 use Rattle.std.proofs.lemmas.Option.{none-some}
 use Rattle.ivy_model.specs.declared.Config.{Config}
-use Rattle.ivy_model.specs.declared.Fault.TheVariants.{ZeroSize, NoRoom}
 use Rattle.ivy_model.specs.declared.Reply.{Reply}
 use Rattle.ivy_model.specs.declared.Reply.TheVariants.{Value, Done, Refused}
-use Rattle.ivy_model.specs.Numbers.{fault_number}
 use Rattle.ivy_wire.specs.declared.Content.TheVariants as content
 use Rattle.ivy_wire.specs.Data.{Content, Message}
 use Rattle.ivy_pagetable.specs.Manager.{Ops}
@@ -32,32 +29,19 @@ answer_heap (Free addr) (Value v) = refl
 answer_heap (Free addr) Done = refl
 answer_heap (Free addr) (Refused code) = refl
 
--- what is told of a block of no bytes, and of one of some
-abbrev told_of_none : ℕ → Option Reply
-told_of_none code = if code == fault_number ZeroSize then Some (Refused code) else None
-
-abbrev told_of_some : ℕ → ℕ → Option Reply
-told_of_some code addr = if code == 0 then Some (Value addr) else (if code == fault_number NoRoom then Some (Refused code) else None)
-
-none_told : (size code addr : ℕ) → size ≡ 0 → block_told size code addr ≡ told_of_none code
-none_told size code addr none = ap (λ b. if b then told_of_none code else told_of_some code addr) (eq-eqb size 0 none)
-
-some_told : (size code addr : ℕ) → 0 < size → block_told size code addr ≡ told_of_some code addr
-some_told size code addr some = ap (λ b. if b then told_of_none code else told_of_some code addr) (ne_eqb size 0 (λ none. omega (arith, some, none)))
-
 -- the answer tells the reply of the call
 alloc-replied : (c : Config) (size : ℕ) (r : Reply) → IsAllocReply c size r → reply_in (Alloc size) (answer_to (Alloc size) r) ≡ Some r
-alloc-replied c size (Value addr) is = some_told size 0 addr is.0
+alloc-replied c size (Value addr) is = refl
 alloc-replied c size Done is = absurd is
 alloc-replied c size (Refused code) is = elim is [
-  | inl x ↦ subst (λ z. block_told size z 0 ≡ Some (Refused z)) (sym x.1) (none_told size (fault_number ZeroSize) 0 x.0)
-  | inr x ↦ subst (λ z. block_told size z 0 ≡ Some (Refused z)) (sym x.1) (some_told size (fault_number NoRoom) 0 x.0)
+  | inl x ↦ subst (λ z. Some (block_told z 0) ≡ Some (Refused z)) (sym x.1) refl
+  | inr x ↦ subst (λ z. Some (block_told z 0) ≡ Some (Refused z)) (sym x.1) refl
 ]
 
 free-replied : (addr : ℕ) (r : Reply) → IsFreeReply r → reply_in (Free addr) (answer_to (Free addr) r) ≡ Some r
 free-replied addr (Value v) is = absurd is
 free-replied addr Done is = refl
-free-replied addr (Refused code) is = subst (λ z. end_told z ≡ Some (Refused z)) (sym is) refl
+free-replied addr (Refused code) is = subst (λ z. Some (end_told z) ≡ Some (Refused z)) (sym is) refl
 
 pub replied : (h : HeapState) (k : HeapCall) → reply_in k (answer_to k (told_of h k).reply) ≡ Some (told_of h k).reply
 replied h (Alloc size) = alloc-replied h.config size (told_of h (Alloc size)).reply (has_replies h.config h.blocks size).0

@@ -6,3 +6,5 @@ pub mod Polling
 pub mod Same
 pub mod Pages
 pub mod Errands
+pub mod WordsServed
+pub mod CallsServed

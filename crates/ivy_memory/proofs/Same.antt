@@ -25,3 +25,8 @@ module _ {S : Type 0} (ops : Ops S) where
   told-asked m from message =
       let t : HeapTold = heap_told m.coherence.me m.side from message in
       either (λ (e : MemoryEffect S). e.after.asked ≡ m.asked) t.fits (by_side m t) (by_coherence ops m from message) refl refl
+
+  pub told-number : (m : Memory S) (from : ℕ) (message : Message) → (memory_told ops m from message).number ≡ m.number
+  told-number m from message =
+      let t : HeapTold = heap_told m.coherence.me m.side from message in
+      either (λ (e : MemoryEffect S). e.after.number ≡ m.number) t.fits (by_side m t) (by_coherence ops m from message) refl refl

@@ -30,7 +30,10 @@ use Rattle.ivy_memory.specs.declared.heap_side.Errand.TheVariants as errand
 use Rattle.ivy_memory.specs.declared.answer.Answer.TheVariants.{Given, Unserved}
 use Rattle.ivy_memory.specs.HeapCalls.{HeapSide, HeapBegun, HeapTold, IsAddress, first_side, told_of, request, number_in, answer_to, begun_at, heap_begun, misfit, served_at, served, learned, learns, answered_by, heap_told_as, heap_told}
 use Rattle.ivy_memory.specs.Memories.{Memory, heap_answered}
-use Rattle.ivy_memory.specs.Sound.{IsErrandOf, IsSoundSide}
+use Rattle.ivy_pagetable.specs.declared.Word.{Word}
+use Rattle.ivy_memory.specs.declared.asked.Asked.TheVariants as kinds
+use Rattle.ivy_memory.specs.Asking.{asked_of}
+use Rattle.ivy_memory.specs.Sound.{IsErrandOf, IsInProgress, IsSoundSide}
 
 pub either : {A : Type 0} (P : A → Type 0) (b : Bool) (x y : A) → P x → P y → P (if b then x else y)
 either P true x y h k = h
@@ -117,13 +120,34 @@ pub same_side : (c k : Config) (me i : ℕ) (a : Option Call) (s : HeapSide) →
 same_side c k me i a s config node is =
     subst (λ x. IsSoundSide x i a s) (sym config) (subst (λ x. IsSoundSide c x a s) (sym node) is)
 
--- a side without an errand, whatever the call in progress
-pub quiet_side : (c : Config) (me : ℕ) (a b : Option Call) (s : HeapSide) → s.errand ≡ None → IsSoundSide c me a s → IsSoundSide c me b s
-quiet_side c me a b s none is = record { away = is.away; home = is.home; errand = subst (IsErrandOf c b) (sym none) tt }
+-- a side without an errand, where the call in progress is none of the heap
+pub quiet_side : (c : Config) (me : ℕ) (a b : Option Call) (s : HeapSide) → s.errand ≡ None → ((k : HeapCall) → IsInProgress c b k → ⊥) → IsSoundSide c me a s → IsSoundSide c me b s
+quiet_side c me a b s none words is = record {
+  away = is.away;
+  home = is.home;
+  errand = subst (IsErrandOf c b) (sym none) tt;
+  owed = λ k in_progress. absurd (words k in_progress);
+  none = λ zero. none;
+}
+
+-- no call is in progress, or one that is a word
+pub idle_words : (c : Config) (k : HeapCall) → IsInProgress c None k → ⊥
+idle_words c k is = none-some is.call is.asked
+
+pub word_words : (c : Config) (called : Call) (page : ℕ) (w : Word) → asked_of c called ≡ kinds.Word page w → (k : HeapCall) → IsInProgress c (Some called) k → ⊥
+word_words c called page w word k is =
+    let same : called ≡ is.call = same_Some called is.call is.asked in
+    let e : kinds.Word page w ≡ kinds.Heap k = sym word ∙ ap (asked_of c) same ∙ is.of in absurd cc
 
 -- a side whose call is over
-pub closed_side : (c : Config) (me : ℕ) (a b : Option Call) (s : HeapSide) → IsSoundSide c me a s → IsSoundSide c me b (record s { errand = None })
-closed_side c me a b s is = record { away = is.away; home = is.home; errand = tt }
+pub closed_side : (c : Config) (me : ℕ) (a : Option Call) (s : HeapSide) → IsSoundSide c me a s → IsSoundSide c me None (record s { errand = None })
+closed_side c me a s is = record {
+  away = is.away;
+  home = is.home;
+  errand = tt;
+  owed = λ k in_progress. absurd (idle_words c k in_progress);
+  none = λ zero. refl;
+}
 
 -- the side after the heap served a call
 pub kept_side : (c : Config) (me : ℕ) (a : Option Call) (s : HeapSide) (h : HeapState) (k : HeapCall) → s.heap ≡ Some h → IsSoundSide c me a s
@@ -132,6 +156,8 @@ kept_side c me a s h k there is = record {
   away = λ none. absurd (none-some _ (sym none));
   home = λ g same. subst (λ (x : HeapState). (x.config ≡ c) × (me ≡ 0)) (same_Some _ g same) (is.home h there);
   errand = is.errand;
+  owed = is.owed;
+  none = is.none;
 }
 
 -- what a message to the side keeps
@@ -141,6 +167,8 @@ pub record KeepsSide (c : Config) (me : ℕ) (a : Option Call) (s : HeapSide) (t
   pub few : length t.posted ≤ 1
   -- an errand after it is one that there was before it
   pub apart : (e : Errand) → t.after.errand ≡ Some e → (d : Errand) × (s.errand ≡ Some d)
+  -- and node 0 is still asked for what it was asked for
+  pub under : (k : HeapCall) (number : ℕ) → t.after.errand ≡ Some (errand.Asked k number) → s.errand ≡ Some (errand.Asked k number)
 
 module _ (c : Config) (me : ℕ) (a : Option Call) (s : HeapSide) (sound : IsSoundSide c me a s) (limits : IsConfig c) (here : me < c.nodes) where
   answer_sent : (from number : ℕ) (k : HeapCall) (h : HeapState) → s.heap ≡ Some h → from < c.nodes → from ≢ me → 1 ≤ number → number < 2 ^ 64
@@ -156,18 +184,26 @@ module _ (c : Config) (me : ℕ) (a : Option Call) (s : HeapSide) (sound : IsSou
   pub told-keeps : (from : ℕ) (m : Message) → from < c.nodes → from ≢ me → FitsMessage c m → KeepsSide c me a s (heap_told me s from m)
   told-keeps from m below foreign fits =
       told-by_rows {P = KeepsSide c me a s} (record {
-        breach = record { sound = sound; fits = all_none (FitsParcel c me); few = omega arith; apart = λ e is. (e, is) };
+        breach = record { sound = sound; fits = all_none (FitsParcel c me); few = omega arith; apart = λ e is. (e, is); under = λ k number is. is };
         serves = λ k h there. record {
           sound = kept_side c me a s h k there sound;
           fits = all_one (FitsParcel c me) _ (answer_sent from m.call k h there below foreign fits.call_from fits.call_to);
           few = omega arith;
           apart = λ e is. (e, is);
+          under = λ j number is. is;
         };
         told = λ k number r is. record {
-          sound = record { away = sound.away; home = sound.home; errand = (k, subst (IsErrandOf c a) is sound.errand) };
+          sound = record {
+            away = sound.away;
+            home = sound.home;
+            errand = (k, subst (IsErrandOf c a) is sound.errand);
+            owed = λ j in_progress. (errand.Told r, refl);
+            none = λ zero. absurd (none-some _ (sym (sound.none zero) ∙ is));
+          };
           fits = all_none (FitsParcel c me);
           few = omega arith;
           apart = λ e same. (errand.Asked k number, is);
+          under = λ j n same. (let e : errand.Told r ≡ errand.Asked j n = same_Some _ _ same in absurd cc);
         };
       })
 
@@ -183,8 +219,8 @@ module _ (c : Config) (me : ℕ) (a : Option Call) (s : HeapSide) (sound : IsSou
 
 -- the side of a node as it begins
 first_as : (c : Config) (me : ℕ) (b : Bool) → (me == 0) ≡ b → IsSoundSide c me None (record { heap = if b then Some (first_heap c) else None; errand = None })
-first_as c me true is = record { away = λ none. absurd (none-some _ (sym none)); home = λ h same. (ap (λ (x : HeapState). x.config) (sym (same_Some _ h same)), eqb-true me 0 is); errand = tt }
-first_as c me false is = record { away = λ none. eqb-false me 0 is; home = λ h same. absurd (none-some h same); errand = tt }
+first_as c me true is = record { away = λ none. absurd (none-some _ (sym none)); home = λ h same. (ap (λ (x : HeapState). x.config) (sym (same_Some _ h same)), eqb-true me 0 is); errand = tt; owed = λ k in_progress. absurd (idle_words c k in_progress); none = λ zero. refl }
+first_as c me false is = record { away = λ none. eqb-false me 0 is; home = λ h same. absurd (none-some h same); errand = tt; owed = λ k in_progress. absurd (idle_words c k in_progress); none = λ zero. refl }
 
 pub first_sound-side : (c : Config) (me : ℕ) → IsSoundSide c me None (first_side c me)
 first_sound-side c me = first_as c me (me == 0) refl
@@ -198,14 +234,14 @@ pub heap_begun-few : (me : ℕ) (s : HeapSide) (k : HeapCall) (number : ℕ) →
 heap_begun-few me s k number = few_if me s k number s.heap
 
 unserved_at : {S : Type 0} (m : Memory S) (k : Call) (number : ℕ) (h : HeapCall) (o : Option HeapState) → (begun_at m.coherence.me m.side h number o).answer ≡ Unserved
-    → ((heap_answered m k (begun_at m.coherence.me m.side h number o)).after ≡ m) × ((begun_at m.coherence.me m.side h number o).posted ≡ [])
+    → ((heap_answered m k number (begun_at m.coherence.me m.side h number o)).after ≡ m) × ((begun_at m.coherence.me m.side h number o).posted ≡ [])
 unserved_at m k number h (Some g) is = absurd cc
 unserved_at m k number h None is =
-    either (λ (b : HeapBegun). b.answer ≡ Unserved → ((heap_answered m k b).after ≡ m) × (b.posted ≡ [])) (nat_lt (number_in h) (2 ^ 64)) _ _ (λ asks. absurd cc) (λ none. (refl, refl)) is
+    either (λ (b : HeapBegun). b.answer ≡ Unserved → ((heap_answered m k number b).after ≡ m) × (b.posted ≡ [])) (nat_lt (number_in h) (2 ^ 64)) _ _ (λ asks. absurd cc) (λ none. (refl, refl)) is
 
 -- a call of the heap that does not begin changes nothing
 pub heap_unserved : {S : Type 0} (m : Memory S) (k : Call) (number : ℕ) (h : HeapCall) → (heap_begun m.coherence.me m.side h number).answer ≡ Unserved
-    → ((heap_answered m k (heap_begun m.coherence.me m.side h number)).after ≡ m) × ((heap_begun m.coherence.me m.side h number).posted ≡ [])
+    → ((heap_answered m k number (heap_begun m.coherence.me m.side h number)).after ≡ m) × ((heap_begun m.coherence.me m.side h number).posted ≡ [])
 heap_unserved m k number h is = unserved_at m k number h m.side.heap is
 
 -- the heap wants memory only where there is room for the block: it has not refused it with 8 or 9

@@ -43,10 +43,10 @@ use Rattle.ivy_memory.specs.declared.heap_side.Errand.{Errand}
 use Rattle.ivy_memory.specs.declared.heap_side.Errand.TheVariants as errand
 use Rattle.ivy_memory.specs.Asking.{CanAsk, asked_of}
 use Rattle.ivy_memory.specs.HeapCalls.{HeapBegun, HeapTold, number_in, request, begun_at, heap_begun, heap_told, reply_told}
-use Rattle.ivy_memory.specs.Memories.{Memory, CallBegun, MemoryEffect, first_memory, reply_of, reply_there, first_reply, reply_at, taken_out, answered, unserved, needed, again_unless, again, asked_after, heap_answered, begun_as, call_begun, by_side, by_coherence, memory_handled, memory_told}
+use Rattle.ivy_memory.specs.Memories.{Memory, CallBegun, MemoryEffect, first_memory, reply_of, reply_there, first_reply, reply_at, taken_out, answered, unserved, needed, again_unless, again, asked_after, number_after, heap_answered, begun_as, call_begun, by_side, by_coherence, memory_handled, memory_told}
 use Rattle.ivy_memory.proofs.Asking.{can_ask}
-use Rattle.ivy_memory.specs.Sound.{IsSoundMemory, IsSoundSide}
-use Rattle.ivy_memory.proofs.Sides.{KeepsSide, either, no_errand, same_side, quiet_side, closed_side, kept_side, request_sent, told-keeps, first_sound-side, heap_begun-few}
+use Rattle.ivy_memory.specs.Sound.{IsInProgress, IsSoundMemory, IsSoundSide}
+use Rattle.ivy_memory.proofs.Sides.{KeepsSide, either, no_errand, same_side, quiet_side, idle_words, word_words, closed_side, kept_side, request_sent, told-keeps, first_sound-side, heap_begun-few}
 
 -- the node stays who it is
 pub record SameNode {S : Type 0} (old new : Coherent S) : Type 0 where
@@ -98,33 +98,33 @@ module _ {S : Type 0} where
   stays : {c : Coherent S} {new : Coherent S} → new.config ≡ c.config → new.me ≡ c.me → new.locked ≡ c.locked → new.done ≡ c.done → Told c new
   stays config me locked done = (record { config = config; me = me }, inl (locked, done))
 
-  answered-fits : (k : Config) (me : ℕ) (m : Memory S) (c : Call) (b : Begun S) (r : Option Reply) → All (FitsParcel k me) b.posted → All (FitsParcel k me) (answered m c b r).posted
-  answered-fits k me m c b None fits = fits
-  answered-fits k me m c b (Some r) fits = fits
+  answered-fits : (k : Config) (me : ℕ) (m : Memory S) (c : Call) (number : ℕ) (b : Begun S) (r : Option Reply) → All (FitsParcel k me) b.posted → All (FitsParcel k me) (answered m c number b r).posted
+  answered-fits k me m c number b None fits = fits
+  answered-fits k me m c number b (Some r) fits = fits
 
-  needed-fits : (k : Config) (me : ℕ) (m : Memory S) (c : Call) (b : Begun S) (n : Need) → All (FitsParcel k me) b.posted → All (FitsParcel k me) (needed m c b n).posted
-  needed-fits k me m c b (need.Have o) fits = answered-fits k me m c b (reply_of o) fits
-  needed-fits k me m c b need.Started fits = fits
-  needed-fits k me m c b need.Busy fits = all_none (FitsParcel k me)
+  needed-fits : (k : Config) (me : ℕ) (m : Memory S) (c : Call) (number : ℕ) (b : Begun S) (n : Need) → All (FitsParcel k me) b.posted → All (FitsParcel k me) (needed m c number b n).posted
+  needed-fits k me m c number b (need.Have o) fits = answered-fits k me m c number b (reply_of o) fits
+  needed-fits k me m c number b need.Started fits = fits
+  needed-fits k me m c number b need.Busy fits = all_none (FitsParcel k me)
 
-  answered-same : (m : Memory S) (c : Call) (b : Begun S) (r : Option Reply) → SameNode m.coherence b.after → SameNode m.coherence (answered m c b r).after.coherence
-  answered-same m c b None same = same
-  answered-same m c b (Some r) same = same
+  answered-same : (m : Memory S) (c : Call) (number : ℕ) (b : Begun S) (r : Option Reply) → SameNode m.coherence b.after → SameNode m.coherence (answered m c number b r).after.coherence
+  answered-same m c number b None same = same
+  answered-same m c number b (Some r) same = same
 
-  pub needed-same : (m : Memory S) (c : Call) (b : Begun S) (n : Need) → SameNode m.coherence b.after → SameNode m.coherence (needed m c b n).after.coherence
-  needed-same m c b (need.Have o) same = answered-same m c b (reply_of o) same
-  needed-same m c b need.Started same = same
-  needed-same m c b need.Busy same = record { config = refl; me = refl }
+  pub needed-same : (m : Memory S) (c : Call) (number : ℕ) (b : Begun S) (n : Need) → SameNode m.coherence b.after → SameNode m.coherence (needed m c number b n).after.coherence
+  needed-same m c number b (need.Have o) same = answered-same m c number b (reply_of o) same
+  needed-same m c number b need.Started same = same
+  needed-same m c number b need.Busy same = record { config = refl; me = refl }
 
-  answered-posted : (m : Memory S) (c : Call) (b : Begun S) (r : Option Reply) → (answered m c b r).posted ≡ b.posted
-  answered-posted m c b None = refl
-  answered-posted m c b (Some r) = refl
+  answered-posted : (m : Memory S) (c : Call) (number : ℕ) (b : Begun S) (r : Option Reply) → (answered m c number b r).posted ≡ b.posted
+  answered-posted m c number b None = refl
+  answered-posted m c number b (Some r) = refl
 
   -- what is posted is what the access posts
-  pub needed-posted : (m : Memory S) (c : Call) (b : Begun S) (n : Need) → Begins m.coherence b → b.need ≡ n → (needed m c b n).posted ≡ b.posted
-  needed-posted m c b (need.Have o) bs is = answered-posted m c b (reply_of o)
-  needed-posted m c b need.Started bs is = refl
-  needed-posted m c b need.Busy bs is = sym (bs.none is)
+  pub needed-posted : (m : Memory S) (c : Call) (number : ℕ) (b : Begun S) (n : Need) → Begins m.coherence b → b.need ≡ n → (needed m c number b n).posted ≡ b.posted
+  needed-posted m c number b (need.Have o) bs is = answered-posted m c number b (reply_of o)
+  needed-posted m c number b need.Started bs is = refl
+  needed-posted m c number b need.Busy bs is = sym (bs.none is)
 
 module _ {S : Type 0} (ops : Ops S) where
   -- the word that waited was carried out
@@ -195,48 +195,54 @@ module _ {S : Type 0} {ops : Ops S} where
   pub idle_side : (m : Memory S) → IsSoundMemory ops m → m.asked ≡ None → m.side.errand ≡ None
   idle_side m s idle = no_errand m.coherence.config m.asked m.side.errand idle s.side.errand
 
-  started_side : (m : Memory S) (b : Begun S) (a : Option Call) → IsSoundMemory ops m → m.asked ≡ None → Begins m.coherence b → IsSoundSide b.after.config b.after.me a m.side
-  started_side m b a s idle bs =
-      quiet_side b.after.config b.after.me m.asked a m.side (idle_side m s idle)
+  started_side : (m : Memory S) (b : Begun S) (a : Option Call) → ((k : HeapCall) → IsInProgress m.coherence.config a k → ⊥) → IsSoundMemory ops m → m.asked ≡ None → Begins m.coherence b → IsSoundSide b.after.config b.after.me a m.side
+  started_side m b a words s idle bs =
+      quiet_side b.after.config b.after.me m.asked a m.side (idle_side m s idle) (subst (λ d. (k : HeapCall) → IsInProgress d a k → ⊥) (sym bs.same.config) words)
       (same_side m.coherence.config b.after.config m.coherence.me b.after.me m.asked m.side bs.same.config bs.same.me s.side)
 
   -- the memory after an access, by what it was told
-  pub had-sound : (m : Memory S) (b : Begun S) (o : Out) (a : Option Call) → ((j : Call) → a ≡ Some j → HasWidth j) → IsSoundMemory ops m → m.asked ≡ None → Begins m.coherence b → IsSound ops b.after → b.need ≡ need.Have o
-      → IsSoundMemory ops (record { coherence = b.after; asked = a; side = m.side })
-  had-sound m b o a wide s idle bs good is = record {
+  pub had-sound : (m : Memory S) (b : Begun S) (o : Out) (a : Option Call) (number : ℕ) → ((j : Call) → a ≡ Some j → HasWidth j) → ((j : Call) → a ≡ Some j → 1 ≤ number) → number < 2 ^ 64 → ((k : HeapCall) → IsInProgress m.coherence.config a k → ⊥) → IsSoundMemory ops m → m.asked ≡ None → Begins m.coherence b → IsSound ops b.after → b.need ≡ need.Have o
+      → IsSoundMemory ops (record { coherence = b.after; asked = a; number = number; side = m.side })
+  had-sound m b o a number wide least most words s idle bs good is = record {
     width = wide;
+    numbered = least;
+    small = most;
     coherent = good;
     done = λ h. bs.done ∙ s.done idle;
     locked = λ h. bs.lock o is ∙ s.locked idle;
     answered = λ p h. bs.lock o is ∙ s.locked idle;
-    side = started_side m b a s idle bs;
+    side = started_side m b a words s idle bs;
+    under = λ k n h. absurd (none-some (errand.Asked k n) (sym (idle_side m s idle) ∙ h));
     apart = λ e h. absurd (none-some e (sym (idle_side m s idle) ∙ h));
   }
 
-  pub started-sound : (m : Memory S) (b : Begun S) (c : Call) → HasWidth c → IsSoundMemory ops m → m.asked ≡ None → Begins m.coherence b → IsSound ops b.after
-      → IsSoundMemory ops (record { coherence = b.after; asked = Some c; side = m.side })
-  started-sound m b c wide s idle bs good = record {
+  pub started-sound : (m : Memory S) (b : Begun S) (c : Call) (number : ℕ) → HasWidth c → 1 ≤ number → number < 2 ^ 64 → ((k : HeapCall) → IsInProgress m.coherence.config (Some c) k → ⊥) → IsSoundMemory ops m → m.asked ≡ None → Begins m.coherence b → IsSound ops b.after
+      → IsSoundMemory ops (record { coherence = b.after; asked = Some c; number = number; side = m.side })
+  started-sound m b c number wide least most words s idle bs good = record {
     width = one_wide c wide;
+    numbered = λ j h. least;
+    small = most;
     coherent = good;
     done = λ h. absurd (none-some c (sym h));
     locked = λ h. absurd (none-some c (sym h));
     answered = λ o h. absurd (none-some o (sym (bs.done ∙ s.done idle) ∙ h));
-    side = started_side m b (Some c) s idle bs;
+    side = started_side m b (Some c) words s idle bs;
+    under = λ k n h. absurd (none-some (errand.Asked k n) (sym (idle_side m s idle) ∙ h));
     apart = λ e h. absurd (none-some e (sym (idle_side m s idle) ∙ h));
   }
 
-  answered-sound : (m : Memory S) (c : Call) (b : Begun S) (o : Out) (r : Option Reply) → HasWidth c → IsSoundMemory ops m → m.asked ≡ None → Begins m.coherence b → IsSound ops b.after → b.need ≡ need.Have o
-      → IsSoundMemory ops (answered m c b r).after
-  answered-sound m c b o None wide s idle bs good is = had-sound m b o (Some c) (one_wide c wide) s idle bs good is
-  answered-sound m c b o (Some r) wide s idle bs good is = had-sound m b o None (λ j h. absurd (none-some j h)) s idle bs good is
+  answered-sound : (m : Memory S) (c : Call) (number : ℕ) (b : Begun S) (o : Out) (r : Option Reply) → HasWidth c → 1 ≤ number → number < 2 ^ 64 → ((k : HeapCall) → IsInProgress m.coherence.config (Some c) k → ⊥) → IsSoundMemory ops m → m.asked ≡ None → Begins m.coherence b → IsSound ops b.after → b.need ≡ need.Have o
+      → IsSoundMemory ops (answered m c number b r).after
+  answered-sound m c number b o None wide least most words s idle bs good is = had-sound m b o (Some c) number (one_wide c wide) (λ j h. least) most words s idle bs good is
+  answered-sound m c number b o (Some r) wide least most words s idle bs good is = had-sound m b o None m.number (λ j h. absurd (none-some j h)) (λ j h. absurd (none-some j h)) s.small (idle_words m.coherence.config) s idle bs good is
 
-  needed-sound : (m : Memory S) (c : Call) (b : Begun S) (n : Need) → HasWidth c → IsSoundMemory ops m → m.asked ≡ None → Begins m.coherence b → IsSound ops b.after → b.need ≡ n
-      → IsSoundMemory ops (needed m c b n).after
-  needed-sound m c b (need.Have o) wide s idle bs good is = answered-sound m c b o (reply_of o) wide s idle bs good is
-  needed-sound m c b need.Started wide s idle bs good is = started-sound m b c wide s idle bs good
-  needed-sound m c b need.Busy wide s idle bs good is = s
+  needed-sound : (m : Memory S) (c : Call) (number : ℕ) (b : Begun S) (n : Need) → HasWidth c → 1 ≤ number → number < 2 ^ 64 → ((k : HeapCall) → IsInProgress m.coherence.config (Some c) k → ⊥) → IsSoundMemory ops m → m.asked ≡ None → Begins m.coherence b → IsSound ops b.after → b.need ≡ n
+      → IsSoundMemory ops (needed m c number b n).after
+  needed-sound m c number b (need.Have o) wide least most words s idle bs good is = answered-sound m c number b o (reply_of o) wide least most words s idle bs good is
+  needed-sound m c number b need.Started wide least most words s idle bs good is = started-sound m b c number wide least most words s idle bs good
+  needed-sound m c number b need.Busy wide least most words s idle bs good is = s
 
-  pub told-memory : (m : Memory S) (new : Coherent S) → IsSoundMemory ops m → Told m.coherence new → IsSound ops new → IsSoundMemory ops (record { coherence = new; asked = m.asked; side = m.side })
+  pub told-memory : (m : Memory S) (new : Coherent S) → IsSoundMemory ops m → Told m.coherence new → IsSound ops new → IsSoundMemory ops (record { coherence = new; asked = m.asked; number = m.number; side = m.side })
   told-memory m new s told good =
       elim told.1 [
         | inl x ↦ record {
@@ -245,6 +251,9 @@ module _ {S : Type 0} {ops : Ops S} where
           locked = λ h. x.0 ∙ s.locked h;
           answered = λ o h. x.0 ∙ s.answered o (sym x.1 ∙ h);
           width = s.width;
+          numbered = s.numbered;
+          small = s.small;
+          under = s.under;
           side = same_side m.coherence.config new.config m.coherence.me new.me m.asked m.side told.0.config told.0.me s.side;
           apart = λ e h. (x.0 ∙ (s.apart e h).0, x.1 ∙ (s.apart e h).1);
         }
@@ -254,6 +263,9 @@ module _ {S : Type 0} {ops : Ops S} where
           locked = λ h. x.2;
           answered = λ o h. x.2;
           width = s.width;
+          numbered = s.numbered;
+          small = s.small;
+          under = s.under;
           side = same_side m.coherence.config new.config m.coherence.me new.me m.asked m.side told.0.config told.0.me s.side;
           apart = λ e h. absurd (none-some x.0 (sym (s.apart e h).0 ∙ x.1));
         }
@@ -286,7 +298,10 @@ module _ {S : Type 0} {ops : Ops S} where
     locked = λ h. free;
     answered = λ o h. absurd (none-some o h);
     width = λ j h. absurd (none-some j h);
-    side = closed_side m.coherence.config m.coherence.me m.asked None m.side s.side;
+    numbered = λ j h. absurd (none-some j h);
+    small = s.small;
+    side = closed_side m.coherence.config m.coherence.me m.asked m.side s.side;
+    under = λ k n h. absurd (none-some (errand.Asked k n) h);
     apart = λ e h. absurd (none-some e h);
   }
 
@@ -298,16 +313,16 @@ module _ {S : Type 0} {ops : Ops S} where
   pub taken-sound : (m : Memory S) (r : Reply) → IsSoundMemory ops m → reply_at m ≡ Some r → IsSoundMemory ops (taken_out m)
   taken-sound m r s there = without-sound m s (free_at m r s m.side.errand refl there)
 
-  again_unless-sound : (m : Memory S) (c : Call) (b : Begun S) (o : Out) (r : Option Reply) → HasWidth c → IsSoundMemory ops m → Begins (taken_out m).coherence b → IsSound ops b.after → b.need ≡ need.Have o
-      → IsSoundMemory ops (again_unless m (answered (taken_out m) c b r) r).after
-  again_unless-sound m c b o None wide s bs good is = s
-  again_unless-sound m c b o (Some r) wide s bs good is = answered-sound (taken_out m) c b o (Some r) wide (without-sound m s (bs.free o is)) refl bs good is
+  again_unless-sound : (m : Memory S) (c : Call) (number : ℕ) (b : Begun S) (o : Out) (r : Option Reply) → HasWidth c → 1 ≤ number → number < 2 ^ 64 → ((k : HeapCall) → IsInProgress m.coherence.config (Some c) k → ⊥) → IsSoundMemory ops m → Begins (taken_out m).coherence b → IsSound ops b.after → b.need ≡ need.Have o
+      → IsSoundMemory ops (again_unless m (answered (taken_out m) c number b r) r).after
+  again_unless-sound m c number b o None wide least most words s bs good is = s
+  again_unless-sound m c number b o (Some r) wide least most words s bs good is = answered-sound (taken_out m) c number b o (Some r) wide least most words (without-sound m s (bs.free o is)) refl bs good is
 
-  pub again-sound : (m : Memory S) (c : Call) (b : Begun S) (n : Need) → HasWidth c → IsSoundMemory ops m → Begins (taken_out m).coherence b → IsSound ops b.after → b.need ≡ n
-      → IsSoundMemory ops (again m (needed (taken_out m) c b n) n).after
-  again-sound m c b (need.Have o) wide s bs good is = again_unless-sound m c b o (reply_of o) wide s bs good is
-  again-sound m c b need.Started wide s bs good is = started-sound (taken_out m) b c wide (without-sound m s (bs.start is)) refl bs good
-  again-sound m c b need.Busy wide s bs good is = s
+  pub again-sound : (m : Memory S) (c : Call) (number : ℕ) (b : Begun S) (n : Need) → HasWidth c → 1 ≤ number → number < 2 ^ 64 → ((k : HeapCall) → IsInProgress m.coherence.config (Some c) k → ⊥) → IsSoundMemory ops m → Begins (taken_out m).coherence b → IsSound ops b.after → b.need ≡ n
+      → IsSoundMemory ops (again m (needed (taken_out m) c number b n) n).after
+  again-sound m c number b (need.Have o) wide least most words s bs good is = again_unless-sound m c number b o (reply_of o) wide least most words s bs good is
+  again-sound m c number b need.Started wide least most words s bs good is = started-sound (taken_out m) b c number wide least most words (without-sound m s (bs.start is)) refl bs good
+  again-sound m c number b need.Busy wide least most words s bs good is = s
 
 -- what a call that begins keeps
 abbrev pub KeepsMemory : {S : Type 0} → Ops S → Memory S → CallBegun S → Type 0
@@ -321,7 +336,10 @@ module _ {S : Type 0} {ops : Ops S} (laws : Laws ops) where
     locked = λ h. refl;
     answered = λ o h. refl;
     width = λ j h. absurd (none-some j h);
+    numbered = λ j h. absurd (none-some j h);
+    small = omega arith;
     side = first_sound-side c me;
+    under = λ k n h. absurd (none-some (errand.Asked k n) h);
     apart = λ e h. absurd (none-some e h);
   }
 
@@ -333,7 +351,10 @@ module _ {S : Type 0} {ops : Ops S} (laws : Laws ops) where
     locked = s.locked;
     answered = s.answered;
     width = s.width;
+    numbered = s.numbered;
+    small = s.small;
     side = kept.sound;
+    under = λ k n h. s.under k n (kept.under k n h);
     apart = λ e h. (let d = kept.apart e h in s.apart d.0 d.1);
   }
 
@@ -355,7 +376,7 @@ module _ {S : Type 0} {ops : Ops S} (laws : Laws ops) where
       either (λ (e : MemoryEffect S). length e.posted ≤ 8) t.fits (by_side m t) (by_coherence ops m from message) (omega (arith, few)) (handled-few ops m.coherence from message s.coherent fits)
 
   module _ (m : Memory S) (k : Call) (number : ℕ) (s : IsSoundMemory ops m) (wide : HasWidth k) (idle : m.asked ≡ None) (h : HeapCall) (of : asked_of m.coherence.config k ≡ asked.Heap h) (least : 1 ≤ number) (most : number < 2 ^ 64) where
-    asked-heap : m.side.heap ≡ None → (b : Bool) → nat_lt (number_in h) (2 ^ 64) ≡ b → KeepsMemory ops m (heap_answered m k (if b then record { answer = Awaited; after = record m.side { errand = Some (errand.Asked h number) }; posted = parcel_to m.coherence.me 0 m.coherence.me number (request h) ∷ [] } else record { answer = Unserved; after = m.side; posted = [] }))
+    asked-heap : m.side.heap ≡ None → (b : Bool) → nat_lt (number_in h) (2 ^ 64) ≡ b → KeepsMemory ops m (heap_answered m k number (if b then record { answer = Awaited; after = record m.side { errand = Some (errand.Asked h number) }; posted = parcel_to m.coherence.me 0 m.coherence.me number (request h) ∷ [] } else record { answer = Unserved; after = m.side; posted = [] }))
     asked-heap away false small = (s, all_none (FitsParcel m.coherence.config m.coherence.me), record { config = refl; me = refl })
     asked-heap away true small = (
       record {
@@ -364,14 +385,23 @@ module _ {S : Type 0} {ops : Ops S} (laws : Laws ops) where
         locked = λ x. absurd (none-some k (sym x));
         answered = s.answered;
         width = one_wide k wide;
-        side = record { away = s.side.away; home = s.side.home; errand = record { call = k; asked = refl; of = of } };
+        numbered = λ j x. least;
+        small = most;
+        side = record {
+          away = s.side.away;
+          home = s.side.home;
+          errand = record { call = k; asked = refl; of = of };
+          owed = λ j in_progress. (errand.Asked h number, refl);
+          none = λ zero. absurd (s.side.away away zero);
+        };
+        under = λ j n x. (let e : errand.Asked h number ≡ errand.Asked j n = same_Some _ _ x in let i : n ≡ number = cc in i);
         apart = λ e x. (s.locked idle, s.done idle);
       },
       all_one (FitsParcel m.coherence.config m.coherence.me) _ (request_sent m.coherence.config m.coherence.me m.asked m.side s.side s.coherent.limits s.coherent.here h number away small least most),
       record { config = refl; me = refl },
     )
 
-    heap-at : (o : Option HeapState) → m.side.heap ≡ o → KeepsMemory ops m (heap_answered m k (begun_at m.coherence.me m.side h number o))
+    heap-at : (o : Option HeapState) → m.side.heap ≡ o → KeepsMemory ops m (heap_answered m k number (begun_at m.coherence.me m.side h number o))
     heap-at None there = asked-heap there (nat_lt (number_in h) (2 ^ 64)) refl
     heap-at (Some g) there = (
       record {
@@ -380,7 +410,10 @@ module _ {S : Type 0} {ops : Ops S} (laws : Laws ops) where
         locked = s.locked;
         answered = s.answered;
         width = s.width;
+        numbered = s.numbered;
+        small = s.small;
         side = kept_side m.coherence.config m.coherence.me m.asked m.side g h there s.side;
+        under = s.under;
         apart = s.apart;
       },
       all_none (FitsParcel m.coherence.config m.coherence.me),
@@ -395,68 +428,79 @@ module _ {S : Type 0} {ops : Ops S} (laws : Laws ops) where
       let b : Begun S = begun ops m.coherence page w number in
       let kept = begun-keeps laws m.coherence page w number s.coherent can.0 can.1 least most in
       let marks : Begins m.coherence b = begun-begins ops m.coherence page w number in
-      (needed-sound m k b b.need wide s idle marks kept.0 refl, needed-fits m.coherence.config m.coherence.me m k b b.need kept.1, needed-same m k b b.need marks.same)
+      (needed-sound m k number b b.need wide least most (word_words m.coherence.config k page w of) s idle marks kept.0 refl, needed-fits m.coherence.config m.coherence.me m k number b b.need kept.1, needed-same m k number b b.need marks.same)
 
   -- a call that begins
   pub call-sound : (m : Memory S) (k : Call) (number : ℕ) → IsSoundMemory ops m → m.asked ≡ None → HasWidth k → 1 ≤ number → number < 2 ^ 64 → KeepsMemory ops m (call_begun ops m k number)
   unfolding call_begun
   call-sound m k number s idle w least most = as-sound m k number (asked_of m.coherence.config k) refl w s idle (can_ask m.coherence.config k s.coherent.limits w) least most
 
--- a call that has its reply is not in progress, and what is in progress is that call
-pub record IsBegun {S : Type 0} (k : Call) (a : CallBegun S) : Type 0 where
+-- a call that has its reply is not in progress, and what is in progress is that call, under this number
+pub record IsBegun {S : Type 0} (k : Call) (number : ℕ) (a : CallBegun S) : Type 0 where
   pub over : (r : Reply) → a.answer ≡ Given r → a.after.asked ≡ None
   pub same : (j : Call) → a.after.asked ≡ Some j → k ≡ j
+  pub numbered : (j : Call) → a.after.asked ≡ Some j → a.after.number ≡ number
 
 asked_so : (k j : Call) (old : Option Call) (r : Answer) → old ≡ None → asked_after old k r ≡ Some j → k ≡ j
 asked_so k j old Awaited idle is = same_Some k j is
 asked_so k j old (Given r) idle is = absurd (none-some j (sym idle ∙ is))
 asked_so k j old Unserved idle is = absurd (none-some j (sym idle ∙ is))
 
+numbered_so : (k j : Call) (old : Option Call) (before number : ℕ) (r : Answer) → old ≡ None → asked_after old k r ≡ Some j → number_after before number r ≡ number
+numbered_so k j old before number Awaited idle is = refl
+numbered_so k j old before number (Given r) idle is = absurd (none-some j (sym idle ∙ is))
+numbered_so k j old before number Unserved idle is = absurd (none-some j (sym idle ∙ is))
+
 module _ {S : Type 0} where
   -- what changes nothing
-  idle-begun : (m : Memory S) (k : Call) → m.asked ≡ None → (r : Answer) (ps : List Parcel) → IsBegun k (record { answer = r; after = m; posted = ps })
-  idle-begun m k idle r ps = record { over = λ q h. idle; same = λ j h. absurd (none-some j (sym idle ∙ h)) }
-
-  pub unserved-begun : (m : Memory S) (k : Call) → m.asked ≡ Some k → IsBegun k (unserved m)
-  unserved-begun m k asked = record { over = λ r h. absurd cc; same = λ j h. same_Some k j (sym asked ∙ h) }
-
-  answered-begun : (m : Memory S) (k : Call) (b : Begun S) (r : Option Reply) → IsBegun k (answered m k b r)
-  answered-begun m k b None = record { over = λ r h. absurd cc; same = λ j h. same_Some k j h }
-  answered-begun m k b (Some r) = record { over = λ q h. refl; same = λ j h. absurd (none-some j h) }
-
-  heap-begun : (m : Memory S) (k : Call) (b : HeapBegun) → m.asked ≡ None → IsBegun k (heap_answered m k b)
-  heap-begun m k b idle = record {
-    over = λ r h. ap (asked_after m.asked k) h ∙ idle;
-    same = λ j h. asked_so k j m.asked b.answer idle h;
+  idle-begun : (m : Memory S) (k : Call) (number : ℕ) → m.asked ≡ None → (r : Answer) (ps : List Parcel) → IsBegun k number (record { answer = r; after = m; posted = ps })
+  idle-begun m k number idle r ps = record {
+    over = λ q h. idle;
+    same = λ j h. absurd (none-some j (sym idle ∙ h));
+    numbered = λ j h. absurd (none-some j (sym idle ∙ h));
   }
 
-  needed-begun : (m : Memory S) (k : Call) (b : Begun S) (n : Need) → m.asked ≡ None → IsBegun k (needed m k b n)
-  needed-begun m k b (need.Have o) idle = answered-begun m k b (reply_of o)
-  needed-begun m k b need.Started idle = answered-begun m k b None
-  needed-begun m k b need.Busy idle = idle-begun m k idle Unserved []
+  pub unserved-begun : (m : Memory S) (k : Call) → m.asked ≡ Some k → IsBegun k m.number (unserved m)
+  unserved-begun m k asked = record { over = λ r h. absurd cc; same = λ j h. same_Some k j (sym asked ∙ h); numbered = λ j h. refl }
 
-  again_unless-begun : (m : Memory S) (k : Call) (b : Begun S) (r : Option Reply) → m.asked ≡ Some k → IsBegun k (again_unless m (answered (taken_out m) k b r) r)
+  answered-begun : (m : Memory S) (k : Call) (number : ℕ) (b : Begun S) (r : Option Reply) → IsBegun k number (answered m k number b r)
+  answered-begun m k number b None = record { over = λ r h. absurd cc; same = λ j h. same_Some k j h; numbered = λ j h. refl }
+  answered-begun m k number b (Some r) = record { over = λ q h. refl; same = λ j h. absurd (none-some j h); numbered = λ j h. absurd (none-some j h) }
+
+  heap-begun : (m : Memory S) (k : Call) (number : ℕ) (b : HeapBegun) → m.asked ≡ None → IsBegun k number (heap_answered m k number b)
+  heap-begun m k number b idle = record {
+    over = λ r h. ap (asked_after m.asked k) h ∙ idle;
+    same = λ j h. asked_so k j m.asked b.answer idle h;
+    numbered = λ j h. numbered_so k j m.asked m.number number b.answer idle h;
+  }
+
+  needed-begun : (m : Memory S) (k : Call) (number : ℕ) (b : Begun S) (n : Need) → m.asked ≡ None → IsBegun k number (needed m k number b n)
+  needed-begun m k number b (need.Have o) idle = answered-begun m k number b (reply_of o)
+  needed-begun m k number b need.Started idle = answered-begun m k number b None
+  needed-begun m k number b need.Busy idle = idle-begun m k number idle Unserved []
+
+  again_unless-begun : (m : Memory S) (k : Call) (b : Begun S) (r : Option Reply) → m.asked ≡ Some k → IsBegun k m.number (again_unless m (answered (taken_out m) k m.number b r) r)
   again_unless-begun m k b None asked = unserved-begun m k asked
-  again_unless-begun m k b (Some r) asked = answered-begun (taken_out m) k b (Some r)
+  again_unless-begun m k b (Some r) asked = answered-begun (taken_out m) k m.number b (Some r)
 
-  pub again-begun : (m : Memory S) (k : Call) (b : Begun S) (n : Need) → m.asked ≡ Some k → IsBegun k (again m (needed (taken_out m) k b n) n)
+  pub again-begun : (m : Memory S) (k : Call) (b : Begun S) (n : Need) → m.asked ≡ Some k → IsBegun k m.number (again m (needed (taken_out m) k m.number b n) n)
   again-begun m k b (need.Have o) asked = again_unless-begun m k b (reply_of o) asked
-  again-begun m k b need.Started asked = answered-begun (taken_out m) k b None
+  again-begun m k b need.Started asked = answered-begun (taken_out m) k m.number b None
   again-begun m k b need.Busy asked = unserved-begun m k asked
 
 module _ {S : Type 0} (ops : Ops S) where
-  as-begun : (m : Memory S) (k : Call) (number : ℕ) (x : Asked) → m.asked ≡ None → IsBegun k (begun_as ops m k number x)
-  as-begun m k number (asked.Refused code) idle = idle-begun m k idle (Given (reply.Refused code)) []
-  as-begun m k number (asked.Word page w) idle = let b : Begun S = begun ops m.coherence page w number in needed-begun m k b b.need idle
-  as-begun m k number (asked.Heap h) idle = heap-begun m k (heap_begun m.coherence.me m.side h number) idle
+  as-begun : (m : Memory S) (k : Call) (number : ℕ) (x : Asked) → m.asked ≡ None → IsBegun k number (begun_as ops m k number x)
+  as-begun m k number (asked.Refused code) idle = idle-begun m k number idle (Given (reply.Refused code)) []
+  as-begun m k number (asked.Word page w) idle = let b : Begun S = begun ops m.coherence page w number in needed-begun m k number b b.need idle
+  as-begun m k number (asked.Heap h) idle = heap-begun m k number (heap_begun m.coherence.me m.side h number) idle
 
-  pub call-begun : (m : Memory S) (k : Call) (number : ℕ) → m.asked ≡ None → IsBegun k (call_begun ops m k number)
+  pub call-begun : (m : Memory S) (k : Call) (number : ℕ) → m.asked ≡ None → IsBegun k number (call_begun ops m k number)
   unfolding call_begun
   call-begun m k number idle = as-begun m k number (asked_of m.coherence.config k) idle
 
   as-same : (m : Memory S) (k : Call) (number : ℕ) (x : Asked) → SameNode m.coherence (begun_as ops m k number x).after.coherence
   as-same m k number (asked.Refused code) = record { config = refl; me = refl }
-  as-same m k number (asked.Word page w) = let b : Begun S = begun ops m.coherence page w number in needed-same m k b b.need (begun-begins ops m.coherence page w number).same
+  as-same m k number (asked.Word page w) = let b : Begun S = begun ops m.coherence page w number in needed-same m k number b b.need (begun-begins ops m.coherence page w number).same
   as-same m k number (asked.Heap h) = record { config = refl; me = refl }
 
   -- the node stays who it is
@@ -469,7 +513,7 @@ module _ {S : Type 0} (ops : Ops S) where
   as-few m k number (asked.Word page w) s =
       let b : Begun S = begun ops m.coherence page w number in
       let few = begun-few ops m.coherence page w number s in
-      let is : length (needed m k b b.need).posted ≡ length b.posted = ap length (needed-posted m k b b.need (begun-begins ops m.coherence page w number) refl) in
+      let is : length (needed m k number b b.need).posted ≡ length b.posted = ap length (needed-posted m k number b b.need (begun-begins ops m.coherence page w number) refl) in
       omega (arith, few, is)
   as-few m k number (asked.Heap h) s = heap_begun-few m.coherence.me m.side h number
 

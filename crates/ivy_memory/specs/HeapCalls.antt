@@ -4,8 +4,7 @@ use Rattle.ivy_model.specs.declared.Config.{Config}
 use Rattle.ivy_model.specs.declared.Reply.{Reply}
 use Rattle.ivy_model.specs.declared.Reply.TheVariants.{Value, Done, Refused}
 use Rattle.ivy_model.specs.declared.Fault.{Fault}
-use Rattle.ivy_model.specs.declared.Fault.TheVariants.{Memory, ZeroSize, NoRoom, NotABlock}
-use Rattle.ivy_model.specs.Numbers.{fault_number}
+use Rattle.ivy_model.specs.declared.Fault.TheVariants.{Memory}
 use Rattle.ivy_wire.specs.declared.Content.TheVariants as content
 use Rattle.ivy_wire.specs.Data.{Content, Message, Parcel}
 use Rattle.ivy_serving.specs.Serving.{parcel_to}
@@ -91,23 +90,17 @@ answer_to (Alloc size) (Refused code) = content.AllocRep code 0
 answer_to (Free addr) (Refused code) = content.FreeRep code
 answer_to (Free addr) r = content.FreeRep 0
 
--- the reply that the answer to an Alloc is, if the call can have it: 8 is for no bytes, and they have no other
-abbrev pub block_told : ℕ → ℕ → ℕ → Option Reply
-block_told size code addr =
-    if size == 0 then (if code == fault_number ZeroSize then Some (Refused code) else None)
-    else (if code == 0 then Some (Value addr)
-    else (if code == fault_number NoRoom then Some (Refused code) else None))
+-- the reply that the answer to an Alloc is, and that to a Free: with code 0 it is served, else refused with the code
+abbrev pub block_told : ℕ → ℕ → Reply
+block_told code addr = if code == 0 then Value addr else Refused code
 
--- the reply that the answer to a Free is
-abbrev pub end_told : ℕ → Option Reply
-end_told code =
-    if code == 0 then Some Done
-    else (if code == fault_number NotABlock then Some (Refused code) else None)
+abbrev pub end_told : ℕ → Reply
+end_told code = if code == 0 then Done else Refused code
 
--- the reply that an answer of node 0 is to this call
+-- the reply that an answer of node 0 is to this call, if it answers such a call
 abbrev pub reply_in : HeapCall → Content → Option Reply
-reply_in (Alloc size) (content.AllocRep code addr) = block_told size code addr
-reply_in (Free addr) (content.FreeRep code) = end_told code
+reply_in (Alloc size) (content.AllocRep code addr) = Some (block_told code addr)
+reply_in (Free addr) (content.FreeRep code) = Some (end_told code)
 reply_in k m = None
 
 -- what a call of the heap comes to when it begins

@@ -1,4 +1,5 @@
 pub mod Asking
+pub mod Flat
 pub mod HeapCalls
 pub mod Memories
 pub mod Sound

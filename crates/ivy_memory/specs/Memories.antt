@@ -21,15 +21,21 @@ use Rattle.ivy_memory.specs.declared.asked.Asked.TheVariants as asked
 use Rattle.ivy_memory.specs.Asking.{asked_of, CallHasToAsk}
 use Rattle.ivy_memory.specs.HeapCalls.{HeapSide, HeapBegun, HeapTold, first_side, closed, heap_begun, heap_told, reply_told}
 
+-- `number` is that of the call in progress, or of the last one that was in progress where there is none
 pub record Memory (S : Type 0) : Type 0 where
   pub coherence : Coherent S
   pub asked : Option Call
+  pub number : ℕ
   pub side : HeapSide
 
 -- the memory of a node as it begins
 abbrev pub first_memory : {S : Type 0} → Ops S → Config → ℕ → Memory S
-first_memory ops c me =
-    record { coherence = first_coherent ops c me; asked = None; side = first_side c me }
+first_memory ops c me = record {
+  coherence = first_coherent ops c me;
+  asked = None;
+  number = 0;
+  side = first_side c me;
+}
 
 -- the reply that a word carried out gives: none where an awaited count is too low yet
 abbrev pub reply_of : Out → Option Reply
@@ -53,8 +59,12 @@ reply_at m = first_reply (reply_told m.side.errand) (reply_there m.coherence.don
 
 -- the memory without the call in progress: its reply was taken out, or it begins anew
 abbrev pub taken_out : {S : Type 0} → Memory S → Memory S
-taken_out m =
-    record { coherence = record m.coherence { done = None }; asked = None; side = closed m.side }
+taken_out m = record {
+  coherence = record m.coherence { done = None };
+  asked = None;
+  number = m.number;
+  side = closed m.side;
+}
 
 -- other nodes have to be asked for the call in progress, which has no reply yet
 pub record HasToAskAgain {S : Type 0} (m : Memory S) : Type 0 where
@@ -69,22 +79,26 @@ pub record CallBegun (S : Type 0) : Type 0 where
   pub after : Memory S
   pub posted : List Parcel
 
--- the call in progress after a call of the heap began
+-- the call in progress after a call of the heap began, and its number
 abbrev pub asked_after : Option Call → Call → Answer → Option Call
 asked_after old call Awaited = Some call
 asked_after old call answer = old
 
+abbrev pub number_after : ℕ → ℕ → Answer → ℕ
+number_after old number Awaited = number
+number_after old number answer = old
+
 module _ {S : Type 0} where
-  -- it is answered, or it is in progress where it has no reply
-  abbrev pub answered : Memory S → Call → Begun S → Option Reply → CallBegun S
-  answered m call b None = record {
+  -- it is answered, or it is in progress, under its number, where it has no reply
+  abbrev pub answered : Memory S → Call → ℕ → Begun S → Option Reply → CallBegun S
+  answered m call number b None = record {
     answer = Awaited;
-    after = record { coherence = b.after; asked = Some call; side = m.side };
+    after = record { coherence = b.after; asked = Some call; number = number; side = m.side };
     posted = b.posted;
   }
-  answered m call b (Some r) = record {
+  answered m call number b (Some r) = record {
     answer = Given r;
-    after = record { coherence = b.after; asked = None; side = m.side };
+    after = record { coherence = b.after; asked = None; number = m.number; side = m.side };
     posted = b.posted;
   }
 
@@ -94,10 +108,10 @@ module _ {S : Type 0} where
   abbrev pub unserved : Memory S → CallBegun S
   unserved m = record { answer = Unserved; after = m; posted = [] }
 
-  abbrev pub needed : Memory S → Call → Begun S → Need → CallBegun S
-  needed m call b (need.Have o) = answered m call b (reply_of o)
-  needed m call b need.Started = answered m call b None
-  needed m call b need.Busy = unserved m
+  abbrev pub needed : Memory S → Call → ℕ → Begun S → Need → CallBegun S
+  needed m call number b (need.Have o) = answered m call number b (reply_of o)
+  needed m call number b need.Started = answered m call number b None
+  needed m call number b need.Busy = unserved m
 
   -- a call that is tried again: where its word has no answer now either, or another one waits, nothing changes
   abbrev pub again_unless : Memory S → CallBegun S → Option Reply → CallBegun S
@@ -110,12 +124,13 @@ module _ {S : Type 0} where
   again m a need.Busy = unserved m
 
   -- a call of the heap has its reply, or it is in progress where node 0 was asked
-  abbrev pub heap_answered : Memory S → Call → HeapBegun → CallBegun S
-  heap_answered m call b = record {
+  abbrev pub heap_answered : Memory S → Call → ℕ → HeapBegun → CallBegun S
+  heap_answered m call number b = record {
     answer = b.answer;
     after = record {
       coherence = m.coherence;
       asked = asked_after m.asked call b.answer;
+      number = number_after m.number number b.answer;
       side = b.after;
     };
     posted = b.posted;
@@ -134,34 +149,33 @@ module _ {S : Type 0} (ops : Ops S) where
   begun_as m call number (asked.Refused code) = refused m code
   begun_as m call number (asked.Word page word) =
       let b = begun ops m.coherence page word number in
-      needed m call b b.need
+      needed m call number b b.need
   begun_as m call number (asked.Heap k) =
-      heap_answered m call (heap_begun m.coherence.me m.side k number)
+      heap_answered m call number (heap_begun m.coherence.me m.side k number)
 
   -- a call begins, as the one of this number
   unfoldable pub call_begun : Memory S → Call → ℕ → CallBegun S
   call_begun m call number = begun_as m call number (asked_of m.coherence.config call)
 
-  -- the word of the call in progress is tried again, as if the call began
-  abbrev pub tried_as : Memory S → Call → ℕ → Asked → CallBegun S
-  tried_as m call number (asked.Refused code) = unserved m
-  tried_as m call number (asked.Word page word) =
-      let b = begun ops (taken_out m).coherence page word number in
-      again m (needed (taken_out m) call b b.need) b.need
-  tried_as m call number (asked.Heap k) = unserved m
+  -- the word of the call in progress is tried again, as if the call began under its number
+  abbrev pub tried_as : Memory S → Call → Asked → CallBegun S
+  tried_as m call (asked.Refused code) = unserved m
+  tried_as m call (asked.Word page word) =
+      let b = begun ops (taken_out m).coherence page word m.number in
+      again m (needed (taken_out m) call m.number b b.need) b.need
+  tried_as m call (asked.Heap k) = unserved m
 
-  abbrev pub polled_as : Memory S → Call → ℕ → Option Reply → CallBegun S
-  polled_as m call number (Some r) =
-      record { answer = Given r; after = taken_out m; posted = [] }
-  polled_as m call number None = tried_as m call number (asked_of m.coherence.config call)
+  abbrev pub polled_as : Memory S → Call → Option Reply → CallBegun S
+  polled_as m call (Some r) = record { answer = Given r; after = taken_out m; posted = [] }
+  polled_as m call None = tried_as m call (asked_of m.coherence.config call)
 
-  abbrev pub polled_at : Memory S → ℕ → Option Call → CallBegun S
-  polled_at m number None = unserved m
-  polled_at m number (Some call) = polled_as m call number (reply_at m)
+  abbrev pub polled_at : Memory S → Option Call → CallBegun S
+  polled_at m None = unserved m
+  polled_at m (Some call) = polled_as m call (reply_at m)
 
-  -- the reply of the call in progress, the one of this number: it is there, or the call is tried again
-  unfoldable pub polled : Memory S → ℕ → CallBegun S
-  polled m number = polled_at m number m.asked
+  -- the reply of the call in progress: it is there, or the call is tried again
+  unfoldable pub polled : Memory S → CallBegun S
+  polled m = polled_at m m.asked
 
   abbrev pub by_coherence : Memory S → ℕ → Message → MemoryEffect S
   by_coherence m from message = record {

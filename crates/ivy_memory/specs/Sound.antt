@@ -1,5 +1,5 @@
 -- What holds of a node's memory, whatever comes to it.
-use Rattle.std.specs.Prelude.{◌≡◌, ◌≢◌, ℕ, Option, None, Some}
+use Rattle.std.specs.Prelude.{◌≡◌, ◌≢◌, ◌≤◌, ◌<◌, ◌^◌, ℕ, Option, None, Some}
 use Rattle.ivy_model.specs.declared.Config.{Config}
 use Rattle.ivy_model.specs.declared.Call.{Call}
 use Rattle.ivy_model.specs.Legal.{HasWidth}
@@ -27,20 +27,28 @@ IsErrandOf c in_progress None = Unit {0}
 IsErrandOf c in_progress (Some (errand.Asked k number)) = IsInProgress c in_progress k
 IsErrandOf c in_progress (Some (errand.Told r)) = (k : HeapCall) × IsInProgress c in_progress k
 
--- the heap is at node 0, and any other node may ask that one
+-- the heap is at node 0, which asks nobody; any other node asks that one, for each call of the heap in progress
 pub record IsSoundSide (c : Config) (me : ℕ) (in_progress : Option Call) (s : HeapSide) : Type 0 where
   pub away : s.heap ≡ None → me ≢ 0
   pub home : (h : HeapState) → s.heap ≡ Some h → (h.config ≡ c) × (me ≡ 0)
   pub errand : IsErrandOf c in_progress s.errand
+  pub owed : (k : HeapCall) → IsInProgress c in_progress k → (e : Errand) × (s.errand ≡ Some e)
+  pub none : me ≡ 0 → s.errand ≡ None
 
 -- Without a call in progress no word waits, and none was carried out; nor does a word wait beside one carried out, or
--- beside a call of the heap that node 0 was asked for. The call in progress has a width that the memory knows.
+-- beside a call of the heap that node 0 was asked for. The call in progress has a width that the memory knows, and a
+-- number that a message can carry.
 pub record IsSoundMemory {S : Type 0} (ops : Ops S) (m : Memory S) : Type 0 where
   pub coherent : IsSound ops m.coherence
   pub done : m.asked ≡ None → m.coherence.done ≡ None
   pub locked : m.asked ≡ None → m.coherence.locked ≡ None
   pub answered : (o : Out) → m.coherence.done ≡ Some o → m.coherence.locked ≡ None
   pub width : (call : Call) → m.asked ≡ Some call → HasWidth call
+  pub numbered : (call : Call) → m.asked ≡ Some call → 1 ≤ m.number
+  pub small : m.number < 2 ^ 64
   pub side : IsSoundSide m.coherence.config m.coherence.me m.asked m.side
+  -- node 0 was asked under the number of the call
+  pub under : (k : HeapCall) (number : ℕ) → m.side.errand ≡ Some (errand.Asked k number)
+      → number ≡ m.number
   pub apart : (e : Errand) → m.side.errand ≡ Some e
       → (m.coherence.locked ≡ None) × (m.coherence.done ≡ None)

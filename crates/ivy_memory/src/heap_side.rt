@@ -5,6 +5,7 @@ ghost use Rattle.ivy_model.specs.Wants.{IsWant};
 ghost use Rattle.ivy_wire.specs.Lent.{owned_content, owned_message};
 ghost use Rattle.ivy_wire.specs.Spelling.{FitsMessage};
 ghost use Rattle.ivy_serving.specs.Serving.{parcel_to};
+ghost use Rattle.ivy_serving.specs.Outcomes.{HasRefused};
 ghost use Rattle.ivy_memory.specs.declared.answer.Answer.TheVariants as answers;
 ghost use Rattle.ivy_memory.specs.declared.heap_side.HeapCall.TheVariants as kinds;
 ghost use Rattle.ivy_memory.specs.HeapCalls.{first_side, closed, IsGrowth, IsGrowthPosted, told_of, after_told, request, answer_to, block_told, end_told, reply_in, heap_begun, served_at, learns, heap_told, reply_told};
@@ -17,11 +18,7 @@ use ivy_wire::{Content, Message, Post};
 use std::alloc::Allocator;
 use std::marker::Model;
 
-/// The refusals of the heap: of no bytes, of more than there is room for, and of the end of a block that is not there.
-const ZERO_SIZE: u8 = 8;
-
-const NO_ROOM: u8 = 9;
-
+/// The refusal of the end of a block that is not there.
 const NOT_A_BLOCK: u8 = 10;
 
 /// A call of the heap.
@@ -104,39 +101,37 @@ fn serve<A: Allocator + Copy>(heap: &mut Heap<A>, call: HeapCall) -> Result<Repl
     }
 }
 
-/// The reply that the answer to an Alloc is, if the call can have it.
-fn block_told(size: u64, code: u8, addr: u64) -> Option<Reply>
-    ensures { result ≡ block_told size code addr }
+/// The reply that the answer to an Alloc is.
+fn block_told(code: u8, addr: u64) -> Reply
+    ensures { result ≡ block_told code addr }
 {
-    match (size, code) {
-        (0, ZERO_SIZE) => Some(Reply::Refused(ZERO_SIZE)),
-        (0, _) => None,
-        (_, 0) => Some(Reply::Value(addr)),
-        (_, NO_ROOM) => Some(Reply::Refused(NO_ROOM)),
-        (_, _) => None,
+    if code == 0 {
+        Reply::Value(addr)
+    } else {
+        Reply::Refused(code)
     }
 }
 
 /// The reply that the answer to a Free is.
-fn end_told(code: u8) -> Option<Reply>
+fn end_told(code: u8) -> Reply
     ensures { result ≡ end_told code }
 {
-    match code {
-        0 => Some(Reply::Done),
-        NOT_A_BLOCK => Some(Reply::Refused(NOT_A_BLOCK)),
-        _ => None,
+    if code == 0 {
+        Reply::Done
+    } else {
+        Reply::Refused(code)
     }
 }
 
-/// The reply that an answer of node 0 is, if the call can have it.
+/// The reply that an answer of node 0 is, if it answers such a call.
 fn reply_in(call: HeapCall, content: &Content<&[u8]>) -> Option<Reply>
     ensures { result ≡ reply_in call (owned_content content.now) }
 {
     match (call, content) {
-        (HeapCall::Alloc { size }, Content::AllocRep { code, addr }) => {
-            block_told(size, *code, *addr)
+        (HeapCall::Alloc { .. }, Content::AllocRep { code, addr }) => {
+            Some(block_told(*code, *addr))
         }
-        (HeapCall::Free { .. }, Content::FreeRep { code }) => end_told(*code),
+        (HeapCall::Free { .. }, Content::FreeRep { code }) => Some(end_told(*code)),
         _ => None,
     }
 }
@@ -159,8 +154,8 @@ fn give_block<A: Allocator + Copy, P: Post>(
     ensures ok { OnOk result (heap.new ≡ after_told heap.old (told_of heap.old (kinds.Alloc size))) }
     ensures posted { OnOk result (post.new ≡ P.after post.old (parcel_to me from from number (answer_to (kinds.Alloc size) (told_of heap.old (kinds.Alloc size)).reply) ∷ [])) }
     ensures took { OnOk result (P.takes post.old (parcel_to me from from number (answer_to (kinds.Alloc size) (told_of heap.old (kinds.Alloc size)).reply) ∷ [])) }
-    ensures err { OnErr result ((heap.new ≡ heap.old) × (post.new ≡ post.old)) }
-    ensures fault { IfErr result (λ fault. IsGrowth (answers.Given (told_of heap.old (kinds.Alloc size)).reply) fault ⊎ P.refuses post.old (parcel_to me from from number (answer_to (kinds.Alloc size) (told_of heap.old (kinds.Alloc size)).reply) ∷ []) fault) }
+    ensures err { OnErr result (heap.new ≡ heap.old) }
+    ensures fault { IfErr result (λ fault. (IsGrowth (answers.Given (told_of heap.old (kinds.Alloc size)).reply) fault × (post.new ≡ post.old)) ⊎ HasRefused P.refuses P.after_refusal post.old post.new (parcel_to me from from number (answer_to (kinds.Alloc size) (told_of heap.old (kinds.Alloc size)).reply) ∷ []) fault) }
     ensures want { IfErr result IsWant }
 {
     match heap.alloc(size) {
@@ -204,8 +199,8 @@ fn end_block<A: Allocator + Copy, P: Post>(
     ensures ok { OnOk result (heap.new ≡ after_told heap.old (told_of heap.old (kinds.Free addr))) }
     ensures posted { OnOk result (post.new ≡ P.after post.old (parcel_to me from from number (answer_to (kinds.Free addr) (told_of heap.old (kinds.Free addr)).reply) ∷ [])) }
     ensures took { OnOk result (P.takes post.old (parcel_to me from from number (answer_to (kinds.Free addr) (told_of heap.old (kinds.Free addr)).reply) ∷ [])) }
-    ensures err { OnErr result ((heap.new ≡ heap.old) × (post.new ≡ post.old)) }
-    ensures fault { IfErr result (P.refuses post.old (parcel_to me from from number (answer_to (kinds.Free addr) (told_of heap.old (kinds.Free addr)).reply) ∷ [])) }
+    ensures err { OnErr result (heap.new ≡ heap.old) }
+    ensures fault { IfErr result (HasRefused P.refuses P.after_refusal post.old post.new (parcel_to me from from number (answer_to (kinds.Free addr) (told_of heap.old (kinds.Free addr)).reply) ∷ [])) }
     ensures want { IfErr result IsWant }
 {
     let code = if heap.is_block(addr) { 0 } else { NOT_A_BLOCK };
@@ -244,12 +239,13 @@ impl<A: Allocator + Copy> HeapSide<A> {
         requires node { P.node post.old ≡ me }
         requires here { me < (P.config post.old).nodes }
         requires away { self.old.heap ≡ None → me ≢ 0 }
+        ensures begins { IfOk result (λ answer. answer ≢ Answer.Unserved) }
         ensures reply { IfOk result (λ answer. answer ≡ (heap_begun me self.old call number).answer) }
         ensures ok { OnOk result (self.new ≡ (heap_begun me self.old call number).after) }
         ensures posted { OnOk result (post.new ≡ P.after post.old (heap_begun me self.old call number).posted) }
         ensures took { OnOk result (P.takes post.old (heap_begun me self.old call number).posted) }
-        ensures err { OnErr result ((self.new ≡ self.old) × (post.new ≡ post.old)) }
-        ensures fault { IfErr result (λ fault. IsGrowth (heap_begun me self.old call number).answer fault ⊎ P.refuses post.old (heap_begun me self.old call number).posted fault) }
+        ensures err { OnErr result (self.new ≡ self.old) }
+        ensures fault { IfErr result (λ fault. (IsGrowth (heap_begun me self.old call number).answer fault × (post.new ≡ post.old)) ⊎ HasRefused P.refuses P.after_refusal post.old post.new (heap_begun me self.old call number).posted fault) }
         ensures want { IfErr result IsWant }
     {
         if let Some(heap) = &mut self.heap {
@@ -278,8 +274,8 @@ impl<A: Allocator + Copy> HeapSide<A> {
         ensures ok { OnOk result (self.new ≡ (served_at me self.old from number call self.old.heap).after) }
         ensures posted { OnOk result (post.new ≡ P.after post.old (served_at me self.old from number call self.old.heap).posted) }
         ensures took { OnOk result (P.takes post.old (served_at me self.old from number call self.old.heap).posted) }
-        ensures err { OnErr result ((self.new ≡ self.old) × (post.new ≡ post.old)) }
-        ensures fault { IfErr result (λ fault. IsGrowthPosted (served_at me self.old from number call self.old.heap).posted fault ⊎ P.refuses post.old (served_at me self.old from number call self.old.heap).posted fault) }
+        ensures err { OnErr result (self.new ≡ self.old) }
+        ensures fault { IfErr result (λ fault. (IsGrowthPosted (served_at me self.old from number call self.old.heap).posted fault × (post.new ≡ post.old)) ⊎ HasRefused P.refuses P.after_refusal post.old post.new (served_at me self.old from number call self.old.heap).posted fault) }
         ensures want { IfErr result IsWant }
     {
         let Some(heap) = &mut self.heap else {
@@ -292,8 +288,8 @@ impl<A: Allocator + Copy> HeapSide<A> {
         Ok(true)
     }
 
-    /// An answer of node 0 comes. It says whether the call that node 0 was asked for has this number and can have
-    /// that answer; else nothing changes.
+    /// An answer of node 0 comes. It says whether node 0 was asked for a call of this number that is so answered;
+    /// else nothing changes.
     fn learn(&mut self, number: u64, content: &Content<&[u8]>) -> bool
         ensures fits { result ≡ (learns self.old number (owned_content content.now) self.old.errand).fits }
         ensures after { self.new ≡ (learns self.old number (owned_content content.now) self.old.errand).after }
@@ -337,8 +333,8 @@ impl<A: Allocator + Copy> HeapSide<A> {
         ensures ok { OnOk result (self.new ≡ (heap_told me self.old from (owned_message message.now)).after) }
         ensures posted { OnOk result (post.new ≡ P.after post.old (heap_told me self.old from (owned_message message.now)).posted) }
         ensures took { OnOk result (P.takes post.old (heap_told me self.old from (owned_message message.now)).posted) }
-        ensures err { OnErr result ((self.new ≡ self.old) × (post.new ≡ post.old)) }
-        ensures fault { IfErr result (λ fault. IsGrowthPosted (heap_told me self.old from (owned_message message.now)).posted fault ⊎ P.refuses post.old (heap_told me self.old from (owned_message message.now)).posted fault) }
+        ensures err { OnErr result (self.new ≡ self.old) }
+        ensures fault { IfErr result (λ fault. (IsGrowthPosted (heap_told me self.old from (owned_message message.now)).posted fault × (post.new ≡ post.old)) ⊎ HasRefused P.refuses P.after_refusal post.old post.new (heap_told me self.old from (owned_message message.now)).posted fault) }
         ensures want { IfErr result IsWant }
     {
         let call = match &message.content {

@@ -6,9 +6,11 @@
 mod answer;
 mod asked;
 mod heap_side;
+mod law;
 mod memory;
 
 pub use answer::Answer;
 pub use asked::{Asked, asked_of};
 pub use heap_side::{Errand, HeapCall, HeapSide};
+pub use law::words_are_flat;
 pub use memory::Memory;

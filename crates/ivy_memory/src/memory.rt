@@ -5,6 +5,7 @@ ghost use Rattle.ivy_model.specs.Legal.{HasWidth};
 ghost use Rattle.ivy_model.specs.Wants.{IsWant};
 ghost use Rattle.ivy_wire.specs.Lent.{owned_content, owned_message};
 ghost use Rattle.ivy_wire.specs.Spelling.{FitsMessage};
+ghost use Rattle.ivy_serving.specs.Outcomes.{HasRefused};
 ghost use Rattle.ivy_memory.specs.Asking.{CallHasToAsk, IsOfHeap, MayBeRefused, asked_of};
 ghost use Rattle.ivy_memory.specs.HeapCalls.{IsGrowth, IsGrowthPosted};
 ghost use Rattle.ivy_memory.specs.Memories.{first_memory, reply_of, reply_at, HasToAskAgain, call_begun, polled, memory_handled, memory_told};
@@ -39,6 +40,8 @@ fn reply_of(out: Out) -> Option<Reply>
 pub struct Memory<M: Manager, A: Allocator> {
     coherence: Coherence<M, A>,
     asked: Option<Call>,
+    /// The number of the call in progress, or of the last one that was.
+    number: u64,
     side: HeapSide<A>,
 }
 
@@ -54,9 +57,9 @@ impl<M: Manager, A: Allocator> Model for Memory<M, A> {
 
     ghost coded = { Prim.hlevel (codes, nodes_code, heap_state_code) };
 
-    ghost view = { λ m. record { coherence = m.coherence; asked = m.asked; side = m.side } };
+    ghost view = { λ m. record { coherence = m.coherence; asked = m.asked; number = m.number; side = m.side } };
 
-    ghost invariant = { λ m. IsSoundMemory M.ops (record { coherence = m.coherence; asked = m.asked; side = m.side }) };
+    ghost invariant = { λ m. IsSoundMemory M.ops (record { coherence = m.coherence; asked = m.asked; number = m.number; side = m.side }) };
 }
 
 impl<M: Manager, A: Allocator + Copy> Memory<M, A> {
@@ -73,6 +76,7 @@ impl<M: Manager, A: Allocator + Copy> Memory<M, A> {
         Ok(Memory {
             coherence: Coherence::new(alloc, config, me, manager)?,
             asked: None,
+            number: 0,
             side: HeapSide::new(alloc, config, me)?,
         })
     }
@@ -96,6 +100,7 @@ impl<M: Manager, A: Allocator + Copy> Memory<M, A> {
     ///
     /// Refused with 18 exactly where a call is in progress already. Else only a call that other nodes have to be asked
     /// for, or one that the heap gives a block for, is refused: any other takes no memory, and asks the post nothing.
+    /// A call that is not refused does begin: it is never Unserved.
     /// Node 0 serves the calls of the heap at once, and any other node asks node 0.
     pub fn begin<P: Post>(&mut self, call: Call, number: u64, post: &mut P) -> Result<Answer, Fault>
         requires width { HasWidth call }
@@ -103,13 +108,15 @@ impl<M: Manager, A: Allocator + Copy> Memory<M, A> {
         requires config { P.config post.old ≡ self.old.coherence.config }
         requires node { P.node post.old ≡ self.old.coherence.me }
         ensures busy { IsErrOf result Fault.Busy ↔ IsSome self.old.asked }
+        ensures unasked { IsSome self.old.asked → post.new ≡ post.old }
         ensures few { length (call_begun M.ops self.old call number).posted ≤ 8 }
+        ensures begins { IfOk result (λ answer. answer ≢ Answer.Unserved) }
         ensures reply { IfOk result (λ answer. answer ≡ (call_begun M.ops self.old call number).answer) }
         ensures ok { OnOk result (self.new ≡ (call_begun M.ops self.old call number).after) }
         ensures posted { OnOk result (post.new ≡ P.after post.old (call_begun M.ops self.old call number).posted) }
         ensures took { OnOk result (P.takes post.old (call_begun M.ops self.old call number).posted) }
-        ensures err { OnErr result ((self.new ≡ self.old) × (post.new ≡ post.old)) }
-        ensures fault { self.old.asked ≡ None → IfErr result (λ fault. (IsOfHeap (asked_of self.old.coherence.config call) × IsGrowth (call_begun M.ops self.old call number).answer fault) ⊎ P.refuses post.old (call_begun M.ops self.old call number).posted fault) }
+        ensures err { OnErr result (self.new ≡ self.old) }
+        ensures fault { self.old.asked ≡ None → IfErr result (λ fault. (IsOfHeap (asked_of self.old.coherence.config call) × IsGrowth (call_begun M.ops self.old call number).answer fault × (post.new ≡ post.old)) ⊎ HasRefused P.refuses P.after_refusal post.old post.new (call_begun M.ops self.old call number).posted fault) }
         ensures sure { self.old.asked ≡ None → OnErr result (CallHasToAsk self.old.coherence call ⊎ MayBeRefused (asked_of self.old.coherence.config call) (call_begun M.ops self.old call number).answer) }
         ensures want { self.old.asked ≡ None → IfErr result IsWant }
     {
@@ -123,11 +130,13 @@ impl<M: Manager, A: Allocator + Copy> Memory<M, A> {
                     Some(reply) => Ok(Answer::Given(reply)),
                     None => {
                         self.asked = Some(call);
+                        self.number = number;
                         Ok(Answer::Awaited)
                     }
                 },
                 Need::Started => {
                     self.asked = Some(call);
+                    self.number = number;
                     Ok(Answer::Awaited)
                 }
                 Need::Busy => Ok(Answer::Unserved),
@@ -136,6 +145,7 @@ impl<M: Manager, A: Allocator + Copy> Memory<M, A> {
                 let answer = self.side.begin(self.coherence.me(), of_heap, number, post)?;
                 if let Answer::Awaited = answer {
                     self.asked = Some(call);
+                    self.number = number;
                 }
                 Ok(answer)
             }
@@ -153,22 +163,21 @@ impl<M: Manager, A: Allocator + Copy> Memory<M, A> {
     }
 
     #[tactic(auto, unfolding(crate::specs::Memories::polled))]
-    /// The reply of the call in progress, which is the one of this number [1, 17]: it is there, or the call's word is
-    /// tried again. The call is over with its reply.
+    /// The reply of the call in progress [1, 17]: it is there, or the call's word is tried again, under the number of
+    /// the call. The call is over with its reply.
     ///
     /// Where the word has no answer now either, and where no call is in progress, nothing changes. Only a word that
     /// other nodes have to be asked for is refused by a fault: else it takes no memory, and asks the post nothing.
-    pub fn poll_reply<P: Post>(&mut self, number: u64, post: &mut P) -> Result<Answer, Fault>
-        requires number { 1 ≤ number }
+    pub fn poll_reply<P: Post>(&mut self, post: &mut P) -> Result<Answer, Fault>
         requires config { P.config post.old ≡ self.old.coherence.config }
         requires node { P.node post.old ≡ self.old.coherence.me }
-        ensures few { length (polled M.ops self.old number).posted ≤ 8 }
-        ensures reply { IfOk result (λ answer. answer ≡ (polled M.ops self.old number).answer) }
-        ensures ok { OnOk result (self.new ≡ (polled M.ops self.old number).after) }
-        ensures posted { OnOk result (post.new ≡ P.after post.old (polled M.ops self.old number).posted) }
-        ensures took { OnOk result (P.takes post.old (polled M.ops self.old number).posted) }
-        ensures err { OnErr result ((self.new ≡ self.old) × (post.new ≡ post.old)) }
-        ensures fault { IfErr result (P.refuses post.old (polled M.ops self.old number).posted) }
+        ensures few { length (polled M.ops self.old).posted ≤ 8 }
+        ensures reply { IfOk result (λ answer. answer ≡ (polled M.ops self.old).answer) }
+        ensures ok { OnOk result (self.new ≡ (polled M.ops self.old).after) }
+        ensures posted { OnOk result (post.new ≡ P.after post.old (polled M.ops self.old).posted) }
+        ensures took { OnOk result (P.takes post.old (polled M.ops self.old).posted) }
+        ensures err { OnErr result (self.new ≡ self.old) }
+        ensures fault { IfErr result (HasRefused P.refuses P.after_refusal post.old post.new (polled M.ops self.old).posted) }
         ensures sure { OnErr result (HasToAskAgain self.old) }
         ensures want { IfErr result IsWant }
     {
@@ -184,7 +193,7 @@ impl<M: Manager, A: Allocator + Copy> Memory<M, A> {
         let Asked::Word { page, word } = asked_of(&self.coherence.config(), call) else {
             return Ok(Answer::Unserved);
         };
-        match self.coherence.need(page, word, number, post)? {
+        match self.coherence.need(page, word, self.number, post)? {
             Need::Have(out) => match reply_of(out) {
                 Some(reply) => {
                     let _ = self.coherence.returned();
@@ -219,8 +228,8 @@ impl<M: Manager, A: Allocator + Copy> Memory<M, A> {
         ensures ok { OnOk result (self.new ≡ memory_told M.ops self.old from (owned_message message.entry)) }
         ensures posted { OnOk result (post.new ≡ P.after post.old (memory_handled M.ops self.old from (owned_message message.entry)).posted) }
         ensures took { OnOk result (P.takes post.old (memory_handled M.ops self.old from (owned_message message.entry)).posted) }
-        ensures err { OnErr result ((self.new ≡ self.old) × (post.new ≡ post.old)) }
-        ensures fault { IfErr result (λ fault. IsGrowthPosted (memory_handled M.ops self.old from (owned_message message.entry)).posted fault ⊎ P.refuses post.old (memory_handled M.ops self.old from (owned_message message.entry)).posted fault) }
+        ensures err { OnErr result (self.new ≡ self.old) }
+        ensures fault { IfErr result (λ fault. (IsGrowthPosted (memory_handled M.ops self.old from (owned_message message.entry)).posted fault × (post.new ≡ post.old)) ⊎ HasRefused P.refuses P.after_refusal post.old post.new (memory_handled M.ops self.old from (owned_message message.entry)).posted fault) }
         ensures want { IfErr result IsWant }
     {
         if self.side.handle(self.coherence.me(), from, &message, post)? {

@@ -1,5 +1,5 @@
 -- A call of the program that begins, or is asked for its reply, as the code has it.
-use Rattle.std.proofs.Common.{◌≡◌, ℕ, ◌+◌, ◌<◌, ◌≤◌, ◌^◌, ◌⊎◌, inl, inr, true, false, List, [], ◌∷◌, ◌++◌, length, Option, Some, None, refl, sym, ap, ◌∙◌, subst, arith, if◌then◌else◌}
+use Rattle.std.proofs.Common.{◌≡◌, ℕ, ◌+◌, ◌<◌, ◌≤◌, ◌^◌, ◌⊎◌, inl, inr, true, false, List, [], ◌∷◌, ◌++◌, length, Option, Some, None, Result, Ok, Err, OnErr, refl, sym, ap, ◌∙◌, subst, arith, if◌then◌else◌}
 use Rattle.std.proofs.lemmas.Bool.{lt-ltb}
 use Rattle.ivy_model.specs.declared.Call.{Call}
 use Rattle.ivy_model.specs.declared.Fault.{Fault}
@@ -35,41 +35,51 @@ H = Host Managed
 abbrev ChangesNothing : Memory Managed → CallBegun Managed → Type 0
 ChangesNothing m a = a.answer ≡ Unserved → (a.after ≡ m) × (a.posted ≡ [])
 
-answered-changes : (m : Memory Managed) (k : Call) (b : Begun Managed) (r : Option Reply) → ChangesNothing m (answered m k b r)
-answered-changes m k b None is = absurd cc
-answered-changes m k b (Some r) is = absurd cc
+answered-changes : (m : Memory Managed) (k : Call) (number : ℕ) (b : Begun Managed) (r : Option Reply) → ChangesNothing m (answered m k number b r)
+answered-changes m k number b None is = absurd cc
+answered-changes m k number b (Some r) is = absurd cc
 
-needed-changes : (m : Memory Managed) (k : Call) (b : Begun Managed) (d : Need) → ChangesNothing m (needed m k b d)
-needed-changes m k b (need.Have o) is = answered-changes m k b (reply_of o) is
-needed-changes m k b need.Started is = absurd cc
-needed-changes m k b need.Busy is = (refl, refl)
+needed-changes : (m : Memory Managed) (k : Call) (number : ℕ) (b : Begun Managed) (d : Need) → ChangesNothing m (needed m k number b d)
+needed-changes m k number b (need.Have o) is = answered-changes m k number b (reply_of o) is
+needed-changes m k number b need.Started is = absurd cc
+needed-changes m k number b need.Busy is = (refl, refl)
 
 as-changes : (m : Memory Managed) (k : Call) (number : ℕ) (x : Asked) → ChangesNothing m (begun_as managed_ops m k number x)
 as-changes m k number (asked.Refused code) is = absurd cc
-as-changes m k number (asked.Word page w) is = let b : Begun Managed = begun managed_ops m.coherence page w number in needed-changes m k b b.need is
+as-changes m k number (asked.Word page w) is = let b : Begun Managed = begun managed_ops m.coherence page w number in needed-changes m k number b b.need is
 as-changes m k number (asked.Heap h) is = heap_unserved m k number h is
 
 unserved_is : (m : Memory Managed) (k : Call) (number : ℕ) → ChangesNothing m (call_begun managed_ops m k number)
 unfolding call_begun
 unserved_is m k number is = as-changes m k number (asked_of m.coherence.config k) is
 
-unless-changes : (m : Memory Managed) (k : Call) (b : Begun Managed) (r : Option Reply) → ChangesNothing m (again_unless m (answered (taken_out m) k b r) r)
+unless-changes : (m : Memory Managed) (k : Call) (b : Begun Managed) (r : Option Reply) → ChangesNothing m (again_unless m (answered (taken_out m) k m.number b r) r)
 unless-changes m k b None is = (refl, refl)
 unless-changes m k b (Some r) is = absurd cc
 
-again-changes : (m : Memory Managed) (k : Call) (b : Begun Managed) (d : Need) → ChangesNothing m (again m (needed (taken_out m) k b d) d)
+again-changes : (m : Memory Managed) (k : Call) (b : Begun Managed) (d : Need) → ChangesNothing m (again m (needed (taken_out m) k m.number b d) d)
 again-changes m k b (need.Have o) is = unless-changes m k b (reply_of o) is
 again-changes m k b need.Started is = absurd cc
 again-changes m k b need.Busy is = (refl, refl)
 
-tried-changes : (m : Memory Managed) (k : Call) (number : ℕ) (x : Asked) → ChangesNothing m (tried_as managed_ops m k number x)
-tried-changes m k number (asked.Refused code) is = (refl, refl)
-tried-changes m k number (asked.Word page w) is = let b : Begun Managed = begun managed_ops (taken_out m).coherence page w number in again-changes m k b b.need is
-tried-changes m k number (asked.Heap h) is = (refl, refl)
+tried-changes : (m : Memory Managed) (k : Call) (x : Asked) → ChangesNothing m (tried_as managed_ops m k x)
+tried-changes m k (asked.Refused code) is = (refl, refl)
+tried-changes m k (asked.Word page w) is = let b : Begun Managed = begun managed_ops (taken_out m).coherence page w m.number in again-changes m k b b.need is
+tried-changes m k (asked.Heap h) is = (refl, refl)
 
-polled-changes : (m : Memory Managed) (k : Call) (number : ℕ) (r : Option Reply) → ChangesNothing m (polled_as managed_ops m k number r)
-polled-changes m k number None is = tried-changes m k number (asked_of m.coherence.config k) is
-polled-changes m k number (Some r) is = absurd cc
+polled-changes : (m : Memory Managed) (k : Call) (r : Option Reply) → ChangesNothing m (polled_as managed_ops m k r)
+polled-changes m k None is = tried-changes m k (asked_of m.coherence.config k) is
+polled-changes m k (Some r) is = absurd cc
+
+-- what holds where a result is none of the value
+pub on_err : {A E : Type 0} (r : Result A E) (P : Type 0) → P → OnErr r P
+on_err (Ok a) P h = tt
+on_err (Err e) P h = h
+
+-- an outbox that was not asked, or refused, is as it was
+pub unposted : {B C D : Type 0} {box new : Outbox} → (B × C × (new ≡ box)) ⊎ (D × (new ≡ box)) → new ≡ box
+unposted (inl grows) = grows.2
+unposted (inr refuses) = refuses.1
 
 -- few strings are added
 pub called_few : (box after : Outbox) (posted : List Parcel) → length posted ≤ 8 → after ≡ posted_by box posted → length after.waiting ≤ length box.waiting + 8
@@ -99,11 +109,11 @@ begin_call h k number n idle asks =
       nothing = unserved_is h.memory k number;
     }
 
-pub poll_call : (h : H) (k : Call) (number : ℕ) → IsNumbered h number → h.memory.asked ≡ Some k → IsCall h k (polled managed_ops h.memory number)
+pub poll_call : (h : H) (k : Call) → h.memory.asked ≡ Some k → IsCall h k (polled managed_ops h.memory)
 unfolding turn_of
-poll_call h k number n asked = record {
-  turn = ap (turned_at managed_ops h) asked ∙ ap (λ m. begins_as h k (polled managed_ops h.memory m)) (sym n.is);
-  nothing = subst (ChangesNothing h.memory) (sym (polled_so managed_ops h.memory k number asked)) (polled-changes h.memory k number (reply_at h.memory));
+poll_call h k asked = record {
+  turn = ap (turned_at managed_ops h) asked;
+  nothing = subst (ChangesNothing h.memory) (sym (polled_so managed_ops h.memory k asked)) (polled-changes h.memory k (reply_at h.memory));
 }
 
 module _ (h : H) (k : Call) (a : CallBegun Managed) (calls : IsCall h k a) where
@@ -159,9 +169,9 @@ module _ (h : H) (k : Call) (a : CallBegun Managed) (calls : IsCall h k a) where
   cannot_call box f refuses spent = cannot_by box (subst (λ (x : Fault). IsRefused x box a.posted) spent refuses) a.answer refl
 
   -- nor is it for want of numbers that the heap does not grow
-  pub cannot_begin : (box : Outbox) (f : Fault) (answer : Answer) (of_heap : Type 0) → (of_heap × IsGrowth answer f) ⊎ Refuses box a.posted f → HasNoNumbers h box f
-  cannot_begin box f answer of_heap why spent =
+  pub cannot_begin : (box new : Outbox) (f : Fault) (answer : Answer) (of_heap : Type 0) → (of_heap × IsGrowth answer f × (new ≡ box)) ⊎ (Refuses box a.posted f × (new ≡ box)) → HasNoNumbers h box f
+  cannot_begin box new f answer of_heap why spent =
       elim why [
         | inl grows ↦ let not : fault.Memory ≡ fault.NumbersSpent = sym grows.1.1 ∙ spent in absurd cc
-        | inr refuses ↦ cannot_call box f refuses spent
+        | inr refuses ↦ cannot_call box f refuses.0 spent
       ]

@@ -102,12 +102,12 @@ spent_post n v same k f bytes w r next m body e why spent =
     (numbers_out e (box_of v) (memory_handled managed_ops v.node.core.memory f.source m).posted why spent)))))
 
 -- nor is it for want of numbers that the heap does not grow
-pub spent_message : (n v : Shown) → v ≡ n → (k : Config) (f : Frame) (bytes : List ℕ) (w : Verdict) → IsRead v k f bytes w → w ≡ verdict.Next → (m : Message) → f.body ≡ Some m → (e : Fault)
-    → IsGrowthPosted (memory_handled managed_ops v.node.core.memory f.source m).posted e ⊎ IsRefused e (box_of v) (memory_handled managed_ops v.node.core.memory f.source m).posted → IsSpentDelivery n bytes e
+pub spent_message : {B C : Type 0} (n v : Shown) → v ≡ n → (k : Config) (f : Frame) (bytes : List ℕ) (w : Verdict) → IsRead v k f bytes w → w ≡ verdict.Next → (m : Message) → f.body ≡ Some m → (e : Fault)
+    → (IsGrowthPosted (memory_handled managed_ops v.node.core.memory f.source m).posted e × B) ⊎ (IsRefused e (box_of v) (memory_handled managed_ops v.node.core.memory f.source m).posted × C) → IsSpentDelivery n bytes e
 spent_message n v same k f bytes w r next m body e why spent =
     elim why [
-      | inl grows ↦ let not : fault.Memory ≡ fault.NumbersSpent = sym grows.1 ∙ spent in absurd cc
-      | inr refuses ↦ spent_post n v same k f bytes w r next m body e refuses spent
+      | inl grows ↦ let not : fault.Memory ≡ fault.NumbersSpent = sym grows.0.1 ∙ spent in absurd cc
+      | inr refuses ↦ spent_post n v same k f bytes w r next m body e refuses.0 spent
     ]
 
 -- the frame was heard: what the node and its outbox are before the frame is accepted

@@ -44,7 +44,7 @@ module _ where
   stepped-program n Ends o e = absurd (none-some o e)
 
   asked-program : (n : Host Managed) (asked : Option Call) (o : Outcome (Host Managed)) → turned_at managed_ops n asked ≡ Some o → o.after.process.program ≡ n.process.program
-  asked-program n (Some c) o e = let a = polled managed_ops n.memory (length n.history + 1) in with-program n c a a.answer o e
+  asked-program n (Some c) o e = let a = polled managed_ops n.memory in with-program n c a a.answer o e
   asked-program n None o e = stepped-program n (step_of n.process) o e
 
   pub turned-program : (n : Host Managed) (o : Outcome (Host Managed)) → turn_of managed_ops n ≡ Some o → o.after.process.program ≡ n.process.program

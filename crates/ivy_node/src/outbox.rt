@@ -185,6 +185,7 @@ impl<A: Allocator + Copy> Outbox<A> {
 }
 
 impl<A: Allocator + Copy> Post for Outbox<A> {
+    ghost use Rattle.std.specs.Prelude.{refl};
     ghost use Rattle.ivy_node.specs.Outboxes.{HasNumbers, posted_by, Refuses, takes_none, after_none, refuses_none};
 
     ghost config = { λ o. o.config };
@@ -196,6 +197,8 @@ impl<A: Allocator + Copy> Post for Outbox<A> {
     ghost after = { posted_by };
 
     ghost refuses = { Refuses };
+
+    ghost after_refusal = { λ o parcels fault. o };
 
     fn post(&mut self, parcels: &[Parcel<&[u8]>]) -> Result<(), Fault> {
         if parcels.is_empty() {
@@ -217,4 +220,8 @@ impl<A: Allocator + Copy> Post for Outbox<A> {
     ghost after_none = { after_none };
 
     ghost refuses_none = { refuses_none };
+
+    ghost same_config = { λ o parcels fault. refl };
+
+    ghost same_node = { λ o parcels fault. refl };
 }

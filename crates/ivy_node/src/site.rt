@@ -116,8 +116,7 @@ fn poll<A: Allocator + Copy>(
     ensures spent { IfErr result (HasNoNumbers (host_of memory.old machine.old history.old.items) outbox.old) }
     ensures want { IfErr result IsWant }
 {
-    let number = history.len() as u64 + 1;
-    match memory.poll_reply(number, outbox)? {
+    match memory.poll_reply(outbox)? {
         Answer::Given(reply) => {
             let node = outbox.me();
             let entry = Record { node, call, reply };

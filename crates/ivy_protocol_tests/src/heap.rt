@@ -88,31 +88,31 @@ const ROUNDS: [Round; 5] = [
         begins: Step::Allocates(8, 1, AWAITED),
         asks: WANTS_8,
         answers: GETS_64,
-        ends: Step::Polls(1, AT_64),
+        ends: Step::Polls(AT_64),
     },
     Round {
         begins: Step::Allocates(0, 2, AWAITED),
         asks: (Said::BlockRequest(0), 1, 2),
         answers: (Said::Block(8, 0), 1, 2),
-        ends: Step::Polls(2, NO_BYTES),
+        ends: Step::Polls(NO_BYTES),
     },
     Round {
         begins: Step::Allocates(u64::MAX, 3, AWAITED),
         asks: (Said::BlockRequest(u64::MAX), 1, 3),
         answers: (Said::Block(9, 0), 1, 3),
-        ends: Step::Polls(3, NO_ROOM),
+        ends: Step::Polls(NO_ROOM),
     },
     Round {
         begins: Step::Frees(64, 4, AWAITED),
         asks: (Said::EndRequest(64), 1, 4),
         answers: (Said::End(0), 1, 4),
-        ends: Step::Polls(4, DONE),
+        ends: Step::Polls(DONE),
     },
     Round {
         begins: Step::Frees(64, 5, AWAITED),
         asks: (Said::EndRequest(64), 1, 5),
         answers: (Said::End(10), 1, 5),
-        ends: Step::Polls(5, NO_BLOCK),
+        ends: Step::Polls(NO_BLOCK),
     },
 ];
 
@@ -160,9 +160,8 @@ const AT_NODE_0: Scene = Scene {
     posted: &[],
 };
 
-/// An answer that nobody waits for, one of another call, one to a Free, one that the call cannot have, one to another
-/// node's call, and requests to a node that keeps no heap: each is one breach, and the call waits on. So is an answer
-/// that comes twice.
+/// An answer that nobody waits for, one of another call, one to a Free, one to another node's call, and requests to a
+/// node that keeps no heap: each is one breach, and the call waits on. So is an answer that comes twice.
 #[test]
 fn forged_answers(rt: HostRuntime) -> Result<(), Fail> {
     check(&rt, rt.alloc(), &FORGED_ANSWERS)
@@ -178,26 +177,53 @@ const FORGED_ANSWERS: Scene = Scene {
         Step::Breaches(2),
         Step::Comes(0, (Said::End(0), 1, 1)),
         Step::Breaches(3),
-        Step::Comes(0, (Said::Block(8, 0), 1, 1)),
-        Step::Breaches(4),
         Step::Comes(0, (Said::Block(0, 64), 0, 1)),
-        Step::Breaches(5),
+        Step::Breaches(4),
         Step::Comes(0, (Said::BlockRequest(8), 0, 1)),
-        Step::Breaches(6),
+        Step::Breaches(5),
         Step::Comes(0, (Said::EndRequest(64), 0, 1)),
-        Step::Breaches(7),
-        Step::Polls(1, UNSERVED),
+        Step::Breaches(6),
+        Step::Polls(UNSERVED),
         Step::Asked(Some(Call::Alloc { size: 8 })),
         Step::Comes(0, GETS_64),
-        Step::Breaches(7),
+        Step::Breaches(6),
         Step::Comes(0, (Said::Block(0, 72), 1, 1)),
-        Step::Breaches(8),
-        Step::Polls(1, AT_64),
+        Step::Breaches(7),
+        Step::Polls(AT_64),
         Step::Asked(None),
         Step::Comes(0, GETS_64),
-        Step::Breaches(9),
+        Step::Breaches(8),
     ],
     posted: &[(0, WANTS_8)],
+};
+
+/// Answers with codes that their calls cannot have: 8 for some bytes, 9 for none, and an address for none. Each is the
+/// reply of its call, and no breach.
+#[test]
+fn forged_codes(rt: HostRuntime) -> Result<(), Fail> {
+    check(&rt, rt.alloc(), &FORGED_CODES)
+}
+
+const FORGED_CODES: Scene = Scene {
+    me: 1,
+    steps: &[
+        Step::Allocates(8, 1, AWAITED),
+        Step::Comes(0, (Said::Block(8, 0), 1, 1)),
+        Step::Polls(NO_BYTES),
+        Step::Allocates(0, 2, AWAITED),
+        Step::Comes(0, (Said::Block(9, 0), 1, 2)),
+        Step::Polls(NO_ROOM),
+        Step::Allocates(0, 3, AWAITED),
+        Step::Comes(0, (Said::Block(0, 64), 1, 3)),
+        Step::Polls(AT_64),
+        Step::Asked(None),
+        Step::Breaches(0),
+    ],
+    posted: &[
+        (0, WANTS_8),
+        (0, (Said::BlockRequest(0), 1, 2)),
+        (0, (Said::BlockRequest(0), 1, 3)),
+    ],
 };
 
 /// A request that is not its sender's, and answers to the node that gives them: each is one breach, and the heap
@@ -244,7 +270,7 @@ const REFUSED_REQUEST: Scene = Scene {
         Step::IsFull(false),
         Step::Allocates(8, 1, AWAITED),
         Step::Comes(0, GETS_64),
-        Step::Polls(1, AT_64),
+        Step::Polls(AT_64),
     ],
     posted: &[(0, WANTS_8)],
 };

@@ -60,8 +60,8 @@ pub(crate) enum Step {
     Advances(u64, u64, Outcome),
     Allocates(u64, u64, Outcome),
     Frees(u64, u64, Outcome),
-    /// The call of this number is asked for its reply.
-    Polls(u64, Outcome),
+    /// The call in progress is asked for its reply.
+    Polls(Outcome),
     /// A message about page 0 or of the heap comes from the other node, and is taken, or is refused with 1.
     Comes(u8, Letter),
     Refuses(u8, Letter),
@@ -103,11 +103,8 @@ impl<A: Allocator + Copy> Node<A> {
     }
 
     /// Whether the reply of the call comes to this.
-    fn polls(&mut self, number: u64, outcome: Outcome) -> Result<bool, Fail> {
-        if number == 0 {
-            return Err("calls are numbered from 1".into());
-        }
-        match self.memory.poll_reply(number, &mut self.posted) {
+    fn polls(&mut self, outcome: Outcome) -> Result<bool, Fail> {
+        match self.memory.poll_reply(&mut self.posted) {
             Ok(answer) => Ok(outcome == Ok(answer)),
             Err(fault) => Ok(outcome == Err(fault)),
         }
@@ -169,7 +166,7 @@ impl<A: Allocator + Copy> Node<A> {
             Step::Frees(addr, number, outcome) => {
                 self.begins(Call::Free { addr: *addr }, *number, *outcome)
             }
-            Step::Polls(number, outcome) => self.polls(*number, *outcome),
+            Step::Polls(outcome) => self.polls(*outcome),
             Step::Comes(from, letter) => self.takes(*from, message(0, *letter), Ok(())),
             Step::Refuses(from, letter) => {
                 self.takes(*from, message(0, *letter), Err(Fault::Memory))
@@ -230,24 +227,24 @@ const WITHOUT_A_COPY: Scene = Scene {
     me: 1,
     steps: &[
         Step::Awaits(1, 3, Ok(Answer::Awaited)),
-        Step::Polls(3, Ok(Answer::Unserved)),
+        Step::Polls(Ok(Answer::Unserved)),
         Step::Posted(1),
         Step::Comes(0, (Said::Copy(Bytes::Zeros), 1, 3)),
-        Step::Polls(3, Ok(Answer::Unserved)),
-        Step::Polls(3, Ok(Answer::Unserved)),
+        Step::Polls(Ok(Answer::Unserved)),
+        Step::Polls(Ok(Answer::Unserved)),
         Step::Posted(1),
         Step::Asked(Some(Call::Await { k: 0, least: 1 })),
         Step::Comes(0, (Said::Order, 0, 9)),
         Step::IsFull(true),
-        Step::Polls(3, Err(Fault::Memory)),
+        Step::Polls(Err(Fault::Memory)),
         Step::IsFull(false),
-        Step::Polls(3, Ok(Answer::Awaited)),
-        Step::Polls(3, Ok(Answer::Unserved)),
+        Step::Polls(Ok(Answer::Awaited)),
+        Step::Polls(Ok(Answer::Unserved)),
         Step::Posted(3),
         Step::Comes(0, (Said::Copy(Bytes::Ones), 1, 3)),
-        Step::Polls(3, MOST),
+        Step::Polls(MOST),
         Step::Asked(None),
-        Step::Polls(4, Ok(Answer::Unserved)),
+        Step::Polls(Ok(Answer::Unserved)),
         Step::Awaits(u64::MAX, 4, MOST),
     ],
     posted: &[
@@ -268,13 +265,13 @@ const OWNER_AWAITS: Scene = Scene {
     steps: &[
         Step::Awaits(0, 1, ZERO),
         Step::Awaits(5, 2, Ok(Answer::Awaited)),
-        Step::Polls(2, Ok(Answer::Unserved)),
+        Step::Polls(Ok(Answer::Unserved)),
         Step::Posted(0),
         Step::Comes(1, (Said::WriteRequest, 1, 7)),
-        Step::Polls(2, Ok(Answer::Awaited)),
+        Step::Polls(Ok(Answer::Awaited)),
         Step::Posted(2),
         Step::Comes(1, (Said::Copy(Bytes::Ones), 0, 2)),
-        Step::Polls(2, MOST),
+        Step::Polls(MOST),
     ],
     posted: &[
         (1, (Said::Whole(0, Bytes::Zeros), 1, 7)),
@@ -300,10 +297,10 @@ const BESIDE_ANOTHER: Scene = Scene {
         Step::Advances(0, 2, Err(Fault::Busy)),
         Step::Posted(1),
         Step::Asked(Some(Call::Await { k: 0, least: 1 })),
-        Step::Polls(1, Ok(Answer::Awaited)),
+        Step::Polls(Ok(Answer::Awaited)),
         Step::Reads(0, 2, Err(Fault::Busy)),
         Step::Comes(1, (Said::Copy(Bytes::Ones), 0, 1)),
-        Step::Polls(1, MOST),
+        Step::Polls(MOST),
         Step::Reads(8, 2, Ok(Answer::Given(Reply::Refused(6)))),
     ],
     posted: &[

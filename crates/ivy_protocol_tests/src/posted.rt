@@ -87,6 +87,8 @@ impl Post for Posted {
 
     ghost refuses = { λ p parcels fault. (parcels ≢ []) × (fault ≡ Memory) };
 
+    ghost after_refusal = { λ p parcels fault. p };
+
     fn post(&mut self, parcels: &[Parcel<&[u8]>]) -> Result<(), Fault> {
         if parcels.is_empty() {
             return Ok(());
@@ -111,6 +113,10 @@ impl Post for Posted {
     ghost after_none = { λ p. ap (λ xs. (p.0, p.1, xs)) (append-nil p.2) };
 
     ghost refuses_none = { λ p fault why. why.0 refl };
+
+    ghost same_config = { λ p parcels fault. refl };
+
+    ghost same_node = { λ p parcels fault. refl };
 }
 
 /// Whether a parcel is this message of a node to another.

@@ -11,6 +11,7 @@ use Rattle.ivy_order.specs.Orderly.{IsOrderly}
 use Rattle.ivy_order.specs.Rows.{IsKept}
 use Rattle.ivy_worlds.specs.Nets.{net_of, managers_of}
 use Rattle.ivy_worlds.specs.Runs.{first_ordered, IsReachedInOrder}
+use Rattle.ivy_worlds.proofs.Errands.{have_errands}
 use Rattle.ivy_worlds.proofs.LiftedRuns.{Holds}
 use Rattle.ivy_worlds.proofs.Runs.{reached_holds, letters_below, hops_below}
 use Rattle.ivy_worlds.proofs.Worlds.{first_net}
@@ -40,7 +41,7 @@ module _ {S : Type 0} {ops : Ops S} (laws : Laws ops) (c : Config) (limits : IsC
       (quiet_first laws c limits Routed kept begins spare programs many, first_owed (net_of (first_ordered ops c programs)) (first_net ops c programs) (first_net ops c programs).delivered)
 
   pub runs_awaited : AllAwaited ops c programs
-  runs_awaited o run = (let h = reached o run in (h.1.1.0.0, awaited c (net_of o) h.1.1.0.0 h.1.1.1, h.0.errands))
+  runs_awaited o run = (let h = reached o run in (h.1.1.0.0, awaited c (net_of o) h.1.1.0.0 h.1.1.1, h.0.errands, have_errands o h.0))
 
   -- what follows for each page from the managers' invariant, and from messages and next hops being at nodes
   pub runs_routed : (Says : (ℕ → S) → Net → ℕ → Type 0)

@@ -8,7 +8,7 @@ use Rattle.ivy_program.specs.declared.Instruction.{Instruction}
 use Rattle.ivy_events.specs.Ordered.{Ordered}
 use Rattle.ivy_host.specs.Hosts.{Host}
 use Rattle.ivy_order.specs.Orderly.{IsOrderly}
-use Rattle.ivy_worlds.specs.Errands.{AreErrands}
+use Rattle.ivy_worlds.specs.Errands.{AreErrands, HaveErrands}
 use Rattle.ivy_worlds.specs.Nets.{net_of, managers_of}
 use Rattle.ivy_worlds.specs.Runs.{IsReachedInOrder}
 use Rattle.ivy_requests.specs.Waiting.{IsAwaited}
@@ -22,7 +22,7 @@ module _ {S : Type 0} (ops : Ops S) (c : Config) (programs : List (List Instruct
   -- the entries and letters fit together, and whoever waits has its message: a word, and a call of the heap
   abbrev pub AllAwaited : Type 0
   AllAwaited = (o : Ordered (Host S)) → IsReachedInOrder ops c programs o
-      → IsOrderly c (net_of o) × IsAwaited (net_of o) × AreErrands o
+      → IsOrderly c (net_of o) × IsAwaited (net_of o) × AreErrands o × HaveErrands o
 
   -- the routes to each page, and besides where nodes manage pages
   abbrev pub AllRouted : Type 0

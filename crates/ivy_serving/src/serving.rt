@@ -64,7 +64,7 @@ pub fn post_one<P: Post>(
 ) -> Result<(), Fault>
     requires fits { FitsParcel (P.config post.old) (P.node post.old)
         (parcel_to source dest origin call (owned_content content)) }
-    ensures { HasPosted P.takes P.after P.refuses post.old post.new result
+    ensures { HasPosted P.takes P.after P.refuses P.after_refusal post.old post.new result
         (parcel_to source dest origin call (owned_content content.entry) ∷ []) }
 {
     post.post(&[Parcel {
@@ -249,7 +249,7 @@ pub fn settle<M: Manager, P: Post>(
     requires fits { All (FitsParcel (P.config post.old) (P.node post.old))
         (settled M.ops at.me at.from at.page at.bytes.now
         idle manager.old breaches.old reply messages.now).posted }
-    ensures { IsSettled P.takes P.after P.refuses post.old post.new result
+    ensures { IsSettled P.takes P.after P.refuses P.after_refusal post.old post.new result
         manager.old manager.new breaches.old breaches.new
         (settled M.ops at.entry.me at.entry.from at.entry.page at.entry.bytes.now
         idle manager.old breaches.old reply messages.now) }
@@ -288,7 +288,7 @@ pub fn invalidate<P: Post>(
     requires few { length (nodes_of nodes.now) ≤ most_posted }
     requires fits { All (FitsParcel (P.config post.old) (P.node post.old))
         (invalidations me page call nodes.now) }
-    ensures { HasPosted P.takes P.after P.refuses post.old post.new result
+    ensures { HasPosted P.takes P.after P.refuses P.after_refusal post.old post.new result
         (invalidations me page call nodes.now) }
 {
     let mut parcels: Parcels = ArrayVec::new();

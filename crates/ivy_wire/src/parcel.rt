@@ -1,5 +1,5 @@
 //! Messages on their way to the link, and what takes them.
-ghost use Rattle.std.specs.Prelude.{◌≡◌, [], List, ℕ, map, All, IfOk, IfErr, OnOk, OnErr};
+ghost use Rattle.std.specs.Prelude.{◌≡◌, [], List, ℕ, map, All, IfOk, IfErr, OnOk};
 ghost use Rattle.ivy_model.specs.Wants.{IsWant};
 ghost use Rattle.ivy_wire.specs.Lent.{owned_message, owned_parcel};
 ghost use Rattle.ivy_wire.specs.Spelling.{FitsParcel};
@@ -43,6 +43,10 @@ pub trait Post {
     /// refusal alone.
     ghost refuses: { Self → List Parcel → Fault → Type 0 };
 
+    /// What it is once it refused a list with a fault. Code that is generic in its post and refused has such a
+    /// post from asking once alone.
+    ghost after_refusal: { Self → List Parcel → Fault → Self };
+
     /// Takes all of the parcels, in order, or refuses them all [1, 17].
     ///
     /// They are messages of this node to others, and fit the configuration.
@@ -50,8 +54,9 @@ pub trait Post {
         requires fits { All (FitsParcel (config self.old) (node self.old)) (map owned_parcel parcels.now) }
         ensures ok { OnOk result (self.new ≡ after self.old (map owned_parcel parcels.now)) }
         ensures took { OnOk result (takes self.old (map owned_parcel parcels.now)) }
-        ensures err { OnErr result (self.new ≡ self.old) }
         ensures fault { IfErr result (refuses self.old (map owned_parcel parcels.now)) }
+        ensures err { IfErr result
+            (λ fault. self.new ≡ after_refusal self.old (map owned_parcel parcels.now) fault) }
         ensures want { IfErr result IsWant };
 
     /// There is always a place for a list of none, which changes nothing and is never refused.
@@ -60,6 +65,11 @@ pub trait Post {
     ghost after_none: { (s : Self) → after s [] ≡ s };
 
     ghost refuses_none: { (s : Self) → (f : Fault) → refuses s [] f → ⊥ };
+
+    /// Having refused, it is still the post of this node under this configuration.
+    ghost same_config: { (s : Self) → (ps : List Parcel) → (f : Fault) → config (after_refusal s ps f) ≡ config s };
+
+    ghost same_node: { (s : Self) → (ps : List Parcel) → (f : Fault) → node (after_refusal s ps f) ≡ node s };
 }
 
 impl<'a> Default for Parcel<&'a [u8]> {

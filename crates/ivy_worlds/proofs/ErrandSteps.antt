@@ -7,16 +7,20 @@ use Rattle.std.proofs.lemmas.Option.{same_Some, none-some}
 use Rattle.ivy_model.specs.declared.Config.{Config}
 use Rattle.ivy_model.specs.declared.Call.{Call}
 use Rattle.ivy_model.specs.declared.Reply.{Reply}
+use Rattle.ivy_model.specs.declared.Reply.TheVariants.{Value, Done, Refused}
 use Rattle.ivy_wire.specs.Data.{Message, Parcel}
 use Rattle.ivy_link.specs.Paired.{posted, extended}
 use Rattle.ivy_pagetable.specs.Manager.{Ops}
 use Rattle.ivy_serving.specs.Serving.{parcel_to}
 use Rattle.ivy_serving.proofs.IdleServing.{all_none}
 use Rattle.ivy_alloc.specs.Heap.{HeapState}
+use Rattle.ivy_alloc.specs.Laws.{IsAllocReply}
+use Rattle.ivy_alloc.proofs.Answered.{has_replies}
 use Rattle.ivy_events.specs.Cores.{Outcome}
 use Rattle.ivy_events.specs.Ordered.{Ordered, Turns, Delivers}
 use Rattle.ivy_memory.specs.declared.Asked.TheVariants as kinds
 use Rattle.ivy_memory.specs.declared.HeapCall.{HeapCall}
+use Rattle.ivy_memory.specs.declared.HeapCall.TheVariants.{Alloc, Free}
 use Rattle.ivy_memory.specs.declared.Errand.{Errand}
 use Rattle.ivy_memory.specs.declared.Errand.TheVariants as errand
 use Rattle.ivy_memory.specs.Asking.{asked_of}
@@ -28,7 +32,7 @@ use Rattle.ivy_memory.proofs.Tame.{idle_side}
 use Rattle.ivy_host.specs.Hosts.{Host, serving, host_rules}
 use Rattle.ivy_host.specs.Sound.{IsSoundHost}
 use Rattle.ivy_host.proofs.Pages.{page_serving, serve-pages}
-use Rattle.ivy_worlds.specs.Errands.{about_heap, heap_way, call_message, IsAtRest, IsErrandAt, resting, asking, answered, AreErrands}
+use Rattle.ivy_worlds.specs.Errands.{about_heap, heap_way, call_message, CanHave, IsAtRest, IsErrandAt, resting, asking, answered, AreErrands}
 use Rattle.ivy_worlds.proofs.Led.{get_set}
 use Rattle.ivy_worlds.proofs.HeapWays.{IsWithin, heap_there, heap_elsewhere, way_turned, way_still, way_other, way_page, way_taken}
 use Rattle.ivy_worlds.proofs.HeapDeliveries.{HeapDelivery, serves, learns}
@@ -74,6 +78,16 @@ module _ {S : Type 0} {ops : Ops S} {c : Config} {x : ℕ} {h : Host S} (good : 
       subst (λ (z : Outcome (Host S)). TurnErrand x h.memory.side.errand z.after.memory.side.errand z.posted) (sym is)
       (begins k (number_of h) (λ e. good.memory.side.away none (good.me ∙ e)) (rests (idle_side h.memory good.memory idle)) refl (ap (λ i. parcel_to i 0 i (number_of h) (request k) ∷ []) good.me))
 
+-- the heap answers a call with a reply that the call can have
+some_reply : (c : Config) (size : ℕ) (r : Reply) → IsAllocReply c size r → CanHave (Alloc size) r
+some_reply c size (Value addr) is = is.0
+some_reply c size Done is = is
+some_reply c size (Refused code) is = is
+
+can_have : (state : HeapState) (k : HeapCall) → CanHave k (told_of state k).reply
+can_have state (Alloc size) = some_reply state.config size _ (has_replies state.config state.blocks size).0
+can_have state (Free addr) = (has_replies state.config state.blocks addr).1
+
 -- the same errand, by the same ways
 as_before : (i : ℕ) (e d : Option Errand) (a b a' b' : List Message) → d ≡ e → a' ≡ a → b' ≡ b → IsErrandAt i e a b → IsErrandAt i d a' b'
 as_before i e d a b a' b' same there back is =
@@ -83,7 +97,7 @@ as_before i e d a b a' b' same there back is =
 empty_ways : {i : ℕ} {e : Option Errand} {a b : List Message} → IsErrandAt i e a b → IsAtRest e → (a ≡ []) × (b ≡ [])
 empty_ways (resting rest there back) h = (there, back)
 empty_ways (asking k number asks there back) h = absurd (subst IsAtRest asks h)
-empty_ways (answered k number body r asks there back tells) h = absurd (subst IsAtRest asks h)
+empty_ways (answered k number body r asks there back tells can) h = absurd (subst IsAtRest asks h)
 
 -- what is left after the one message there is
 tail_of : (m : Message) (rest : List Message) → m ∷ rest ≡ m ∷ [] → rest ≡ []
@@ -93,7 +107,7 @@ tail_of m rest is = ap (drop 1) is
 none_there : {i : ℕ} {e : Option Errand} {a b : List Message} → IsErrandAt i e a b → (m : Message) → b ≡ m ∷ [] → a ≡ []
 none_there (resting rest there back) m some = there
 none_there (asking k number asks there back) m some = absurd (none-some m (ap (λ (z : List Message). slice_get z 0) (sym back ∙ some)))
-none_there (answered k number body r asks there back tells) m some = there
+none_there (answered k number body r asks there back tells can) m some = there
 
 module _ {S : Type 0} (o o' : Ordered (Host S)) (x : ℕ) (h after : Host S) (there : slice_get o.cores x ≡ Some h) (cores : o'.cores ≡ slice_set o.cores x after) (errands : AreErrands o) where
   -- an event of node x: the ways of each other node, and of that one
@@ -182,7 +196,7 @@ module _ {S : Type 0} (ops : Ops S) (o o' : Ordered (Host S)) (within : IsWithin
         ∙ ap (λ z. about_heap (posted 0 source (parcel_to z source source number body ∷ []))) home
         ∙ heap_there 0 source source number body (answer_heap k (told_of state k).reply) in
         let asker_now : IsErrandAt source asker.memory.side.errand (heap_way o' source 0) (heap_way o' 0 source)
-        = answered k number body (told_of state k).reply asks (subst (λ z. heap_way o' source z ≡ []) home gone) comes (replied state k) in
+        = answered k number body (told_of state k).reply asks (subst (λ z. heap_way o' source z ≡ []) home gone) comes (replied state k) (can_have state k) in
         let others : (i : ℕ) (g : Host S) → i ≢ 0 → i ≢ source → slice_get o.cores i ≡ Some g → IsErrandAt i g.memory.side.errand (heap_way o' i 0) (heap_way o' 0 i)
         = λ i g off ne there. as_before i _ _ _ _ _ _ refl (still i 0 (λ e. absurd (ne e)) (λ e z. away z)) (still 0 i (λ e. absurd (away (sym e))) (λ e z. ne (sym z))) (errands.each i g off there) in
         record {

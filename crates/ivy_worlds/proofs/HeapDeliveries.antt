@@ -62,13 +62,13 @@ module _ {S : Type 0} (ops : Ops S) (c : Config) (o : Ordered (Host S)) (errands
   served-at : x ≡ 0 → (asker : Host S) → slice_get o.cores source ≡ Some asker → IsErrandAt source asker.memory.side.errand (heap_way o source 0) (heap_way o 0 source) → HeapDelivery ops o source x core m
   served-at home asker at (resting rests none back) = absurd (empty_begins m rest (heap_way o source 0) (subst (λ z. heap_way o source z ≡ m ∷ rest) home first) none)
   served-at home asker at (asking k number asks on_way none) = served-by home asker at k number asks on_way none core.memory.side.heap refl
-  served-at home asker at (answered k number body r asks none back tells) = absurd (empty_begins m rest (heap_way o source 0) (subst (λ z. heap_way o source z ≡ m ∷ rest) home first) none)
+  served-at home asker at (answered k number body r asks none back tells can) = absurd (empty_begins m rest (heap_way o source 0) (subst (λ z. heap_way o source z ≡ m ∷ rest) home first) none)
 
   -- at the node that asked
   learned-at : x ≢ 0 → source ≡ 0 → IsErrandAt x core.memory.side.errand (heap_way o x 0) (heap_way o 0 x) → HeapDelivery ops o source x core m
   learned-at away home (resting rests none back) = absurd (empty_begins m rest (heap_way o 0 x) (subst (λ z. heap_way o z x ≡ m ∷ rest) home first) back)
   learned-at away home (asking k number asks on_way none) = absurd (empty_begins m rest (heap_way o 0 x) (subst (λ z. heap_way o z x ≡ m ∷ rest) home first) none)
-  learned-at away home (answered k number body r asks none back tells) =
+  learned-at away home (answered k number body r asks none back tells can) =
       let same : m ≡ call_message x number body = one_begins m _ rest (heap_way o 0 x) (subst (λ z. heap_way o z x ≡ m ∷ rest) home first) back in
       let replies : reply_in k m.content ≡ Some r = ap (λ (z : Message). reply_in k z.content) same ∙ tells in
       learns away home k number r asks (back ∙ ap (λ z. z ∷ []) (sym same)) replies

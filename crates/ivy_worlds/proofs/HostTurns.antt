@@ -42,7 +42,7 @@ asks ops h page word = begun ops h.memory.coherence page word (number_of h)
 
 -- what the call that asks for this word comes to
 abbrev pub asked_for : {S : Type 0} → Ops S → Host S → Call → ℕ → Word → CallBegun S
-asked_for ops h called page word = needed h.memory called (asks ops h page word) (asks ops h page word).need
+asked_for ops h called page word = needed h.memory called (number_of h) (asks ops h page word) (asks ops h page word).need
 
 -- the node as if its call in progress had not begun
 abbrev pub without_call : {S : Type 0} → Host S → Host S
@@ -65,7 +65,7 @@ pub data HostTurn {S : Type 0} (ops : Ops S) (c : Config) (h : Host S) (out : Ou
       → h.memory.side.heap ≡ Some heap → out ≡ quietly (recorded h (record h.memory { side = kept h.memory.side heap (told_of heap k) }) called (told_of heap k).reply) → HostTurn ops c h out
   asks_heap : (called : Call) (k : HeapCall) → h.memory.asked ≡ None → step_of h.process ≡ Asks called → asked_of h.memory.coherence.config called ≡ kinds.Heap k → h.memory.side.heap ≡ None
       → out ≡ record {
-        after = record h { memory = record h.memory { asked = Some called; side = record h.memory.side { errand = Some (errand.Asked k (number_of h)) } } };
+        after = record h { memory = record h.memory { asked = Some called; number = number_of h; side = record h.memory.side { errand = Some (errand.Asked k (number_of h)) } } };
         posted = parcel_to h.memory.coherence.me 0 h.memory.coherence.me (number_of h) (request k) ∷ [];
       } → HostTurn ops c h out
 
@@ -87,12 +87,12 @@ begun_kind ops m called number = refl
 module _ {S : Type 0} (ops : Ops S) (c : Config) (x : ℕ) (h : Host S) (good : IsSoundHost ops c x h) (out : Outcome (Host S)) where
   -- a call of the heap begins, by where the heap is
   asks-cases : (called : Call) (k : HeapCall) (b : Bool) → h.memory.asked ≡ None → step_of h.process ≡ Asks called → asked_of h.memory.coherence.config called ≡ kinds.Heap k → h.memory.side.heap ≡ None
-      → begins_as h called (heap_answered h.memory called (if b then heap_sent h.memory k (number_of h) else heap_unsent h.memory)) ≡ Some out → HostTurn ops c h out
+      → begins_as h called (heap_answered h.memory called (number_of h) (if b then heap_sent h.memory k (number_of h) else heap_unsent h.memory)) ≡ Some out → HostTurn ops c h out
   asks-cases called k true idle step kind none is = asks_heap called k idle step kind none (sym (same_Some _ out is))
   asks-cases called k false idle step kind none is = absurd (none-some out is)
 
   heap-cases : (called : Call) (k : HeapCall) (o : Option HeapState) → h.memory.side.heap ≡ o → h.memory.asked ≡ None → step_of h.process ≡ Asks called → asked_of h.memory.coherence.config called ≡ kinds.Heap k
-      → begins_as h called (heap_answered h.memory called (begun_at h.memory.coherence.me h.memory.side k (number_of h) o)) ≡ Some out → HostTurn ops c h out
+      → begins_as h called (heap_answered h.memory called (number_of h) (begun_at h.memory.coherence.me h.memory.side k (number_of h) o)) ≡ Some out → HostTurn ops c h out
   heap-cases called k (Some heap) there idle step kind is = serves_heap called k heap idle step kind there (sym (same_Some _ out is))
   heap-cases called k None there idle step kind is = asks-cases called k (nat_lt (number_in k) (2 ^ 64)) idle step kind there is
 
@@ -131,22 +131,24 @@ module _ {S : Type 0} (ops : Ops S) (c : Config) (x : ℕ) (h : Host S) (good : 
     again-cases a b need.Busy bs needs is = absurd (none-some out is)
 
     tried-cases : (kind : Asked) → reply_at h.memory ≡ None → asked_of h.memory.coherence.config called ≡ kind → CanAsk h.memory.coherence.config kind
-        → begins_as h called (tried_as ops h.memory called (number_of h) kind) ≡ Some out → HostTurn ops c h out
+        → begins_as h called (tried_as ops h.memory called kind) ≡ Some out → HostTurn ops c h out
     tried-cases (kinds.Refused code) untold of can is = absurd (none-some out is)
     tried-cases (kinds.Word page word) untold of can is =
         let b : Begun S = asks ops (without_call h) page word in
-        let all = again-cases (asked_for ops (without_call h) called page word) b b.need (begun-begins ops (taken_out h.memory).coherence page word (number_of h)) refl is in
+        let now : begins_as h called (again h.memory (asked_for ops (without_call h) called page word) b.need) ≡ Some out
+        = subst (λ i. begins_as h called (again h.memory (needed (taken_out h.memory) called i (begun ops (taken_out h.memory).coherence page word i) (begun ops (taken_out h.memory).coherence page word i).need) (begun ops (taken_out h.memory).coherence page word i).need) ≡ Some out) (good.numbered called asked) is in
+        let all = again-cases (asked_for ops (without_call h) called page word) b b.need (begun-begins ops (taken_out h.memory).coherence page word (number_of h)) refl now in
         tries_again called page word asked untold all.0 of (subst (λ d. page < d.pages) good.config can.0) (subst (λ d. IsWord d.page_size word) good.config can.1) all.1
     tried-cases (kinds.Heap k) untold of can is = absurd (none-some out is)
 
-    replied-cases : (r : Option Reply) → reply_at h.memory ≡ r → begins_as h called (polled_as ops h.memory called (number_of h) r) ≡ Some out → HostTurn ops c h out
+    replied-cases : (r : Option Reply) → reply_at h.memory ≡ r → begins_as h called (polled_as ops h.memory called r) ≡ Some out → HostTurn ops c h out
     replied-cases None there is =
         tried-cases (asked_of h.memory.coherence.config called) there refl (can_ask h.memory.coherence.config called good.memory.coherent.limits (good.memory.width called asked)) is
     replied-cases (Some r) there is = answers called r asked there (sym (same_Some (quietly (recorded h (taken_out h.memory) called r)) out is))
 
   at-cases : (a : Option Call) → h.memory.asked ≡ a → turned_at ops h a ≡ Some out → HostTurn ops c h out
   at-cases (Some called) asked is =
-      replied-cases called asked (reply_at h.memory) refl (ap (begins_as h called) (sym (polled_so ops h.memory called (number_of h) asked)) ∙ is)
+      replied-cases called asked (reply_at h.memory) refl (ap (begins_as h called) (sym (polled_so ops h.memory called asked)) ∙ is)
   at-cases None asked is = steps-cases (step_of h.process) asked refl is
 
   -- each turn of a sound node is one of these
@@ -163,20 +165,20 @@ module _ {S : Type 0} (ops : Ops S) (h : Host S) (called : Call) (page : ℕ) (w
   with_memory a Awaited out is = let e = sym (same_Some _ out is) in (ap (λ (z : Outcome (Host S)). z.after.memory) e, ap (λ (z : Outcome (Host S)). z.posted) e)
   with_memory a Unserved out is = absurd (none-some out is)
 
-  answered_coherence : (b : Begun S) (r : Option Reply) → (answered h.memory called b r).after.coherence ≡ b.after
+  answered_coherence : (b : Begun S) (r : Option Reply) → (answered h.memory called (number_of h) b r).after.coherence ≡ b.after
   answered_coherence b None = refl
   answered_coherence b (Some r) = refl
 
-  needed_coherence : (d : Need) → (asks ops h page word).need ≡ d → (needed h.memory called (asks ops h page word) d).after.coherence ≡ (asks ops h page word).after
+  needed_coherence : (d : Need) → (asks ops h page word).need ≡ d → (needed h.memory called (number_of h) (asks ops h page word) d).after.coherence ≡ (asks ops h page word).after
   needed_coherence (need.Have o) is = answered_coherence (asks ops h page word) (reply_of o)
   needed_coherence need.Started is = refl
   needed_coherence need.Busy is = sym (marks.busy is)
 
-  answered_side : (b : Begun S) (r : Option Reply) → (answered h.memory called b r).after.side ≡ h.memory.side
+  answered_side : (b : Begun S) (r : Option Reply) → (answered h.memory called (number_of h) b r).after.side ≡ h.memory.side
   answered_side b None = refl
   answered_side b (Some r) = refl
 
-  needed_side : (b : Begun S) (d : Need) → (needed h.memory called b d).after.side ≡ h.memory.side
+  needed_side : (b : Begun S) (d : Need) → (needed h.memory called (number_of h) b d).after.side ≡ h.memory.side
   needed_side b (need.Have o) = answered_side b (reply_of o)
   needed_side b need.Started = refl
   needed_side b need.Busy = refl
@@ -190,7 +192,7 @@ module _ {S : Type 0} (ops : Ops S) (h : Host S) (called : Call) (page : ℕ) (w
   pub asked_posted : (out : Outcome (Host S)) → begins_as h called (asked_for ops h called page word) ≡ Some out → out.posted ≡ (asks ops h page word).posted
   asked_posted out is =
       (with_memory (asked_for ops h called page word) (asked_for ops h called page word).answer out is).1
-      ∙ needed-posted h.memory called (asks ops h page word) (asks ops h page word).need marks refl
+      ∙ needed-posted h.memory called (number_of h) (asks ops h page word) (asks ops h page word).need marks refl
 
   -- and its side of the heap is as before
   pub asked_side : (out : Outcome (Host S)) → begins_as h called (asked_for ops h called page word) ≡ Some out → out.after.memory.side ≡ h.memory.side

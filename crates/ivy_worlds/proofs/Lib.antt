@@ -17,3 +17,4 @@ pub mod Led
 pub mod Opened
 pub mod Worlds
 pub mod Runs
+pub mod Errands

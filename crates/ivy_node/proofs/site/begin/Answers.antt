@@ -1,14 +1,18 @@
-use Rattle.std.proofs.Common.{rules, arith, ap, ◌+◌}
+use Rattle.std.proofs.Common.{rules, arith, ap, refl, ◌+◌}
 use Rattle.ivy_memory.proofs.Beginning.{err_there}
 use Rattle.ivy_node.specs.Sites.{host_of}
-use Rattle.ivy_node.proofs.Calling.{begin_call, cannot_begin, called_answered, called_awaited, not_called, called_few}
+use Rattle.ivy_node.proofs.Calling.{begin_call, cannot_begin, called_answered, called_awaited, not_called, called_few, on_err, unposted}
 use Rattle.ivy_node.proofs.site.begin.Goals as goal
+
+pub returns-in_err-reply-clause-err : goal.returns-in_err-reply-clause-err
+returns-in_err-reply-clause-err g c =
+    on_err c.from_residual.result _ (c.in_err-reply.ensures.err, unposted (c.in_err-reply.ensures.fault c.requires.idle), refl, refl)
 
 pub returns-in_err-reply-clause-spent : goal.returns-in_err-reply-clause-spent
 returns-in_err-reply-clause-spent g c =
     err_there c.from_residual.result _ _ c.from_residual.ensures.1
     (cannot_begin (host_of c.args.memory.now c.args.machine.now c.args.history.now.items) c.args.call _
-    (begin_call (host_of c.args.memory.now c.args.machine.now c.args.history.now.items) c.args.call (c.len.result + 1) (record { is = ap (λ n. n + 1) (search rules); below = omega (arith, c.args.history.now.small) }) c.requires.idle c.requires.asks) c.args.outbox.now _ _ _ (c.in_err-reply.ensures.fault c.requires.idle))
+    (begin_call (host_of c.args.memory.now c.args.machine.now c.args.history.now.items) c.args.call (c.len.result + 1) (record { is = ap (λ n. n + 1) (search rules); below = omega (arith, c.args.history.now.small) }) c.requires.idle c.requires.asks) c.args.outbox.now c.begin.new.post _ _ _ (c.in_err-reply.ensures.fault c.requires.idle))
 
 pub returns-in-Given-clause-ok : goal.returns-in-Given-clause-ok
 returns-in-Given-clause-ok g c =

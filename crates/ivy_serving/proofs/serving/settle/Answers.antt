@@ -51,7 +51,7 @@ returns-in-Err g c =
       breaches = search rules;
       posted = search rules;
       took = search rules;
-      err = (back, search rules, search rules);
+      err = (back, search rules);
       fault = search rules;
       want = search rules;
     }

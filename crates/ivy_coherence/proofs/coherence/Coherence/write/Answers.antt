@@ -33,7 +33,7 @@ returns-in-Err g c =
       ok = search rules;
       posted = search rules;
       took = search rules;
-      err = (rw (back, c.in-Err.ensures.err.0, c.in-Err.ensures.err.1) c.self.view_is, c.in-Err.ensures.err.2);
+      err = rw (back, c.in-Err.ensures.err.0, c.in-Err.ensures.err.1) c.self.view_is;
       fault = search rules;
       want = search rules;
     }

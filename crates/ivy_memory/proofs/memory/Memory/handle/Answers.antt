@@ -1,5 +1,6 @@
 use Rattle.std.proofs.Common.{rules}
 use Rattle.ivy_wire.specs.Lent.{owned_message}
+use Rattle.ivy_serving.specs.Outcomes.{HasRefused}
 use Rattle.ivy_memory.proofs.Beginning.{few_answers, side_memory, err_posts, left_memory}
 use Rattle.ivy_memory.proofs.memory.Memory.handle.Goals as goal
 
@@ -10,7 +11,7 @@ returns-in_err-handle-clause-few g c =
 pub returns-in_err-handle-clause-fault : goal.returns-in_err-handle-clause-fault
 returns-in_err-handle-clause-fault g c =
     err_posts g.met.M.Manager.laws _ _ c.me.result c.args.from (owned_message c.args.message) (record { same = c.self.view_is; sound = c.self.invariant; me = c.me.ensures; below = c.requires.from; foreign = c.requires.foreign; fits = c.requires.fits })
-    c.from_residual.result (g.P.Post.refuses c.args.post.now) _ (g.met.P.Post.refuses_none c.args.post.now) c.from_residual.ensures.1 c.in_err-handle.ensures.fault
+    c.from_residual.result _ (HasRefused g.P.Post.refuses g.P.Post.after_refusal c.args.post.now c.handle.new.post) _ (λ f refused. g.met.P.Post.refuses_none c.args.post.now f refused.0) c.from_residual.ensures.1 c.in_err-handle.ensures.fault
 
 pub invariant_of-self-then-branch : goal.invariant_of-self-then-branch
 invariant_of-self-then-branch g c =
@@ -24,4 +25,4 @@ returns-then-branch-clause-few g c =
 pub invariant_of-self-2 : goal.invariant_of-self-2
 invariant_of-self-2 g c =
     left_memory g.met.M.Manager.laws _ _ c.me.result c.args.from (owned_message c.args.message) (record { same = c.self.view_is; sound = c.self.invariant; me = c.me.ensures; below = c.requires.from; foreign = c.requires.foreign; fits = c.requires.fits })
-    _ c.in_ok-handle.field-0 c.handle-2.result c.handle-2.new.self c.handle.new.self c.in_ok-handle.ensures.fits (search rules) (c.in_ok-handle.ensures.misfit (search rules)).0 c.handle-2.ensures.ok c.handle-2.ensures.err
+    c.in_ok-handle.field-0 c.handle-2.result c.handle-2.new.self c.handle.new.self c.in_ok-handle.ensures.fits (search rules) (c.in_ok-handle.ensures.misfit (search rules)).0 c.handle-2.ensures.ok c.handle-2.ensures.err

@@ -15,8 +15,8 @@ invariant_of-self c =
         ap (λ p. p.1) w.in-Ok.ensures.posted ∙ c.self.invariant.2 ∙ sym same.me ∙ sym (ap (λ x. x.me) w.in-Ok.ensures.ok),
       )
       | in-Err w ↦ (
-        ap (λ x. x.config) w.in-Err.ensures.err.0 ∙ c.self.invariant.0,
-        ap (λ p. p.0) w.in-Err.ensures.err.1 ∙ c.self.invariant.1,
-        ap (λ p. p.1) w.in-Err.ensures.err.1 ∙ c.self.invariant.2 ∙ sym (ap (λ x. x.me) w.in-Err.ensures.err.0),
+        ap (λ x. x.config) w.in-Err.ensures.err ∙ c.self.invariant.0,
+        ap (λ p. p.0) w.in-Err.ensures.fault.1 ∙ c.self.invariant.1,
+        ap (λ p. p.1) w.in-Err.ensures.fault.1 ∙ c.self.invariant.2 ∙ sym (ap (λ x. x.me) w.in-Err.ensures.err),
       )
     ]

@@ -1,4 +1,5 @@
-use Rattle.std.proofs.Common.{ap, sym, ◌∙◌}
+use Rattle.std.proofs.Common.{ap, refl, sym, ◌∙◌}
+use Rattle.ivy_protocol_tests.proofs.Unposted.{unasked}
 use Rattle.ivy_fixed.specs.Fixed.{fixed_ops}
 use Rattle.ivy_memory.proofs.Tame.{call-same}
 use Rattle.ivy_protocol_tests.proofs.memory.Node.begins.Goals as goal
@@ -14,8 +15,8 @@ invariant_of-self g c =
         ap (λ p. p.1) w.in-Ok.ensures.posted ∙ c.self.invariant.2 ∙ sym same.me ∙ sym (ap (λ x. x.coherence.me) w.in-Ok.ensures.ok),
       )
       | in-Err w ↦ (
-        ap (λ x. x.coherence.config) w.in-Err.ensures.err.0 ∙ c.self.invariant.0,
-        ap (λ p. p.0) w.in-Err.ensures.err.1 ∙ c.self.invariant.1,
-        ap (λ p. p.1) w.in-Err.ensures.err.1 ∙ c.self.invariant.2 ∙ sym (ap (λ x. x.coherence.me) w.in-Err.ensures.err.0),
+        ap (λ x. x.coherence.config) w.in-Err.ensures.err ∙ c.self.invariant.0,
+        ap (λ p. p.0) (unasked c.self.inside.memory.asked c.self.inside.memory.asked refl w.in-Err.ensures.unasked w.in-Err.ensures.fault) ∙ c.self.invariant.1,
+        ap (λ p. p.1) (unasked c.self.inside.memory.asked c.self.inside.memory.asked refl w.in-Err.ensures.unasked w.in-Err.ensures.fault) ∙ c.self.invariant.2 ∙ sym (ap (λ x. x.coherence.me) w.in-Err.ensures.err),
       )
     ]

@@ -16,10 +16,10 @@ use Rattle.ivy_model.specs.Legal.{HasWidth}
 use Rattle.ivy_pagetable.specs.declared.Word.{Word}
 use Rattle.ivy_pagetable.specs.declared.Word.TheVariants as word
 use Rattle.ivy_pagetable.specs.Words.{carried_out}
-use Rattle.ivy_memory.specs.declared.Asked.TheVariants as asked
+use Rattle.ivy_memory.specs.declared.asked.Asked.TheVariants as asked
 use Rattle.ivy_memory.specs.Asking.{asked_of, count_asked, word_unless}
-use Rattle.ivy_explain.proofs.WordsServed.{IsServed, load_served, store_served, load_refused, store_refused, count_served, advance_served, await_served, count_refused, advance_refused, await_refused}
-use Rattle.ivy_explain.proofs.Owing.{IsWordOf}
+use Rattle.ivy_memory.specs.Flat.{IsServed, WordsAreFlat, RefusalsAreFlat}
+use Rattle.ivy_memory.proofs.WordsServed.{load_served, store_served, load_refused, store_refused, count_served, advance_served, await_served, count_refused, advance_refused, await_refused}
 
 -- what a word that is not refused is, and the code of one that is
 is_word : (o : Option ℕ) (p q : ℕ) (v w : Word) → word_unless o p v ≡ asked.Word q w → (o ≡ None) × (p ≡ q) × (v ≡ w)
@@ -61,7 +61,7 @@ module _ (c : Config) (mem : model.Memory) (sized : IsSized c mem) where
   this_word called p q v w a b served =
       subst (λ r. IsServed c mem called r (carried_out w (flat_page c mem r))) a (subst (λ u. IsServed c mem called p (carried_out u (flat_page c mem p))) b served)
 
-  pub word_served : IsConfig c → (called : Call) (page : ℕ) (w : Word) → HasWidth called → IsWordOf c called page w → IsServed c mem called page (carried_out w (flat_page c mem page))
+  pub word_served : IsConfig c → (called : Call) (page : ℕ) (w : Word) → HasWidth called → asked_of c called ≡ asked.Word page w → IsServed c mem called page (carried_out w (flat_page c mem page))
   word_served config (call.Load width addr) page w legal of =
       let is = is_word (access_refusal c width addr) (addr / c.page_size) page (word.Load width (addr % c.page_size)) w of in
       this_word (call.Load width addr) (addr / c.page_size) page (word.Load width (addr % c.page_size)) w is.1 is.2 (load_served c mem config width addr legal is.0)
@@ -95,3 +95,9 @@ module _ (c : Config) (mem : model.Memory) (sized : IsSized c mem) where
       subst (λ n. Serves c mem (call.Await k least) (reply.Refused n) mem) gone.1 (await_refused c mem k (no_count k gone.0) least)
   refusal_served (call.Alloc size) code is = absurd cc
   refusal_served (call.Free addr) code is = absurd cc
+
+pub words_are_flat : WordsAreFlat
+words_are_flat c m called page w config sized legal of = word_served c m sized config called page w legal of
+
+pub refusals_are_flat : RefusalsAreFlat
+refusals_are_flat c m called code sized is = refusal_served c m sized called code is

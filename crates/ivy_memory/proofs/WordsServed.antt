@@ -1,7 +1,7 @@
 -- A word carried out on a page of the flat memory is one call of it: the page has the bytes after the word then, the
 -- others stay as they are, and the word gives the call's reply.
-use Rattle.std.proofs.Common.{◌≡◌, ◌≢◌, ℕ, ◌+◌, ◌-◌, ◌*◌, ◌/◌, ◌%◌, ◌^◌, ◌<◌, ◌≤◌, Bool, true, false, nat_le, List, Option, Some, None, MatchOption, MatchBool, refl, sym, ap, ◌∙◌, subst, inl, inr, if◌then◌else◌, ◌==◌, slice_get, slice_set}
-use Rattle.std.proofs.lemmas.Bool.{cases_eq, ne_eqb, leb-true}
+use Rattle.std.proofs.Common.{◌≡◌, ◌≢◌, ℕ, ◌+◌, ◌-◌, ◌*◌, ◌/◌, ◌%◌, ◌^◌, ◌<◌, ◌≤◌, Bool, true, false, nat_le, List, Option, Some, None, MatchOption, MatchBool, refl, sym, ap, ◌∙◌, subst, if◌then◌else◌, ◌==◌, slice_get, slice_set}
+use Rattle.std.proofs.lemmas.Bool.{ne_eqb, leb-true}
 use Rattle.std.proofs.lemmas.Option.{slice_get_within}
 use Rattle.byteorder.specs.Endian.{big_bytes}
 use Rattle.ivy_model.specs.declared.Config.{Config}
@@ -22,42 +22,14 @@ use Rattle.ivy_model.proofs.Words.{IsPlaced, read_by_page, with_word, write_by_p
 use Rattle.ivy_pagetable.specs.declared.Out.{Out}
 use Rattle.ivy_pagetable.specs.declared.Out.TheVariants as out
 use Rattle.ivy_pagetable.specs.declared.Word.TheVariants as word
-use Rattle.ivy_pagetable.specs.Words.{Carried, number_at, advanced, awaited, carried_out}
+use Rattle.ivy_pagetable.specs.Words.{number_at, advanced, awaited, carried_out}
 use Rattle.ivy_memory.specs.Memories.{reply_of}
-use Rattle.ivy_order.specs.Rows.{with_page}
-use Rattle.ivy_explain.proofs.CopiedWords.{with_page-here, with_page-other}
-
--- the flat memory answers the call with this reply and goes on; without a reply it stays as it is
-abbrev pub Answers : Config → model.Memory → Call → Option Reply → model.Memory → Type 0
-Answers c old called None new = new ≡ old
-Answers c old called (Some r) new = Serves c old called r new
-
--- the call is what carrying a word out on this page came to
-pub record IsServed (c : Config) (old : model.Memory) (called : Call) (page : ℕ) (came : Carried) : Type 0 where
-  pub new : model.Memory
-  pub answers : Answers c old called (reply_of came.out) new
-  pub pages : (q : ℕ) → q < c.pages → flat_page c new q ≡ with_page (flat_page c old) page came.bytes q
-  pub blocks : new.blocks ≡ old.blocks
-
--- nothing is written
-same_pages : (f : ℕ → List ℕ) (p q : ℕ) → f q ≡ with_page f p (f p) q
-same_pages f p q = elim (cases_eq q p) [
-  | inl same ↦ ap f same ∙ sym (with_page-here f p (f p) q same)
-  | inr ne ↦ sym (with_page-other f p (f p) q ne)
-]
+use Rattle.ivy_memory.specs.Flat.{Answers, IsServed}
 
 module _ (c : Config) (old : model.Memory) where
   -- what the memory answers and stays as it is
   unchanged : (called : Call) (page : ℕ) (given : Out) → Answers c old called (reply_of given) old → IsServed c old called page (record { out = given; bytes = flat_page c old page })
-  unchanged called page given answers = record { new = old; answers = answers; pages = λ q inside. same_pages (flat_page c old) page q; blocks = refl }
-
-  -- the memory has one page's bytes anew
-  changed_page : (new : model.Memory) (p : ℕ) (bytes : List ℕ) → flat_page c new p ≡ bytes → ((q : ℕ) → q < c.pages → q ≢ p → flat_page c new q ≡ flat_page c old q)
-      → (q : ℕ) → q < c.pages → flat_page c new q ≡ with_page (flat_page c old) p bytes q
-  changed_page new p bytes here others q inside = elim (cases_eq q p) [
-    | inl same ↦ ap (flat_page c new) same ∙ here ∙ sym (with_page-here (flat_page c old) p bytes q same)
-    | inr ne ↦ others q inside ne ∙ sym (with_page-other (flat_page c old) p bytes q ne)
-  ]
+  unchanged called page given answers = record { new = old; answers = answers; here = refl; others = λ q inside ne. refl; blocks = refl }
 
   module _ (config : IsConfig c) (width addr : ℕ) (legal : IsWidth width) (permitted : access_refusal c width addr ≡ None) where
     placed : IsPlaced c width addr
@@ -76,9 +48,8 @@ module _ (c : Config) (old : model.Memory) where
         record {
           new = new;
           answers = subst (λ o. MatchOption o (Stores c old width addr value reply.Done new) (λ code. Refuses old code reply.Done new)) (sym permitted) (refl, refl);
-          pages = changed_page new (addr / c.page_size) (overwrite (flat_page c old (addr / c.page_size)) (addr % c.page_size) (big_bytes width value))
-              (write_by_page c old width addr value sized.bytes placed)
-              (λ q inside ne. write_elsewhere c old width addr value q sized.bytes placed inside ne);
+          here = write_by_page c old width addr value sized.bytes placed;
+          others = λ q inside ne. write_elsewhere c old width addr value q sized.bytes placed inside ne;
           blocks = refl;
         }
 
@@ -119,12 +90,10 @@ module _ (c : Config) (old : model.Memory) where
     advanced_by false room = record {
       new = counted;
       answers = advances reply.Done counted false room (refl, refl);
-      pages = changed_page counted 0 (overwrite words (8 * k) (big_bytes 8 (n + 1))) (write_count old.counts k (n + 1) (slice_get_within old.counts k n there)) others;
+      here = write_count old.counts k (n + 1) (slice_get_within old.counts k n there);
+      others = λ q inside ne. rw (ne_eqb q 0 ne) refl;
       blocks = refl;
     }
-      where
-        others : (q : ℕ) → q < c.pages → q ≢ 0 → flat_page c counted q ≡ flat_page c old q
-        others q inside ne = rw (ne_eqb q 0 ne) refl
 
     pub advance_served : IsServed c old (call.Advance k) 0 (carried_out (word.Advance (8 * k)) words)
     advance_served = subst (λ m. IsServed c old (call.Advance k) 0 (advanced m (8 * k) words)) (sym count_read) (advanced_by (n == 2 ^ 64 - 1) refl)
