@@ -4,14 +4,14 @@ use Rattle.ivy_program.specs.declared.line.Action.{Action}
 use Rattle.ivy_program.specs.declared.line.Action.TheVariants.{Plain}
 use Rattle.ivy_program.specs.declared.line.Line.{Line}
 use Rattle.ivy_program.specs.declared.line.Line.TheVariants.{Does}
-use Rattle.ivy_program.specs.declared.parser.Label.{Label}
 use Rattle.ivy_program.specs.declared.parser.Numbered.{Numbered}
 use Rattle.ivy_program.specs.declared.instruction.Instruction.{Instruction}
 use Rattle.ivy_program.specs.declared.instruction.Instruction.TheVariants.{Jump, JumpIfZero}
+use Rattle.ivy_program.specs.Names.{Label}
 
 -- each label names one of so many instructions, or the end behind them
 abbrev pub AreInside : ℕ → List Label → Type 0
-AreInside count labels = All (λ label. label.place ≤ count) labels
+AreInside count labels = All (λ label. label.1 ≤ count) labels
 
 abbrev pub is_jump : Instruction → Bool
 is_jump (Jump place) = true

@@ -4,11 +4,11 @@ use Rattle.std.specs.List.{filter_map}
 use Rattle.ivy_program.specs.declared.line.Action.{Action}
 use Rattle.ivy_program.specs.declared.line.Action.TheVariants as action
 use Rattle.ivy_program.specs.declared.line.Line.{Line}
-use Rattle.ivy_program.specs.declared.parser.Label.{Label}
 use Rattle.ivy_program.specs.declared.parser.Numbered.{Numbered}
 use Rattle.ivy_program.specs.declared.instruction.Instruction.{Instruction}
 use Rattle.ivy_program.specs.declared.instruction.Instruction.TheVariants.{Jump, JumpIfZero}
 use Rattle.ivy_program.specs.Lines.{Spells}
+use Rattle.ivy_program.specs.Names.{Label}
 use Rattle.ivy_program.specs.Parts.{Part, joined, place_of}
 use Rattle.ivy_program.specs.Words.{words_of}
 

@@ -11,8 +11,10 @@ use crate::instruction::Instruction;
 use crate::line::{Action, Line, Name};
 use crate::program::{MOST_INSTRUCTIONS, Program};
 use crate::words::words_of;
+use indexmap::IndexMap;
 use ivy_model::Fault;
 use std::alloc::Allocator;
+use std::hash::{BuildHasherDefault, FoldHasher};
 use std::marker::Model;
 
 /// The most programs that a text can have.
@@ -72,19 +74,12 @@ struct Numbered {
     action: Action,
 }
 
-/// A name for the instruction at a place.
-#[derive(Clone, Copy)]
-struct Label {
-    name: Name,
-    place: usize,
-}
-
-/// The program of a node as far as it was read: its lines, and its labels by their places.
+/// The program of a node as far as it was read: its lines, and the places of its labels by their names.
 #[derive(Drop)]
 struct Draft<A: Allocator> {
     alloc: A,
     lines: Vec<Numbered, A>,
-    labels: Vec<Label, A>,
+    labels: IndexMap<Name, usize, BuildHasherDefault<FoldHasher>, A>,
 }
 
 impl<A: Allocator> Model for Draft<A> {
@@ -93,9 +88,9 @@ impl<A: Allocator> Model for Draft<A> {
 
     ghost Value = { Part };
 
-    ghost view = { λ d. record { lines = d.lines.items; labels = d.labels.items } };
+    ghost view = { λ d. record { lines = d.lines.items; labels = d.labels.entries } };
 
-    ghost invariant = { λ d. IsSound d.lines.items d.labels.items };
+    ghost invariant = { λ d. IsSound d.lines.items d.labels.entries };
 }
 
 impl<A: Allocator + Copy> Draft<A> {
@@ -105,7 +100,7 @@ impl<A: Allocator + Copy> Draft<A> {
         Draft {
             alloc,
             lines: Vec::new(alloc),
-            labels: Vec::new(alloc),
+            labels: IndexMap::new(alloc),
         }
     }
 
@@ -130,8 +125,7 @@ impl<A: Allocator + Copy> Draft<A> {
         if self.place_of(name).is_some() {
             return Ok(false);
         }
-        let place = self.lines.len();
-        self.labels.push(Label { name, place })?;
+        self.labels.insert(name, self.lines.len())?;
         Ok(true)
     }
 
@@ -140,12 +134,7 @@ impl<A: Allocator + Copy> Draft<A> {
         ensures found { result ≡ place_of self.now.labels name }
         ensures inside { IfSome result (λ place. place ≤ length self.now.lines) }
     {
-        for label in &self.labels {
-            if label.name.is(name) {
-                return Some(label.place);
-            }
-        }
-        None
+        self.labels.get(&name).copied()
     }
 
     /// The instruction of an action, where its label is known.
