@@ -1,5 +1,5 @@
 -- Programs as they are read.
-use Rattle.std.specs.Prelude.{ℕ, ◌≤◌, ◌≡◌, Bool, true, false, List, length, All, Option, Some, None}
+use Rattle.std.specs.Prelude.{ℕ, ◌≤◌, ◌≡◌, Bool, true, false, List, length, All}
 use Rattle.ivy_program.specs.declared.line.Action.{Action}
 use Rattle.ivy_program.specs.declared.line.Action.TheVariants.{Plain}
 use Rattle.ivy_program.specs.declared.line.Line.{Line}
@@ -26,10 +26,6 @@ has_place _ = false
 abbrev pub knows_place : Line → Bool
 knows_place (Does action) = has_place action
 knows_place _ = false
-
-abbrev pub IsByLabel : Option Line → Type 0
-IsByLabel (Some line) = knows_place line ≡ false
-IsByLabel None = Unit {0}
 
 -- there are at most 4,096 lines, no jump knows its place, and the labels are inside
 pub record IsSound (lines : List Numbered) (labels : List Label) : Type 0 where

@@ -22,6 +22,11 @@ abbrev pub Changes : {X : Type 0} → Bool → X → Option X → X → Type 0
 Changes true old wanted new = wanted ≡ Some new
 Changes false old wanted new = (wanted ≡ None) × (new ≡ old)
 
+-- what the text of the line of this number says joined the parts, or is not in order behind them
+abbrev pub TakesIn : Bool → List Part → ℕ → List ℕ → List Part → Type 0
+TakesIn ok old number text new =
+    (line : Option Line) × IsReading text line × Changes ok old (joined old number line) new
+
 -- the parts with these lines, of which the first has this number; a line that is out of order is left out
 abbrev pub parts_from : List Part → ℕ → List (Option Line) → List Part
 parts_from parts number [] = parts

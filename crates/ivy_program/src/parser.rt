@@ -1,11 +1,11 @@
 ghost use Rattle.std.specs.Prelude.{◌≡◌, ◌≤◌, ◌<◌, ◌+◌, ◌^◌, ℕ, List, [], Option, Some, length, All, IfOk, IfErr, OnErr, IfSome, IfNone, IsOkUnless, false};
 ghost use Rattle.ivy_program.specs.declared.line.Line.{Line};
 ghost use Rattle.ivy_model.specs.declared.Fault.TheVariants.{Memory};
-ghost use Rattle.ivy_program.specs.Drafts.{AreInside, IsByLabel, has_place, knows_place};
+ghost use Rattle.ivy_program.specs.Drafts.{has_place, knows_place};
 ghost use Rattle.ivy_program.specs.Instructions.{IsProgram, NamesRegisters, JumpsWithin};
 ghost use Rattle.ivy_program.specs.Parts.{joined, labelled, lengthened, place_of};
-ghost use Rattle.ivy_program.specs.Readings.{Changes, HasLost, IsLeast, IsLost, IsOutOfOrder, IsReadAs, lesser, parts_of, program_of, resolved};
-ghost use Rattle.ivy_program.specs.Texts.{ArePrograms, IsFaultOf, IsFaultOfText, IsOnlyReading, IsRefusal, SpellsPrograms, SpellsText};
+ghost use Rattle.ivy_program.specs.Readings.{Changes, HasLost, IsLeast, IsReadAs, TakesIn, lesser, program_of, resolved};
+ghost use Rattle.ivy_program.specs.Texts.{ArePrograms, IsFaultOf, IsFaultOfText, IsRefusal, IsTextReadAs, SpellsPrograms, SpellsText};
 
 use crate::instruction::Instruction;
 use crate::line::{Action, Line, Name};
@@ -258,23 +258,29 @@ impl<A: Allocator + Copy> Parser<A> {
         }
     }
 
-    /// Takes in all lines of a text, and says which is the first at fault.
-    fn take_all(&mut self, lines: &[Option<Line>]) -> Result<Option<LineNumber>, Fault>
-        requires room { length lines.now < 2 ^ 64 }
-        requires first { self.old ≡ [] }
-        requires plain { All IsByLabel lines.now }
-        ensures parts { IfOk result (λ _. self.new ≡ parts_of lines.now) }
-        ensures fault { IfOk result (IsLeast (IsOutOfOrder lines.now)) }
+    /// Reads one line of a text and takes it in. False where it is at fault.
+    fn read(&mut self, number: LineNumber, line: &str) -> Result<bool, Fault>
+        ensures read { IfOk result (λ ok. TakesIn ok self.old number line.now self.new) }
+        ensures want { IsOkUnless result Memory }
+    {
+        let words = words_of(self.alloc, line)?;
+        match Line::read(&words) {
+            Some(line) => self.take(number, line),
+            None => Ok(false),
+        }
+    }
+
+    /// Reads all lines of a text one after another, and says which is the first at fault. No line is
+    /// kept but what it adds.
+    fn read_all(&mut self, text: &str) -> Result<Option<LineNumber>, Fault>
+        requires { self.old ≡ [] }
+        ensures read { IfOk result (IsTextReadAs text.now self.new) }
         ensures want { IsOkUnless result Memory }
     {
         let mut at_fault = None;
-        for (before, line) in lines.iter().enumerate() {
+        for (before, line) in text.lines().enumerate() {
             let number = LineNumber::after(before);
-            let taken = match *line {
-                Some(line) => self.take(number, line)?,
-                None => false,
-            };
-            if !taken {
+            if !self.read(number, line)? {
                 at_fault = Some(least(at_fault, number));
             }
         }
@@ -303,20 +309,6 @@ impl<A: Allocator + Copy> Parser<A> {
     }
 }
 
-/// What the lines of a text say, in order, with none for a line that says nothing by its words.
-fn read_lines<A: Allocator + Copy>(alloc: A, text: &str) -> Result<Vec<Option<Line>, A>, Fault>
-    ensures read { IfOk result (λ read. IsOnlyReading text.now read.items) }
-    ensures plain { IfOk result (λ read. All IsByLabel read.items) }
-    ensures want { IsOkUnless result Memory }
-{
-    let mut read = Vec::new(alloc);
-    for line in text.lines() {
-        let words = words_of(alloc, line)?;
-        read.push(Line::read(&words))?;
-    }
-    Ok(read)
-}
-
 /// The programs of a text, at most 32, of the nodes 0, 1, 2 and so on [1, 20].
 ///
 /// The line at fault is the least one, counted from 1.
@@ -326,8 +318,7 @@ pub fn parse<A: Allocator + Copy>(alloc: A, text: &str) -> Result<Vec<Program<A>
     ensures refused { IfErr result IsRefusal }
     ensures fault { IfErr result (IsFaultOfText text.now) }
 {
-    let lines = read_lines(alloc, text)?;
     let mut parser = Parser::new(alloc);
-    let at_fault = parser.take_all(&lines)?;
+    let at_fault = parser.read_all(text)?;
     parser.finish(at_fault)
 }
