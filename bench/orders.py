@@ -63,5 +63,5 @@ def check(order):
 
 MEASURES = (
     Measure("check-words", "record", 500_000, check(words_order)),
-    Measure("check-blocks", "block", 512, check(blocks_order), limit=9),
+    Measure("check-blocks", "block", 512, check(blocks_order), limit=4.5),
 )

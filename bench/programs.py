@@ -98,5 +98,5 @@ SIMULATIONS = (
 
 TEXTS = (
     Measure("parse-lines", "line", 16 * INSTRUCTIONS, reading(lines_text), status=2),
-    Measure("parse-labels", "label", 2_000, reading(labels_text), limit=4.5, status=2),
+    Measure("parse-labels", "label", 2_000, reading(labels_text), status=2),
 )

@@ -1,5 +1,5 @@
 //! Messages and frames whose pages are lent, lent again or copied.
-ghost use Rattle.std.specs.Prelude.{◌≡◌, [], ◌∷◌, ◌++◌, map, IfOk, OnOk};
+ghost use Rattle.std.specs.Prelude.{◌≡◌, [], ◌∷◌, ◌++◌, length, map, IfOk, IsOk, OnOk};
 ghost use Rattle.ivy_wire.specs.Lent.{owned_message, owned_parcel, owned_frame};
 ghost use Rattle.ivy_link.specs.Sides.{message_of};
 
@@ -60,7 +60,8 @@ pub(crate) fn copies<A: Allocator + Copy>(
     alloc: A,
     parcels: &[Parcel<&[u8]>],
 ) -> Result<VecDeque<Message<Page<A>>, A>, AllocError>
-    ensures { IfOk result (λ copies. copies.items ≡ map message_of (map owned_parcel parcels.now)) }
+    ensures ok { IfOk result (λ copies. copies.items ≡ map message_of (map owned_parcel parcels.now)) }
+    ensures sure { length parcels.now ≡ 0 → IsOk result }
 {
     let mut copies = VecDeque::with_capacity(alloc, parcels.len())?;
     for parcel in parcels {
@@ -74,7 +75,8 @@ pub(crate) fn copied<A: Allocator + Copy>(
     alloc: A,
     frames: &[Frame<&[u8]>],
 ) -> Result<Vec<Frame<Page<A>>, A>, AllocError>
-    ensures { IfOk result (λ copies. copies.items ≡ map owned_frame frames.now) }
+    ensures ok { IfOk result (λ copies. copies.items ≡ map owned_frame frames.now) }
+    ensures sure { length frames.now ≡ 0 → IsOk result }
 {
     let mut copies = Vec::with_capacity(alloc, frames.len())?;
     for frame in frames {

@@ -1,5 +1,5 @@
 //! The link of one node to all others.
-ghost use Rattle.std.specs.Prelude.{◌≡◌, ◌≢◌, ◌↔◌, ℕ, ◌<◌, List, [], ◌∷◌, ◌++◌, length, map, slice_get, true, false, Some, IfOk, IfErr, OnOk, OnErr, IsErrOf, IsOkUnless};
+ghost use Rattle.std.specs.Prelude.{◌≡◌, ◌≢◌, ◌↔◌, ℕ, ◌<◌, List, [], ◌∷◌, ◌++◌, length, map, slice_get, true, false, Some, IfOk, IfErr, IsOk, OnOk, OnErr, IsErrOf, IsOkUnless};
 ghost use Rattle.ivy_model.specs.Wants.{IsWant};
 ghost use Rattle.ivy_model.specs.declared.Fault.TheVariants.{Memory, NumbersSpent};
 ghost use Rattle.ivy_wire.specs.Lent.{owned_message, owned_parcel, owned_frame};
@@ -125,7 +125,8 @@ impl<A: Allocator + Copy> Link<A> {
     ) -> Result<Vec<Frame<&'p [u8]>, A>, AllocError>
         requires within { AreWithin self.now (map owned_parcel parcels.now) }
         requires numbers { has_numbers self.now (map owned_parcel parcels.now) ≡ true }
-        ensures { IfOk result (λ frames. map owned_frame frames.items ≡ frames_of self.now (map owned_parcel parcels.now)) }
+        ensures ok { IfOk result (λ frames. map owned_frame frames.items ≡ frames_of self.now (map owned_parcel parcels.now)) }
+        ensures sure { length parcels.now ≡ 0 → IsOk result }
     {
         let mut frames = Vec::with_capacity(self.alloc, parcels.len())?;
         for index in 0..parcels.len() {
@@ -135,11 +136,12 @@ impl<A: Allocator + Copy> Link<A> {
     }
 
     /// The frames that [`Link::send`] would give now [1, 17]. They number the messages that
-    /// [`Link::keep`] keeps.
+    /// [`Link::keep`] keeps. Of no parcel there are none, and that takes no memory.
     pub fn frames<'p>(&self, parcels: &[Parcel<&'p [u8]>]) -> Result<Vec<Frame<&'p [u8]>, A>, Fault>
         requires within { AreWithin self.now (map owned_parcel parcels.now) }
         ensures ok { IfOk result (λ frames. map owned_frame frames.items ≡ frames_of self.now (map owned_parcel parcels.now)) }
         ensures spent { IsErrOf result NumbersSpent ↔ (has_numbers self.now (map owned_parcel parcels.now) ≡ false) }
+        ensures sure { length parcels.now ≡ 0 → IsOk result }
         ensures want { IfErr result IsWant }
     {
         if self.has_numbers(parcels) {
@@ -151,7 +153,7 @@ impl<A: Allocator + Copy> Link<A> {
 
     /// Numbers the messages and keeps copies of them until they are acknowledged [1, 17]: all of them, or
     /// none and the link stays as it was. 17 is answered exactly where a number above 2^64 - 1 would be
-    /// needed.
+    /// needed. Of no parcel nothing is kept, and that takes no memory.
     ///
     /// It makes no frames. A caller that has more to do before the messages count as sent, such as to
     /// spell their frames, takes these from [`Link::frame`] first, and calls this with the same parcels
@@ -162,6 +164,7 @@ impl<A: Allocator + Copy> Link<A> {
         ensures nodes { length self.new.peers ≡ length self.old.peers }
         ensures err { OnErr result (self.new ≡ self.old) }
         ensures spent { IsErrOf result NumbersSpent ↔ (has_numbers self.old (map owned_parcel parcels.now) ≡ false) }
+        ensures sure { length parcels.now ≡ 0 → IsOk result }
         ensures want { IfErr result IsWant }
     {
         if !self.has_numbers(parcels) {
@@ -173,7 +176,8 @@ impl<A: Allocator + Copy> Link<A> {
         Ok(())
     }
 
-    /// Keeps the messages, as [`Link::keep`] does, and gives their frames [1, 17].
+    /// Keeps the messages, as [`Link::keep`] does, and gives their frames [1, 17]. Of no parcel that
+    /// takes no memory.
     pub fn send<'p>(
         &mut self,
         parcels: &[Parcel<&'p [u8]>],
@@ -184,6 +188,7 @@ impl<A: Allocator + Copy> Link<A> {
         ensures frames { IfOk result (λ frames. map owned_frame frames.items ≡ frames_of self.old (map owned_parcel parcels.now)) }
         ensures err { OnErr result (self.new ≡ self.old) }
         ensures spent { IsErrOf result NumbersSpent ↔ (has_numbers self.old (map owned_parcel parcels.now) ≡ false) }
+        ensures sure { length parcels.now ≡ 0 → IsOk result }
         ensures want { IfErr result IsWant }
     {
         let frames = self.frames(parcels)?;
@@ -192,10 +197,12 @@ impl<A: Allocator + Copy> Link<A> {
     }
 
     /// The frames that [`Link::pulse`] would give now [1]: the first [`MOST_AGAIN`] kept messages again,
-    /// in order, or an acknowledgement alone, where one is owed and nothing is kept.
+    /// in order, or an acknowledgement alone, where one is owed and nothing is kept. Where there are none,
+    /// that takes no memory.
     pub fn pulse_frames(&self, to: u8) -> Result<Vec<Frame<&[u8]>, A>, Fault>
         requires to { to < length self.now.peers }
         ensures ok { IfOk result (λ frames. map owned_frame frames.items ≡ frames_again self.now to) }
+        ensures sure { frames_again self.now to ≡ [] → IsOk result }
         ensures want { IsOkUnless result Memory }
     {
         let side = &self.sides[usize::from(to)];
@@ -216,13 +223,14 @@ impl<A: Allocator + Copy> Link<A> {
     }
 
     /// Sends again what is kept for the node, as [`Link::pulse_frames`] says, with copies of the pages
-    /// [1]. A refused call leaves the link as it was.
+    /// [1]. A refused call leaves the link as it was, and one that gives no frame takes no memory.
     pub fn pulse(&mut self, to: u8) -> Result<Vec<Frame<Page<A>>, A>, Fault>
         requires to { to < length self.old.peers }
         ensures ok { OnOk result (self.new ≡ after_pulse self.old to) }
         ensures nodes { length self.new.peers ≡ length self.old.peers }
         ensures frames { IfOk result (λ frames. frames.items ≡ frames_again self.old to) }
         ensures err { OnErr result (self.new ≡ self.old) }
+        ensures sure { frames_again self.old to ≡ [] → IsOk result }
         ensures want { IsOkUnless result Memory }
     {
         let frames = copied(self.alloc, &self.pulse_frames(to)?)?;
@@ -268,6 +276,7 @@ fn reserve<A: Allocator>(
     requires within { AreWithin (linked 0 sides.old.items) (map owned_parcel parcels.now) }
     ensures peers { map peer_of sides.new.items ≡ map peer_of sides.old.items }
     ensures room { OnOk result (HasRoomFor sides.new.items (map owned_parcel parcels.now)) }
+    ensures sure { length parcels.now ≡ 0 → IsOk result }
 {
     for parcel in parcels {
         let more = count_to(parcels, parcel.dest);

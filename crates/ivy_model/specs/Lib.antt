@@ -6,5 +6,6 @@ pub mod Memory
 pub mod Serves
 pub mod Legal
 pub mod Explains
+pub mod Blocks
 pub mod Flat
 pub mod Wants

@@ -5,10 +5,10 @@ use Rattle.std.proofs.lemmas.List.{take_more, take_all, map_push, length_push}
 use Rattle.std.proofs.lemmas.List.Elements.{All-push, All-nil}
 use Rattle.ivy_model.specs.declared.Fault.TheVariants.{ProgramFault}
 use Rattle.ivy_program.specs.declared.line.Line.{Line}
-use Rattle.ivy_program.specs.declared.parser.Label.{Label}
 use Rattle.ivy_program.specs.declared.parser.Numbered.{Numbered}
 use Rattle.ivy_program.specs.declared.instruction.Instruction.{Instruction}
 use Rattle.ivy_program.specs.Instructions.{IsProgram, NamesRegisters, JumpsWithin}
+use Rattle.ivy_program.specs.Names.{Label}
 use Rattle.ivy_program.specs.Parts.{Part}
 use Rattle.ivy_program.specs.Readings.{HasLost, IsAtFault, IsLeast, IsLost, IsOutOfOrder, IsReadAs, LosesIn, lesser, parts_of, program_of, resolved}
 use Rattle.ivy_program.specs.Texts.{IsFaultOf, SpellsPrograms}

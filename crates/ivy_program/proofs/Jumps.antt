@@ -1,34 +1,14 @@
 -- The places of labels, and jumps to names that a program does not have.
-use Rattle.std.proofs.Common.{◌≡◌, ◌∙◌, ◌⊎◌, inl, inr, ⊎_elim, ℕ, ◌+◌, ◌<◌, ◌≤◌, true, false, cond, List, [], ◌∷◌, ◌++◌, Option, Some, None, length, drop, get_or, refl, sym, ap, subst, arith}
+use Rattle.std.proofs.Common.{◌≡◌, ◌∙◌, ◌⊎◌, inl, inr, ⊎_elim, ℕ, List, [], ◌∷◌, ◌++◌, Option, Some, None, refl, sym, ap, subst, arith}
 use Rattle.std.specs.List.{filter_map, cons_option}
-use Rattle.std.proofs.lemmas.List.{at_drop_more, at_drop_all, append-nil}
+use Rattle.std.proofs.lemmas.List.{append-nil}
 use Rattle.std.proofs.lemmas.List.Elements.{filter_map-append, Contains-push, Contains-push_cases, Contains-append_left}
-use Rattle.ivy_program.specs.declared.parser.Label.{Label}
 use Rattle.ivy_program.specs.declared.parser.Numbered.{Numbered}
 use Rattle.ivy_program.specs.declared.instruction.Instruction.{Instruction}
-use Rattle.ivy_program.specs.Names.{same_name}
-use Rattle.ivy_program.specs.Parts.{Part, place_of}
+use Rattle.ivy_program.specs.Names.{Label}
+use Rattle.ivy_program.specs.Parts.{Part}
 use Rattle.ivy_program.specs.Readings.{HasLost, IsLeast, IsLost, LosesIn, lesser, resolved}
 use Rattle.ivy_program.proofs.Least.{least_same, least_join}
-
--- a label of another name is passed over
-pub place_skipped : (ls : List Label) (name : List ℕ) (i : ℕ) (x : Label) → i < length ls → x ≡ get_or ls i x
-    → same_name x.name name ≡ false → place_of (drop i ls) name ≡ place_of (drop (i + 1) ls) name
-place_skipped ls name i x l e h =
-    at_drop_more (λ t. place_of t name) ls i x l
-    ∙ ap (λ y. cond (same_name y.name name) (Some y.place) (place_of (drop (i + 1) ls) name)) (sym e)
-    ∙ ap (λ b. cond b (Some x.place) (place_of (drop (i + 1) ls) name)) h
-
--- the first label of the name has its place
-pub place_met : (ls : List Label) (name : List ℕ) (i : ℕ) (x : Label) → i < length ls → x ≡ get_or ls i x
-    → same_name x.name name ≡ true → place_of (drop i ls) name ≡ Some x.place
-place_met ls name i x l e h =
-    at_drop_more (λ t. place_of t name) ls i x l
-    ∙ ap (λ y. cond (same_name y.name name) (Some y.place) (place_of (drop (i + 1) ls) name)) (sym e)
-    ∙ ap (λ b. cond b (Some x.place) (place_of (drop (i + 1) ls) name)) h
-
-pub place_missed : (ls : List Label) (name : List ℕ) (i : ℕ) → length ls ≤ i → place_of (drop i ls) name ≡ None
-place_missed ls name i h = at_drop_all (λ t. place_of t name) ls i h
 
 module _ {X Y : Type 0} (f : X → Option Y) where
   pub filter_map-found : (xs : List X) (x : X) (y : Y) → f x ≡ Some y → filter_map f (xs ++ x ∷ []) ≡ filter_map f xs ++ y ∷ []

@@ -11,3 +11,4 @@ pub mod Drawn
 pub mod Jumps
 pub mod Orders
 pub mod Unique
+pub mod Reading

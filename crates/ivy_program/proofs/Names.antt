@@ -1,11 +1,9 @@
 -- The letters of a name, and the zeros behind them.
-use Rattle.std.proofs.Common.{◌≡◌, ◌∙◌, ℕ, suc, zero, ◌-◌, ◌&&◌, Bool, true, false, List, [], ◌∷◌, ◌++◌, length, drop, replicate, nat_lt, nat_eq, cond, ap, refl, sym, arith}
+use Rattle.std.proofs.Common.{◌≡◌, ◌∙◌, ℕ, suc, zero, ◌-◌, ◌&&◌, Bool, true, false, List, [], ◌∷◌, ◌++◌, length, drop, replicate, nat_lt, cond, ap, refl, arith}
 use Rattle.std.specs.List.{list_all}
 use Rattle.std.proofs.lemmas.List.{drop-replicate, append-nil}
 use Rattle.std.proofs.lemmas.List.Elements.{filter-append}
 use Rattle.std.proofs.lemmas.Bool.Decides.{nat_tests}
-use Rattle.std.specs.Cmp.Lexicographic.{same_text, other_text, pointwise}
-use Rattle.ivy_program.specs.Names.{same_name}
 use Rattle.ivy_program.specs.Operands.{is_name_byte, letters_of, padded}
 
 both : (a b : Bool) → (a && b) ≡ true → (a ≡ true) × (b ≡ true)
@@ -33,14 +31,3 @@ letters-padded word h =
     ∙ ap (λ l. letters_of word ++ letters_of l) (drop-replicate (length word) 16 0)
     ∙ ap (λ l. letters_of word ++ l) (zeros_gone (16 - length word))
     ∙ append-nil (letters_of word) ∙ letters_kept word h
-
-module _ (a b : List ℕ) (p : a ≡ padded (letters_of a)) (q : b ≡ padded (letters_of b)) where
-  told : (r s : Bool) → r ≡ pointwise nat_eq a b → s ≡ same_name (letters_of a) (letters_of b) → r ≡ s
-  told true true h k = refl
-  told false false h k = refl
-  told true false h k = absurd (other_text (letters_of a) (letters_of b) k (ap letters_of (same_text a b h)))
-  told false true h k = absurd (other_text a b h (p ∙ ap padded (same_text (letters_of a) (letters_of b) k) ∙ sym q))
-
-  -- two names are the same where their 16 bytes are
-  pub same-padded : pointwise nat_eq a b ≡ same_name (letters_of a) (letters_of b)
-  same-padded = told (pointwise nat_eq a b) (same_name (letters_of a) (letters_of b)) refl refl

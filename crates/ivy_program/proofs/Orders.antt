@@ -1,11 +1,12 @@
 -- The lines of a text, one after another.
-use Rattle.std.proofs.Common.{◌≡◌, ◌∙◌, ◌⊎◌, inl, inr, ⊎_elim, ℕ, ◌+◌, ◌<◌, ◌≤◌, Bool, true, false, List, [], ◌∷◌, ◌++◌, Option, Some, None, length, take, get_or, slice_get, unwrap_or, refl, sym, ap, subst, arith}
-use Rattle.std.proofs.lemmas.List.{take_more, length-take-le}
-use Rattle.std.proofs.lemmas.Option.{slice_get-get_or, slice_get_within}
-use Rattle.std.proofs.lemmas.Bool.Decides.{eqb_tells}
+use Rattle.std.proofs.Common.{◌≡◌, ◌∙◌, ◌⊎◌, inl, inr, ⊎_elim, ℕ, suc, zero, ◌+◌, ◌<◌, Bool, true, false, List, [], ◌∷◌, ◌++◌, Option, Some, None, length, take, slice_get, unwrap_or, refl, sym, ap, subst, length-append, arith}
+use Rattle.std.proofs.Math.Seq.{take-append_seam}
+use Rattle.std.proofs.lemmas.List.{take-append-le}
+use Rattle.std.proofs.lemmas.Option.{slice_get_within}
+use Rattle.std.proofs.lemmas.Bool.{cases_lt}
 use Rattle.ivy_program.specs.declared.line.Line.{Line}
 use Rattle.ivy_program.specs.Parts.{Part, joined}
-use Rattle.ivy_program.specs.Readings.{Changes, IsLeast, IsOutOfOrder, lesser, parts_from, parts_of}
+use Rattle.ivy_program.specs.Readings.{Changes, IsLeast, IsOutOfOrder, IsReadAs, lesser, parts_from, parts_of}
 use Rattle.ivy_program.proofs.Least.{least_same, least_join}
 
 -- one line more
@@ -23,71 +24,84 @@ abbrev pub known : Bool → Option ℕ → ℕ → Option ℕ
 known true first n = first
 known false first n = Some (lesser first n)
 
--- the lines up to one, and which of them is the first that is out of order
-pub record IsReadTo (lines : List (Option Line)) (i : ℕ) (ps : List Part) (o : Option ℕ) : Type 0 where
-  pub parts : ps ≡ parts_of (take i lines)
-  pub first : IsLeast (λ n. IsOutOfOrder lines n × (n ≤ i)) o
+get_front : {X : Type 0} (xs ys : List X) (k : ℕ) → k < length xs → slice_get (xs ++ ys) k ≡ slice_get xs k
+get_front [] ys k l = absurd (omega (arith, l))
+get_front (x ∷ xs) ys zero l = refl
+get_front (x ∷ xs) ys (suc k) l = get_front xs ys k (omega (arith, l))
 
-module _ (lines : List (Option Line)) (i : ℕ) (line : Option Line) (l : i < length lines) (e : line ≡ get_or lines i line) where
-  here : slice_get lines i ≡ Some line
-  here = slice_get-get_or lines i line l ∙ ap Some (sym e)
+get_last : {X : Type 0} (xs : List X) (x : X) → slice_get (xs ++ x ∷ []) (length xs) ≡ Some x
+get_last [] x = refl
+get_last (y ∷ xs) x = get_last xs x
 
-  taken : take (i + 1) lines ≡ take i lines ++ line ∷ []
-  taken = take_more lines i line l ∙ ap (λ x. take i lines ++ x ∷ []) (sym e)
+module _ (read : List (Option Line)) (line : Option Line) (n : ℕ) (next : n ≡ length read + 1)
+    (old new : List Part) (first : Option ℕ) (r : IsReadAs read old first) where
+  parts_on : (ok : Bool) → Changes ok old (joined old n line) new → new ≡ parts_of (read ++ line ∷ [])
+  parts_on ok h =
+      sym (changed_to ok old new (joined old n line) h)
+      ∙ ap (λ ps. unwrap_or (joined ps n line) ps) r.0
+      ∙ sym (parts_more [] 1 n read line (omega arith))
 
-  module _ (old new : List Part) (first : Option ℕ) (r : IsReadTo lines i old first) where
-    parts_on : (ok : Bool) → Changes ok old (joined old (i + 1) line) new → new ≡ parts_of (take (i + 1) lines)
-    parts_on ok h =
-        sym (changed_to ok old new (joined old (i + 1) line) h)
-        ∙ ap (λ ps. unwrap_or (joined ps (i + 1) line) ps) r.parts
-        ∙ sym (parts_more [] 1 (i + 1) (take i lines) line (omega (arith, length-take-le i lines (omega arith))))
-        ∙ ap parts_of (sym taken)
+  -- a line out of order among one line more
+  among : (m : ℕ) → IsOutOfOrder (read ++ line ∷ []) m → IsOutOfOrder read m ⊎ ((m ≡ n) × (joined old n line ≡ None))
+  among m h = ⊎_elim
+      (λ below. inl (
+        h.0,
+        h.1,
+        h.2,
+        sym (get_front read (line ∷ []) h.0 below) ∙ h.3,
+        ap (λ ls. joined (parts_of ls) m h.2) (sym (take-append-le h.0 read (line ∷ []) (omega (arith, below)))) ∙ h.4,
+      ))
+      (λ past.
+      let within : h.0 < length (read ++ line ∷ []) = slice_get_within (read ++ line ∷ []) h.0 h.2 h.3 in
+      let here : length read ≡ h.0 = omega (arith, past, within, length-append read (line ∷ [])) in
+      let number : m ≡ n = omega (arith, h.1, here, next) in
+      let same : line ≡ h.2 = cc (get_last read line, h.3, ap (slice_get (read ++ line ∷ [])) here) in
+      let front : take h.0 (read ++ line ∷ []) ≡ read = ap (λ k. take k (read ++ line ∷ [])) (sym here) ∙ take-append_seam read (line ∷ []) in
+      inr (
+        number,
+        ap (λ ps. joined ps n line) r.0
+            ∙ (λ i. joined (parts_of (sym front i)) (sym number i) (same i)) ∙ h.4,
+      ))
+      (cases_lt h.0 (length read))
 
-    -- a line out of order among one line more
-    among : (m : ℕ) → IsOutOfOrder lines m × (m ≤ i + 1) → (IsOutOfOrder lines m × (m ≤ i)) ⊎ ((m ≡ i + 1) × (joined old (i + 1) line ≡ None))
-    among m h = ⊎_elim
-        (λ a. let b : i ≡ h.0.0 = omega (arith, a.1, h.0.1) in
-        let x : line ≡ h.0.2 = cc (here, h.0.3, ap (slice_get lines) b) in
-        inr (
-          a.1,
-          ap (λ ps. joined ps (i + 1) line) r.parts
-              ∙ (λ k. joined (parts_of (take (b k) lines)) (sym a.1 k) (x k)) ∙ h.0.4,
-        ))
-        (λ a. inl (h.0, omega (arith, a.1, h.1)))
-        (eqb_tells m (i + 1))
+  before : (m : ℕ) → IsOutOfOrder read m → IsOutOfOrder (read ++ line ∷ []) m
+  before m h =
+      let within : h.0 < length read = slice_get_within read h.0 h.2 h.3 in (
+        h.0,
+        h.1,
+        h.2,
+        get_front read (line ∷ []) h.0 within ∙ h.3,
+        ap (λ ls. joined (parts_of ls) m h.2) (take-append-le h.0 read (line ∷ []) (omega (arith, within))) ∙ h.4,
+      )
 
-    pub taken_in : joined old (i + 1) line ≡ Some new → IsReadTo lines (i + 1) new first
-    taken_in h = record {
-      parts = parts_on true h;
-      first = least_same (λ n. IsOutOfOrder lines n × (n ≤ i)) (λ n. IsOutOfOrder lines n × (n ≤ i + 1)) first r.first
-          (λ m q. (q.0, omega (arith, q.1)))
-          (λ m q. ⊎_elim (λ a. a) (λ b. absurd (cc (b.1, h))) (among m q));
-    }
+  now : joined old n line ≡ None → (m : ℕ) → m ≡ n → IsOutOfOrder (read ++ line ∷ []) m
+  now h m e = (
+    length read,
+    e ∙ next,
+    line,
+    get_last read line,
+    ap (λ ls. joined (parts_of ls) m line) (take-append_seam read (line ∷ []))
+        ∙ ap (λ k. joined (parts_of read) k line) e ∙ ap (λ ps. joined ps n line) (sym r.0) ∙ h,
+  )
 
-    pub left_out : (joined old (i + 1) line ≡ None) × (new ≡ old) → IsReadTo lines (i + 1) new (Some (lesser first (i + 1)))
-    left_out h = record {
-      parts = parts_on false h;
-      first = least_join (λ n. IsOutOfOrder lines n × (n ≤ i)) (λ n. n ≡ i + 1) (λ n. IsOutOfOrder lines n × (n ≤ i + 1)) (i + 1) refl
-          (λ m q. omega arith)
-          (λ m q. ⊎_elim (λ a. inl a) (λ b. inr b.0) (among m q))
-          (λ m q. (q.0, omega (arith, q.1)))
-          (λ m q. ((i, q, line, here, ap (λ k. joined (parts_of (take i lines)) k line) q ∙ ap (λ ps. joined ps (i + 1) line) (sym r.parts) ∙ h.0), omega arith))
-          first r.first;
-    }
+  -- one line more is taken in, or is out of order
+  pub read_on : (ok : Bool) → Changes ok old (joined old n line) new → (p : Option ℕ) → p ≡ known ok first n
+      → IsReadAs (read ++ line ∷ []) new p
+  read_on true h p q = (
+    parts_on true h,
+    subst (IsLeast (IsOutOfOrder (read ++ line ∷ []))) (sym q)
+        (least_same (IsOutOfOrder read) (IsOutOfOrder (read ++ line ∷ [])) first r.1 before
+        (λ m k. ⊎_elim (λ a. a) (λ b. absurd (cc (b.1, h))) (among m k))),
+  )
+  read_on false h p q = (
+    parts_on false h,
+    subst (IsLeast (IsOutOfOrder (read ++ line ∷ []))) (sym q)
+        (least_join (IsOutOfOrder read) (λ m. m ≡ n) (IsOutOfOrder (read ++ line ∷ [])) n refl
+        (λ m k. omega arith)
+        (λ m k. ⊎_elim (λ a. inl a) (λ b. inr b.0) (among m k))
+        before (now h.0) first r.1),
+  )
 
-    pub read_on : (n : ℕ) → n ≡ i + 1 → (ok : Bool) → Changes ok old (joined old n line) new
-        → (p : Option ℕ) → p ≡ known ok first n → IsReadTo lines (i + 1) new p
-    read_on n k true h p q =
-        subst (IsReadTo lines (i + 1) new) (sym q)
-        (taken_in (subst (λ m. joined old m line ≡ Some new) k h))
-    read_on n k false h p q =
-        subst (IsReadTo lines (i + 1) new) (sym (q ∙ ap (λ m. Some (lesser first m)) k))
-        (left_out (subst (λ m. joined old m line ≡ None) k h.0, h.1))
-
--- all lines are read
-pub first_of_all : (lines : List (Option Line)) (i : ℕ) (ps : List Part) (o : Option ℕ) → length lines ≤ i
-    → IsReadTo lines i ps o → IsLeast (IsOutOfOrder lines) o
-first_of_all lines i ps o l r =
-    least_same (λ n. IsOutOfOrder lines n × (n ≤ i)) (IsOutOfOrder lines) o r.first
-    (λ m q. q.0)
-    (λ m q. (q, omega (arith, l, q.1, slice_get_within lines q.0 q.2 q.3)))
+-- no line is read yet
+pub none_read : (parts : List Part) → parts ≡ [] → IsReadAs [] parts None
+none_read parts e = (e, λ n h. absurd (omega (arith, slice_get_within [] h.0 h.2 h.3)))

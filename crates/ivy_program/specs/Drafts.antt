@@ -1,17 +1,17 @@
 -- Programs as they are read.
-use Rattle.std.specs.Prelude.{ℕ, ◌≤◌, ◌≡◌, Bool, true, false, List, length, All, Option, Some, None}
+use Rattle.std.specs.Prelude.{ℕ, ◌≤◌, ◌≡◌, Bool, true, false, List, length, All}
 use Rattle.ivy_program.specs.declared.line.Action.{Action}
 use Rattle.ivy_program.specs.declared.line.Action.TheVariants.{Plain}
 use Rattle.ivy_program.specs.declared.line.Line.{Line}
 use Rattle.ivy_program.specs.declared.line.Line.TheVariants.{Does}
-use Rattle.ivy_program.specs.declared.parser.Label.{Label}
 use Rattle.ivy_program.specs.declared.parser.Numbered.{Numbered}
 use Rattle.ivy_program.specs.declared.instruction.Instruction.{Instruction}
 use Rattle.ivy_program.specs.declared.instruction.Instruction.TheVariants.{Jump, JumpIfZero}
+use Rattle.ivy_program.specs.Names.{Label}
 
 -- each label names one of so many instructions, or the end behind them
 abbrev pub AreInside : ℕ → List Label → Type 0
-AreInside count labels = All (λ label. label.place ≤ count) labels
+AreInside count labels = All (λ label. label.1 ≤ count) labels
 
 abbrev pub is_jump : Instruction → Bool
 is_jump (Jump place) = true
@@ -26,10 +26,6 @@ has_place _ = false
 abbrev pub knows_place : Line → Bool
 knows_place (Does action) = has_place action
 knows_place _ = false
-
-abbrev pub IsByLabel : Option Line → Type 0
-IsByLabel (Some line) = knows_place line ≡ false
-IsByLabel None = Unit {0}
 
 -- there are at most 4,096 lines, no jump knows its place, and the labels are inside
 pub record IsSound (lines : List Numbered) (labels : List Label) : Type 0 where

@@ -1,10 +1,10 @@
 -- What the lines of a text make of it: the programs in parts, with jumps by their labels.
 use Rattle.std.specs.Prelude.{◌==◌, ◌&&◌, ℕ, ◌-◌, nat_lt, List, [], ◌∷◌, ◌++◌, length, slice_get, slice_set, Option, Some, None, if◌then◌else◌}
+use Rattle.std.specs.Map.{lookup}
 use Rattle.ivy_program.specs.declared.line.Line.{Line}
 use Rattle.ivy_program.specs.declared.line.Line.TheVariants as line
-use Rattle.ivy_program.specs.declared.parser.Label.{Label}
 use Rattle.ivy_program.specs.declared.parser.Numbered.{Numbered}
-use Rattle.ivy_program.specs.Names.{same_name}
+use Rattle.ivy_program.specs.Names.{Label, same_name}
 
 -- the program of a node: its instructions, each with the number of its line, and its labels
 pub record Part : Type 0 where
@@ -13,9 +13,7 @@ pub record Part : Type 0 where
 
 -- the place that the labels give a name, if one does
 abbrev pub place_of : List Label → List ℕ → Option ℕ
-place_of [] name = None
-place_of (label ∷ labels) name =
-    if same_name label.name name then Some label.place else place_of labels name
+place_of labels name = lookup (same_name name) labels
 
 abbrev pub last_part : List Part → Option Part
 last_part parts = slice_get parts (length parts - 1)
@@ -28,7 +26,7 @@ abbrev pub labelled : Part → List ℕ → Option ℕ → Option Part
 labelled part name (Some place) = None
 labelled part name None = Some (record {
   lines = part.lines;
-  labels = part.labels ++ (record { name = name; place = length part.lines }) ∷ [];
+  labels = part.labels ++ (name, length part.lines) ∷ [];
 })
 
 -- the instruction is the next one, unless there are 4,096

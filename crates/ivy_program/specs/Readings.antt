@@ -4,11 +4,11 @@ use Rattle.std.specs.List.{filter_map}
 use Rattle.ivy_program.specs.declared.line.Action.{Action}
 use Rattle.ivy_program.specs.declared.line.Action.TheVariants as action
 use Rattle.ivy_program.specs.declared.line.Line.{Line}
-use Rattle.ivy_program.specs.declared.parser.Label.{Label}
 use Rattle.ivy_program.specs.declared.parser.Numbered.{Numbered}
 use Rattle.ivy_program.specs.declared.instruction.Instruction.{Instruction}
 use Rattle.ivy_program.specs.declared.instruction.Instruction.TheVariants.{Jump, JumpIfZero}
 use Rattle.ivy_program.specs.Lines.{Spells}
+use Rattle.ivy_program.specs.Names.{Label}
 use Rattle.ivy_program.specs.Parts.{Part, joined, place_of}
 use Rattle.ivy_program.specs.Words.{words_of}
 
@@ -21,6 +21,11 @@ IsReading text None = (line : Line) → ¬ Spells (words_of text) line
 abbrev pub Changes : {X : Type 0} → Bool → X → Option X → X → Type 0
 Changes true old wanted new = wanted ≡ Some new
 Changes false old wanted new = (wanted ≡ None) × (new ≡ old)
+
+-- what the text of the line of this number says joined the parts, or is not in order behind them
+abbrev pub TakesIn : Bool → List Part → ℕ → List ℕ → List Part → Type 0
+TakesIn ok old number text new =
+    (line : Option Line) × IsReading text line × Changes ok old (joined old number line) new
 
 -- the parts with these lines, of which the first has this number; a line that is out of order is left out
 abbrev pub parts_from : List Part → ℕ → List (Option Line) → List Part

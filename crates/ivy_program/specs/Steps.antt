@@ -1,5 +1,5 @@
 -- One instruction of a program, and what its reply changes.
-use Rattle.std.specs.Prelude.{◌≡◌, ◌==◌, ◌+◌, ℕ, List, Option, Some, None, slice_get, length, if◌then◌else◌}
+use Rattle.std.specs.Prelude.{◌≡◌, ◌==◌, ◌+◌, ℕ, List, Option, Some, None, slice_get, length, IsSomeAnd, if◌then◌else◌}
 use Rattle.ivy_model.specs.declared.Call.{Call}
 use Rattle.ivy_model.specs.declared.Call.TheVariants as call
 use Rattle.ivy_model.specs.declared.Reply.{Reply}
@@ -81,10 +81,19 @@ replied s i (Refused code) = moved_on (with_status s code)
 abbrev pub answered : List Instruction → State → Reply → State
 answered program s reply = replied s (slice_get program s.place) reply
 
+-- the instruction adds to the output
+abbrev pub Prints : Instruction → Type 0
+Prints (Print from) = Unit {0}
+Prints _ = ⊥
+
 -- a program and how far it has come
 pub record Process : Type 0 where
   pub program : List Instruction
   pub state : State
+
+-- the next instruction of the program is one that prints
+abbrev pub PrintsNext : Process → Type 0
+PrintsNext p = IsSomeAnd (slice_get p.program p.state.place) Prints
 
 abbrev pub step_of : Process → Step
 step_of p = step p.program p.state

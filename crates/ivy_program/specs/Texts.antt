@@ -7,7 +7,8 @@ use Rattle.ivy_model.specs.declared.Fault.TheVariants.{Memory, ProgramFault}
 use Rattle.ivy_program.specs.declared.instruction.Instruction.{Instruction}
 use Rattle.ivy_program.specs.declared.line.Line.{Line}
 use Rattle.ivy_program.specs.Instructions.{IsProgram}
-use Rattle.ivy_program.specs.Readings.{IsAtFault, IsLeast, IsReading, parts_of, program_of}
+use Rattle.ivy_program.specs.Parts.{Part}
+use Rattle.ivy_program.specs.Readings.{IsAtFault, IsLeast, IsReadAs, IsReading, parts_of, program_of}
 
 -- memory was refused, or a line, counted from 1, is at fault
 abbrev pub IsRefusal : Fault → Type 0
@@ -32,6 +33,11 @@ IsFaultOf lines f = (f ≡ Memory)
 pub record IsOnlyReading (text : List ℕ) (read : List (Option Line)) : Type 0 where
   pub each : AllZip IsReading (lines text) read
   pub only : (other : List (Option Line)) → AllZip IsReading (lines text) other → other ≡ read
+
+-- the lines of the text lead to these parts, and the first that is out of order is this one
+abbrev pub IsTextReadAs : List ℕ → List Part → Option ℕ → Type 0
+IsTextReadAs text parts first = (read : List (Option Line)) × IsOnlyReading text read
+    × IsReadAs read parts first
 
 -- the programs that the text spells
 abbrev pub SpellsText : List ℕ → List (List Instruction) → Type 0

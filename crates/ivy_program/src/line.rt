@@ -1,7 +1,6 @@
 //! What one line of a text of programs says.
 ghost use Rattle.std.specs.Prelude.{◌≡◌, ◌≢◌, ◌<◌, ℕ, [], ◌∷◌, map, IfSome, IfNone, false};
 ghost use Rattle.ivy_program.specs.Drafts.{has_place, knows_place};
-ghost use Rattle.ivy_program.specs.Names.{same_name};
 ghost use Rattle.ivy_program.specs.Lines.{Spells, SpellsAction};
 ghost use Rattle.ivy_program.specs.Operands.{register_word, operation_word, IsWidthWord, IsName};
 ghost use Rattle.ivy_program.specs.declared.instruction.Operation.{Operation};
@@ -11,6 +10,7 @@ ghost use Rattle.ivy_program.specs.declared.line.Line.{Line};
 
 use crate::instruction::{Instruction, Operation, Register, Width};
 use crate::words::parse_number;
+use std::hash::{Hash, Hasher};
 use std::marker::Model;
 
 /// The most letters and digits that the name of a label has.
@@ -60,12 +60,41 @@ impl Name {
         letters[..bytes.len()].copy_from_slice(bytes);
         Some(Name { letters })
     }
+}
 
-    /// Whether the names are the same.
-    pub(crate) fn is(self, other: Name) -> bool
-        ensures { result ≡ same_name self other }
-    {
+impl PartialEq for Name {
+    ghost use Rattle.std.specs.Cmp.{nat_eq_equiv, partial_equiv_from_equiv};
+    ghost use Rattle.std.specs.Cmp.Lexicographic.{lists_equiv};
+    ghost use Rattle.ivy_program.specs.Names.{same_name};
+
+    ghost eq = { same_name };
+
+    ghost laws = { partial_equiv_from_equiv (lists_equiv nat_eq_equiv) };
+
+    fn eq(&self, other: &Name) -> bool {
         self.letters == other.letters
+    }
+}
+
+impl Eq for Name {
+    ghost use Rattle.std.specs.Cmp.{nat_eq_equiv};
+    ghost use Rattle.std.specs.Cmp.Lexicographic.{lists_equiv};
+
+    ghost laws = { lists_equiv nat_eq_equiv };
+}
+
+impl Hash for Name {
+    ghost use Rattle.std.specs.Hash as fed;
+    ghost use Rattle.std.proofs.Common.{ap, sym};
+    ghost use Rattle.std.specs.Cmp.Lexicographic.{same_text};
+    ghost use Rattle.ivy_program.specs.Operands.{padded};
+
+    ghost hash_input = { λ name. fed.slice fed.u8 (padded name) };
+
+    ghost respects_eq = { λ a b same. ap (λ name. fed.slice fed.u8 (padded name)) (same_text a b (sym same)) };
+
+    fn hash<H: Hasher>(&self, state: &mut H) {
+        self.letters.hash(state);
     }
 }
 

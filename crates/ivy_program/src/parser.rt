@@ -1,18 +1,20 @@
 ghost use Rattle.std.specs.Prelude.{◌≡◌, ◌≤◌, ◌<◌, ◌+◌, ◌^◌, ℕ, List, [], Option, Some, length, All, IfOk, IfErr, OnErr, IfSome, IfNone, IsOkUnless, false};
 ghost use Rattle.ivy_program.specs.declared.line.Line.{Line};
 ghost use Rattle.ivy_model.specs.declared.Fault.TheVariants.{Memory};
-ghost use Rattle.ivy_program.specs.Drafts.{AreInside, IsByLabel, has_place, knows_place};
+ghost use Rattle.ivy_program.specs.Drafts.{has_place, knows_place};
 ghost use Rattle.ivy_program.specs.Instructions.{IsProgram, NamesRegisters, JumpsWithin};
 ghost use Rattle.ivy_program.specs.Parts.{joined, labelled, lengthened, place_of};
-ghost use Rattle.ivy_program.specs.Readings.{Changes, HasLost, IsLeast, IsLost, IsOutOfOrder, IsReadAs, lesser, parts_of, program_of, resolved};
-ghost use Rattle.ivy_program.specs.Texts.{ArePrograms, IsFaultOf, IsFaultOfText, IsOnlyReading, IsRefusal, SpellsPrograms, SpellsText};
+ghost use Rattle.ivy_program.specs.Readings.{Changes, HasLost, IsLeast, IsReadAs, TakesIn, lesser, program_of, resolved};
+ghost use Rattle.ivy_program.specs.Texts.{ArePrograms, IsFaultOf, IsFaultOfText, IsRefusal, IsTextReadAs, SpellsPrograms, SpellsText};
 
 use crate::instruction::Instruction;
 use crate::line::{Action, Line, Name};
 use crate::program::{MOST_INSTRUCTIONS, Program};
 use crate::words::words_of;
+use indexmap::IndexMap;
 use ivy_model::Fault;
 use std::alloc::Allocator;
+use std::hash::{BuildHasherDefault, FoldHasher};
 use std::marker::Model;
 
 /// The most programs that a text can have.
@@ -72,19 +74,12 @@ struct Numbered {
     action: Action,
 }
 
-/// A name for the instruction at a place.
-#[derive(Clone, Copy)]
-struct Label {
-    name: Name,
-    place: usize,
-}
-
-/// The program of a node as far as it was read: its lines, and its labels by their places.
+/// The program of a node as far as it was read: its lines, and the places of its labels by their names.
 #[derive(Drop)]
 struct Draft<A: Allocator> {
     alloc: A,
     lines: Vec<Numbered, A>,
-    labels: Vec<Label, A>,
+    labels: IndexMap<Name, usize, BuildHasherDefault<FoldHasher>, A>,
 }
 
 impl<A: Allocator> Model for Draft<A> {
@@ -93,9 +88,9 @@ impl<A: Allocator> Model for Draft<A> {
 
     ghost Value = { Part };
 
-    ghost view = { λ d. record { lines = d.lines.items; labels = d.labels.items } };
+    ghost view = { λ d. record { lines = d.lines.items; labels = d.labels.entries } };
 
-    ghost invariant = { λ d. IsSound d.lines.items d.labels.items };
+    ghost invariant = { λ d. IsSound d.lines.items d.labels.entries };
 }
 
 impl<A: Allocator + Copy> Draft<A> {
@@ -105,7 +100,7 @@ impl<A: Allocator + Copy> Draft<A> {
         Draft {
             alloc,
             lines: Vec::new(alloc),
-            labels: Vec::new(alloc),
+            labels: IndexMap::new(alloc),
         }
     }
 
@@ -130,8 +125,7 @@ impl<A: Allocator + Copy> Draft<A> {
         if self.place_of(name).is_some() {
             return Ok(false);
         }
-        let place = self.lines.len();
-        self.labels.push(Label { name, place })?;
+        self.labels.insert(name, self.lines.len())?;
         Ok(true)
     }
 
@@ -140,12 +134,7 @@ impl<A: Allocator + Copy> Draft<A> {
         ensures found { result ≡ place_of self.now.labels name }
         ensures inside { IfSome result (λ place. place ≤ length self.now.lines) }
     {
-        for label in &self.labels {
-            if label.name.is(name) {
-                return Some(label.place);
-            }
-        }
-        None
+        self.labels.get(&name).copied()
     }
 
     /// The instruction of an action, where its label is known.
@@ -269,23 +258,29 @@ impl<A: Allocator + Copy> Parser<A> {
         }
     }
 
-    /// Takes in all lines of a text, and says which is the first at fault.
-    fn take_all(&mut self, lines: &[Option<Line>]) -> Result<Option<LineNumber>, Fault>
-        requires room { length lines.now < 2 ^ 64 }
-        requires first { self.old ≡ [] }
-        requires plain { All IsByLabel lines.now }
-        ensures parts { IfOk result (λ _. self.new ≡ parts_of lines.now) }
-        ensures fault { IfOk result (IsLeast (IsOutOfOrder lines.now)) }
+    /// Reads one line of a text and takes it in. False where it is at fault.
+    fn read(&mut self, number: LineNumber, line: &str) -> Result<bool, Fault>
+        ensures read { IfOk result (λ ok. TakesIn ok self.old number line.now self.new) }
+        ensures want { IsOkUnless result Memory }
+    {
+        let words = words_of(self.alloc, line)?;
+        match Line::read(&words) {
+            Some(line) => self.take(number, line),
+            None => Ok(false),
+        }
+    }
+
+    /// Reads all lines of a text one after another, and says which is the first at fault. No line is
+    /// kept but what it adds.
+    fn read_all(&mut self, text: &str) -> Result<Option<LineNumber>, Fault>
+        requires { self.old ≡ [] }
+        ensures read { IfOk result (IsTextReadAs text.now self.new) }
         ensures want { IsOkUnless result Memory }
     {
         let mut at_fault = None;
-        for (before, line) in lines.iter().enumerate() {
+        for (before, line) in text.lines().enumerate() {
             let number = LineNumber::after(before);
-            let taken = match *line {
-                Some(line) => self.take(number, line)?,
-                None => false,
-            };
-            if !taken {
+            if !self.read(number, line)? {
                 at_fault = Some(least(at_fault, number));
             }
         }
@@ -314,20 +309,6 @@ impl<A: Allocator + Copy> Parser<A> {
     }
 }
 
-/// What the lines of a text say, in order, with none for a line that says nothing by its words.
-fn read_lines<A: Allocator + Copy>(alloc: A, text: &str) -> Result<Vec<Option<Line>, A>, Fault>
-    ensures read { IfOk result (λ read. IsOnlyReading text.now read.items) }
-    ensures plain { IfOk result (λ read. All IsByLabel read.items) }
-    ensures want { IsOkUnless result Memory }
-{
-    let mut read = Vec::new(alloc);
-    for line in text.lines() {
-        let words = words_of(alloc, line)?;
-        read.push(Line::read(&words))?;
-    }
-    Ok(read)
-}
-
 /// The programs of a text, at most 32, of the nodes 0, 1, 2 and so on [1, 20].
 ///
 /// The line at fault is the least one, counted from 1.
@@ -337,8 +318,7 @@ pub fn parse<A: Allocator + Copy>(alloc: A, text: &str) -> Result<Vec<Program<A>
     ensures refused { IfErr result IsRefusal }
     ensures fault { IfErr result (IsFaultOfText text.now) }
 {
-    let lines = read_lines(alloc, text)?;
     let mut parser = Parser::new(alloc);
-    let at_fault = parser.take_all(&lines)?;
+    let at_fault = parser.read_all(text)?;
     parser.finish(at_fault)
 }

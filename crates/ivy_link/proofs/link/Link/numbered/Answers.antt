@@ -18,6 +18,6 @@ loop-index-preserved g c =
     let more = take-read (frames_of c.args.self.now (map owned_parcel c.args.parcels.now)) c.loop-index.index (owned_frame c.frame.result) c.frame.ensures in
     cc
 
-pub returns : goal.returns
-returns g c =
+pub returns-clause-ok : goal.returns-clause-ok
+returns-clause-ok g c =
     c.loop-index.invariant ∙ take_all c.loop-index.index (frames_of c.args.self.now (map owned_parcel c.args.parcels.now)) (omega (arith, c.loop-index-test.false, length-frames_of c.args.self.now (map owned_parcel c.args.parcels.now), length-map c.args.parcels.now owned_parcel))

@@ -1,26 +1,15 @@
--- The labels after one of another name are left, and the first of the name has the place.
-use Rattle.std.proofs.Common.{◌≡◌, ◌∙◌, ◌+◌, drop, sym, ap, subst, arith}
-use Rattle.ivy_program.specs.Parts.{place_of}
-use Rattle.ivy_program.proofs.Jumps.{place_skipped, place_met, place_missed}
+-- Each place that a name has is inside.
+use Rattle.std.proofs.Common.{◌≡◌, ◌≤◌, IfSome, length, ap, sym, subst, rules}
+use Rattle.std.proofs.lemmas.Map.Entries.{All-lookup}
+use Rattle.ivy_program.specs.Names.{same_name}
+use Rattle.ivy_program.specs.Parts.{Part, place_of}
 use Rattle.ivy_program.proofs.parser.Draft.place_of.Goals as goal
 
-pub loop-label-preserved : goal.loop-label-preserved
-loop-label-preserved g c =
-    let labels : c.deref-label-items.result.now ≡ c.args.self.now.labels = c.deref-label-items.ensures.value ∙ ap (λ p. p.labels) c.self.view_is in
-    c.loop-label.invariant
-    ∙ subst (λ ls. place_of (drop c.loop-label.label-index ls) c.args.name ≡ place_of (drop (c.loop-label.label-index + 1) ls) c.args.name) labels
-    (place_skipped c.deref-label-items.result.now c.args.name c.loop-label.label-index c.label-item.result (omega arith) c.label-item.is (sym c.is.ensures ∙ c.if-is.false))
-
-pub returns-then-is-clause-found : goal.returns-then-is-clause-found
-returns-then-is-clause-found g c =
-    let labels : c.deref-label-items.result.now ≡ c.args.self.now.labels = c.deref-label-items.ensures.value ∙ ap (λ p. p.labels) c.self.view_is in
-    sym (c.loop-label.invariant
-    ∙ ap (λ ls. place_of (drop c.loop-label.label-index ls) c.args.name) (sym labels)
-    ∙ place_met c.deref-label-items.result.now c.args.name c.loop-label.label-index c.label-item.result (omega arith) c.label-item.is (sym c.is.ensures ∙ c.if-is.true))
-
-pub returns-clause-found : goal.returns-clause-found
-returns-clause-found g c =
-    let labels : c.deref-label-items.result.now ≡ c.args.self.now.labels = c.deref-label-items.ensures.value ∙ ap (λ p. p.labels) c.self.view_is in
-    sym (c.loop-label.invariant
-    ∙ ap (λ ls. place_of (drop c.loop-label.label-index ls) c.args.name) (sym labels)
-    ∙ place_missed c.deref-label-items.result.now c.args.name c.loop-label.label-index (omega arith))
+pub returns-clause-inside : goal.returns-clause-inside
+returns-clause-inside g c =
+    let s = c.self.inside in
+    let e : c.copied.result ≡ place_of s.labels.entries c.args.name = search rules in
+    let n : length s.lines.items ≡ length c.args.self.now.lines = ap (λ (p : Part). length p.lines) c.self.view_is in
+    subst (λ m. IfSome c.copied.result (λ place. place ≤ m)) n
+    (subst (λ o. IfSome o (λ place. place ≤ length s.lines.items)) (sym e)
+    (All-lookup (λ place. place ≤ length s.lines.items) (same_name c.args.name) s.labels.entries c.self.invariant.inside))
