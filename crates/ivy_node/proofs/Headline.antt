@@ -62,7 +62,7 @@ module _ (c : Config) (programs : List (List Instruction)) (config : IsConfig c)
   sound-led moves w h =
       let f : (posted : ℕ → ℕ → List Message) × Follows c (IsSoundHost managed_ops c) w posted
       = led (host_rules managed_ops) c (IsSoundHost managed_ops c) config tamed
-          (opening managed_ops c programs) w (λ i j. []) moves opened h in
+      (opening managed_ops c programs) w (λ i j. []) moves opened h in
       f.1.sound
 
 -- what is promised of each world that was reached
