@@ -1,4 +1,4 @@
-mod Totals
+pub mod Totals
 pub mod Further
 pub mod Keeps
 pub mod Fresh

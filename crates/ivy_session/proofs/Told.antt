@@ -1,6 +1,7 @@
 -- What the starter was told is a report.
-use Rattle.std.proofs.Common.{◌≡◌, ℕ, zero, suc, ◌+◌, ◌<◌, List, [], ◌∷◌, ◌++◌, length, map, slice_get, Contains, Option, Some, None, ◌⊎◌, refl, sym, ap, subst, ◌∙◌, inl, inr, arith, append-nil}
-use Rattle.std.proofs.lemmas.List.{length-map}
+use Rattle.std.proofs.Common.{◌≡◌, ◌≢◌, ℕ, zero, suc, ◌+◌, ◌<◌, ◌≤◌, ◌==◌, All, List, [], ◌∷◌, ◌++◌, length, map, slice_get, Contains, Option, Some, None, ◌⊎◌, refl, sym, ap, subst, ◌∙◌, inl, inr, arith, append-nil}
+use Rattle.std.proofs.lemmas.Bool.{ne_eqb}
+use Rattle.std.proofs.lemmas.List.{length-map, same_from_push}
 use Rattle.std.proofs.lemmas.Option.{none-some, same_Some}
 use Rattle.std.proofs.lemmas.List.Elements.{Contains-push, Contains-append_left}
 use Rattle.ivy_model.specs.declared.Call.{Call}
@@ -25,7 +26,12 @@ use Rattle.ivy_host.specs.Holding.{AreRuns}
 use Rattle.ivy_node.specs.Shown.{Shown}
 use Rattle.ivy_node.proofs.Headline.{exclusive-led, no_breach-led, runs-led, explained-along, sound-led}
 use Rattle.ivy_ether.specs.Programs.{beginning, Told}
-use Rattle.ivy_ether.specs.Views.{View, with_told}
+use Rattle.atomic_table.specs.Seated.{TableId}
+use Rattle.ivy_ether.specs.Held.{Held, held}
+use Rattle.ivy_ether.specs.Rule.{times, one_if}
+use Rattle.ivy_ether.specs.Views.{View, with_told, with_issued, beginner}
+use Rattle.ivy_ether.specs.Words.{IsNewcomer, AreFresh}
+use Rattle.ivy_ether.proofs.Totals.{total-append}
 use Rattle.ivy_session.specs.Reports.{NodeReport, report_of, IsOf, IsDone, ExplainsWhole, IsReport}
 use Rattle.ivy_session.specs.Told.{AreTold}
 
@@ -210,3 +216,25 @@ told_more c programs v v' sites sites' s i last more known done told j t there =
             subst (λ (y : ℕ × Shown). IsDone c programs y.0 y.1) (λ k. (at k, new.1 k)) done,
           )
     ]
+
+pub told_none : (c : Config) (programs : List (List Instruction)) (v : View) (sites : List Shown)
+    → sites ≡ [] → AreTold c programs v sites
+told_none c programs v sites none i s there =
+    absurd (none-some s (ap (λ l. slice_get l i) (sym none) ∙ there))
+
+-- one more seat
+pub issued_more : (v v' : View) (i : ℕ) → v' ≡ with_issued v i
+    → ((j : ℕ) → i ≤ j → times j v.issued ≡ 0) → (j : ℕ) → i + 1 ≤ j → times j v'.issued ≡ 0
+issued_more v v' i more none j past =
+    let apart : i ≢ j = (λ same. omega (arith, past, same)) in
+    let grown = total-append (λ x. one_if (x == j)) v.issued (i ∷ []) in
+    let other : one_if (i == j) ≡ 0 = ap one_if (ne_eqb i j apart) in
+    let before : times j v.issued ≡ 0 = none j (omega (arith, past)) in
+    ap (λ (u : View). times j u.issued) more ∙ omega (arith, grown, other, before)
+
+-- the starter is the last pass of a new ether
+pub fresh_pop : (t : TableId) (passes rest : List Held) (last : Held) → AreFresh t passes
+    → passes ≡ rest ++ last ∷ [] → All (IsNewcomer t) rest × (last ≡ held t beginner)
+fresh_pop t passes rest last fresh is =
+    let same = same_from_push fresh.rest rest (held t beginner) last (sym fresh.are ∙ is) in
+    (subst (All (IsNewcomer t)) same.0 fresh.newcomers, sym same.1)

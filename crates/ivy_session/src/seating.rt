@@ -81,8 +81,8 @@ pub(crate) fn seat_all<'e, S: Setup, A: Allocator + Copy, R: Wait>(
         let Some(pass) = passes.pop() else {
             unreachable!()
         };
-        let seated = seat_one(rt, alloc, ether, config, starter, pass, node, program)?;
         seats.reserve(1)?;
+        let seated = seat_one(rt, alloc, ether, config, starter, pass, node, program)?;
         seats.push_reserved(Mutex::new(seated));
         node += 1;
     }
@@ -162,11 +162,10 @@ pub(crate) fn take_all<S: Setup, A: Allocator + Copy, R: Wait>(
     ensures told { IfOk result (λ sites. AreTold S.config S.programs starter.new.known sites.items) }
     ensures stop { IfErr result IsStop }
 {
-    let mut sites = Vec::new(alloc);
+    let mut sites = Vec::with_capacity(alloc, seats.len())?;
     let mut node = 0u8;
     for seat in seats {
         let site = take_one(rt, alloc, ether, starter, seat.into_inner(), node)?;
-        sites.reserve(1)?;
         sites.push_reserved(site);
         let Some(next) = node.checked_add(1) else {
             return Err(Fault::TurnLimit);
