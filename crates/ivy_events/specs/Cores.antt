@@ -9,7 +9,7 @@ pub record Outcome (C : Type 0) : Type 0 where
   pub posted : List Parcel
 
 pub record Core (C : Type 0) : Type 0 where
-  -- one turn of the program; none where it changes nothing
+  -- one turn of the program; none where no instruction is carried out, no call begins and no reply is recorded
   pub turn : C → Option (Outcome C)
   -- a message that comes from a node
   pub serve : C → ℕ → Message → Outcome C

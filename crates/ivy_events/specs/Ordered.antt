@@ -18,7 +18,7 @@ one_more delivered source dest i j =
     if i == source && j == dest then delivered i j + 1 else delivered i j
 
 module _ {C : Type 0} (rules : Core C) where
-  -- a turn of node i that changes something
+  -- a turn of node i that has an outcome
   pub record Turns (w : Ordered C) (i : ℕ) (w' : Ordered C) : Type 0 where
     pub core : C
     pub there : slice_get w.cores i ≡ Some core

@@ -53,7 +53,7 @@ AllCanBeMade strings nodes j (m ∷ ms) =
     CanBeMade strings nodes j m × AllCanBeMade strings nodes j ms
 
 module _ {C : Type 0} (rules : Core C) (c : Config) where
-  -- the event happens at the node, with this effect: the turn changes something, the frame is for this node, the pulse
+  -- the event happens at the node, with this effect: the turn has an outcome, the frame is for this node, the pulse
   -- gives a frame
   abbrev pub Happens : Node C → Mark → Effect C → Type 0
   Happens n Turn e =

@@ -11,7 +11,7 @@ use std::marker::Model;
 /// An entry of a node's event list. `B` is a string of bytes.
 #[derive(Debug, PartialEq, Eq, Drop)]
 pub enum Event<B> {
-    /// So many turns in a row, each of which changed something.
+    /// So many turns in a row, in each of which an instruction was carried out, a call began, or a reply was recorded.
     Turns(u64),
     /// A string was delivered, as the bytes that came.
     Delivered(B),
@@ -61,7 +61,7 @@ impl<A: Allocator> Events<A> {
         self.entries.reserve(1)
     }
 
-    /// Lists one more turn that changed something, in the place that [`Events::reserve`] made.
+    /// Lists one more turn, in the place that [`Events::reserve`] made.
     pub fn push_turn(&mut self)
         requires { IsTrue self.old.has_room }
         ensures { self.new.marks ≡ self.old.marks ++ Turn ∷ [] }

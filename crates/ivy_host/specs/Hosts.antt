@@ -67,7 +67,7 @@ module _ {S : Type 0} (ops : Ops S) where
   turned_at n (Some c) = begins_as n c (polled ops n.memory)
   turned_at n None = steps n (step_of n.process)
 
-  -- one turn of the program; none where it changes nothing
+  -- one turn of the program; none where no instruction is carried out, no call begins and no reply is recorded
   unfoldable pub turn_of : Host S → Option (Outcome (Host S))
   turn_of n = turned_at n n.memory.asked
 

@@ -39,7 +39,7 @@ first_shown c me program = record {
 abbrev pub IsSameNode : Shown → Shown → Type 0
 IsSameNode old new = (new.config ≡ old.config) × (new.me ≡ old.me)
 
--- the turn changed something: it is the turn of the definitions
+-- the turn has an outcome: it is the turn of the definitions
 pub record Turns (old new : Shown) : Type 0 where
   pub outcome : Outcome (Host Managed)
   pub turn : turn_of managed_ops old.node.core ≡ Some outcome

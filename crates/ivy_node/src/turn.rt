@@ -3,7 +3,8 @@
 pub enum Turn {
     /// The call in progress waits, or the next one did not begin; nothing changed.
     Idle,
-    /// An instruction was carried out, a call began, or a reply was recorded.
+    /// An instruction was carried out, a call began, or a reply was recorded: so also where the node after the turn
+    /// equals the one before it.
     Moved,
     /// The program had ended before this turn; nothing changed.
     Ended,

@@ -254,6 +254,9 @@ impl<A: Allocator + Copy> World<A> {
         ensures refused { IfErr result (λ e. (e.0 < length moves.now) × IsRefusedBy self.new.config self.new.world e.1 (slice_get moves.now e.0)) }
         ensures named { IfErr result (λ e. (e.1 ≡ Fault.NoSuchFrame) ↔ CannotBeNamed self.new.world (slice_get moves.now e.0)) }
 
+        // Some moves led from the opening to the world before the call.
+        ensures began { IsReached self.old }
+
         // Whatever moves led from the opening to the world before the call, those made lead on, and at each
         // moment of all of them one order of records explains what the nodes were answered, growing from move to
         // move.

@@ -59,3 +59,6 @@ loop-program-preserved g c =
           c.in-Some-pop.ensures.items at.invariant.passes).0;
       enough = omega arith;
     }
+
+pub seat_one-requires-clause-new : goal.seat_one-requires-clause-new
+seat_one-requires-clause-new g c = c.loop-program.invariant.issued c.loop-program.node (omega arith)

@@ -15,7 +15,7 @@ loop-seat-init g c =
       room = search rules;
       ether = c.requires.starter;
       count = ap length (sym none);
-      told = told_none _ _ _ _ none;
+      told = told_none g.S.Setup.config g.S.Setup.programs c.args.starter.now.known c.in_ok-sites.sites.items none;
     }
 
 pub loop-seat-preserved : goal.loop-seat-preserved
@@ -36,3 +36,11 @@ loop-seat-preserved g c =
       told = told_more g.S.Setup.config g.S.Setup.programs _ _ at.sites.items _ c.in_ok-site.site at.node count
           c.push_reserved.ensures.items c.in_ok-site.ensures.told c.in_ok-site.ensures.done at.invariant.told;
     }
+
+pub returns-in_err-site-clause-starter : goal.returns-in_err-site-clause-starter
+returns-in_err-site-clause-starter g c =
+    c.in_err-site.ensures.starter ∙ (c.loop-seat.invariant.ether ∙ sym c.requires.starter)
+
+pub returns-in_default-clause-starter : goal.returns-in_default-clause-starter
+returns-in_default-clause-starter g c =
+    c.in_ok-site.ensures.starter ∙ (c.loop-seat.invariant.ether ∙ sym c.requires.starter)

@@ -12,4 +12,4 @@ returns-clause-report g c =
     let many : length c.in_ok-sites.sites.items ≡ length g.S.Setup.programs = search rules in
     subst (IsReport g.S.Setup.config g.S.Setup.programs) (sym c.new.ensures)
     (reported g.S.Setup.config g.S.Setup.programs c.requires.limits c.requires.each
-    c.in_ok-sites.sites.items c.learn.new.starter.known many told c.learn.ensures.told)
+    c.in_ok-sites.sites.items c.learn.new.pass.known many told c.learn.ensures.told)
