@@ -1,5 +1,5 @@
--- What is printed of the nodes of a world: what their programs printed, and which of them have ended.
-use Rattle.std.specs.Prelude.{ℕ, ◌+◌, Bool, true, false, List, [], ◌∷◌, ◌++◌, flat_map}
+-- What is printed of all nodes: what their programs printed, and which of them have ended.
+use Rattle.std.specs.Prelude.{ℕ, ◌+◌, Bool, true, false, List, [], ◌∷◌, ◌++◌, flat_map, map}
 use Rattle.ivy_program.specs.Steps.{Process, Step, Local, Asks, Ends, step_of}
 use Rattle.ivy_events.specs.Nodes.{Node}
 use Rattle.ivy_host.specs.Hosts.{Host}
@@ -10,11 +10,15 @@ abbrev pub numbered : {X : Type 0} → (ℕ → X → List ℕ) → ℕ → List
 numbered text from [] = []
 numbered text from (x ∷ xs) = text from x ++ numbered text (from + 1) xs
 
-abbrev pub output_text : {S : Type 0} → ℕ → Node (Host S) → List ℕ
-output_text node n = flat_map (value_line node) n.core.process.state.output
+abbrev pub output_text : ℕ → List ℕ → List ℕ
+output_text node values = flat_map (value_line node) values
 
-abbrev pub outputs_text : {S : Type 0} → List (Node (Host S)) → List ℕ
-outputs_text nodes = numbered output_text 0 nodes
+-- of the outputs of all nodes
+abbrev pub outputs_text : List (List ℕ) → List ℕ
+outputs_text outputs = numbered output_text 0 outputs
+
+abbrev pub outputs_of : {S : Type 0} → List (Node (Host S)) → List (List ℕ)
+outputs_of nodes = map (λ n. n.core.process.state.output) nodes
 
 abbrev pub is_end : Step → Bool
 is_end (Local s) = false

@@ -7,16 +7,18 @@ ghost use Rattle.ivy_texts.specs.Lines.{verdict_line};
 
 use crate::failure::Failure;
 use crate::print::{print_ends, print_outputs};
-use crate::rounds::run_in_rounds;
 use crate::simulation::run_drawn;
 use crate::texts::Texts;
 use crate::trace::trace_moves;
 use ivy_arguments::{Request, Settings};
 use ivy_model::{Config, Kind, Record, check_order};
 use ivy_node::{Move, Program, World, parse};
+use ivy_session::{Limits, OpenGate, Session};
 use ivy_texts::{parse_order, parse_schedule, print_verdict};
 use std::alloc::Global;
 use std::io::Write;
+use std::sync::Wait;
+use std::thread::Threads;
 
 /// The exit status of an order that is not legal.
 const NOT_LEGAL: u8 = 3;
@@ -43,18 +45,18 @@ fn moves_of<'a, T: Texts>(
     Ok(parse_schedule(alloc, text_of(files, name)?.as_str())?)
 }
 
-/// Runs the programs of a file in rounds, and prints what they printed.
-fn run<'a, T: Texts, W: Write>(
+/// Runs the programs of a file in threads, and prints what they printed.
+fn run<'a, R: Threads + Wait + Sync, T: Texts, W: Write>(
+    rt: &R,
     alloc: Global,
-    (file, turns, settings): (&'a str, u64, Settings),
+    (file, limits, settings): (&'a str, Limits, Settings),
     files: &T,
     out: &mut W,
 ) -> Result<(), Failure<'a>> {
     let programs = programs_of(alloc, files, file)?;
     let config = settings.config(programs.len())?;
-    let mut world = World::new(alloc, config, programs)?;
-    run_in_rounds(&config, &mut world, turns)?;
-    print_outputs(&world, out)?;
+    let report = Session::run(rt, alloc, config, programs, limits, &OpenGate)?;
+    print_outputs(&report, out)?;
     Ok(())
 }
 
@@ -126,7 +128,8 @@ fn check<'a, T: Texts, W: Write>(
 }
 
 /// Carries out what the words ask for, and gives the exit status.
-fn carry_out<'a, T: Texts, W: Write>(
+fn carry_out<'a, R: Threads + Wait + Sync, T: Texts, W: Write>(
+    rt: &R,
     alloc: Global,
     words: &'a [String],
     files: &T,
@@ -138,8 +141,17 @@ fn carry_out<'a, T: Texts, W: Write>(
         Request::Run {
             file,
             turns,
+            capacity,
+            pulse,
             settings,
-        } => run(alloc, (file, turns, settings), files, out)?,
+        } => {
+            let limits = Limits {
+                capacity,
+                turns,
+                pulse_every: pulse,
+            };
+            run(rt, alloc, (file, limits, settings), files, out)?;
+        }
         Request::Step {
             file,
             schedule,
@@ -165,7 +177,8 @@ fn carry_out<'a, T: Texts, W: Write>(
 /// fault, and 3 where an order is not legal.
 ///
 /// The first word is the program's name. What is at fault is printed on standard error.
-pub fn perform<T: Texts, O: Write, E: Write>(
+pub fn perform<R: Threads + Wait + Sync, T: Texts, O: Write, E: Write>(
+    rt: &R,
     alloc: Global,
     words: &[String],
     files: &T,
@@ -174,7 +187,7 @@ pub fn perform<T: Texts, O: Write, E: Write>(
 ) -> u8
     ensures { result ≤ 3 }
 {
-    let done = carry_out(alloc, words, files, out);
+    let done = carry_out(rt, alloc, words, files, out);
     let failure = match (out.flush(), done) {
         (Ok(()), Ok(status)) => return status,
         (Ok(()), Err(failure)) => failure,

@@ -1,6 +1,6 @@
 //! The program `ivy`: runs the programs of a shared virtual memory's nodes.
 //!
-//! `ivy run FILE` runs them in rounds and prints what they print. `ivy step FILE SCHEDULE` runs them
+//! `ivy run FILE` runs them in threads and prints what they print. `ivy step FILE SCHEDULE` runs them
 //! by a schedule and prints a trace of its moves. `ivy sim FILE` makes moves that are drawn. `ivy check
 //! ORDER` says whether one flat memory answers so.
 #![tactic(auto)]
@@ -19,7 +19,6 @@ mod moves;
 #[cfg(test)]
 mod orders;
 mod print;
-mod rounds;
 mod simulation;
 #[cfg(test)]
 mod tests;
@@ -33,19 +32,22 @@ use std::env;
 use std::io::{self, BufWriter, Write};
 use std::process::ExitCode;
 use std::rt::{Env, Files};
+use std::sync::Wait;
+use std::thread::Threads;
 use texts::FilesOf;
 
 /// Hands the words of the command line, the files and the streams to the command. Err only where
 /// memory is short before it begins.
-fn performed<R: Env + Files + AllocGlobal, O: Write + Drop, E: Write>(
-    rt: &R,
-    out: O,
-    err: &mut E,
-) -> io::Result<u8> {
+fn performed<R, O, E>(rt: &R, out: O, err: &mut E) -> io::Result<u8>
+where
+    R: Env + Files + AllocGlobal + Threads + Wait + Sync,
+    O: Write + Drop,
+    E: Write,
+{
     let words: Vec<String> = env::args(rt)?.collect(rt.alloc())?;
     let mut out = BufWriter::new(rt.alloc(), out)?;
     let files = FilesOf { runtime: rt };
-    Ok(perform(rt.alloc(), &words, &files, &mut out, err))
+    Ok(perform(rt, rt.alloc(), &words, &files, &mut out, err))
 }
 
 fn main(rt: HostRuntime) -> ExitCode {

@@ -4,7 +4,9 @@ use ivy_model::Fault;
 use std::alloc::{AllocError, Global};
 use std::io::{self, Write};
 use std::process::Abort;
+use std::sync::Wait;
 use std::test::Fail;
+use std::thread::Threads;
 
 /// Files that lie in memory, by name.
 #[derive(Drop)]
@@ -81,8 +83,21 @@ load 8 r4 r1
 print r4
 ";
 
+/// Node 0 awaits what never comes: one advance more than there is.
+const WAITING: &str = "\
+node 0
+set r1 1
+set r2 2
+await r3 r0 r0
+advance r0
+await r3 r0 r1
+await r3 r0 r2
+print r3
+node 1
+";
+
 /// The files of every test.
-const FILES: [(&str, &str); 12] = [
+const FILES: [(&str, &str); 13] = [
     ("empty", EMPTY),
     ("load", FIRST_LOAD),
     ("faulty", "node 0\nset r16 1\n"),
@@ -93,6 +108,7 @@ const FILES: [(&str, &str); 12] = [
     ),
     ("none", ""),
     ("endless", "node 0\nlabel again\njump again\nnode 1\n"),
+    ("waiting", WAITING),
     ("buffering", BUFFERING),
     ("moves", FIRST_MOVES),
     ("unsent", "turn 1\nturn 1\ndeliver 1 1\n"),
@@ -114,7 +130,7 @@ fn words_of(alloc: Global, line: &str) -> Result<Vec<String>, AllocError> {
 }
 
 /// Performs a command line over files. Asserts its status and what it prints on both streams.
-pub fn check_over<R: Abort + AllocGlobal>(
+pub fn check_over<R: Abort + AllocGlobal + Threads + Wait + Sync>(
     rt: &R,
     files: &[(&str, &str)],
     line: &str,
@@ -125,7 +141,7 @@ pub fn check_over<R: Abort + AllocGlobal>(
     let files = Shelf { alloc, files };
     let mut printed: Vec<u8> = Vec::new(alloc);
     let mut told: Vec<u8> = Vec::new(alloc);
-    let answer = perform(alloc, &words, &files, &mut printed, &mut told);
+    let answer = perform(rt, alloc, &words, &files, &mut printed, &mut told);
     assert_eq!(rt; String::from_utf8(printed)?.as_str(), out, "{line}");
     assert_eq!(rt; String::from_utf8(told)?.as_str(), err, "{line}");
     assert_eq!(rt; answer, status, "{line}");
@@ -141,8 +157,11 @@ pub struct Example<'a> {
     pub nodes: u64,
 }
 
-/// An example prints its lines in rounds, and then under the drawn moves of these seeds, in which all nodes end.
-pub fn check_example<R: Abort + AllocGlobal>(
+/// How an example runs in sessions: as the program runs it without options, over the least ether, and with many pulses.
+const SESSIONS: [&str; 3] = ["", "--capacity 1 --pulse 64", "--capacity 2 --pulse 7"];
+
+/// An example prints its lines in sessions, and then under the drawn moves of these seeds, in which all nodes end.
+pub fn check_example<R: Abort + AllocGlobal + Threads + Wait + Sync>(
     rt: &R,
     example: &Example,
     seeds: &[u64],
@@ -154,8 +173,10 @@ pub fn check_example<R: Abort + AllocGlobal>(
         ends.push_str(format!(in rt.alloc(); "node {node} ended\n")?.as_str())?;
     }
     for manager in ["dynamic", "fixed"] {
-        let line = format!(in rt.alloc(); "run {name} --manager {manager}")?;
-        check_over(rt, &files, line.as_str(), (0, example.out, ""))?;
+        for options in SESSIONS {
+            let line = format!(in rt.alloc(); "run {name} --manager {manager} {options}")?;
+            check_over(rt, &files, line.as_str(), (0, example.out, ""))?;
+        }
         for seed in seeds {
             let line = format!(in rt.alloc();
                 "sim {name} --manager {manager} --seed {seed} --moves 100000"
@@ -166,7 +187,7 @@ pub fn check_example<R: Abort + AllocGlobal>(
     Ok(())
 }
 
-fn check<R: Abort + AllocGlobal>(rt: &R, line: &str, answer: (u8, &str, &str)) -> Result<(), Fail> {
+fn check<R: Abort + AllocGlobal + Threads + Wait + Sync>(rt: &R, line: &str, answer: (u8, &str, &str)) -> Result<(), Fail> {
     check_over(rt, &FILES, line, answer)
 }
 
@@ -174,13 +195,14 @@ fn check<R: Abort + AllocGlobal>(rt: &R, line: &str, answer: (u8, &str, &str)) -
 const SMALL: &str = "--pages 2 --page-size 64 --manager fixed";
 
 /// Commands, their options, and what they print with status 0.
-const DONE: [(&str, &str, &str); 10] = [
+const DONE: [(&str, &str, &str); 11] = [
     ("run empty", "", ""),
-    ("run empty", "--turns 0", ""),
+    ("run empty", "--turns 1", ""),
+    ("run empty", "--capacity 65536 --turns 18446744073709551615", ""),
     ("run load", SMALL, "node 1: 0\n"),
     (
         "run load",
-        "--page-size=64 --capacity 0 --pulse 0",
+        "--page-size=64 --capacity 1 --pulse 1",
         "node 1: 0\n",
     ),
     ("step load moves", SMALL, FIRST_TRACE),
@@ -214,7 +236,7 @@ const UNSENT_TRACE: &str =
     "1 turn 1\n2 turn 1\n  sent 0 ReadReq 1 0 1\n3 deliver 1 1\n  refused 19\n";
 
 /// Command lines, and their status and what they print on both streams.
-const REFUSED: [(&str, u8, &str, &str); 18] = [
+const REFUSED: [(&str, u8, &str, &str); 26] = [
     (
         "step load unsent --page-size 64",
         1,
@@ -222,13 +244,36 @@ const REFUSED: [(&str, u8, &str, &str); 18] = [
         "ivy: 19 NoSuchFrame\n",
     ),
     (
-        "run load --page-size 64 --turns 0",
+        "run load --page-size 64 --turns 1",
         1,
         "",
         "ivy: 21 TurnLimit\n",
     ),
     ("run endless --turns 5", 1, "", "ivy: 21 TurnLimit\n"),
-    ("run endless --turns 1000", 1, "", "ivy: 21 TurnLimit\n"),
+    ("run waiting --turns 1000", 1, "", "ivy: 21 TurnLimit\n"),
+    ("run empty --turns 0", 2, "", "ivy: 2 BadConfig\n"),
+    ("run empty --capacity 0", 2, "", "ivy: 2 BadConfig\n"),
+    ("run empty --capacity 65537", 2, "", "ivy: 2 BadConfig\n"),
+    ("run empty --pulse 0", 2, "", "ivy: 2 BadConfig\n"),
+    ("run none --capacity 0", 2, "", "ivy: 2 BadConfig\n"),
+    (
+        "run missing --capacity 0",
+        2,
+        "",
+        "ivy: cannot read missing\n",
+    ),
+    (
+        "run faulty --capacity 0",
+        2,
+        "",
+        "ivy: 20 ProgramFault line 2\n",
+    ),
+    (
+        "run waiting --turns 1000 --pulse 0",
+        2,
+        "",
+        "ivy: 2 BadConfig\n",
+    ),
     ("run missing", 2, "", "ivy: cannot read missing\n"),
     (
         "step faulty missing",
@@ -307,7 +352,7 @@ fn bad_command_lines(rt: HostRuntime) -> Result<(), Fail> {
 }
 
 /// What a command line prints over the files.
-fn printed_by<R: Abort + AllocGlobal>(rt: &R, line: &str) -> Result<Vec<u8>, Fail> {
+fn printed_by<R: Abort + AllocGlobal + Threads + Wait + Sync>(rt: &R, line: &str) -> Result<Vec<u8>, Fail> {
     let alloc = rt.alloc();
     let words = words_of(alloc, line)?;
     let files = Shelf {
@@ -316,7 +361,7 @@ fn printed_by<R: Abort + AllocGlobal>(rt: &R, line: &str) -> Result<Vec<u8>, Fai
     };
     let mut printed: Vec<u8> = Vec::new(alloc);
     let mut told: Vec<u8> = Vec::new(alloc);
-    let answer = perform(alloc, &words, &files, &mut printed, &mut told);
+    let answer = perform(rt, alloc, &words, &files, &mut printed, &mut told);
     assert_eq!(rt; answer, 0, "{line}");
     Ok(printed)
 }
@@ -372,7 +417,7 @@ fn unwritten(rt: HostRuntime) -> Result<(), Fail> {
         files: &FILES,
     };
     let mut told: Vec<u8> = Vec::new(alloc);
-    let answer = perform(alloc, &words, &files, &mut Narrow { room: 12 }, &mut told);
+    let answer = perform(&rt, alloc, &words, &files, &mut Narrow { room: 12 }, &mut told);
     assert_eq!(rt; answer, 1);
     assert!(rt; told.is_empty());
     Ok(())

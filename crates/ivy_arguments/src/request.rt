@@ -10,10 +10,13 @@ use std::alloc::{AllocError, Global};
 /// What a command line asks for.
 #[derive(Clone, Copy, Debug, PartialEq, Eq)]
 pub enum Request<'a> {
-    /// Runs the programs of a file in rounds, `turns` of them at most, and prints their outputs.
+    /// Runs the programs of a file in a session: each worker makes so many turns at most, the ether holds so many items,
+    /// and each `pulse`-th turn on the wire begins with a pulse.
     Run {
         file: &'a str,
         turns: u64,
+        capacity: u64,
+        pulse: u64,
         settings: Settings,
     },
     /// Runs the programs of a file by the schedule of another, and prints each move.
@@ -133,12 +136,11 @@ fn settings_of<'a>(matches: &ArgMatches<'a>) -> Result<Settings, CommandLineErro
 }
 
 fn run_of<'a>(matches: &ArgMatches<'a>) -> Result<Request<'a>, CommandLineError> {
-    // Rounds have no ether and no wire turns: these two need only be numbers.
-    number_of(matches, CAPACITY)?;
-    number_of(matches, PULSE)?;
     Ok(Request::Run {
         file: word_of(matches, FILE)?,
         turns: number_of(matches, TURNS)?,
+        capacity: number_of(matches, CAPACITY)?,
+        pulse: number_of(matches, PULSE)?,
         settings: settings_of(matches)?,
     })
 }

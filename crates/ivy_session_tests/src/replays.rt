@@ -1,0 +1,191 @@
+//! The event lists of a report, made again in a world of its own: by moves that are chosen here, with nothing from the
+//! session but the lists, every node comes to the same history and output.
+use crate::common::{EIGHT, FOUR_ADVANCES, LIMITS, LOADS, NARROW, NOTICE, PAIR, TRIO, run};
+use ivy_events::Event;
+use ivy_model::{Config, Kind};
+use ivy_node::{Move, World};
+use ivy_program::parse;
+use ivy_session::{Limits, Report};
+use ivy_wire::Bytes;
+use std::alloc::{Allocator, Global};
+use std::process::Abort;
+use std::sync::Wait;
+use std::test::Fail;
+use std::thread::Threads;
+
+/// The place of a string among those sent.
+fn place_of<A: Allocator + Copy>(world: &World<A>, bytes: &[u8]) -> Option<u64> {
+    world
+        .sent()
+        .iter()
+        .position(|sent| sent.bytes() == bytes)
+        .map(|place| place as u64)
+}
+
+/// The move that an event of a node is, and how often it is made; none where its string was not sent yet.
+fn move_of<A: Allocator + Copy>(
+    world: &World<A>,
+    node: u64,
+    event: &Event<Bytes<A>>,
+) -> Option<(Move, u64)> {
+    match event {
+        Event::Turns(count) => Some((Move::Turn(node), *count)),
+        Event::Delivered(bytes) => {
+            let index = place_of(world, bytes.bytes())?;
+            Some((Move::Deliver { index, to: node }, 1))
+        }
+        Event::Pulsed(to) => {
+            let to = u64::from(*to);
+            Some((Move::Pulse { from: node, to }, 1))
+        }
+    }
+}
+
+/// Makes the events of a node from this place on, up to one whose string was not sent yet, and gives that place.
+fn go_on<A: Allocator + Copy>(
+    world: &mut World<A>,
+    moves: &mut Vec<Move, A>,
+    node: u64,
+    (events, from): (&[Event<Bytes<A>>], usize),
+) -> Result<usize, Fail> {
+    for place in from..events.len() {
+        let Some((step, count)) = move_of(world, node, &events[place]) else {
+            return Ok(place);
+        };
+        for _ in 0..count {
+            if world.run(&[step]).is_err() {
+                return Err("a move was refused".into());
+            }
+            moves.push(step)?;
+        }
+    }
+    Ok(events.len())
+}
+
+/// Makes the events of all nodes, each as soon as it can be made, and gives the moves. An event that can't be made in
+/// the end is an error.
+fn merge<A: Allocator + Copy>(
+    alloc: A,
+    world: &mut World<A>,
+    report: &Report<A>,
+) -> Result<Vec<Move, A>, Fail> {
+    let mut moves = Vec::new(alloc);
+    let mut places = Vec::new(alloc);
+    let mut events = 0;
+    for node in 0..report.nodes() {
+        places.push(0)?;
+        events += report.events(node).len() as u128;
+    }
+    for _ in 0..=events {
+        let mut left = 0;
+        for (node, place) in places.iter_mut().enumerate() {
+            let node = node as u64;
+            if node < report.nodes() {
+                let events = report.events(node);
+                *place = go_on(world, &mut moves, node, (events, *place))?;
+                left += (events.len() - *place) as u128;
+            }
+        }
+        if left == 0 {
+            return Ok(moves);
+        }
+    }
+    Err("a string was not sent".into())
+}
+
+/// Whether the same strings were sent.
+fn same_sent<A: Allocator + Copy>(one: &World<A>, other: &World<A>) -> bool {
+    one.sent().len() == other.sent().len()
+        && one
+            .sent()
+            .iter()
+            .zip(other.sent())
+            .all(|(one, other)| one.bytes() == other.bytes())
+}
+
+fn check_replay<R: Abort + AllocGlobal + Threads + Wait + Sync>(
+    rt: &R,
+    config: Config,
+    text: &str,
+    limits: Limits,
+) -> Result<(), Fail> {
+    let alloc = rt.alloc();
+    let report = run(rt, alloc, config, text, limits)?;
+    let mut world = World::new(alloc, config, parse(alloc, text)?)?;
+    let moves = merge(alloc, &mut world, &report)?;
+    assert_eq!(rt; world.nodes(), report.nodes());
+    for node in 0..report.nodes() {
+        if node < world.nodes() {
+            assert_eq!(rt; world.history(node), report.history(node), "node {node}");
+            assert_eq!(rt; world.output(node), report.output(node), "node {node}");
+            assert!(rt; world.ended(node), "node {node}");
+        }
+    }
+    let mut again = World::new(alloc, config, parse(alloc, text)?)?;
+    assert_eq!(rt; again.run(&moves), Ok(()));
+    assert!(rt; same_sent(&world, &again));
+    Ok(())
+}
+
+#[test]
+fn worked_sessions(rt: HostRuntime) -> Result<(), Fail> {
+    for (config, text) in [(PAIR, LOADS), (PAIR, NOTICE), (TRIO, FOUR_ADVANCES)] {
+        for manager in [Kind::Fixed, Kind::Dynamic] {
+            for limits in [LIMITS, NARROW] {
+                let config = Config { manager, ..config };
+                check_replay(&rt, config, text, limits)?;
+            }
+        }
+    }
+    Ok(())
+}
+
+/// What each of eight nodes does, but for where it stores: it stores to a page, loads from a common one, takes a block and
+/// ends it, and advances a count, and it waits until all nodes have done so.
+const BUSY: &str = "
+set r2 3
+label again
+load 8 r3 r1
+add r3 r3 r2
+store 8 r1 r3
+set r4 64
+load 8 r5 r4
+store 8 r4 r2
+set r6 24
+alloc r7 r6
+free r7
+advance r0
+set r8 1
+sub r2 r2 r8
+jumpz r2 out
+jump again
+label out
+set r9 24
+await r10 r0 r9
+print r10
+";
+
+/// Eight nodes that are busy, of which two each share a page.
+fn busy_text(alloc: Global) -> Result<String, Fail> {
+    let mut text = String::new(alloc);
+    for node in 0..8 {
+        let page = 2 + node / 2;
+        let addr = 64 * page + 8 * (node % 2);
+        let head = format!(in alloc; "node {node}\nset r1 {addr}")?;
+        text.push_str(head.as_str())?;
+        text.push_str(BUSY)?;
+    }
+    Ok(text)
+}
+
+#[test]
+fn busy_session(rt: HostRuntime) -> Result<(), Fail> {
+    let text = busy_text(rt.alloc())?;
+    for manager in [Kind::Fixed, Kind::Dynamic] {
+        for limits in [LIMITS, NARROW] {
+            let config = Config { manager, ..EIGHT };
+            check_replay(&rt, config, text.as_str(), limits)?;
+        }
+    }
+    Ok(())
+}
