@@ -37,11 +37,16 @@ pub(crate) const LIMITS: Limits = Limits {
     pulse_every: 1024,
 };
 
-/// The least ether, and more pulses.
-pub(crate) const NARROW: Limits = Limits {
-    capacity: 1,
+/// More pulses.
+pub(crate) const PULSING: Limits = Limits {
     pulse_every: 64,
     ..LIMITS
+};
+
+/// And the least ether.
+pub(crate) const NARROW: Limits = Limits {
+    capacity: 1,
+    ..PULSING
 };
 
 /// Both nodes have ended at once.

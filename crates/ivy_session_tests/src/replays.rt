@@ -1,6 +1,8 @@
 //! The event lists of a report, made again in a world of its own: by moves that are chosen here, with nothing from the
 //! session but the lists, every node comes to the same history and output.
-use crate::common::{EIGHT, FOUR_ADVANCES, LIMITS, LOADS, NARROW, NOTICE, PAIR, TRIO, run};
+use crate::common::{
+    EIGHT, FOUR_ADVANCES, LIMITS, LOADS, NARROW, NOTICE, PAIR, PULSING, TRIO, run,
+};
 use ivy_events::Event;
 use ivy_model::{Config, Kind};
 use ivy_node::{Move, World};
@@ -143,7 +145,7 @@ fn worked_sessions(rt: HostRuntime) -> Result<(), Fail> {
 /// What each of eight nodes does, but for where it stores: it stores to a page, loads from a common one, takes a block and
 /// ends it, and advances a count, and it waits until all nodes have done so.
 const BUSY: &str = "
-set r2 3
+set r2 1
 label again
 load 8 r3 r1
 add r3 r3 r2
@@ -160,7 +162,7 @@ sub r2 r2 r8
 jumpz r2 out
 jump again
 label out
-set r9 24
+set r9 8
 await r10 r0 r9
 print r10
 ";
@@ -182,7 +184,7 @@ fn busy_text(alloc: Global) -> Result<String, Fail> {
 fn busy_session(rt: HostRuntime) -> Result<(), Fail> {
     let text = busy_text(rt.alloc())?;
     for manager in [Kind::Fixed, Kind::Dynamic] {
-        for limits in [LIMITS, NARROW] {
+        for limits in [PULSING, NARROW] {
             let config = Config { manager, ..EIGHT };
             check_replay(&rt, config, text.as_str(), limits)?;
         }
