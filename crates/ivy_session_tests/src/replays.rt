@@ -73,26 +73,30 @@ fn merge<A: Allocator + Copy>(
 ) -> Result<Vec<Move, A>, Fail> {
     let mut moves = Vec::new(alloc);
     let mut places = Vec::new(alloc);
-    let mut events = 0;
-    for node in 0..report.nodes() {
+    for _ in 0..report.nodes() {
         places.push(0)?;
-        events += report.events(node).len() as u128;
     }
-    for _ in 0..=events {
-        let mut left = 0;
+    for _ in 0..u64::MAX {
+        let mut left = false;
+        let mut went = false;
         for (node, place) in places.iter_mut().enumerate() {
             let node = node as u64;
             if node < report.nodes() {
                 let events = report.events(node);
-                *place = go_on(world, &mut moves, node, (events, *place))?;
-                left += (events.len() - *place) as u128;
+                let next = go_on(world, &mut moves, node, (events, *place))?;
+                went = went || next != *place;
+                left = left || next < events.len();
+                *place = next;
             }
         }
-        if left == 0 {
+        if !left {
             return Ok(moves);
         }
+        if !went {
+            return Err("a string was not sent".into());
+        }
     }
-    Err("a string was not sent".into())
+    Err("the events have no end".into())
 }
 
 /// Whether the same strings were sent.
@@ -170,7 +174,7 @@ print r10
 /// Eight nodes that are busy, of which two each share a page.
 fn busy_text(alloc: Global) -> Result<String, Fail> {
     let mut text = String::new(alloc);
-    for node in 0..8 {
+    for node in 0..8u64 {
         let page = 2 + node / 2;
         let addr = 64 * page + 8 * (node % 2);
         let head = format!(in alloc; "node {node}\nset r1 {addr}")?;
