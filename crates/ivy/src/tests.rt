@@ -209,7 +209,7 @@ const DONE: [(&str, &str, &str); 10] = [
     ("run load", SMALL, "node 1: 0\n"),
     (
         "run load",
-        "--page-size=64 --capacity 1 --pulse 1",
+        "--page-size=64 --capacity 1 --pulse 7",
         "node 1: 0\n",
     ),
     ("step load moves", SMALL, FIRST_TRACE),
