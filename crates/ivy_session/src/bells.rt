@@ -1,15 +1,11 @@
 //! How workers wait, and are woken.
 use crate::gate::Role;
 use std::sync::Wait;
-use std::thread;
 use std::thread::Parker;
 use std::time::Duration;
 
-/// So many idle turns in a row a worker only yields.
-const YIELDS: u32 = 16;
-
-/// So many microseconds a worker sleeps at most, which has nothing to do: a lost frame is sent again by a pulse, which is counted in
-/// turns.
+/// So many microseconds a worker sleeps at most, which has nothing to do: a lost frame is sent again by a pulse, which is
+/// counted in turns.
 const NAP: u64 = 200;
 
 /// What a node's two workers sleep on.
@@ -53,16 +49,17 @@ impl Bells {
     }
 }
 
-/// How long a worker has had nothing to do.
+/// How long a worker has had nothing to do, and how long it goes on before it sleeps.
 #[derive(Drop)]
 pub(crate) struct Idle {
-    turns: u32,
+    turns: u64,
+    patience: u64,
 }
 
 impl Idle {
-    /// It has just worked.
-    pub(crate) fn new() -> Idle {
-        Idle { turns: 0 }
+    /// It has just worked. So many idle turns in a row it goes on at once, and then it sleeps.
+    pub(crate) fn new(patience: u64) -> Idle {
+        Idle { turns: 0, patience }
     }
 
     /// It has worked again.
@@ -70,11 +67,11 @@ impl Idle {
         self.turns = 0;
     }
 
-    /// One more turn had nothing to do: the worker yields, or sleeps until its bell rings or for a while.
+    /// One more turn had nothing to do. A worker that has gone on for long enough sleeps until its bell rings, or for a
+    /// while. It does not yield: on a machine that computes it would come back too late.
     fn rest<R: Wait>(&mut self, rt: &R, bell: &Parker) {
-        if self.turns < YIELDS {
+        if self.turns < self.patience {
             self.turns += 1;
-            thread::yield_now();
         } else {
             bell.park_timeout(rt, Duration::from_micros(NAP));
         }

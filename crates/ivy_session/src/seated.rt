@@ -1,5 +1,5 @@
 //! A site that is seated at an ether.
-ghost use Rattle.std.specs.Prelude.{◌≡◌, ◌≢◌, ◌↔◌, ◌⊎◌, ◌<◌, ◌∷◌, [], ℕ, List, Some, Contains, IsTrue, ◌≤◌, MatchOption, MatchResult, IfOk, IfErr, IfSome, OnOk, IsOkUnless, slice_get};
+ghost use Rattle.std.specs.Prelude.{◌≡◌, ◌≢◌, ◌↔◌, ◌⊎◌, ◌<◌, ◌∷◌, [], ℕ, List, Some, Contains, IsTrue, ◌≤◌, MatchOption, MatchResult, IfOk, IfErr, IfSome, OnOk, IsOkUnless, length};
 ghost use Rattle.ivy_model.specs.Wants.{IsWant};
 ghost use Rattle.ivy_events.specs.Nodes.{pulsing};
 ghost use Rattle.ivy_program.specs.Steps.{HasEnded};
@@ -72,7 +72,9 @@ impl<'e, S: Setup, A: Allocator + Copy> Seated<'e, S, A> {
     }
 
     /// How many records the site's history has.
-    pub fn records(&self) -> u64 {
+    pub fn records(&self) -> u64
+        ensures { result ≡ length self.now.site.node.core.history }
+    {
         self.site.history().len() as u64
     }
 

@@ -9,6 +9,9 @@ use std::alloc::Allocator;
 use std::sync::atomic::{AtomicBool, AtomicU64, Ordering};
 use std::sync::{Mutex, Wait};
 
+/// So many idle turns in a row a wire worker goes on at most before it sleeps.
+const MOST_PATIENCE: u64 = 8_192;
+
 /// Why a session ends before its programs do.
 #[derive(Drop)]
 struct Stop {
@@ -51,11 +54,15 @@ impl<A: Allocator> Shared<A> {
         self.ring_all();
     }
 
-    /// The session stops with this fault.
+    /// The session stops with this fault, unless it has stopped with another one.
     pub(crate) fn stop<R: Wait>(&self, rt: &R, fault: Fault)
         requires { IsStop fault }
     {
-        *self.stop.lock(rt) = Some(Stop { fault });
+        let mut stop = self.stop.lock(rt);
+        if stop.is_none() {
+            *stop = Some(Stop { fault });
+        }
+        drop(stop);
         self.stopped.store(true, Ordering::SeqCst);
         self.ring_all();
     }
@@ -68,6 +75,12 @@ impl<A: Allocator> Shared<A> {
     /// Whether all programs have ended, or the session stops before.
     pub(crate) fn is_over(&self) -> bool {
         self.is_stopped() || self.ended.load(Ordering::SeqCst) >= self.programs
+    }
+
+    /// In so many turns a wire worker has pulsed to each other node, but for a bound: so long it does not sleep, since
+    /// what it sent may be lost.
+    pub(crate) fn round(&self, pulse_every: u64) -> u64 {
+        self.programs.saturating_mul(pulse_every).min(MOST_PATIENCE)
     }
 
     /// Wakes all workers, so that they see how the session stands.

@@ -16,6 +16,9 @@ use std::sync::{Mutex, Wait};
 use std::thread;
 use std::thread::Threads;
 
+/// So many idle turns in a row a program worker goes on before it sleeps.
+const PROGRAM_PATIENCE: u64 = 64;
+
 /// Makes the turns of a node's program, one turn a lock, until it has ended.
 fn run_program<S: Setup, A: Allocator + Copy, R: Wait, G: Gate>(
     rt: &R,
@@ -25,7 +28,7 @@ fn run_program<S: Setup, A: Allocator + Copy, R: Wait, G: Gate>(
     shared: &Shared<A>,
     gate: &G,
 ) {
-    let mut idle = Idle::new();
+    let mut idle = Idle::new(PROGRAM_PATIENCE);
     for _ in 0..limits.turns {
         if shared.is_stopped() {
             return;
@@ -98,7 +101,7 @@ fn run_wire<S: Setup, A: Allocator + Copy, R: Wait, G: Gate>(
     shared: &Shared<A>,
     gate: &G,
 ) {
-    let mut idle = Idle::new();
+    let mut idle = Idle::new(shared.round(limits.pulse_every));
     let mut pulses = Pulses::new(limits.pulse_every);
     for _ in 0..limits.turns {
         if shared.is_over() {
@@ -110,9 +113,13 @@ fn run_wire<S: Setup, A: Allocator + Copy, R: Wait, G: Gate>(
         let waits = seated.has_frame();
         drop(seated);
         match turn {
-            Ok(WireTurn::Sent | WireTurn::Returned) => {
+            Ok(WireTurn::Sent) => {
                 idle.end();
                 shared.ring_others(node);
+            }
+            Ok(WireTurn::Returned) => {
+                shared.ring_others(node);
+                thread::yield_now();
             }
             Ok(WireTurn::Served(_)) => {
                 idle.end();
@@ -128,7 +135,9 @@ fn run_wire<S: Setup, A: Allocator + Copy, R: Wait, G: Gate>(
             }
         }
     }
-    shared.stop(rt, Fault::TurnLimit);
+    if !shared.is_over() {
+        shared.stop(rt, Fault::TurnLimit);
+    }
 }
 
 /// Runs two workers for each node, and joins them all [1, 17, 21].
