@@ -157,8 +157,8 @@ pub struct Example<'a> {
     pub nodes: u64,
 }
 
-/// How an example runs in sessions: as the program runs it without options, over the least ether, and with many pulses.
-const SESSIONS: [&str; 3] = ["", "--capacity 1 --pulse 64", "--capacity 2 --pulse 7"];
+/// How an example runs in sessions: as the program runs it without options, and over a narrow ether with many pulses.
+const SESSIONS: [&str; 2] = ["", "--capacity 2 --pulse 7"];
 
 /// An example prints its lines in sessions, and then under the drawn moves of these seeds, in which all nodes end.
 pub fn check_example<R: Abort + AllocGlobal + Threads + Wait + Sync>(

@@ -1,5 +1,5 @@
 //! Each growth of a session refused in turn: every worker ends, and no report is given.
-use crate::common::{FOUR_ADVANCES, LIMITS, LOADS, NARROW, NOTICE, PAIR, TRIO, shown_of};
+use crate::common::{LIMITS, LOADS, NOTICE, PAIR, shown_of};
 use growths::Refusing;
 use ivy_model::{Config, Fault};
 use ivy_program::parse;
@@ -45,7 +45,6 @@ fn each_refused(rt: HostRuntime) -> Result<(), Fail> {
     for (session, printed, least) in [
         ((PAIR, LOADS, LIMITS), [].as_slice(), 20),
         ((PAIR, NOTICE, LIMITS), [9].as_slice(), 40),
-        ((TRIO, FOUR_ADVANCES, NARROW), [4].as_slice(), 40),
     ] {
         let refused = refuse_each(&rt, session, printed)?;
         assert!(rt; least <= refused && refused < MANY, "{refused}");
