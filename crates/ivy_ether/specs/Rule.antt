@@ -65,7 +65,7 @@ module _ {C : Type 0} (rules : Core C) (c : Config) (opening : World C) where
   FitsItem end views (Frame b) = Contains end.sent b
   FitsItem end views (Report i es) = Reported views i es.marks
 
-  -- the lists of all views, with an empty list for a node that has none, are the parts of a run; the seats of each node,
+  -- the lists of all views, an empty one for a node that has none, are the parts of a run; the seats of each node,
   -- in the ether and in views, are no more than were issued, which is one at most; and each view and item fits
   pub record IsKept (items : List Item) (views : List View) (starter : ℕ) (issued : List ℕ)
       (parts : ℕ → List Mark) (end : World C) : Type 0 where

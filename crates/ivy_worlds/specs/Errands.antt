@@ -35,7 +35,7 @@ IsAtRest None = Unit {0}
 IsAtRest (Some (errand.Asked k number)) = ⊥
 IsAtRest (Some (errand.Told r)) = Unit {0}
 
--- a reply that a call of the heap can have: of some bytes an address, or 9; of none 8; of the end of a block done, or 10
+-- a reply that a call of the heap can have: of some bytes an address, or 9; of none 8; of a block's end done, or 10
 abbrev pub CanHave : HeapCall → Reply → Type 0
 CanHave (Alloc size) (Value addr) = 0 < size
 CanHave (Alloc size) Done = ⊥
