@@ -4,6 +4,7 @@ ghost use Rattle.ivy_model.specs.Config.{IsConfig};
 ghost use Rattle.ivy_wire.specs.Lent.{owned_frame, owned_parcel};
 ghost use Rattle.ivy_wire.specs.Spelling.{spelling, Fits, FitsParcel};
 ghost use Rattle.ivy_link.specs.Linked.{first_link, frames_of, sends, has_numbers, AreWithin};
+ghost use Rattle.ivy_link.specs.Holding.{link_of};
 ghost use Rattle.ivy_link.specs.Accepted.{offered, accepted};
 ghost use Rattle.ivy_link.specs.Pulsed.{frames_again, pulsed};
 ghost use Rattle.ivy_node.specs.Outboxes.{with_link, with_waiting, with_sending, Takes, most_sent};
@@ -26,14 +27,15 @@ pub(crate) struct Outbox<A: Allocator> {
 }
 
 impl<A: Allocator> Model for Outbox<A> {
+    ghost use Rattle.ivy_link.specs.Holding.{link_of};
     ghost use Rattle.ivy_node.specs.Outboxes as outboxes;
     ghost use Rattle.ivy_node.specs.Outboxes.{IsSoundOutbox};
 
     ghost Value = { outboxes.Outbox };
 
-    ghost view = { λ o. record { config = o.config; me = o.me; link = o.link; waiting = o.waiting.items } };
+    ghost view = { λ o. record { config = o.config; me = o.me; link = link_of o.link; waiting = o.waiting.items } };
 
-    ghost invariant = { λ o. IsSoundOutbox (record { config = o.config; me = o.me; link = o.link; waiting = o.waiting.items }) };
+    ghost invariant = { λ o. IsSoundOutbox (record { config = o.config; me = o.me; link = link_of o.link; waiting = o.waiting.items }) };
 }
 
 /// The spellings of the frames, in order.
@@ -63,10 +65,10 @@ fn spell<A: Allocator + Copy>(
     parcels: &[Parcel<&[u8]>],
 ) -> Result<(), Fault>
     requires limits { IsConfig config.now }
-    requires within { AreWithin link.now (map owned_parcel parcels.now) }
-    requires numbers { has_numbers link.now (map owned_parcel parcels.now) ≡ true }
-    requires fit { All (Fits config.now) (frames_of link.now (map owned_parcel parcels.now)) }
-    ensures ok { OnOk result (strings.new.items ≡ strings.old.items ++ map spelling (frames_of link.now (map owned_parcel parcels.now))) }
+    requires within { AreWithin (link_of link.now) (map owned_parcel parcels.now) }
+    requires numbers { has_numbers (link_of link.now) (map owned_parcel parcels.now) ≡ true }
+    requires fit { All (Fits config.now) (frames_of (link_of link.now) (map owned_parcel parcels.now)) }
+    ensures ok { OnOk result (strings.new.items ≡ strings.old.items ++ map spelling (frames_of (link_of link.now) (map owned_parcel parcels.now))) }
     ensures front { take (length strings.old.items) strings.new.items ≡ strings.old.items }
     ensures memory { IsOkUnless result Fault.Memory }
 {
