@@ -31,7 +31,8 @@ use Rattle.ivy_ether.specs.Views.{View, newcomer, with_seat, with_events, with_t
 use Rattle.ivy_node.specs.declared.turn.Turn as turn
 use Rattle.ivy_node.specs.declared.turn.Turn.TheVariants.{Idle, Moved, Ended}
 use Rattle.ivy_node.specs.Shown.{Shown, after_hearing, after_delivery, after_pulse_to}
-use Rattle.ivy_node.specs.Sites.{first_shown, IsMadeByEvents, IsSentBy, AfterTurn, AfterDelivery, Delivers, without_ready, GoesOnOnce, GoesOn, Follows}
+use Rattle.ivy_node.specs.Sites.{first_shown, IsMadeByEvents, IsSentBy, AfterTurn, AfterDelivery, Delivers, without_ready, GoesOnOnce, Follows}
+use Rattle.ivy_node.specs.Sites as sites
 use Rattle.ivy_node.proofs.Programs.{turned-program, posting-core, delivered-program}
 use Rattle.ivy_program.specs.Steps.{HasEnded}
 use Rattle.ivy_session.specs.Places.{HasGiven, IsSeated, IsFreshSeat}
@@ -222,7 +223,7 @@ module _ (c : Config) (programs : List (List Instruction)) where
 
   all_stay : (source : ℕ) (more : List (List ℕ)) (s s' : Shown) (took : List (List ℕ))
       → IsConfig s.config → AllCanBeMade took (length programs) s.me s.events
-      → GoesOn source more s s' → StaysAt s s' took
+      → sites.GoesOn source more s s' → StaysAt s s' took
   all_stay source [] s s' took limits before same = stays_same s s' took same
   all_stay source (bytes ∷ more) s s' took limits before on =
       let x : StaysAt s on.0 took = once_stays source bytes s on.0 took limits before on.1 in
