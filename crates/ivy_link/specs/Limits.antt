@@ -8,3 +8,7 @@ greatest_number = 2 ^ 64 - 1
 -- how many kept messages are sent again at once
 abbrev pub most_again : ℕ
 most_again = 32
+
+-- how far above the number delivered a string is held
+abbrev pub most_ahead : ℕ
+most_ahead = 32

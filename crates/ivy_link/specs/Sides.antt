@@ -1,14 +1,21 @@
--- What contracts see of a link's side to one node: what it knows, and for how many more messages it has room.
+-- What contracts see of a link's side to one node: what it knows, for how many more messages it has room, and the
+-- strings that it holds.
 use Rattle.std.specs.Prelude.{ℕ, ◌<◌, ◌≤◌, ◌==◌, List, length, map, slice_index_or, count_by}
 use Rattle.ivy_wire.specs.Data.{Message, Parcel}
 use Rattle.ivy_link.specs.Linked.{Peer, Linked, fresh}
+use Rattle.ivy_link.specs.Windows.{Window, first_window}
+use Rattle.ivy_link.specs.Holding.{Holding, holding}
 
 pub record Sided : Type 0 where
   pub peer : Peer
   pub room : ℕ
+  pub held : Window
 
 abbrev pub peer_of : Sided → Peer
 peer_of s = s.peer
+
+abbrev pub held_of : Sided → Window
+held_of s = s.held
 
 abbrev pub message_of : Parcel → Message
 message_of p = p.message
@@ -16,8 +23,12 @@ message_of p = p.message
 abbrev pub linked : ℕ → List Sided → Linked
 linked me sides = record { me = me; peers = map peer_of sides }
 
+-- the whole link
+abbrev pub seen : ℕ → List Sided → Holding
+seen me sides = holding (linked me sides) (map held_of sides)
+
 abbrev pub side_at : List Sided → ℕ → Sided
-side_at sides j = slice_index_or sides j (record { peer = fresh; room = 0 })
+side_at sides j = slice_index_or sides j (record { peer = fresh; room = 0; held = first_window })
 
 -- how many of the parcels go to the node
 abbrev pub count_to : List Parcel → ℕ → ℕ

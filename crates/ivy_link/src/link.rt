@@ -3,18 +3,17 @@ ghost use Rattle.std.specs.Prelude.{◌≡◌, ◌≢◌, ◌↔◌, ℕ, ◌<�
 ghost use Rattle.ivy_model.specs.Wants.{IsWant};
 ghost use Rattle.ivy_model.specs.declared.Fault.TheVariants.{Memory, NumbersSpent};
 ghost use Rattle.ivy_wire.specs.Lent.{owned_message, owned_parcel, owned_frame};
-ghost use Rattle.ivy_link.specs.Linked.{first_link, peer_at, after_sends, frames_of, has_numbers, AreWithin};
-ghost use Rattle.ivy_link.specs.Accepted.{offered, accepted};
-ghost use Rattle.ivy_link.specs.Pulsed.{repeated, frames_again, after_pulse};
-ghost use Rattle.ivy_link.specs.Sides.{peer_of, linked, message_of, count_to, HasRoomFor};
+ghost use Rattle.ivy_link.specs.Linked.{peer_at};
+ghost use Rattle.ivy_link.specs.Pulsed.{repeated};
+ghost use Rattle.ivy_link.specs.Holding.{link_of, first_link, offered, accepted, after_sends, frames_of, has_numbers, AreWithin, frames_again, after_pulse, after_hold, given_back, ready_of, after_taking};
 
+use crate::keeping::{count_to, keep_each, reserve};
 use crate::lent::{add, again, copied, copies};
 use crate::side::Side;
 use crate::verdict::Verdict;
 use ivy_model::Fault;
-use ivy_wire::{Frame, Message, Page, Parcel};
+use ivy_wire::{Bytes, Frame, Page, Parcel};
 use std::alloc::{AllocError, Allocator};
-use std::collections::VecDeque;
 use std::marker::Model;
 
 /// How many kept messages are sent again at once.
@@ -32,24 +31,23 @@ pub struct Link<A: Allocator> {
 }
 
 impl<A: Allocator> Model for Link<A> {
-    ghost use Rattle.std.specs.Prelude.{map};
-    ghost use Rattle.ivy_link.specs.Linked.{Linked};
-    ghost use Rattle.ivy_link.specs.Sides.{peer_of};
+    ghost use Rattle.ivy_link.specs.Holding.{Holding};
+    ghost use Rattle.ivy_link.specs.Sides.{seen};
 
-    ghost Value = { Linked };
+    ghost Value = { Holding };
 
-    ghost view = { λ l. record { me = l.me; peers = map peer_of l.sides.items } };
+    ghost view = { λ l. seen l.me l.sides.items };
 }
 
 impl<A: Allocator + Copy> Link<A> {
-    /// The link of node `me` among so many nodes: nothing was sent either way [1].
+    /// The link of node `me` among so many nodes: nothing was sent either way, and nothing is held [1].
     pub fn new(alloc: A, me: u8, nodes: u8) -> Result<Link<A>, Fault>
         ensures ok { IfOk result (λ link. link ≡ first_link me nodes) }
         ensures want { IsOkUnless result Memory }
     {
         let mut sides = Vec::with_capacity(alloc, usize::from(nodes))?;
         for _ in 0..nodes {
-            sides.push(Side::new(alloc))?;
+            sides.push(Side::new(alloc)?)?;
         }
         Ok(Link { alloc, me, sides })
     }
@@ -65,8 +63,8 @@ impl<A: Allocator + Copy> Link<A> {
         self.sides[usize::from(frame.source)].verdict(frame.number)
     }
 
-    /// Takes the acknowledgement of a frame, and counts its message as delivered where it is the next.
-    /// A frame for another node changes nothing. It takes no memory.
+    /// Takes the acknowledgement of a frame, and counts its message as delivered where it is the next: no
+    /// string of its number is held any more. A frame for another node changes nothing. It takes no memory.
     pub fn accept<B>(&mut self, frame: &Frame<B>)
         requires source { frame.now.dest ≡ self.old.me → frame.now.source < length self.old.peers }
         ensures after { self.new ≡ accepted self.old frame.now }
@@ -75,6 +73,35 @@ impl<A: Allocator + Copy> Link<A> {
         if frame.dest == self.me {
             self.sides[usize::from(frame.source)].hear(frame.number, frame.ack);
         }
+    }
+
+    /// Holds the string of a frame that is the next one or came before its turn, until those before it have
+    /// come. It gives the string back where the frame is neither, its number is more than [`MOST_AHEAD`]
+    /// above those delivered, or a string of that number is held. Of the frame it reads the source, the
+    /// destination and the number. It takes no memory.
+    ///
+    /// [`MOST_AHEAD`]: crate::MOST_AHEAD
+    pub fn hold<B>(&mut self, frame: &Frame<B>, string: Bytes<A>) -> Option<Bytes<A>>
+        requires source { frame.now.dest ≡ self.old.me → frame.now.source < length self.old.peers }
+        ensures after { self.new ≡ after_hold self.old frame.now string }
+        ensures nodes { length self.new.peers ≡ length self.old.peers }
+        ensures result { result ≡ given_back self.old frame.now string }
+    {
+        if frame.dest != self.me {
+            return Some(string);
+        }
+        self.sides[usize::from(frame.source)].hold(frame.number, string)
+    }
+
+    /// Takes out the string that is held of the number after the last one delivered from the node. It takes
+    /// no memory.
+    pub fn take_ready(&mut self, from: u8) -> Option<Bytes<A>>
+        requires from { from < length self.old.peers }
+        ensures result { result ≡ ready_of self.old from }
+        ensures after { self.new ≡ after_taking self.old from }
+        ensures nodes { length self.new.peers ≡ length self.old.peers }
+    {
+        self.sides[usize::from(from)].take_ready()
     }
 
     /// Ends what is owed to the node, as the frames of [`Link::pulse_frames`] do. It takes no memory.
@@ -240,7 +267,7 @@ impl<A: Allocator + Copy> Link<A> {
 
     fn repeated(&self, to: u8) -> Result<Vec<Frame<&[u8]>, A>, AllocError>
         requires to { to < length self.now.peers }
-        ensures { IfOk result (λ frames. map owned_frame frames.items ≡ repeated self.now.me to (peer_at self.now to)) }
+        ensures { IfOk result (λ frames. map owned_frame frames.items ≡ repeated self.now.me to (peer_at (link_of self.now) to)) }
     {
         let side = &self.sides[usize::from(to)];
         let kept = side.kept();
@@ -258,49 +285,5 @@ impl<A: Allocator + Copy> Link<A> {
             add(&mut frames, frame)?;
         }
         Ok(frames)
-    }
-}
-
-/// How many of the parcels go to the node.
-fn count_to(parcels: &[Parcel<&[u8]>], node: u8) -> usize
-    ensures { result ≡ count_to (map owned_parcel parcels.now) node }
-{
-    parcels.iter().filter(|parcel| parcel.dest == node).count()
-}
-
-/// Makes room at each node for the messages of the parcels that go there.
-fn reserve<A: Allocator>(
-    sides: &mut Vec<Side<A>, A>,
-    parcels: &[Parcel<&[u8]>],
-) -> Result<(), AllocError>
-    requires within { AreWithin (linked 0 sides.old.items) (map owned_parcel parcels.now) }
-    ensures peers { map peer_of sides.new.items ≡ map peer_of sides.old.items }
-    ensures room { OnOk result (HasRoomFor sides.new.items (map owned_parcel parcels.now)) }
-    ensures sure { length parcels.now ≡ 0 → IsOk result }
-{
-    for parcel in parcels {
-        let more = count_to(parcels, parcel.dest);
-        sides[usize::from(parcel.dest)].reserve(more)?;
-    }
-    Ok(())
-}
-
-/// Keeps the messages of the parcels, each at its node.
-fn keep_each<A: Allocator>(
-    sides: &mut Vec<Side<A>, A>,
-    parcels: &[Parcel<&[u8]>],
-    mut copies: VecDeque<Message<Page<A>>, A>,
-)
-    requires within { AreWithin (linked 0 sides.old.items) (map owned_parcel parcels.now) }
-    requires room { HasRoomFor sides.old.items (map owned_parcel parcels.now) }
-    requires numbers { has_numbers (linked 0 sides.old.items) (map owned_parcel parcels.now) ≡ true }
-    requires copies { copies.items ≡ map message_of (map owned_parcel parcels.now) }
-    ensures { linked 0 sides.new.items ≡ after_sends (linked 0 sides.old.items) (map owned_parcel parcels.now) }
-{
-    for parcel in parcels {
-        let Some(copy) = copies.pop_front() else {
-            unreachable!();
-        };
-        sides[usize::from(parcel.dest)].keep(copy);
     }
 }

@@ -1,10 +1,12 @@
 //! What a link knows of one other node.
-ghost use Rattle.std.specs.Prelude.{◌≡◌, ◌↔◌, ◌+◌, ◌<◌, ◌≤◌, length, drop, IsTrue, OnOk};
+ghost use Rattle.std.specs.Prelude.{◌≡◌, ◌↔◌, ◌+◌, ◌<◌, ◌≤◌, length, drop, Some, None, IsTrue, IfOk, OnOk, if◌then◌else◌};
 ghost use Rattle.ivy_link.specs.Limits.{greatest_number};
 ghost use Rattle.ivy_link.specs.Linked.{with_message};
+ghost use Rattle.ivy_link.specs.Windows.{first_window, place_at, place_of, can_hold, with_string, without_first, moved_by};
 
 use crate::verdict::Verdict;
-use ivy_wire::{Message, Page};
+use crate::window::Window;
+use ivy_wire::{Bytes, Message, Page};
 use std::alloc::{AllocError, Allocator};
 use std::collections::VecDeque;
 use std::marker::Model;
@@ -21,6 +23,8 @@ pub(crate) struct Side<A: Allocator> {
     delivered: u64,
     /// Whether an acknowledgement is owed.
     owed: bool,
+    /// The strings that came before their turn.
+    held: Window<A>,
 }
 
 impl<A: Allocator> Model for Side<A> {
@@ -30,7 +34,7 @@ impl<A: Allocator> Model for Side<A> {
 
     ghost Value = { Sided };
 
-    ghost view = { λ s. record { peer = record { sent = s.sent; kept = s.kept.items; delivered = s.delivered; owed = s.owed }; room = deque_capacity s.kept - deque_len s.kept } };
+    ghost view = { λ s. record { peer = record { sent = s.sent; kept = s.kept.items; delivered = s.delivered; owed = s.owed }; room = deque_capacity s.kept - deque_len s.kept; held = s.held } };
 
     ghost invariant = { λ s. length s.kept.items ≤ s.sent };
 }
@@ -40,15 +44,18 @@ impl<A: Allocator> Side<A> {
     ghost use Rattle.ivy_link.specs.Accepted.{verdict_on, heard};
     ghost use Rattle.ivy_link.specs.Pulsed.{settled};
 
-    pub(crate) fn new(alloc: A) -> Side<A>
-        ensures { result.peer ≡ fresh }
+    pub(crate) fn new(alloc: A) -> Result<Side<A>, AllocError>
+    where
+        A: Copy,
+        ensures { IfOk result (λ side. (side.peer ≡ fresh) × (side.held ≡ first_window)) }
     {
-        Side {
+        Ok(Side {
             sent: 0,
             kept: VecDeque::new(alloc),
             delivered: 0,
             owed: false,
-        }
+            held: Window::new(alloc)?,
+        })
     }
 
     pub(crate) fn sent(&self) -> u64
@@ -86,6 +93,7 @@ impl<A: Allocator> Side<A> {
     /// Makes room for so many more messages to keep.
     pub(crate) fn reserve(&mut self, more: usize) -> Result<(), AllocError>
         ensures peer { self.new.peer ≡ self.old.peer }
+        ensures held { self.new.held ≡ self.old.held }
         ensures room { OnOk result (more ≤ self.new.room) }
     {
         self.kept.reserve(more)
@@ -97,6 +105,7 @@ impl<A: Allocator> Side<A> {
         requires number { self.old.peer.sent < greatest_number }
         ensures peer { self.new.peer ≡ with_message self.old.peer message }
         ensures room { self.new.room + 1 ≡ self.old.room }
+        ensures held { self.new.held ≡ self.old.held }
     {
         self.kept.push_back_reserved(message);
         self.sent += 1;
@@ -116,9 +125,11 @@ impl<A: Allocator> Side<A> {
         }
     }
 
-    /// Takes the acknowledgement of a frame of this number, and counts its message if it is the next.
+    /// Takes the acknowledgement of a frame of this number, and counts its message if it is the next. Then no
+    /// string of that number is held.
     pub(crate) fn hear(&mut self, number: u64, ack: u64)
-        ensures { self.new.peer ≡ heard (verdict_on self.old.peer.delivered number) self.old.peer number ack }
+        ensures peer { self.new.peer ≡ heard (verdict_on self.old.peer.delivered number) self.old.peer number ack }
+        ensures held { self.new.held ≡ moved_by (verdict_on self.old.peer.delivered number) self.old.held }
     {
         if ack <= self.sent {
             let acknowledged = self.sent - self.kept.len() as u64;
@@ -128,6 +139,7 @@ impl<A: Allocator> Side<A> {
             Verdict::Next => {
                 self.delivered = number;
                 self.owed = true;
+                self.held.move_on();
             }
             Verdict::Repeat => self.owed = self.owed || number >= 1,
             Verdict::Ahead | Verdict::NotMine => {}
@@ -136,9 +148,32 @@ impl<A: Allocator> Side<A> {
 
     /// A frame was made: nothing is owed any more.
     pub(crate) fn settle(&mut self)
-        ensures { self.new.peer ≡ settled self.old.peer }
+        ensures peer { self.new.peer ≡ settled self.old.peer }
+        ensures held { self.new.held ≡ self.old.held }
     {
         self.owed = false;
+    }
+
+    /// Holds the string of a frame of this number, or gives it back.
+    pub(crate) fn hold(&mut self, number: u64, string: Bytes<A>) -> Option<Bytes<A>>
+        ensures peer { self.new.peer ≡ self.old.peer }
+        ensures held { self.new.held ≡ (if can_hold self.old.peer.delivered self.old.held number then with_string self.old.held (place_of self.old.peer.delivered number) string else self.old.held) }
+        ensures result { result ≡ (if can_hold self.old.peer.delivered self.old.held number then None else Some string) }
+    {
+        if self.delivered >= number {
+            return Some(string);
+        }
+        let place = number - self.delivered - 1;
+        self.held.hold(place as usize, string)
+    }
+
+    /// Takes out the string that is held of the number after those delivered.
+    pub(crate) fn take_ready(&mut self) -> Option<Bytes<A>>
+        ensures peer { self.new.peer ≡ self.old.peer }
+        ensures held { self.new.held ≡ without_first self.old.held }
+        ensures result { result ≡ place_at self.old.held 0 }
+    {
+        self.held.take_first()
     }
 }
 

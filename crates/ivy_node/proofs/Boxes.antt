@@ -1,5 +1,5 @@
 -- What holds of an outbox stays, and how many strings an event adds.
-use Rattle.std.proofs.Common.{◌≡◌, ◌≢◌, ℕ, ◌+◌, ◌^◌, ◌<◌, ◌≤◌, List, [], ◌∷◌, ◌++◌, All, length, map, get_or, take, true, refl, sym, ap, subst, ◌∙◌, arith, append_assoc, Some}
+use Rattle.std.proofs.Common.{◌≡◌, ◌≢◌, Bool, false, if◌then◌else◌, ℕ, ◌+◌, ◌^◌, ◌<◌, ◌≤◌, List, [], ◌∷◌, ◌++◌, All, length, map, get_or, take, true, refl, sym, ap, subst, ◌∙◌, arith, append_assoc, Some}
 use Rattle.std.specs.Borrow.{Bor}
 use Rattle.std.specs.List.{slice_get}
 use Rattle.std.proofs.lemmas.Option.{slice_get_within, get_or_from_slice_get}
@@ -14,12 +14,14 @@ use Rattle.ivy_wire.specs.Spelling.{FitsParcel, Fits, spelling}
 use Rattle.ivy_link.specs.Linked.{Linked, first_link, after_sends, frames_of, has_numbers, AreWithin}
 use Rattle.ivy_link.specs.Accepted.{accepted}
 use Rattle.ivy_link.specs.Pulsed.{frames_again, after_pulse, pulsed}
+use Rattle.ivy_link.specs.Windows.{Window, with_string}
+use Rattle.ivy_link.specs.Holding.{Holding, link_of, window_at, with_window, can_hold, place_in, after_hold}
 use Rattle.ivy_link.specs.Fitting.{FitsLink}
 use Rattle.ivy_link.proofs.Fits.{sends-me, accepted-me, first-fits, sends-fits, frames-fit, fits-within, heard-link-fits, pulsed-fits, again-fit, length-frames_of, few-again}
 use Rattle.ivy_events.specs.Marks.{Pulse}
 use Rattle.ivy_node.specs.Shown.{}
 use Rattle.ivy_events.specs.Parts.{pulse_marks}
-use Rattle.ivy_node.specs.Outboxes.{Outbox, IsSoundOutbox, with_sending, posted_by}
+use Rattle.ivy_node.specs.Outboxes.{Outbox, IsSoundOutbox, holding_of, with_sending, posted_by}
 
 -- how many strings are added
 pub few : (l : Linked) (to : ℕ) → length (map spelling (frames_again l to)) ≤ 32
@@ -66,25 +68,37 @@ none-marks to [] none = refl
 none-marks to (f ∷ fs) none = absurd (none (λ e. absurd cc))
 
 -- at the beginning
-pub first-box : (c : Config) (me : ℕ) (ws : List (List ℕ)) → IsConfig c → me < c.nodes → IsSoundOutbox (record { config = c; me = me; link = first_link me c.nodes; waiting = ws })
-first-box c me ws limits here = record { limits = limits; mine = refl; fits = first-fits c me here }
+pub first-box : (c : Config) (me : ℕ) (ws : List (List ℕ)) (hs : List Window) → IsConfig c → me < c.nodes → IsSoundOutbox (record { config = c; me = me; link = first_link me c.nodes; waiting = ws; held = hs })
+first-box c me ws hs limits here = record { limits = limits; mine = refl; fits = first-fits c me here }
 
 -- another link of the same node that fits
-relinked : (n v : Outbox) → v ≡ n → IsSoundOutbox v → (l : Linked) (ws : List (List ℕ)) → l.me ≡ n.link.me → (IsSoundOutbox n → FitsLink n.config l) → IsSoundOutbox (record { config = v.config; me = v.me; link = l; waiting = ws })
-relinked n v same s l ws mine fits =
+relinked : (n v : Outbox) → v ≡ n → IsSoundOutbox v → (l : Linked) (ws : List (List ℕ)) (hs : List Window) → l.me ≡ n.link.me → (IsSoundOutbox n → FitsLink n.config l) → IsSoundOutbox (record { config = v.config; me = v.me; link = l; waiting = ws; held = hs })
+relinked n v same s l ws hs mine fits =
     let at : IsSoundOutbox n = subst IsSoundOutbox same s in
-    subst (λ (x : Outbox). IsSoundOutbox (record { config = x.config; me = x.me; link = l; waiting = ws })) (sym same)
+    subst (λ (x : Outbox). IsSoundOutbox (record { config = x.config; me = x.me; link = l; waiting = ws; held = hs })) (sym same)
     (record { limits = at.limits; mine = mine ∙ at.mine; fits = fits at })
 
-pub accepted-box : {B : Type 0} (n v : Outbox) → v ≡ n → IsSoundOutbox v → (f : frame.Frame B) (l : Linked) → f.number < 2 ^ 64 → l ≡ accepted v.link f → IsSoundOutbox (record { config = v.config; me = v.me; link = l; waiting = v.waiting })
-accepted-box n v same s f l small is =
+pub accepted-box : {B : Type 0} (n v : Outbox) → v ≡ n → IsSoundOutbox v → (f : frame.Frame B) (l : Linked) (hs : List Window) → f.number < 2 ^ 64 → l ≡ accepted v.link f → IsSoundOutbox (record { config = v.config; me = v.me; link = l; waiting = v.waiting; held = hs })
+accepted-box n v same s f l hs small is =
     let now : l ≡ accepted n.link f = is ∙ ap (λ (x : Outbox). accepted x.link f) same in
-    relinked n v same s l v.waiting (ap (λ k. k.me) now ∙ accepted-me n.link f) (λ at. subst (FitsLink n.config) (sym now) (heard-link-fits n.config n.link f at.fits small))
+    relinked n v same s l v.waiting hs (ap (λ k. k.me) now ∙ accepted-me n.link f) (λ at. subst (FitsLink n.config) (sym now) (heard-link-fits n.config n.link f at.fits small))
 
-pub pulsed-box : (n v : Outbox) → v ≡ n → IsSoundOutbox v → (to : ℕ) (l : Linked) (ws : List (List ℕ)) → l ≡ after_pulse v.link to → IsSoundOutbox (record { config = v.config; me = v.me; link = l; waiting = ws })
-pulsed-box n v same s to l ws is =
+-- what is held is nothing to the link
+pub link-kept : (b : Bool) (h : Holding) (j : ℕ) (w : Window) → link_of (if b then with_window h j w else h) ≡ link_of h
+link-kept true h j w = refl
+link-kept false h j w = refl
+
+pub held-box : {B : Type 0} (v : Outbox) → IsSoundOutbox v → (f : frame.Frame B) (s : List ℕ) (h : Holding) → h ≡ after_hold (holding_of v) f s → IsSoundOutbox (record { config = v.config; me = v.me; link = link_of h; waiting = v.waiting; held = h.held })
+held-box v sound f s h is =
+    let o : Holding = holding_of v in
+    let same : link_of h ≡ v.link = ap link_of is ∙ link-kept (can_hold o f) o f.source (with_string (window_at o f.source) (place_in o f) s) in
+    subst (λ (l : Linked). IsSoundOutbox (record { config = v.config; me = v.me; link = l; waiting = v.waiting; held = h.held })) (sym same)
+    (record { limits = sound.limits; mine = sound.mine; fits = sound.fits })
+
+pub pulsed-box : (n v : Outbox) → v ≡ n → IsSoundOutbox v → (to : ℕ) (l : Linked) (ws : List (List ℕ)) (hs : List Window) → l ≡ after_pulse v.link to → IsSoundOutbox (record { config = v.config; me = v.me; link = l; waiting = ws; held = hs })
+pulsed-box n v same s to l ws hs is =
     let now : l ≡ after_pulse n.link to = is ∙ ap (λ (x : Outbox). after_pulse x.link to) same in
-    relinked n v same s l ws (ap (λ k. k.me) now) (λ at. subst (FitsLink n.config) (sym now) (pulsed-fits n.config n.link to at.fits))
+    relinked n v same s l ws hs (ap (λ k. k.me) now) (λ at. subst (FitsLink n.config) (sym now) (pulsed-fits n.config n.link to at.fits))
 
 pub pulsed-fit : (n v : Outbox) → v ≡ n → IsSoundOutbox v → (to : ℕ) (fs : List Frame) → to < n.config.nodes → to ≢ n.me → fs ≡ frames_again v.link to → All (Fits v.config) fs
 pulsed-fit n v same s to fs there apart is =
@@ -106,8 +120,8 @@ numbers-at n v same ps all = ap (λ (x : Outbox). has_numbers x.link ps) same �
 pub sent-fit : (n v : Outbox) → v ≡ n → IsSoundOutbox v → (ps : List Parcel) → All (FitsParcel n.config n.me) ps → has_numbers n.link ps ≡ true → All (Fits v.config) (frames_of v.link ps)
 sent-fit n v same s ps fit numbers = frames-fit v.config v.link ps s.fits (own-fit n v same s ps fit) (numbers-at n v same ps numbers)
 
-pub sent-box : (n v : Outbox) → v ≡ n → IsSoundOutbox v → (ps : List Parcel) (l : Linked) (ws : List (List ℕ)) → All (FitsParcel n.config n.me) ps → has_numbers n.link ps ≡ true → l ≡ after_sends v.link ps → IsSoundOutbox (record { config = v.config; me = v.me; link = l; waiting = ws })
-sent-box n v same s ps l ws fit numbers is = record {
+pub sent-box : (n v : Outbox) → v ≡ n → IsSoundOutbox v → (ps : List Parcel) (l : Linked) (ws : List (List ℕ)) (hs : List Window) → All (FitsParcel n.config n.me) ps → has_numbers n.link ps ≡ true → l ≡ after_sends v.link ps → IsSoundOutbox (record { config = v.config; me = v.me; link = l; waiting = ws; held = hs })
+sent-box n v same s ps l ws hs fit numbers is = record {
   limits = s.limits;
   mine = ap (λ k. k.me) is ∙ (sends-me v.link ps ∙ s.mine);
   fits = subst (FitsLink v.config) (sym is) (sends-fits v.config v.link ps s.fits (own-fit n v same s ps fit) (numbers-at n v same ps numbers));

@@ -1,10 +1,9 @@
 -- Moves that follow one another.
-use Rattle.std.proofs.Common.{◌≡◌, List, [], ◌∷◌, ◌++◌, Some, refl, subst}
+use Rattle.std.proofs.Common.{List, [], ◌∷◌, ◌++◌, refl, subst}
 use Rattle.ivy_model.specs.declared.Config.{Config}
 use Rattle.ivy_events.specs.declared.Move.{Move}
 use Rattle.ivy_events.specs.Cores.{Core}
-use Rattle.ivy_events.specs.Worlds.{World, Leads, moved}
-use Rattle.ivy_events.proofs.Kept.{stays-there}
+use Rattle.ivy_events.specs.Worlds.{World, Leads, Moves}
 
 module _ {C : Type 0} (rules : Core C) (c : Config) where
   -- first these, then those
@@ -13,5 +12,5 @@ module _ {C : Type 0} (rules : Core C) (c : Config) where
   leads_on u v w (m ∷ xs) ys h k = (h.0, h.1, leads_on h.0 v w xs ys h.2 k)
 
   -- one move more
-  pub leads_one : (u v w : World C) (xs : List Move) (m : Move) → Leads rules c u xs v → moved rules c v m ≡ Some w → Leads rules c u (xs ++ m ∷ []) w
-  leads_one u v w xs m h e = leads_on u v w xs (m ∷ []) h (w, stays-there rules c v w m e, refl)
+  pub leads_one : (u v w : World C) (xs : List Move) (m : Move) → Leads rules c u xs v → Moves rules c v m w → Leads rules c u (xs ++ m ∷ []) w
+  leads_one u v w xs m h e = leads_on u v w xs (m ∷ []) h (w, e, refl)

@@ -10,3 +10,6 @@ pub mod Worlds
 pub mod Making
 pub mod Made
 pub mod Programs
+pub mod HeldStrings
+pub mod GoingOn
+pub mod Receiving

@@ -1,8 +1,11 @@
 -- A site stays what its events make, whatever its calls do.
-use Rattle.std.proofs.Common.{◌≡◌, ◌≢◌, ℕ, List, [], ◌∷◌, ◌++◌, Option, Some, None, Contains, refl, sym, ap, subst, ◌∙◌, append-nil, append_assoc}
+use Rattle.std.proofs.Common.{◌≡◌, ◌≢◌, ℕ, replicate, inl, inr, arith, List, [], ◌∷◌, ◌++◌, Option, Some, None, Contains, refl, sym, ap, subst, ◌∙◌, append-nil, append_assoc}
 use Rattle.std.specs.Prelude.{IfSome}
 use Rattle.std.proofs.lemmas.List.Elements.{Contains-append_left, Contains-append_right, Contains-push}
+use Rattle.std.proofs.lemmas.Bool.{cases_lt}
+use Rattle.std.proofs.lemmas.List.{get_or-replicate, get_or_past, length-replicate}
 use Rattle.std.proofs.lemmas.Option.{none-some}
+use Rattle.ivy_link.specs.Windows.{first_window, place_at}
 use Rattle.ivy_model.specs.declared.Config.{Config}
 use Rattle.ivy_model.specs.Config.{IsConfig}
 use Rattle.ivy_wire.proofs.Frames.{spelled_once}
@@ -24,9 +27,8 @@ use Rattle.ivy_node.specs.declared.turn.Turn as turn
 use Rattle.ivy_node.specs.declared.turn.Turn.TheVariants.{Idle, Moved, Ended}
 use Rattle.ivy_node.proofs.Programs.{turned-program, posting-core, delivered-program}
 use Rattle.ivy_node.specs.Outboxes.{Outbox, Takes}
-use Rattle.ivy_node.specs.Shown.{Shown, after_event, after_delivery, after_pulse_to}
-use Rattle.ivy_node.specs.WorldSites.{early_at}
-use Rattle.ivy_node.specs.Sites.{IsSite, IsMadeByEvents, AfterTurn, AfterDelivery, first_shown, IsSentBy}
+use Rattle.ivy_node.specs.Shown.{Shown, after_hearing, after_delivery, after_pulse_to}
+use Rattle.ivy_node.specs.Sites.{early_at, IsSite, HoldsEarly, IsMadeByEvents, AfterTurn, Delivers, first_shown, IsSentBy}
 
 abbrev rules : Core (Host Managed)
 rules = host_rules managed_ops
@@ -66,8 +68,8 @@ turn_made Moved old new h after =
     (ap (λ (s : Shown). s.events) after.after) (ap (λ (s : Shown). s.node) after.after) (ap (λ (s : Shown). s.waiting) after.after)
 
 -- a delivery
-delivered_made : (bytes : List ℕ) (v : Verdict) (old new : Shown) → IsMadeByEvents old → (d : AfterDelivery bytes v old new) → v ≢ verdict.NotMine → verdict_of old.config old.node bytes ≡ v → IsConfig old.config → new ≡ after_event old (Delivery bytes) d.effect → IsMadeByEvents new
-delivered_made bytes v old new h d mine is limits after =
+delivered_made : (bytes : List ℕ) (v : Verdict) (old new : Shown) → IsMadeByEvents old → (d : Delivers bytes v old new) → v ≢ verdict.NotMine → verdict_of old.config old.node bytes ≡ v → IsConfig old.config → (w : Verdict) → new ≡ after_hearing old bytes w d.frame.source d.effect → IsMadeByEvents new
+delivered_made bytes v old new h d mine is limits w after =
     grown old new (Delivery bytes ∷ []) d.effect h
     (single rules old.config old.node (Delivery bytes) d.effect ((λ not. mine (sym is ∙ not)), d.delivered))
     (ap (λ (s : Shown). s.config) after) (ap (λ (s : Shown). s.me) after)
@@ -75,29 +77,43 @@ delivered_made bytes v old new h d mine is limits after =
     (ap (λ (s : Shown). s.events) after) (ap (λ (s : Shown). s.node) after) (ap (λ (s : Shown). s.waiting) after)
 
 -- the verdict is what the definitions say of the string
-read_verdict : (bytes : List ℕ) (v : Verdict) (old new : Shown) → IsConfig old.config → (d : AfterDelivery bytes v old new) → verdict_of old.config old.node bytes ≡ v
+read_verdict : (bytes : List ℕ) (v : Verdict) (old new : Shown) → IsConfig old.config → (d : Delivers bytes v old new) → verdict_of old.config old.node bytes ≡ v
 read_verdict bytes v old new limits d =
     let once = spelled_once old.config d.frame bytes limits d.spelled in
     ap (λ r. verdict_as r old.node bytes) once.0 ∙ ap (λ f. offered old.node.link f) once.1 ∙ sym d.is
 
-made_as : (bytes : List ℕ) (v : Verdict) (old new : Shown) → IsConfig old.config → IsMadeByEvents old → (d : AfterDelivery bytes v old new) → (w : Verdict) → v ≡ w → IsMadeByEvents new
-made_as bytes v old new limits h d verdict.NotMine is = unchanged old new h (d.after ∙ ap (λ x. after_delivery old bytes x d.effect) is)
+made_as : (bytes : List ℕ) (v : Verdict) (old new : Shown) → IsConfig old.config → IsMadeByEvents old → (d : Delivers bytes v old new) → (w : Verdict) → v ≡ w → IsMadeByEvents new
+made_as bytes v old new limits h d verdict.NotMine is = unchanged old new h (d.after ∙ ap (λ x. after_delivery old bytes x d.frame.source d.effect) is)
 made_as bytes v old new limits h d verdict.Next is =
-    delivered_made bytes v old new h d (λ not. (let apart : verdict.Next ≡ verdict.NotMine = sym is ∙ not in absurd cc)) (read_verdict bytes v old new limits d) limits (d.after ∙ ap (λ x. after_delivery old bytes x d.effect) is)
+    delivered_made bytes v old new h d (λ not. (let apart : verdict.Next ≡ verdict.NotMine = sym is ∙ not in absurd cc)) (read_verdict bytes v old new limits d) limits verdict.Next (d.after ∙ ap (λ x. after_delivery old bytes x d.frame.source d.effect) is)
 made_as bytes v old new limits h d verdict.Repeat is =
-    delivered_made bytes v old new h d (λ not. (let apart : verdict.Repeat ≡ verdict.NotMine = sym is ∙ not in absurd cc)) (read_verdict bytes v old new limits d) limits (d.after ∙ ap (λ x. after_delivery old bytes x d.effect) is)
+    delivered_made bytes v old new h d (λ not. (let apart : verdict.Repeat ≡ verdict.NotMine = sym is ∙ not in absurd cc)) (read_verdict bytes v old new limits d) limits verdict.Repeat (d.after ∙ ap (λ x. after_delivery old bytes x d.frame.source d.effect) is)
 made_as bytes v old new limits h d verdict.Ahead is =
-    delivered_made bytes v old new h d (λ not. (let apart : verdict.Ahead ≡ verdict.NotMine = sym is ∙ not in absurd cc)) (read_verdict bytes v old new limits d) limits (d.after ∙ ap (λ x. after_delivery old bytes x d.effect) is)
+    delivered_made bytes v old new h d (λ not. (let apart : verdict.Ahead ≡ verdict.NotMine = sym is ∙ not in absurd cc)) (read_verdict bytes v old new limits d) limits verdict.Ahead (d.after ∙ ap (λ x. after_delivery old bytes x d.frame.source d.effect) is)
 
-pub delivery_made : (bytes : List ℕ) (v : Verdict) (old new : Shown) → IsConfig old.config → IsMadeByEvents old → (d : AfterDelivery bytes v old new) → IsMadeByEvents new
+pub delivery_made : (bytes : List ℕ) (v : Verdict) (old new : Shown) → IsConfig old.config → IsMadeByEvents old → (d : Delivers bytes v old new) → IsMadeByEvents new
 delivery_made bytes v old new limits h d = made_as bytes v old new limits h d v refl
 
 -- the first site
 pub first_made : (c : Config) (me : ℕ) (program : List Instruction) → IsMadeByEvents (first_shown c me program)
 first_made c me program = record { effect = stays (first_node managed_ops c me program); happen = refl; node = refl; taken = []; waits = refl }
 
+-- nothing is held
+first_holds : (c : Config) (me : ℕ) (program : List Instruction) → HoldsEarly (first_shown c me program)
+first_holds c me program from place bytes is =
+    elim (cases_lt from c.nodes) [
+      | inl lt ↦ absurd (none-some bytes (sym (ap (λ w. place_at w place) (get_or-replicate c.nodes from first_window [] lt) ∙ none-first place) ∙ is))
+      | inr past ↦ absurd (none-some bytes (sym (ap (λ w. place_at w place) (get_or_past (replicate c.nodes first_window) from [] (omega (arith, past, length-replicate c.nodes first_window)))) ∙ is))
+    ]
+  where
+    none-first : (place : ℕ) → place_at first_window place ≡ None
+    none-first place = elim (cases_lt place 32) [
+      | inl lt ↦ get_or-replicate 32 place None None lt
+      | inr past ↦ get_or_past (replicate 32 None) place None (omega (arith, past, length-replicate {A = Option (List ℕ)} 32 None))
+    ]
+
 pub first_site : (c : Config) (me : ℕ) (program : List Instruction) (s : Shown) → s ≡ first_shown c me program → IsSite s
-first_site c me program s is = subst IsSite (sym is) (record { config = refl; me = refl; asking = λ call asked. absurd (none-some call asked); made = first_made c me program })
+first_site c me program s is = subst IsSite (sym is) (record { config = refl; me = refl; asking = λ call asked. absurd (none-some call asked); made = first_made c me program; held = first_holds c me program })
 
 -- a pulse
 pub pulse_made-on : (to : ℕ) (old new : Shown) → IsMadeByEvents old → new ≡ after_pulse_to old to (pulsing old.node to) → IsMadeByEvents new
@@ -109,19 +125,20 @@ pulse_made-on to old new h after =
 
 -- a string that waited is taken
 abbrev box_of : Shown → Outbox
-box_of v = record { config = v.config; me = v.me; link = v.node.link; waiting = v.waiting }
+box_of v = record { config = v.config; me = v.me; link = v.node.link; waiting = v.waiting; held = v.held }
 
 abbrev boxed : Shown → Outbox → Shown
-boxed v box = record { config = box.config; me = box.me; node = record { core = v.node.core; link = box.link }; events = v.events; waiting = box.waiting }
+boxed v box = record { config = box.config; me = box.me; node = record { core = v.node.core; link = box.link }; events = v.events; waiting = box.waiting; held = box.held }
 
 pub take_site : (v : Shown) (bytes : Option (List ℕ)) (box : Outbox) → IsSite v → Takes bytes (box_of v) box → IsSite (boxed v box)
 take_site v None box s takes = subst (λ b. IsSite (boxed v b)) (sym takes.1) s
 take_site v (Some bytes) box s takes =
-    let same : box ≡ record { config = v.config; me = v.me; link = v.node.link; waiting = box.waiting } = (λ k. record { config = takes.1 k; me = takes.2 k; link = takes.3 k; waiting = box.waiting }) in
+    let same : box ≡ record { config = v.config; me = v.me; link = v.node.link; waiting = box.waiting; held = v.held } = (λ k. record { config = takes.1 k; me = takes.2 k; link = takes.3 k; waiting = box.waiting; held = takes.4 k }) in
     subst (λ b. IsSite (boxed v b)) (sym same) (record {
       config = s.config;
       me = s.me;
       asking = s.asking;
+      held = λ from place x is. (let h = s.held from place x is in record { early = h.early; frame = h.frame; spelled = h.spelled; source = h.source; dest = h.dest; number = h.number });
       made = record {
         effect = s.made.effect;
         happen = s.made.happen;
@@ -175,24 +192,24 @@ pulse_early to old new h after =
     ∙ ap (λ l. early_at old ++ l) (pulse_nothing old.node old.config to (pulsing old.node to).sent)
 
 -- by a delivery a string that came too early
-delivered_early : (bytes : List ℕ) (v : Verdict) (old new : Shown) → IsConfig old.config → IsMadeByEvents old → (d : AfterDelivery bytes v old new) → new ≡ after_event old (Delivery bytes) d.effect → verdict_of old.config old.node bytes ≡ v
+delivered_early : (bytes : List ℕ) (v : Verdict) (old new : Shown) → IsConfig old.config → IsMadeByEvents old → (d : Delivers bytes v old new) (w : Verdict) → new ≡ after_hearing old bytes w d.frame.source d.effect → verdict_of old.config old.node bytes ≡ v
     → early_at new ≡ early_at old ++ early_as v bytes
-delivered_early bytes v old new limits h d after is =
+delivered_early bytes v old new limits h d w after is =
     early_grown old new (Delivery bytes ∷ []) h (ap (λ (s : Shown). s.config) after) (ap (λ (s : Shown). s.me) after)
     (ap program_in after ∙ delivered-program old.config limits old.node d.frame bytes d.effect d.spelled d.delivered) (ap (λ (s : Shown). s.events) after)
     ∙ ap (λ l. early_at old ++ l) (append-nil (early_as (verdict_of old.config old.node bytes) bytes))
     ∙ ap (λ w. early_at old ++ early_as w bytes) is
 
-early_after : (bytes : List ℕ) (v : Verdict) (old new : Shown) → IsConfig old.config → IsMadeByEvents old → (d : AfterDelivery bytes v old new) → (w : Verdict) → v ≡ w → early_at new ≡ early_at old ++ early_as w bytes
-early_after bytes v old new limits h d verdict.NotMine is = early_same old new (d.after ∙ ap (λ x. after_delivery old bytes x d.effect) is)
+early_after : (bytes : List ℕ) (v : Verdict) (old new : Shown) → IsConfig old.config → IsMadeByEvents old → (d : Delivers bytes v old new) → (w : Verdict) → v ≡ w → early_at new ≡ early_at old ++ early_as w bytes
+early_after bytes v old new limits h d verdict.NotMine is = early_same old new (d.after ∙ ap (λ x. after_delivery old bytes x d.frame.source d.effect) is)
 early_after bytes v old new limits h d verdict.Next is =
-    delivered_early bytes v old new limits h d (d.after ∙ ap (λ x. after_delivery old bytes x d.effect) is) (read_verdict bytes v old new limits d) ∙ ap (λ w. early_at old ++ early_as w bytes) is
+    delivered_early bytes v old new limits h d verdict.Next (d.after ∙ ap (λ x. after_delivery old bytes x d.frame.source d.effect) is) (read_verdict bytes v old new limits d) ∙ ap (λ w. early_at old ++ early_as w bytes) is
 early_after bytes v old new limits h d verdict.Repeat is =
-    delivered_early bytes v old new limits h d (d.after ∙ ap (λ x. after_delivery old bytes x d.effect) is) (read_verdict bytes v old new limits d) ∙ ap (λ w. early_at old ++ early_as w bytes) is
+    delivered_early bytes v old new limits h d verdict.Repeat (d.after ∙ ap (λ x. after_delivery old bytes x d.frame.source d.effect) is) (read_verdict bytes v old new limits d) ∙ ap (λ w. early_at old ++ early_as w bytes) is
 early_after bytes v old new limits h d verdict.Ahead is =
-    delivered_early bytes v old new limits h d (d.after ∙ ap (λ x. after_delivery old bytes x d.effect) is) (read_verdict bytes v old new limits d) ∙ ap (λ w. early_at old ++ early_as w bytes) is
+    delivered_early bytes v old new limits h d verdict.Ahead (d.after ∙ ap (λ x. after_delivery old bytes x d.frame.source d.effect) is) (read_verdict bytes v old new limits d) ∙ ap (λ w. early_at old ++ early_as w bytes) is
 
-pub delivery_early : (bytes : List ℕ) (v : Verdict) (old new : Shown) → IsConfig old.config → IsMadeByEvents old → (d : AfterDelivery bytes v old new)
+pub delivery_early : (bytes : List ℕ) (v : Verdict) (old new : Shown) → IsConfig old.config → IsMadeByEvents old → (d : Delivers bytes v old new)
     → (verdict_of old.config old.node bytes ≡ v) × (early_at new ≡ early_at old ++ early_as v bytes)
 delivery_early bytes v old new limits h d = (read_verdict bytes v old new limits d, early_after bytes v old new limits h d v refl)
 

@@ -25,8 +25,8 @@ use Rattle.ivy_host.specs.Hosts.{Host, host_rules}
 use Rattle.ivy_host.specs.Holding.{AllSpell}
 use Rattle.ivy_node.specs.Runs.{IsRefusedBy}
 use Rattle.ivy_node.specs.Shown.{Shown, after_pulse_to, after_delivery}
-use Rattle.ivy_node.specs.Sites.{IsMadeByEvents, AfterTurn, IsSpentTurn, AfterDelivery, IsSpentDelivery}
-use Rattle.ivy_node.specs.WorldSites.{programs_of, early_at, world_of, AreSites}
+use Rattle.ivy_node.specs.Sites.{early_at, IsMadeByEvents, AfterTurn, IsSpentTurn, Delivers, IsSpentDelivery}
+use Rattle.ivy_node.specs.WorldSites.{programs_of, world_of, AreSites}
 use Rattle.ivy_events.specs.Early.{early_as}
 use Rattle.ivy_events.proofs.Places.{set-cases}
 use Rattle.ivy_events.proofs.Kept.{none-after}
@@ -35,25 +35,25 @@ use Rattle.ivy_node.proofs.Programs.{turned-program, posting-core, received-prog
 
 -- one site changed
 
-record IsGone (old new : Shown) (e : Effect (Host Managed)) : Type 0 where
+pub record IsGone (old new : Shown) (e : Effect (Host Managed)) : Type 0 where
   pub node : new.node ≡ e.after
   pub waiting : new.waiting ≡ old.waiting ++ e.sent
   pub config : new.config ≡ old.config
   pub me : new.me ≡ old.me
   pub program : e.after.core.process.program ≡ old.node.core.process.program
 
--- what a call of `make` did: the move, with one site changed
+-- what an event did: the move, with one site changed
 pub record Went (c : Config) (sites sites' : List Shown) (sent sent' : List (List ℕ)) (step : Move) : Type 0 where
   pub made : worlds.moved (host_rules managed_ops) c (world_of sites sent) step ≡ Some (world_of sites' sent')
   pub are : AreSites c sites'
   pub programs : programs_of sites' ≡ programs_of sites
 
-same_map : {X Y : Type 0} (f : X → Y) (xs : List X) (i : ℕ) (old new : X) → slice_get xs i ≡ Some old → f new ≡ f old → map f (set xs i new) ≡ map f xs
+pub same_map : {X Y : Type 0} (f : X → Y) (xs : List X) (i : ℕ) (old new : X) → slice_get xs i ≡ Some old → f new ≡ f old → map f (set xs i new) ≡ map f xs
 same_map f [] i old new there same = refl
 same_map f (x ∷ xs) zero old new there same = ap (λ y. y ∷ map f xs) (same ∙ ap f (sym (same_Some x old there)))
 same_map f (x ∷ xs) (suc i) old new there same = ap (λ l. f x ∷ l) (same_map f xs i old new there same)
 
-changed_are : (c : Config) (sites : List Shown) (i : ℕ) (old new : Shown) → AreSites c sites → slice_get sites i ≡ Some old → new.config ≡ old.config → new.me ≡ old.me → new.waiting ≡ [] → IsMadeByEvents new → AreSites c (set sites i new)
+pub changed_are : (c : Config) (sites : List Shown) (i : ℕ) (old new : Shown) → AreSites c sites → slice_get sites i ≡ Some old → new.config ≡ old.config → new.me ≡ old.me → new.waiting ≡ [] → IsMadeByEvents new → AreSites c (set sites i new)
 changed_are c sites i old new h there config me none made = record {
   config = λ j s e. ⊎_elim (λ p. ap (λ (x : Shown). x.config) p.1 ∙ config ∙ h.config i old there) (λ q. h.config j s q) (set-cases sites i j new s e);
   me = λ j s e. ⊎_elim (λ p. ap (λ (x : Shown). x.me) p.1 ∙ me ∙ h.me i old there ∙ sym p.0) (λ q. h.me j s q) (set-cases sites i j new s e);
@@ -62,7 +62,7 @@ changed_are c sites i old new h there config me none made = record {
 }
 
 -- what came too early, where one site changed
-quiet : (sites : List Shown) (i : ℕ) (old new : Shown) → slice_get sites i ≡ Some old → early_at new ≡ early_at old ++ [] → map early_at sites ≡ map early_at (set sites i new)
+pub quiet : (sites : List Shown) (i : ℕ) (old new : Shown) → slice_get sites i ≡ Some old → early_at new ≡ early_at old ++ [] → map early_at sites ≡ map early_at (set sites i new)
 quiet sites i old new there grown = sym (same_map early_at sites i old new there (grown ∙ append-nil (early_at old)))
 
 early-set : (sites : List Shown) (i : ℕ) (old new : Shown) (v : Verdict) (bytes : List ℕ) → slice_get sites i ≡ Some old → early_at new ≡ early_at old ++ early_as v bytes
@@ -75,7 +75,7 @@ early-set sites i old new verdict.Ahead bytes there grown =
     ap (λ l. set (map early_at sites) i (l ++ bytes ∷ [])) found ∙ ap (set (map early_at sites) i) (sym grown) ∙ sym (map-set early_at sites i new)
 
 -- the world after one site changed, where so much more came too early
-changed_world : (sites : List Shown) (sent : List (List ℕ)) (i : ℕ) (new : Shown) (e : Effect (Host Managed)) (early : List (List (List ℕ))) (strings : List (List ℕ)) → new.node ≡ e.after → strings ≡ e.sent
+pub changed_world : (sites : List Shown) (sent : List (List ℕ)) (i : ℕ) (new : Shown) (e : Effect (Host Managed)) (early : List (List (List ℕ))) (strings : List (List ℕ)) → new.node ≡ e.after → strings ≡ e.sent
     → early ≡ map early_at (set sites i new) → record (worlds.gone_on (world_of sites sent) i e) { early = early } ≡ world_of (set sites i new) (sent ++ strings)
 changed_world sites sent i new e early strings node is grown =
     let back = sym is in λ k. record {
@@ -121,10 +121,10 @@ turn_gone Moved old new h = (
 turn_gone Ended old new h = (stays old.node, ap (turned_to (host_rules managed_ops) old.node) h.1, still_gone old new h.2)
 
 module _ (c : Config) (sites : List Shown) (sent : List (List ℕ)) (i : ℕ) (old : Shown) (there : slice_get sites i ≡ Some old) where
-  node_there : slice_get (map (λ (s : Shown). s.node) sites) i ≡ Some old.node
+  pub node_there : slice_get (map (λ (s : Shown). s.node) sites) i ≡ Some old.node
   node_there = slice_get-map (λ (s : Shown). s.node) sites i ∙ ap (option_map (λ (s : Shown). s.node)) there
 
-  named : nat_lt i (length (map (λ (s : Shown). s.node) sites)) ≡ true
+  pub named : nat_lt i (length (map (λ (s : Shown). s.node) sites)) ≡ true
   named = lt-ltb i (length (map (λ (s : Shown). s.node) sites)) (slice_get_within (map (λ (s : Shown). s.node) sites) i old.node node_there)
 
   turn_is : worlds.moved (host_rules managed_ops) c (world_of sites sent) (move.Turn i) ≡ worlds.goes_on (world_of sites sent) i (turned (host_rules managed_ops) old.node)
@@ -179,13 +179,13 @@ pulse_went c sites sent i to old done site step more h there within apart after 
 event_gone : (old new : Shown) (e : Effect (Host Managed)) → new.node ≡ e.after → new.waiting ≡ old.waiting ++ e.sent → new.config ≡ old.config → new.me ≡ old.me → e.after.core.process.program ≡ old.node.core.process.program → IsGone old new e
 event_gone old new e node waiting config me program = record { node = node; waiting = waiting; config = config; me = me; program = program }
 
-after_gone : (v : Verdict) (old new : Shown) (f : Frame) (bytes : List ℕ) (e : Effect (Host Managed)) → new ≡ after_delivery old bytes v e → received_as (host_rules managed_ops) v old.node f ≡ Some e → IsGone old new e
+after_gone : (v : Verdict) (old new : Shown) (f : Frame) (bytes : List ℕ) (e : Effect (Host Managed)) → new ≡ after_delivery old bytes v f.source e → received_as (host_rules managed_ops) v old.node f ≡ Some e → IsGone old new e
 after_gone verdict.NotMine old new f bytes e after is = subst (IsGone old new) (same_Some (stays old.node) e is) (still_gone old new after)
 after_gone verdict.Next old new f bytes e after is = event_gone old new e (ap (λ (s : Shown). s.node) after) (ap (λ (s : Shown). s.waiting) after) (ap (λ (s : Shown). s.config) after) (ap (λ (s : Shown). s.me) after) (received-program verdict.Next old.node f e is)
 after_gone verdict.Repeat old new f bytes e after is = event_gone old new e (ap (λ (s : Shown). s.node) after) (ap (λ (s : Shown). s.waiting) after) (ap (λ (s : Shown). s.config) after) (ap (λ (s : Shown). s.me) after) (received-program verdict.Repeat old.node f e is)
 after_gone verdict.Ahead old new f bytes e after is = event_gone old new e (ap (λ (s : Shown). s.node) after) (ap (λ (s : Shown). s.waiting) after) (ap (λ (s : Shown). s.config) after) (ap (λ (s : Shown). s.me) after) (received-program verdict.Ahead old.node f e is)
 
-delivery_gone : (old new : Shown) (bytes : List ℕ) (v : Verdict) → IsConfig old.config → (h : AfterDelivery bytes v old new) → IsGone old new h.effect
+pub delivery_gone : (old new : Shown) (bytes : List ℕ) (v : Verdict) → IsConfig old.config → (h : Delivers bytes v old new) → IsGone old new h.effect
 delivery_gone old new bytes v config h =
     after_gone v old new h.frame bytes h.effect h.after
     (ap (λ x. received_as (host_rules managed_ops) x old.node h.frame) h.is ∙ (sym (delivered-is old.config config old.node h.frame bytes h.spelled) ∙ h.delivered))
@@ -201,23 +201,23 @@ delivery_is c sites sent index i old bytes there found =
     ∙ (ap (λ o. worlds.delivery_of (host_rules managed_ops) c (world_of sites sent) i o (slice_get sent index)) (node_there c sites sent i old there)
     ∙ ap (worlds.delivery_of (host_rules managed_ops) c (world_of sites sent) i (Some old.node)) found)
 
--- a delivery to the site, and its strings put on the wire
-pub delivery_went : (c : Config) (sites : List Shown) (sent : List (List ℕ)) (index i : ℕ) (old done site : Shown) (bytes : List ℕ) (v : Verdict) (step : Move) (more : List (List ℕ))
-    → IsConfig c → AreSites c sites → slice_get sites i ≡ Some old → slice_get sent index ≡ Some bytes → AfterDelivery bytes v old done → step ≡ move.Deliver index i → site ≡ record done { waiting = [] } → more ≡ sent ++ done.waiting
-    → Went c sites (set sites i site) sent more step
-delivery_went c sites sent index i old done site bytes v step more limits h there found d is same added =
+-- a delivery to the site that goes on with nothing, and its strings put on the wire
+pub delivered_went : (c : Config) (sites : List Shown) (sent : List (List ℕ)) (index i : ℕ) (old done : Shown) (bytes : List ℕ) (v : Verdict)
+    → IsConfig c → AreSites c sites → slice_get sites i ≡ Some old → slice_get sent index ≡ Some bytes → Delivers bytes v old done
+    → Went c sites (set sites i (record done { waiting = [] })) sent (sent ++ done.waiting) (move.Deliver index i)
+delivered_went c sites sent index i old done bytes v limits h there found d =
     let config : old.config ≡ c = h.config i old there in
     let given : delivered (host_rules managed_ops) c old.node bytes ≡ Some d.effect = subst (λ k. delivered (host_rules managed_ops) k old.node bytes ≡ Some d.effect) config d.delivered in
     let well : IsConfig old.config = subst IsConfig (sym config) limits in
     let made = h.made i old there in
     let early = delivery_early bytes v old done well made d in
     let said : verdict_of c old.node bytes ≡ v = ap (λ k. verdict_of k old.node bytes) (sym config) ∙ early.0 in
-    rw is (rw same (rw added (went c sites sent i old done d.effect (move.Deliver index i) (worlds.remembered v (map early_at sites) i bytes) h there
+    went c sites sent i old done d.effect (move.Deliver index i) (worlds.remembered v (map early_at sites) i bytes) h there
     (delivery_gone old done bytes v well d) (delivery_made bytes v old done well made d)
     (early-set sites i old (record done { waiting = [] }) v bytes there early.1)
     (delivery_is c sites sent index i old bytes there found
     ∙ ap (λ o. worlds.remembering (verdict_of c old.node bytes) i bytes (worlds.goes_on (world_of sites sent) i o)) given
-    ∙ ap (λ w. worlds.remembering w i bytes (worlds.goes_on (world_of sites sent) i (Some d.effect))) said))))
+    ∙ ap (λ w. worlds.remembering w i bytes (worlds.goes_on (world_of sites sent) i (Some d.effect))) said)
 
 contains_at : (xs : List (List ℕ)) (i : ℕ) (x : List ℕ) → slice_get xs i ≡ Some x → Contains xs x
 contains_at xs i x found = (i, slice_get_within xs i x found, get_or_from_slice_get xs i x x found)

@@ -55,6 +55,10 @@ pub posting-core : (n : Node (Host Managed)) (core : Host Managed) (ps : List Pa
 posting-core n core ps e is =
     ap (λ (x : Effect (Host Managed)). x.after.core) (sym (same_Some (record { after = record { core = core; link = (sends n.link ps).after }; sent = map spelling (sends n.link ps).frames }) e (guarded (has_numbers n.link ps) _ e is).1))
 
+pub posting-link : (n : Node (Host Managed)) (core : Host Managed) (ps : List Parcel) (e : Effect (Host Managed)) → posting n core ps ≡ Some e → e.after.link ≡ (sends n.link ps).after
+posting-link n core ps e is =
+    ap (λ (x : Effect (Host Managed)). x.after.link) (sym (same_Some (record { after = record { core = core; link = (sends n.link ps).after }; sent = map spelling (sends n.link ps).frames }) e (guarded (has_numbers n.link ps) _ e is).1))
+
 -- a delivery keeps it
 
 accepting-core : (f : Frame) (o : Option (Effect (Host Managed))) (e : Effect (Host Managed)) → accepting f o ≡ Some e → (x : Effect (Host Managed)) × (o ≡ Some x) × (e.after.core ≡ x.after.core)

@@ -11,13 +11,16 @@ use Rattle.ivy_events.specs.Parts.{pulse_marks}
 use Rattle.ivy_node.specs.Sites.{IsSite}
 use Rattle.ivy_host.proofs.Tame.{IsAskingHost}
 use Rattle.ivy_node.proofs.Boxes.{made-marks, none-marks}
-use Rattle.ivy_node.proofs.Made.{pulse_made-on}
+use Rattle.ivy_link.specs.Linked.{peer_at}
+use Rattle.ivy_link.proofs.Holds.{pulsed-delivered}
+use Rattle.ivy_node.proofs.Made.{pulse_made-on, pulse_early}
+use Rattle.ivy_node.proofs.HeldStrings.{quiet-holds}
 
 abbrev box_of : Shown → Outbox
-box_of v = record { config = v.config; me = v.me; link = v.node.link; waiting = v.waiting }
+box_of v = record { config = v.config; me = v.me; link = v.node.link; waiting = v.waiting; held = v.held }
 
 abbrev site_with : Shown → Outbox → List Mark → Shown
-site_with v box events = record { config = box.config; me = box.me; node = record { core = v.node.core; link = box.link }; events = events; waiting = box.waiting }
+site_with v box events = record { config = box.config; me = box.me; node = record { core = v.node.core; link = box.link }; events = events; waiting = box.waiting; held = box.held }
 
 pulse_is : (n v : Shown) → v ≡ n → (to : ℕ) (box : Outbox) (events : List Mark) → box ≡ with_sending (box_of v) (pulsed v.node.link to)
     → events ≡ v.events ++ pulse_marks to (map spelling (frames_again v.node.link to)) → site_with v box events ≡ after_pulse_to n to (pulsing n.node to)
@@ -51,4 +54,12 @@ pulsed_site v s to new after = record {
   me = ap (λ (x : Shown). x.node.core.memory.coherence.me) after ∙ s.me ∙ sym (ap (λ (x : Shown). x.me) after);
   asking = subst (λ (x : Shown). IsAskingHost x.node.core) (sym after) s.asking;
   made = pulse_made-on to v new s.made after;
+  held = quiet-holds v new s.held (record {
+    held = ap (λ (x : Shown). x.held) after;
+    config = ap (λ (x : Shown). x.config) after;
+    me = ap (λ (x : Shown). x.node.link.me) after;
+    delivered = λ j. ap (λ (x : Shown). (peer_at x.node.link j).delivered) after ∙ pulsed-delivered v.node.link to j;
+    more = [];
+    early = pulse_early to v new s.made after;
+  });
 }

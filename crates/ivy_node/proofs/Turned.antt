@@ -13,26 +13,31 @@ use Rattle.ivy_memory.specs.Memories.{Memory}
 use Rattle.ivy_host.specs.Hosts.{Host, turn_of}
 use Rattle.ivy_node.specs.Outboxes.{Outbox}
 use Rattle.ivy_node.specs.Shown.{Shown}
-use Rattle.ivy_node.specs.Sites.{Turns, HasTurn, AfterHostTurn, HasNoNumbers, IsSpentTurn, IsSite, host_of}
+use Rattle.ivy_node.specs.Sites.{Turns, HasTurn, AfterHostTurn, HasNoNumbers, IsSpentTurn, IsMadeByEvents, IsSite, host_of}
 use Rattle.ivy_host.proofs.Same.{turn-same}
 use Rattle.ivy_host.proofs.Tame.{IsAskingHost, turn-asking}
 use Rattle.ivy_node.specs.declared.turn.Turn.TheVariants as turn
-use Rattle.ivy_node.proofs.Made.{turn_made}
+use Rattle.ivy_link.specs.Linked.{Linked, peer_at, after_sends}
+use Rattle.ivy_link.proofs.Fits.{sends-me}
+use Rattle.ivy_link.proofs.Holds.{sends-delivered}
+use Rattle.ivy_node.proofs.Programs.{posting-link}
+use Rattle.ivy_node.proofs.HeldStrings.{IsQuiet, quiet-holds}
+use Rattle.ivy_node.proofs.Made.{turn_made, turn_early}
 use Rattle.ivy_node.proofs.Turning.{turn_steps, moved_quietly, moved_by_call, spent_call}
 
 abbrev H : Type 0
 H = Host Managed
 
 abbrev box_of : Shown → Outbox
-box_of v = record { config = v.config; me = v.me; link = v.node.link; waiting = v.waiting }
+box_of v = record { config = v.config; me = v.me; link = v.node.link; waiting = v.waiting; held = v.held }
 
 -- the site with this core, and these events listed
 abbrev with_core : Shown → H → List Mark → Shown
-with_core v h events = record { config = v.config; me = v.me; node = record { core = h; link = v.node.link }; events = events; waiting = v.waiting }
+with_core v h events = record { config = v.config; me = v.me; node = record { core = h; link = v.node.link }; events = events; waiting = v.waiting; held = v.held }
 
 -- the site with this core and this outbox
 abbrev with_box : H → Outbox → List Mark → Shown
-with_box h box events = record { config = box.config; me = box.me; node = record { core = h; link = box.link }; events = events; waiting = box.waiting }
+with_box h box events = record { config = box.config; me = box.me; node = record { core = h; link = box.link }; events = events; waiting = box.waiting; held = box.held }
 
 hosts : (m m' : Memory Managed) (p p' : Process) (hs hs' : List Record) → m ≡ m' → p ≡ p' → hs ≡ hs' → host_of m p hs ≡ host_of m' p' hs'
 hosts m m' p p' hs hs' a b d = ap (λ x. host_of x p hs) a ∙ (ap (λ x. host_of m' x hs) b ∙ ap (λ x. host_of m' p' x) d)
@@ -82,6 +87,19 @@ pub called_turn : (n v : Shown) → v ≡ n → (p : Process) (hs : List Record)
 called_turn n v same p hs h box reserved events k b room listed =
     moved_by_call n v same h box events (subst (λ x. HasTurn x (box_of v) h box) (resting_host v p hs k) b) (listed ∙ ap (λ es. es ++ Turn ∷ []) room)
 
+-- a turn delivers nothing
+turns_quietly : (old new : Shown) → IsMadeByEvents old → Turns old new → IsQuiet old new
+turns_quietly old new made t =
+    let link : t.effect.after.link ≡ after_sends old.node.link t.outcome.posted = posting-link old.node t.outcome.after t.outcome.posted t.effect t.sent in
+    record {
+      held = ap (λ (x : Shown). x.held) t.after;
+      config = ap (λ (x : Shown). x.config) t.after;
+      me = ap (λ (x : Shown). x.node.link.me) t.after ∙ (ap (λ (l : Linked). l.me) link ∙ sends-me old.node.link t.outcome.posted);
+      delivered = λ j. ap (λ (x : Shown). (peer_at x.node.link j).delivered) t.after ∙ (ap (λ (l : Linked). (peer_at l j).delivered) link ∙ sends-delivered old.node.link t.outcome.posted j);
+      more = [];
+      early = turn_early turn.Moved old new made t;
+    }
+
 pub called_site : (v : Shown) (p : Process) (hs : List Record) (h : H) (box : Outbox) (reserved events : List Mark) → IsSite v → IsAtRest v p hs → HasTurn (host_of v.node.core.memory p hs) (box_of v) h box
     → reserved ≡ v.events → events ≡ reserved ++ Turn ∷ [] → IsSite (with_box h box events)
 called_site v p hs h box reserved events s k b0 room listed =
@@ -92,6 +110,7 @@ called_site v p hs h box reserved events s k b0 room listed =
       me = ap (λ (x : H). x.memory.coherence.me) b.host ∙ (well.me ∙ (s.me ∙ sym (ap (λ (x : Outbox). x.me) b.sent)));
       asking = subst IsAskingHost (sym b.host) (turn-asking managed_ops v.node.core b.outcome s.asking b.turn);
       made = turn_made turn.Moved v (with_box h box events) s.made (called_turn v v refl p hs h box reserved events k b0 room listed);
+      held = quiet-holds v (with_box h box events) s.held (turns_quietly v (with_box h box events) s.made (called_turn v v refl p hs h box reserved events k b0 room listed));
     }
 
 -- what holds of a site holds after an instruction of its own
@@ -102,6 +121,7 @@ local_site v x p hs events s idle steps is history listed = record {
   me = s.me;
   asking = λ call asked. absurd (none-some call (sym idle ∙ asked));
   made = turn_made turn.Moved v (with_core v (host_of v.node.core.memory p hs) events) s.made (local_turn v v refl x p hs events idle steps is history listed);
+  held = quiet-holds v (with_core v (host_of v.node.core.memory p hs) events) s.held (turns_quietly v (with_core v (host_of v.node.core.memory p hs) events) s.made (local_turn v v refl x p hs events idle steps is history listed));
 }
 
 -- whether anything changed

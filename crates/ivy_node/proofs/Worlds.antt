@@ -18,9 +18,9 @@ use Rattle.ivy_host.specs.Holding.{AllSpell}
 use Rattle.ivy_node.specs.Shown.{Shown}
 use Rattle.ivy_node.proofs.Headline.{spelled-led}
 use Rattle.ivy_node.proofs.Leading.{leads_one}
-use Rattle.ivy_node.specs.Sites.{first_shown, IsMadeByEvents}
+use Rattle.ivy_node.specs.Sites.{first_shown, early_at, IsMadeByEvents}
 use Rattle.ivy_node.proofs.Made.{first_made}
-use Rattle.ivy_node.specs.WorldSites.{programs_of, early_at, world_of, run_of, AreSites, IsRunning, first_sites_from}
+use Rattle.ivy_node.specs.WorldSites.{programs_of, world_of, run_of, AreSites, IsRunning, first_sites_from}
 
 -- the site of the first program left goes behind those that are there
 pub one_more_site : (c : Config) (me : ℕ) (sites : List Shown) (p : List Instruction) (left rest : List (List Instruction)) → left ≡ p ∷ rest
@@ -105,7 +105,7 @@ running_spelled c sites sent h =
 
 -- a world that made one more move runs on
 pub runs_on : (c : Config) (sites sites' : List Shown) (sent sent' : List (List ℕ)) (step : Move) → IsRunning c sites sent → AreSites c sites' → length sites' ≡ c.nodes → programs_of sites' ≡ programs_of sites
-    → worlds.moved (host_rules managed_ops) c (world_of sites sent) step ≡ Some (world_of sites' sent') → IsRunning c sites' sent'
+    → worlds.Moves (host_rules managed_ops) c (world_of sites sent) step (world_of sites' sent') → IsRunning c sites' sent'
 runs_on c sites sites' sent sent' step h are count programs made = record {
   limits = h.limits;
   count = count;

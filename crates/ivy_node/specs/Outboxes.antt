@@ -1,4 +1,4 @@
--- A node's link, with the strings that wait to be put on the wire.
+-- A node's link, with the strings that wait to be put on the wire, and those that it holds.
 use Rattle.std.specs.Prelude.{◌≡◌, ◌≢◌, ℕ, true, false, List, [], ◌∷◌, ◌++◌, map, Option, Some, None, refl}
 use Rattle.std.proofs.Common.{ap, append-nil}
 use Rattle.ivy_model.specs.declared.Config.{Config}
@@ -9,16 +9,23 @@ use Rattle.ivy_wire.specs.Data.{Parcel}
 use Rattle.ivy_wire.specs.Spelling.{spelling}
 use Rattle.ivy_link.specs.Linked.{Linked, Sending, sends, has_numbers}
 use Rattle.ivy_link.specs.Fitting.{FitsLink}
+use Rattle.ivy_link.specs.Windows.{Window}
+use Rattle.ivy_link.specs.Holding.{Holding, link_of, holding}
 
 -- how many strings one event sends at most: the frames of a pulse, or what is posted
 abbrev pub most_sent : ℕ
 most_sent = 32
+
+-- and how many a delivery sends with all that a site goes on with: 8 for each string
+abbrev pub most_delivered : ℕ
+most_delivered = 264
 
 pub record Outbox : Type 0 where
   pub config : Config
   pub me : ℕ
   pub link : Linked
   pub waiting : List (List ℕ)
+  pub held : List Window
 
 pub record IsSoundOutbox (o : Outbox) : Type 0 where
   pub limits : IsConfig o.config
@@ -26,10 +33,35 @@ pub record IsSoundOutbox (o : Outbox) : Type 0 where
   pub fits : FitsLink o.config o.link
 
 abbrev pub with_link : Outbox → Linked → Outbox
-with_link o link = record { config = o.config; me = o.me; link = link; waiting = o.waiting }
+with_link o link = record {
+  config = o.config;
+  me = o.me;
+  link = link;
+  waiting = o.waiting;
+  held = o.held;
+}
+
+-- the link, with what it holds
+abbrev pub holding_of : Outbox → Holding
+holding_of o = holding o.link o.held
+
+abbrev pub with_holding : Outbox → Holding → Outbox
+with_holding o h = record {
+  config = o.config;
+  me = o.me;
+  link = link_of h;
+  waiting = o.waiting;
+  held = h.held;
+}
 
 abbrev pub with_waiting : Outbox → List (List ℕ) → Outbox
-with_waiting o waiting = record { config = o.config; me = o.me; link = o.link; waiting = waiting }
+with_waiting o waiting = record {
+  config = o.config;
+  me = o.me;
+  link = o.link;
+  waiting = waiting;
+  held = o.held;
+}
 
 -- a link made frames: their spellings wait, in order
 abbrev pub with_sending : Outbox → Sending → Outbox
@@ -38,6 +70,7 @@ with_sending o s = record {
   me = o.me;
   link = s.after;
   waiting = o.waiting ++ map spelling s.frames;
+  held = o.held;
 }
 
 -- there are numbers for the parcels
@@ -62,13 +95,13 @@ abbrev pub Takes : Option (List ℕ) → Outbox → Outbox → Type 0
 Takes None old new = (old.waiting ≡ []) × (new ≡ old)
 Takes (Some bytes) old new =
     (old.waiting ≡ bytes ∷ new.waiting) × (new.config ≡ old.config) × (new.me ≡ old.me)
-    × (new.link ≡ old.link)
+    × (new.link ≡ old.link) × (new.held ≡ old.held)
 
 pub takes_none : (o : Outbox) → HasNumbers o []
 takes_none o = refl
 
 pub after_none : (o : Outbox) → posted_by o [] ≡ o
-after_none o = ap (λ w. record { config = o.config; me = o.me; link = o.link; waiting = w })
+after_none o = ap (λ w. record { config = o.config; me = o.me; link = o.link; waiting = w; held = o.held })
     (append-nil o.waiting)
 
 pub refuses_none : (o : Outbox) (f : Fault) → Refuses o [] f → ⊥

@@ -1,8 +1,11 @@
--- What contracts see of a site: the node, the events that it lists, and the strings that wait to be put on the wire.
+-- What contracts see of a site: the node, the events that it lists, the strings that wait to be put on the wire, and those
+-- that its link holds.
 use Rattle.std.specs.Prelude.{ℕ, List, [], ◌∷◌, ◌++◌}
 use Rattle.ivy_model.specs.declared.Config.{Config}
 use Rattle.ivy_link.specs.declared.Verdict.{Verdict}
 use Rattle.ivy_link.specs.declared.Verdict.TheVariants as verdict
+use Rattle.ivy_link.specs.Windows.{Window}
+use Rattle.ivy_link.specs.Holding.{Holding, holding, moved_at}
 use Rattle.ivy_host.specs.Managers.{Managed}
 use Rattle.ivy_events.specs.Marks.{Mark, Delivery}
 use Rattle.ivy_events.specs.Nodes.{Node, Effect}
@@ -15,6 +18,11 @@ pub record Shown : Type 0 where
   pub node : Node (Host Managed)
   pub events : List Mark
   pub waiting : List (List ℕ)
+  pub held : List Window
+
+-- the link, with what it holds
+abbrev pub holding_at : Shown → Holding
+holding_at s = holding s.node.link s.held
 
 -- the site after an event that it lists
 abbrev pub after_event : Shown → Mark → Effect (Host Managed) → Shown
@@ -24,14 +32,20 @@ after_event s mark e = record {
   node = e.after;
   events = s.events ++ mark ∷ [];
   waiting = s.waiting ++ e.sent;
+  held = s.held;
 }
 
+-- the string of a message that was delivered is held no more
+abbrev pub after_hearing : Shown → List ℕ → Verdict → ℕ → Effect (Host Managed) → Shown
+after_hearing s bytes v source e =
+    record (after_event s (Delivery bytes) e) { held = moved_at v s.held source }
+
 -- a frame that is not for this node is no event
-abbrev pub after_delivery : Shown → List ℕ → Verdict → Effect (Host Managed) → Shown
-after_delivery s bytes verdict.NotMine e = s
-after_delivery s bytes verdict.Next e = after_event s (Delivery bytes) e
-after_delivery s bytes verdict.Repeat e = after_event s (Delivery bytes) e
-after_delivery s bytes verdict.Ahead e = after_event s (Delivery bytes) e
+abbrev pub after_delivery : Shown → List ℕ → Verdict → ℕ → Effect (Host Managed) → Shown
+after_delivery s bytes verdict.NotMine source e = s
+after_delivery s bytes verdict.Next source e = after_hearing s bytes verdict.Next source e
+after_delivery s bytes verdict.Repeat source e = after_hearing s bytes verdict.Repeat source e
+after_delivery s bytes verdict.Ahead source e = after_hearing s bytes verdict.Ahead source e
 
 -- a pulse without a frame is no event
 abbrev pub after_pulse_to : Shown → ℕ → Effect (Host Managed) → Shown
@@ -41,4 +55,5 @@ after_pulse_to s to e = record {
   node = e.after;
   events = s.events ++ pulse_marks to e.sent;
   waiting = s.waiting ++ e.sent;
+  held = s.held;
 }

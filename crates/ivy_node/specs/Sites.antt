@@ -1,5 +1,5 @@
 -- What the calls of a site do.
-use Rattle.std.specs.Prelude.{◌≡◌, ℕ, List, [], ◌∷◌, ◌++◌, Bool, true, false, Option, Some, None, Contains}
+use Rattle.std.specs.Prelude.{◌≡◌, ℕ, ◌+◌, List, [], ◌∷◌, ◌++◌, replicate, Bool, true, false, Option, Some, None, Contains}
 use Rattle.ivy_model.specs.declared.Config.{Config}
 use Rattle.ivy_model.specs.declared.Call.{Call}
 use Rattle.ivy_model.specs.declared.Fault.{Fault}
@@ -8,6 +8,9 @@ use Rattle.ivy_wire.specs.Data.{Frame}
 use Rattle.ivy_wire.specs.Spelling.{Spells}
 use Rattle.ivy_link.specs.Accepted.{offered}
 use Rattle.ivy_link.specs.declared.Verdict.{Verdict}
+use Rattle.ivy_link.specs.declared.Verdict.TheVariants as verdict
+use Rattle.ivy_link.specs.Windows.{first_window, place_at}
+use Rattle.ivy_link.specs.Holding.{window_of, after_hold, ready_of, after_taking}
 use Rattle.ivy_program.specs.declared.Instruction.{Instruction}
 use Rattle.ivy_program.specs.Steps.{HasEnded, Asks, step_of}
 use Rattle.ivy_host.specs.Managers.{Managed, managed_ops}
@@ -15,16 +18,17 @@ use Rattle.ivy_events.specs.Marks.{Turn}
 use Rattle.ivy_events.specs.Cores.{Outcome}
 use Rattle.ivy_events.specs.Nodes.{Effect, posting, turned, delivered}
 use Rattle.ivy_events.specs.Parts.{AllHappen}
+use Rattle.ivy_events.specs.Early.{early_in}
 use Rattle.ivy_node.specs.declared.turn.Turn as turn
 use Rattle.ivy_node.specs.declared.turn.Turn.TheVariants.{Idle, Moved, Ended}
 use Rattle.ivy_model.specs.declared.Record.{Record}
-use Rattle.ivy_link.specs.Linked.{has_numbers}
+use Rattle.ivy_link.specs.Linked.{peer_at, has_numbers}
 use Rattle.ivy_program.specs.Steps.{Process}
 use Rattle.ivy_memory.specs.Memories as memories
 use Rattle.ivy_node.specs.Outboxes.{Outbox, HasNumbers, posted_by}
 use Rattle.ivy_host.specs.Hosts.{Host, host_rules, turn_of}
 use Rattle.ivy_host.specs.Openings.{first_node}
-use Rattle.ivy_node.specs.Shown.{Shown, after_event, after_delivery}
+use Rattle.ivy_node.specs.Shown.{Shown, holding_at, after_event, after_delivery}
 
 abbrev pub first_shown : Config → ℕ → List Instruction → Shown
 first_shown c me program = record {
@@ -33,7 +37,13 @@ first_shown c me program = record {
   node = first_node managed_ops c me program;
   events = [];
   waiting = [];
+  held = replicate c.nodes first_window;
 }
+
+-- what came to a site too early, told from its events
+abbrev pub early_at : Shown → List (List ℕ)
+early_at s = early_in (host_rules managed_ops) s.config
+    (first_node managed_ops s.config s.me s.node.core.process.program) s.events
 
 -- it is the same node, under the same configuration
 abbrev pub IsSameNode : Shown → Shown → Type 0
@@ -54,13 +64,77 @@ AfterTurn Ended old new =
     HasEnded old.node.core.process × (turn_of managed_ops old.node.core ≡ None) × (new ≡ old)
 
 -- the string spells a frame, which is what the verdict says, and the delivery is that of the definitions
-pub record AfterDelivery (bytes : List ℕ) (verdict : Verdict) (old new : Shown) : Type 0 where
+pub record Delivers (bytes : List ℕ) (verdict : Verdict) (old new : Shown) : Type 0 where
   pub frame : Frame
   pub spelled : Spells old.config frame bytes
   pub is : verdict ≡ offered old.node.link frame
   pub effect : Effect (Host Managed)
   pub delivered : delivered (host_rules managed_ops) old.config old.node bytes ≡ Some effect
-  pub after : new ≡ after_delivery old bytes verdict effect
+  pub after : new ≡ after_delivery old bytes verdict frame.source effect
+
+-- a string with this verdict came too early, told from the events
+abbrev pub CameEarlyAs : Verdict → List ℕ → Shown → Type 0
+CameEarlyAs verdict.NotMine bytes s = Unit {0}
+CameEarlyAs verdict.Next bytes s = Unit {0}
+CameEarlyAs verdict.Repeat bytes s = Unit {0}
+CameEarlyAs verdict.Ahead bytes s = Contains (early_at s) bytes
+
+-- the string of a frame is held, where there is a place for it
+abbrev pub holding_in : Shown → Frame → List ℕ → Shown
+holding_in s f bytes = record s { held = (after_hold (holding_at s) f bytes).held }
+
+-- the frame in the string says where
+abbrev pub HoldsString : List ℕ → Shown → Shown → Type 0
+HoldsString bytes old new =
+    (f : Frame) → Spells old.config f bytes → new ≡ holding_in old f bytes
+
+-- the string that is ready is taken out
+abbrev pub without_ready : Shown → ℕ → Shown
+without_ready s source = record s { held = (after_taking (holding_at s) source).held }
+
+-- one string, before the site goes on: the string of a frame that came too early is held
+abbrev pub Holds : Verdict → Frame → List ℕ → Shown → Shown → Type 0
+Holds verdict.NotMine f bytes mid new = new ≡ mid
+Holds verdict.Next f bytes mid new = new ≡ mid
+Holds verdict.Repeat f bytes mid new = new ≡ mid
+Holds verdict.Ahead f bytes mid new = new ≡ holding_in mid f bytes
+
+pub record Receives (bytes : List ℕ) (verdict : Verdict) (source : ℕ) (old new : Shown) : Type 0 where
+  pub mid : Shown
+  pub first : Delivers bytes verdict old mid
+  pub from : first.frame.source ≡ source
+  pub holds : Holds verdict first.frame bytes mid new
+
+-- the string that is held of the next number from this node, which came too early once, is delivered as the next one
+pub record GoesOnOnce (source : ℕ) (bytes : List ℕ) (old new : Shown) : Type 0 where
+  pub ready : ready_of (holding_at old) source ≡ Some bytes
+  pub early : Contains (early_at old) bytes
+  pub next : Delivers bytes verdict.Next (without_ready old source) new
+  pub from : next.frame.source ≡ source
+
+-- one after another
+abbrev pub GoesOn : ℕ → List (List ℕ) → Shown → Shown → Type 0
+GoesOn source [] old new = new ≡ old
+GoesOn source (bytes ∷ more) old new =
+    (mid : Shown) × GoesOnOnce source bytes old mid × GoesOn source more mid new
+
+abbrev pub WentOnOnce : ℕ → Shown → Shown → Type 0
+WentOnOnce source old new = (bytes : List ℕ) × GoesOnOnce source bytes old new
+
+abbrev pub WentOn : ℕ → Shown → Shown → Type 0
+WentOn source old new = (more : List (List ℕ)) × GoesOn source more old new
+
+-- after the delivery of a frame that is the next one the site may go on, and one that came too early is held
+abbrev pub Follows : Verdict → Frame → List ℕ → Shown → Shown → Type 0
+Follows verdict.NotMine f bytes mid new = new ≡ mid
+Follows verdict.Next f bytes mid new = WentOn f.source mid new
+Follows verdict.Repeat f bytes mid new = new ≡ mid
+Follows verdict.Ahead f bytes mid new = new ≡ holding_in mid f bytes
+
+pub record AfterDelivery (bytes : List ℕ) (verdict : Verdict) (old new : Shown) : Type 0 where
+  pub mid : Shown
+  pub first : Delivers bytes verdict old mid
+  pub follows : Follows verdict first.frame bytes mid new
 
 -- message numbers are at an end: the turn, or the delivery, is no event
 abbrev pub IsSpentTurn : Shown → Fault → Type 0
@@ -85,6 +159,20 @@ pub record IsSentBy (s : Shown) (bytes : List ℕ) : Type 0 where
   pub made : IsMadeByEvents s
   pub sent : Contains made.effect.sent bytes
 
+-- a string that is held in this place of a node's window came too early, and spells the frame of that number from the
+-- node to this one
+pub record IsHeld (s : Shown) (from place : ℕ) (bytes : List ℕ) : Type 0 where
+  pub early : Contains (early_at s) bytes
+  pub frame : Frame
+  pub spelled : Spells s.config frame bytes
+  pub source : frame.source ≡ from
+  pub dest : frame.dest ≡ s.node.link.me
+  pub number : frame.number ≡ (peer_at s.node.link from).delivered + place + 1
+
+abbrev pub HoldsEarly : Shown → Type 0
+HoldsEarly s = (source place : ℕ) (bytes : List ℕ)
+    → place_at (window_of s.held source) place ≡ Some bytes → IsHeld s source place bytes
+
 -- what holds of a site, beside what its parts keep
 pub record IsSite (s : Shown) : Type 0 where
   pub config : s.node.core.memory.coherence.config ≡ s.config
@@ -92,6 +180,7 @@ pub record IsSite (s : Shown) : Type 0 where
   pub asking : (call : Call) → s.node.core.memory.asked ≡ Some call
       → step_of s.node.core.process ≡ Asks call
   pub made : IsMadeByEvents s
+  pub held : HoldsEarly s
 
 abbrev pub host_of : memories.Memory Managed → Process → List Record → Host Managed
 host_of memory process history = record { memory = memory; process = process; history = history }

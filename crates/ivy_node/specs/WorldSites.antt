@@ -2,26 +2,19 @@
 use Rattle.std.specs.Prelude.{◌≡◌, ◌⊎◌, ℕ, ◌+◌, List, [], ◌∷◌, length, map, slice_get, Some}
 use Rattle.ivy_model.specs.declared.Fault.{Fault}
 use Rattle.ivy_model.specs.declared.Fault.TheVariants.{Memory, BadConfig}
-use Rattle.ivy_node.specs.Sites.{first_shown, IsMadeByEvents}
+use Rattle.ivy_node.specs.Sites.{first_shown, early_at, IsMadeByEvents}
 use Rattle.ivy_model.specs.declared.Config.{Config}
 use Rattle.ivy_model.specs.Config.{IsConfig}
-use Rattle.ivy_host.specs.Managers.{Managed, managed_ops}
+use Rattle.ivy_host.specs.Managers.{Managed}
 use Rattle.ivy_program.specs.declared.Instruction.{Instruction}
 use Rattle.ivy_events.specs.Worlds as worlds
-use Rattle.ivy_host.specs.Hosts.{Host, host_rules}
-use Rattle.ivy_host.specs.Openings.{first_node}
-use Rattle.ivy_events.specs.Early.{early_in}
+use Rattle.ivy_host.specs.Hosts.{Host}
 use Rattle.ivy_node.specs.Shown.{Shown}
 use Rattle.ivy_node.specs.RunState.{Run}
 use Rattle.ivy_node.specs.Runs.{IsReached}
 
 abbrev pub programs_of : List Shown → List (List Instruction)
 programs_of sites = map (λ (s : Shown). s.node.core.process.program) sites
-
--- what came to a site too early, told from its events
-abbrev pub early_at : Shown → List (List ℕ)
-early_at s = early_in (host_rules managed_ops) s.config
-    (first_node managed_ops s.config s.me s.node.core.process.program) s.events
 
 abbrev pub world_of : List Shown → List (List ℕ) → worlds.World (Host Managed)
 world_of sites sent = record {

@@ -1,12 +1,15 @@
 //! A node's link, and the strings that wait to be put on the wire.
-ghost use Rattle.std.specs.Prelude.{◌≡◌, ◌≢◌, ◌↔◌, ◌+◌, ◌++◌, ◌<◌, ◌≤◌, ◌^◌, [], map, take, true, All, IfOk, OnOk, OnErr, IsOkUnless, IsTrue, length};
+ghost use Rattle.std.specs.Prelude.{◌≡◌, ◌≢◌, ◌↔◌, ◌+◌, ◌++◌, ◌<◌, ◌≤◌, ◌^◌, [], replicate, map, take, true, All, IfOk, OnOk, OnErr, IsOkUnless, IsTrue, length};
 ghost use Rattle.ivy_model.specs.Config.{IsConfig};
 ghost use Rattle.ivy_wire.specs.Lent.{owned_frame, owned_parcel};
 ghost use Rattle.ivy_wire.specs.Spelling.{spelling, Fits, FitsParcel};
 ghost use Rattle.ivy_link.specs.Linked.{first_link, frames_of, sends, has_numbers, AreWithin};
-ghost use Rattle.ivy_link.specs.Accepted.{offered, accepted};
+ghost use Rattle.ivy_link.specs.Accepted.{offered};
+ghost use Rattle.ivy_link.specs.Fitting.{FitsLink};
+ghost use Rattle.ivy_link.specs.Windows.{first_window};
+ghost use Rattle.ivy_link.specs.Holding.{link_of, accepted, after_hold, ready_of, after_taking};
 ghost use Rattle.ivy_link.specs.Pulsed.{frames_again, pulsed};
-ghost use Rattle.ivy_node.specs.Outboxes.{with_link, with_waiting, with_sending, Takes, most_sent};
+ghost use Rattle.ivy_node.specs.Outboxes.{holding_of, with_holding, with_waiting, with_sending, Takes, most_sent};
 
 use ivy_link::{Link, Verdict};
 use ivy_model::{Config, Fault};
@@ -26,14 +29,15 @@ pub(crate) struct Outbox<A: Allocator> {
 }
 
 impl<A: Allocator> Model for Outbox<A> {
+    ghost use Rattle.ivy_link.specs.Holding.{link_of};
     ghost use Rattle.ivy_node.specs.Outboxes as outboxes;
     ghost use Rattle.ivy_node.specs.Outboxes.{IsSoundOutbox};
 
     ghost Value = { outboxes.Outbox };
 
-    ghost view = { λ o. record { config = o.config; me = o.me; link = o.link; waiting = o.waiting.items } };
+    ghost view = { λ o. record { config = o.config; me = o.me; link = link_of o.link; waiting = o.waiting.items; held = o.link.held } };
 
-    ghost invariant = { λ o. IsSoundOutbox (record { config = o.config; me = o.me; link = o.link; waiting = o.waiting.items }) };
+    ghost invariant = { λ o. IsSoundOutbox (record { config = o.config; me = o.me; link = link_of o.link; waiting = o.waiting.items; held = o.link.held }) };
 }
 
 /// The spellings of the frames, in order.
@@ -63,10 +67,10 @@ fn spell<A: Allocator + Copy>(
     parcels: &[Parcel<&[u8]>],
 ) -> Result<(), Fault>
     requires limits { IsConfig config.now }
-    requires within { AreWithin link.now (map owned_parcel parcels.now) }
-    requires numbers { has_numbers link.now (map owned_parcel parcels.now) ≡ true }
-    requires fit { All (Fits config.now) (frames_of link.now (map owned_parcel parcels.now)) }
-    ensures ok { OnOk result (strings.new.items ≡ strings.old.items ++ map spelling (frames_of link.now (map owned_parcel parcels.now))) }
+    requires within { AreWithin (link_of link.now) (map owned_parcel parcels.now) }
+    requires numbers { has_numbers (link_of link.now) (map owned_parcel parcels.now) ≡ true }
+    requires fit { All (Fits config.now) (frames_of (link_of link.now) (map owned_parcel parcels.now)) }
+    ensures ok { OnOk result (strings.new.items ≡ strings.old.items ++ map spelling (frames_of (link_of link.now) (map owned_parcel parcels.now))) }
     ensures front { take (length strings.old.items) strings.new.items ≡ strings.old.items }
     ensures memory { IsOkUnless result Fault.Memory }
 {
@@ -83,7 +87,7 @@ impl<A: Allocator + Copy> Outbox<A> {
     pub(crate) fn new(alloc: A, config: &Config, me: u8) -> Result<Self, Fault>
         requires limits { IsConfig config.now }
         requires here { me < config.now.nodes }
-        ensures first { IfOk result (λ o. o ≡ record { config = config.now; me = me; link = first_link me config.now.nodes; waiting = [] }) }
+        ensures first { IfOk result (λ o. o ≡ record { config = config.now; me = me; link = first_link me config.now.nodes; waiting = []; held = replicate config.now.nodes first_window }) }
         ensures memory { IsOkUnless result Fault.Memory }
     {
         Ok(Outbox {
@@ -107,6 +111,7 @@ impl<A: Allocator + Copy> Outbox<A> {
         ensures is { result ≡ self.now.config }
         ensures limits { IsConfig result }
         ensures mine { self.now.link.me ≡ self.now.me }
+        ensures fits { FitsLink self.now.config self.now.link }
     {
         self.config
     }
@@ -133,13 +138,32 @@ impl<A: Allocator + Copy> Outbox<A> {
         self.link.offer(frame)
     }
 
-    /// Takes the acknowledgement of a frame, and counts its message where it is the next.
+    /// Takes the acknowledgement of a frame, and counts its message where it is the next: then no string of its
+    /// number is held.
     pub(crate) fn accept<B>(&mut self, frame: &Frame<B>)
         requires source { frame.now.source < self.old.config.nodes }
         requires number { frame.now.number < 2 ^ 64 }
-        ensures { self.new ≡ with_link self.old (accepted self.old.link frame.now) }
+        ensures { self.new ≡ with_holding self.old (accepted (holding_of self.old) frame.now) }
     {
         self.link.accept(frame);
+    }
+
+    /// Holds the string of a frame that came before its turn, where there is a place for it.
+    pub(crate) fn hold<B>(&mut self, frame: &Frame<B>, string: Bytes<A>)
+        requires source { frame.now.source < self.old.config.nodes }
+        ensures { self.new ≡ with_holding self.old (after_hold (holding_of self.old) frame.now string) }
+    {
+        let _ = self.link.hold(frame, string);
+    }
+
+    /// Takes out the string that is held of the next number from a node.
+    pub(crate) fn take_ready(&mut self, from: u8) -> Option<Bytes<A>>
+        requires from { from < self.old.config.nodes }
+        ensures limits { IsConfig self.old.config }
+        ensures ready { result ≡ ready_of (holding_of self.old) from }
+        ensures after { self.new ≡ with_holding self.old (after_taking (holding_of self.old) from) }
+    {
+        self.link.take_ready(from)
     }
 
     /// A pulse to a node: what it has not acknowledged waits again, or an acknowledgement alone does [1].

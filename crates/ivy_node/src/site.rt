@@ -1,14 +1,16 @@
 //! One node: its program, its memory, its link, and the strings that wait to be put on the wire.
-ghost use Rattle.std.specs.Prelude.{◌≡◌, ◌↔◌, ◌≢◌, ◌+◌, ◌<◌, ◌≤◌, ◌++◌, ◌∷◌, [], None, Some, Err, length, vec_len, vec_capacity, IsTrue, IfOk, IfErr, OnOk, OnErr, IfSome, IsOkUnless, MatchResult, MatchOption};
+ghost use Rattle.std.specs.Prelude.{◌≡◌, ◌↔◌, ◌≢◌, ◌+◌, ◌<◌, ◌≤◌, ◌++◌, ◌∷◌, [], None, Some, Err, length, vec_len, vec_capacity, IsTrue, IfOk, IfErr, OnOk, OnErr, IfSome, IsOkUnless, MatchBool, MatchResult, MatchOption, Contains};
 ghost use Rattle.ivy_model.specs.Config.{IsConfig};
 ghost use Rattle.ivy_model.specs.Wants.{IsWant};
 ghost use Rattle.ivy_wire.specs.Faults.{checked};
 ghost use Rattle.ivy_program.specs.Steps.{IsAsking, HasEnded, Asks, step_of, answered_with};
 ghost use Rattle.ivy_host.specs.Managers.{managed_ops};
 ghost use Rattle.ivy_events.specs.Nodes.{pulsing};
-ghost use Rattle.ivy_node.specs.Outboxes.{most_sent};
-ghost use Rattle.ivy_node.specs.Shown.{after_pulse_to};
-ghost use Rattle.ivy_node.specs.Sites.{first_shown, host_of, AfterHostTurn, HasNoNumbers, AfterTurn, AfterDelivery, IsSpentTurn, IsSpentDelivery, TakesFrame, IsSameNode, IsMadeByEvents, IsSentBy};
+ghost use Rattle.ivy_link.specs.Accepted.{offered};
+ghost use Rattle.ivy_link.specs.Holding.{ready_of};
+ghost use Rattle.ivy_node.specs.Outboxes.{most_sent, most_delivered};
+ghost use Rattle.ivy_node.specs.Shown.{holding_at, after_pulse_to};
+ghost use Rattle.ivy_node.specs.Sites.{first_shown, host_of, AfterHostTurn, HasNoNumbers, AfterTurn, Delivers, CameEarlyAs, AfterDelivery, Receives, WentOnOnce, WentOn, IsHeld, early_at, HoldsString, without_ready, IsSpentTurn, IsSpentDelivery, TakesFrame, IsSameNode, IsMadeByEvents, IsSentBy};
 ghost use Rattle.ivy_events.specs.Marks.{marks};
 ghost use Rattle.ivy_model.specs.Legal.{HasWidth};
 
@@ -16,11 +18,11 @@ use crate::outbox::Outbox;
 use crate::turn::Turn;
 use ivy_events::{Event, Events};
 use ivy_host::NodeManager;
-use ivy_link::Verdict;
+use ivy_link::{MOST_AHEAD, Verdict};
 use ivy_memory::{Answer, Memory};
 use ivy_model::{Call, Config, Fault, Record, Reply};
 use ivy_program::{Machine, Next, Program};
-use ivy_wire::{Bytes, read};
+use ivy_wire::{Bytes, Frame, read};
 use std::alloc::{AllocError, Allocator};
 use std::marker::Model;
 
@@ -47,9 +49,9 @@ impl<A: Allocator> Model for Site<A> {
 
     ghost coded = { Prim.hlevel (codes, nodes_code, heap_state_code) };
 
-    ghost view = { λ s. record { config = s.outbox.config; me = s.outbox.me; node = record { core = record { memory = s.memory; process = s.machine; history = s.history.items }; link = s.outbox.link }; events = s.events.marks; waiting = s.outbox.waiting } };
+    ghost view = { λ s. record { config = s.outbox.config; me = s.outbox.me; node = record { core = record { memory = s.memory; process = s.machine; history = s.history.items }; link = s.outbox.link }; events = s.events.marks; waiting = s.outbox.waiting; held = s.outbox.held } };
 
-    ghost invariant = { λ s. IsSite (record { config = s.outbox.config; me = s.outbox.me; node = record { core = record { memory = s.memory; process = s.machine; history = s.history.items }; link = s.outbox.link }; events = s.events.marks; waiting = s.outbox.waiting }) };
+    ghost invariant = { λ s. IsSite (record { config = s.outbox.config; me = s.outbox.me; node = record { core = record { memory = s.memory; process = s.machine; history = s.history.items }; link = s.outbox.link }; events = s.events.marks; waiting = s.outbox.waiting; held = s.outbox.held }) };
 }
 
 /// The string for the event list: it is shared where it can be, and else copied.
@@ -250,17 +252,14 @@ impl<A: Allocator + Copy> Site<A> {
         }
     }
 
-    /// What [`Site::deliver`] does, with the string for the event list where it can be shared.
-    fn receive<'s>(
-        &'s mut self,
-        bytes: &[u8],
-        shared: Option<&'s Bytes<A>>,
-    ) -> Result<Verdict, Fault>
+    /// A string comes, and neither is it held nor does the site go on.
+    fn hear<'s>(&'s mut self, bytes: &[u8], shared: Option<&'s Bytes<A>>) -> Result<Verdict, Fault>
         requires { IfSome shared (λ string. string.now ≡ bytes.now) }
         ensures same { IsSameNode self.old self.new }
-        ensures done { MatchResult result (λ verdict. AfterDelivery bytes.now verdict self.old self.new) (λ _. self.new ≡ self.old) }
+        ensures done { MatchResult result (λ verdict. Delivers bytes.now verdict self.old self.new) (λ _. self.new ≡ self.old) }
+        ensures early { IfOk result (λ verdict. CameEarlyAs verdict bytes.now self.new) }
         ensures refused { MatchResult (checked self.old.config bytes.now) (λ _. IfErr result IsWant) (λ fault. result ≡ Err fault) }
-        ensures few { length self.new.waiting ≤ length self.old.waiting + most_sent }
+        ensures few { length self.new.waiting ≤ length self.old.waiting + 8 }
         ensures spent { IfErr result (IsSpentDelivery self.old bytes.now) }
     {
         let config = self.outbox.config();
@@ -281,29 +280,150 @@ impl<A: Allocator + Copy> Site<A> {
         Ok(verdict)
     }
 
+    /// The string of a frame that came before its turn, to be held.
+    fn early(
+        &self,
+        frame: &Frame<&[u8]>,
+        bytes: &[u8],
+        shared: Option<&Bytes<A>>,
+    ) -> Result<Option<Bytes<A>>, AllocError>
+        requires source { frame.now.source < self.now.config.nodes }
+        requires shared { IfSome shared (λ string. string.now ≡ bytes.now) }
+        ensures early { IfOk result (λ o. MatchOption o (offered self.now.node.link frame.now ≢ Verdict.Ahead) (λ string. (string ≡ bytes.now) × (offered self.now.node.link frame.now ≡ Verdict.Ahead))) }
+    {
+        if self.outbox.offer(frame) == Verdict::Ahead {
+            return Ok(Some(listed(self.alloc, bytes, shared)?));
+        }
+        Ok(None)
+    }
+
+    /// Holds a string that came too early.
+    fn hold(&mut self, string: Bytes<A>)
+        requires early { Contains (early_at self.old) string }
+        ensures same { IsSameNode self.old self.new }
+        ensures after { HoldsString string self.old self.new }
+    {
+        let config = self.outbox.config();
+        let Ok(frame) = read(&config, string.bytes()) else {
+            return;
+        };
+        let head = Frame::<()> {
+            source: frame.source,
+            dest: frame.dest,
+            number: frame.number,
+            ack: 0,
+            body: None,
+        };
+        self.outbox.hold(&head, string);
+    }
+
+    /// What [`Site::deliver`] does before the site goes on, with the node that the frame comes from.
+    fn receive<'s>(
+        &'s mut self,
+        bytes: &[u8],
+        shared: Option<&'s Bytes<A>>,
+    ) -> Result<(Verdict, u8), Fault>
+        requires { IfSome shared (λ string. string.now ≡ bytes.now) }
+        ensures same { IsSameNode self.old self.new }
+        ensures done { MatchResult result (λ r. Receives bytes.now r.0 r.1 self.old self.new) (λ _. self.new ≡ self.old) }
+        ensures from { IfOk result (λ r. r.1 < self.old.config.nodes) }
+        ensures refused { MatchResult (checked self.old.config bytes.now) (λ _. IfErr result IsWant) (λ fault. result ≡ Err fault) }
+        ensures few { length self.new.waiting ≤ length self.old.waiting + 8 }
+        ensures spent { IfErr result (IsSpentDelivery self.old bytes.now) }
+    {
+        let config = self.outbox.config();
+        let frame = read(&config, bytes)?;
+        let from = frame.source;
+        let early = self.early(&frame, bytes, shared)?;
+        let verdict = self.hear(bytes, shared)?;
+        if let Some(string) = early {
+            self.hold(string);
+        }
+        Ok((verdict, from))
+    }
+
+    /// Takes out the string that is held of the next number from a node.
+    fn take_ready(&mut self, from: u8) -> Option<Bytes<A>>
+        requires from { from < self.old.config.nodes }
+        ensures same { IsSameNode self.old self.new }
+        ensures limits { IsConfig self.old.config }
+        ensures ready { result ≡ ready_of (holding_at self.old) from }
+        ensures after { self.new ≡ without_ready self.old from }
+        ensures held { IfSome result (IsHeld self.old from 0) }
+    {
+        self.outbox.take_ready(from)
+    }
+
+    /// Goes on with the string that is held of the next number from a node, if there is one, by the whole rule of
+    /// a delivery. It says whether the string was delivered: one that is refused is held again.
+    fn go_on_once(&mut self, from: u8) -> bool
+        requires from { from < self.old.config.nodes }
+        ensures same { IsSameNode self.old self.new }
+        ensures done { MatchBool result (WentOnOnce from self.old self.new) (self.new ≡ self.old) }
+        ensures few { length self.new.waiting ≤ length self.old.waiting + 8 }
+    {
+        let Some(string) = self.take_ready(from) else {
+            return false;
+        };
+        match self.receive(string.bytes(), Some(&string)) {
+            Ok(_) => true,
+            Err(_) => {
+                self.hold(string);
+                false
+            }
+        }
+    }
+
+    /// Goes on with the strings of a node that are ready, one after another, until none is, or one is refused.
+    fn go_on(&mut self, from: u8)
+        requires from { from < self.old.config.nodes }
+        ensures same { IsSameNode self.old self.new }
+        ensures done { WentOn from self.old self.new }
+        ensures few { length self.new.waiting ≤ length self.old.waiting + 256 }
+    {
+        for _ in 0..MOST_AHEAD {
+            if !self.go_on_once(from) {
+                return;
+            }
+        }
+    }
+
     /// A string comes, any bytes at all [1, 11 to 17]. What the frame in it is to this node is the answer: one
     /// for another node is left alone, and the message of the next one is served before the frame is accepted.
     /// A page in it is lent to what serves the message. The event list has a copy of the bytes. A refused delivery
     /// changes nothing.
+    ///
+    /// The string of a frame that came before its turn is held. After the next one the site goes on with the
+    /// strings of the same node that it holds and that are the next ones now, each by the whole rule of a
+    /// delivery. Where one of them is refused it is held again, and the site goes on no further.
     pub fn deliver(&mut self, bytes: &[u8]) -> Result<Verdict, Fault>
         ensures same { IsSameNode self.old self.new }
         ensures done { MatchResult result (λ verdict. AfterDelivery bytes.now verdict self.old self.new) (λ _. self.new ≡ self.old) }
         ensures refused { MatchResult (checked self.old.config bytes.now) (λ _. IfErr result IsWant) (λ fault. result ≡ Err fault) }
-        ensures few { length self.new.waiting ≤ length self.old.waiting + most_sent }
+        ensures few { length self.new.waiting ≤ length self.old.waiting + most_delivered }
         ensures spent { IfErr result (IsSpentDelivery self.old bytes.now) }
     {
-        self.receive(bytes, None)
+        let (answer, from) = self.receive(bytes, None)?;
+        if answer == Verdict::Next {
+            self.go_on(from);
+        }
+        Ok(answer)
     }
 
-    /// A string comes, as [`Site::deliver`] says. The event list shares it, so its bytes are not copied.
+    /// A string comes, as [`Site::deliver`] says. The event list and the link share it, so its bytes are not
+    /// copied.
     pub fn deliver_shared(&mut self, string: &Bytes<A>) -> Result<Verdict, Fault>
         ensures same { IsSameNode self.old self.new }
         ensures done { MatchResult result (λ verdict. AfterDelivery string.now verdict self.old self.new) (λ _. self.new ≡ self.old) }
         ensures refused { MatchResult (checked self.old.config string.now) (λ _. IfErr result IsWant) (λ fault. result ≡ Err fault) }
-        ensures few { length self.new.waiting ≤ length self.old.waiting + most_sent }
+        ensures few { length self.new.waiting ≤ length self.old.waiting + most_delivered }
         ensures spent { IfErr result (IsSpentDelivery self.old string.now) }
     {
-        self.receive(string.bytes(), Some(string))
+        let (answer, from) = self.receive(string.bytes(), Some(string))?;
+        if answer == Verdict::Next {
+            self.go_on(from);
+        }
+        Ok(answer)
     }
 
     /// A pulse to another node: what that node has not acknowledged waits to be put on the wire again, at most

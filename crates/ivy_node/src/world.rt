@@ -4,7 +4,7 @@ ghost use Rattle.ivy_model.specs.Config.{IsConfig};
 ghost use Rattle.ivy_program.specs.Steps.{HasEnded};
 ghost use Rattle.ivy_host.specs.Managers.{managed_ops};
 ghost use Rattle.ivy_events.specs.declared.Move.{Move};
-ghost use Rattle.ivy_events.specs.Worlds.{moved};
+ghost use Rattle.ivy_events.specs.Worlds.{Moves};
 ghost use Rattle.ivy_host.specs.Hosts.{host_rules};
 ghost use Rattle.ivy_host.specs.Holding.{AllSpell};
 ghost use Rattle.ivy_node.specs.Keeping.{Keeps};
@@ -14,14 +14,18 @@ ghost use Rattle.ivy_node.specs.WorldSites.{programs_of, world_of, AreSites, IsM
 
 use crate::site::Site;
 use ivy_events::Move;
+use ivy_link::MOST_AHEAD;
 use ivy_model::{Config, Fault, Record};
 use ivy_program::Program;
 use ivy_wire::Bytes;
 use std::alloc::Allocator;
 use std::marker::Model;
 
-/// How many strings one move sends at most.
+/// How many strings a turn or a pulse sends at most.
 const MOST_SENT: usize = 32;
+
+/// How many strings a delivery sends at most, with all that the node goes on with.
+const MOST_DELIVERED: usize = 8 + 8 * MOST_AHEAD;
 
 /// A world of nodes that run programs over one shared memory, on a wire that may lose, repeat and reorder.
 ///
@@ -74,7 +78,7 @@ fn make<A: Allocator + Copy>(
     requires each { length sites.old.items ≡ config.now.nodes }
     requires limits { IsConfig config.now }
     requires spelled { AllSpell config.now (world_of sites.old.items sent.old.items) }
-    ensures ok { OnOk result (moved (host_rules managed_ops) config.now (world_of sites.old.items sent.old.items) step ≡ Some (world_of sites.new.items sent.new.items)) }
+    ensures ok { OnOk result (Moves (host_rules managed_ops) config.now (world_of sites.old.items sent.old.items) step (world_of sites.new.items sent.new.items)) }
     ensures sites { AreSites config.now sites.new.items }
     ensures each { length sites.new.items ≡ config.now.nodes }
     ensures programs { programs_of sites.new.items ≡ programs_of sites.old.items }
@@ -97,7 +101,7 @@ fn make<A: Allocator + Copy>(
             if to >= nodes || index >= sent.len() as u64 {
                 return Err(Fault::NoSuchFrame);
             }
-            sent.reserve(MOST_SENT)?;
+            sent.reserve(MOST_DELIVERED)?;
             let site = &mut sites[to as usize];
             let _ = site.deliver_shared(&sent[index as usize])?;
             collect(site, sent);
@@ -197,7 +201,7 @@ impl<A: Allocator + Copy> World<A> {
     /// Makes one move, or changes nothing.
     fn make(&mut self, step: Move) -> Result<(), Fault>
         ensures stays { (self.new.config ≡ self.old.config) × (self.new.programs ≡ self.old.programs) }
-        ensures ok { OnOk result (moved (host_rules managed_ops) self.old.config self.old.world step ≡ Some self.new.world) }
+        ensures ok { OnOk result (Moves (host_rules managed_ops) self.old.config self.old.world step self.new.world) }
         ensures err { OnErr result (self.new ≡ self.old) }
         ensures cause { IfErr result (λ fault. IsRefusedBy self.old.config self.old.world fault (Some step)) }
         ensures named { IsNamedUnless self.old.world result step }

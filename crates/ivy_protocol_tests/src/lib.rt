@@ -15,6 +15,8 @@ mod fixed;
 #[cfg(test)]
 mod heap;
 #[cfg(test)]
+mod held;
+#[cfg(test)]
 mod host;
 #[cfg(test)]
 mod letters;

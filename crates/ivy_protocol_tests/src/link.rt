@@ -1,7 +1,7 @@
 //! Messages between nodes: numbered, acknowledged, sent again, and told apart.
 ghost use Rattle.std.specs.Prelude.{◌≡◌, ◌<◌, length, map, IfOk};
 ghost use Rattle.ivy_wire.specs.Lent.{owned_parcel};
-ghost use Rattle.ivy_link.specs.Linked.{AreWithin};
+ghost use Rattle.ivy_link.specs.Holding.{AreWithin};
 
 use crate::letters::{Bytes, Said, message};
 use ivy_link::{Link, Verdict, delivers_in_order};

@@ -17,6 +17,8 @@ use Rattle.ivy_link.specs.declared.Verdict.TheVariants as verdict
 use Rattle.ivy_events.specs.Marks.{Mark, Turn, Delivery, Pulse}
 use Rattle.ivy_events.specs.Nodes.{Node, Effect, pulsing}
 use Rattle.ivy_events.specs.Parts.{AllHappen, AllCanBeMade, pulse_marks}
+use Rattle.ivy_wire.specs.Data.{Frame}
+use Rattle.ivy_events.proofs.Early.{early-can}
 use Rattle.ivy_events.proofs.Splitting.{can-append, can-more, none-in}
 use Rattle.ivy_host.specs.Hosts.{Host, host_rules}
 use Rattle.ivy_host.specs.Managers.{Managed, managed_ops}
@@ -28,8 +30,9 @@ use Rattle.ivy_ether.specs.Programs.{beginning, MayGive, SendsFrom}
 use Rattle.ivy_ether.specs.Views.{View, newcomer, with_seat, with_events, with_taken}
 use Rattle.ivy_node.specs.declared.turn.Turn as turn
 use Rattle.ivy_node.specs.declared.turn.Turn.TheVariants.{Idle, Moved, Ended}
-use Rattle.ivy_node.specs.Shown.{Shown, after_event, after_delivery, after_pulse_to}
-use Rattle.ivy_node.specs.Sites.{first_shown, IsMadeByEvents, IsSentBy, AfterTurn, AfterDelivery}
+use Rattle.ivy_node.specs.Shown.{Shown, after_hearing, after_delivery, after_pulse_to}
+use Rattle.ivy_node.specs.Sites.{first_shown, IsMadeByEvents, IsSentBy, AfterTurn, AfterDelivery, Delivers, without_ready, GoesOnOnce, Follows}
+use Rattle.ivy_node.specs.Sites as sites
 use Rattle.ivy_node.proofs.Programs.{turned-program, posting-core, delivered-program}
 use Rattle.ivy_program.specs.Steps.{HasEnded}
 use Rattle.ivy_session.specs.Places.{HasGiven, IsSeated, IsFreshSeat}
@@ -114,6 +117,26 @@ module _ (c : Config) (programs : List (List Instruction)) where
     can = tt;
   }
 
+  stays_took : (s s' : Shown) (took : List (List ℕ))
+      → AllCanBeMade took (length programs) s.me s.events → StaysAt s s' took
+      → AllCanBeMade took (length programs) s'.me s'.events
+  stays_took s s' took before on =
+      subst (λ i. AllCanBeMade took (length programs) i s'.events) (sym on.me)
+      (subst (AllCanBeMade took (length programs) s.me) (sym on.events)
+      (can-append took (length programs) s.me s.events on.ms before on.can))
+
+  stays_on : (a b d : Shown) (took : List (List ℕ)) → StaysAt a b took → StaysAt b d took
+      → StaysAt a d took
+  stays_on a b d took x y = record {
+    me = y.me ∙ x.me;
+    config = y.config ∙ x.config;
+    program = y.program ∙ x.program;
+    ms = x.ms ++ y.ms;
+    events = y.events ∙ ap (λ l. l ++ y.ms) x.events ∙ append_assoc a.events x.ms y.ms;
+    can = can-append took (length programs) a.me x.ms y.ms x.can
+        (subst (λ i. AllCanBeMade took (length programs) i y.ms) x.me y.can);
+  }
+
   stays_seated : (wire : TableId) (s s' : Shown) (p : Held) → IsSeated wire c programs s p
       → StaysAt s s' p.known.took → IsSeated wire c programs s' p
   stays_seated wire s s' p h on = record {
@@ -132,6 +155,7 @@ module _ (c : Config) (programs : List (List Instruction)) where
           (sym on.me)
           (can-append p.known.took (length programs) s.me h.given.more on.ms h.given.can on.can);
     };
+    took = stays_took s s' p.known.took h.took on;
   }
 
   -- after a turn
@@ -157,10 +181,10 @@ module _ (c : Config) (programs : List (List Instruction)) where
       stays_seated wire s s' p h (turn_stays t s s' p.known.took after)
 
   -- after a delivery of a string that the pass took
-  listed : (bytes : List ℕ) (v : Verdict) (s s' : Shown) (took : List (List ℕ)) → IsConfig s.config
-      → Contains took bytes → (d : AfterDelivery bytes v s s')
-      → s' ≡ after_event s (Delivery bytes) d.effect → StaysAt s s' took
-  listed bytes v s s' took limits there d after = record {
+  listed : (bytes : List ℕ) (v w : Verdict) (s s' : Shown) (took : List (List ℕ)) → IsConfig s.config
+      → Contains took bytes → (d : Delivers bytes v s s')
+      → s' ≡ after_hearing s bytes w d.frame.source d.effect → StaysAt s s' took
+  listed bytes v w s s' took limits there d after = record {
     me = ap (λ (x : Shown). x.me) after;
     config = ap (λ (x : Shown). x.config) after;
     program = ap program_in after
@@ -171,23 +195,73 @@ module _ (c : Config) (programs : List (List Instruction)) where
   }
 
   delivery_as : (bytes : List ℕ) (v w : Verdict) (s s' : Shown) (took : List (List ℕ)) → v ≡ w
-      → IsConfig s.config → Contains took bytes → (d : AfterDelivery bytes v s s')
+      → IsConfig s.config → Contains took bytes → (d : Delivers bytes v s s')
       → StaysAt s s' took
   delivery_as bytes v verdict.NotMine s s' took is limits there d =
-      stays_same s s' took (d.after ∙ ap (λ x. after_delivery s bytes x d.effect) is)
+      stays_same s s' took (d.after ∙ ap (λ x. after_delivery s bytes x d.frame.source d.effect) is)
   delivery_as bytes v verdict.Next s s' took is limits there d =
-      listed bytes v s s' took limits there d (d.after ∙ ap (λ x. after_delivery s bytes x d.effect) is)
+      listed bytes v verdict.Next s s' took limits there d
+      (d.after ∙ ap (λ x. after_delivery s bytes x d.frame.source d.effect) is)
   delivery_as bytes v verdict.Repeat s s' took is limits there d =
-      listed bytes v s s' took limits there d (d.after ∙ ap (λ x. after_delivery s bytes x d.effect) is)
+      listed bytes v verdict.Repeat s s' took limits there d
+      (d.after ∙ ap (λ x. after_delivery s bytes x d.frame.source d.effect) is)
   delivery_as bytes v verdict.Ahead s s' took is limits there d =
-      listed bytes v s s' took limits there d (d.after ∙ ap (λ x. after_delivery s bytes x d.effect) is)
+      listed bytes v verdict.Ahead s s' took limits there d
+      (d.after ∙ ap (λ x. after_delivery s bytes x d.frame.source d.effect) is)
+
+  -- and of one that it held, which the pass took once
+  once_stays : (source : ℕ) (bytes : List ℕ) (s s' : Shown) (took : List (List ℕ))
+      → IsConfig s.config → AllCanBeMade took (length programs) s.me s.events
+      → GoesOnOnce source bytes s s' → StaysAt s s' took
+  once_stays source bytes s s' took limits before once =
+      let there : Contains took bytes =
+      early-can (host_rules managed_ops) s.config took (length programs) s.me
+      (first_node managed_ops s.config s.me (program_in s)) s.events bytes before once.early in
+      let x : StaysAt (without_ready s source) s' took =
+      delivery_as bytes verdict.Next verdict.Next (without_ready s source) s' took refl limits there once.next in
+      record { me = x.me; config = x.config; program = x.program; ms = x.ms; events = x.events; can = x.can }
+
+  all_stay : (source : ℕ) (more : List (List ℕ)) (s s' : Shown) (took : List (List ℕ))
+      → IsConfig s.config → AllCanBeMade took (length programs) s.me s.events
+      → sites.GoesOn source more s s' → StaysAt s s' took
+  all_stay source [] s s' took limits before same = stays_same s s' took same
+  all_stay source (bytes ∷ more) s s' took limits before on =
+      let x : StaysAt s on.0 took = once_stays source bytes s on.0 took limits before on.1 in
+      stays_on s on.0 s' took x
+      (all_stay source more on.0 s' took (subst IsConfig (sym x.config) limits)
+      (stays_took s on.0 took before x) on.2)
+
+  holding_stays : (s s' : Shown) (took : List (List ℕ)) → s' ≡ record s { held = s'.held }
+      → StaysAt s s' took
+  holding_stays s s' took same = record {
+    me = ap (λ (x : Shown). x.me) same;
+    config = ap (λ (x : Shown). x.config) same;
+    program = ap program_in same;
+    ms = [];
+    events = ap (λ (x : Shown). x.events) same ∙ sym (append-nil s.events);
+    can = tt;
+  }
+
+  follows_stay : (v : Verdict) (f : Frame) (bytes : List ℕ) (s s' : Shown) (took : List (List ℕ))
+      → IsConfig s.config → AllCanBeMade took (length programs) s.me s.events
+      → Follows v f bytes s s' → StaysAt s s' took
+  follows_stay verdict.NotMine f bytes s s' took limits before same = stays_same s s' took same
+  follows_stay verdict.Repeat f bytes s s' took limits before same = stays_same s s' took same
+  follows_stay verdict.Ahead f bytes s s' took limits before same =
+      holding_stays s s' took (same ∙ ap (λ h. record s { held = h }) (sym (ap (λ (x : Shown). x.held) same)))
+  follows_stay verdict.Next f bytes s s' took limits before on =
+      all_stay f.source on.0 s s' took limits before on.1
 
   pub delivery_seated : (wire : TableId) (bytes : List ℕ) (v : Verdict) (s s' : Shown) (p : Held)
       → IsSeated wire c programs s p → Contains p.known.took bytes → AfterDelivery bytes v s s'
       → IsSeated wire c programs s' p
   delivery_seated wire bytes v s s' p h there d =
+      let limits : IsConfig s.config = subst IsConfig (sym h.config) h.limits in
+      let x : StaysAt s d.mid p.known.took = delivery_as bytes v v s d.mid p.known.took refl limits there d.first in
       stays_seated wire s s' p h
-      (delivery_as bytes v v s s' p.known.took refl (subst IsConfig (sym h.config) h.limits) there d)
+      (stays_on s d.mid s' p.known.took x
+      (follows_stay v d.first.frame bytes d.mid s' p.known.took (subst IsConfig (sym x.config) limits)
+      (stays_took s d.mid p.known.took h.took x) d.follows))
 
   -- after a pulse to another node
   pulse_can : (to : ℕ) (me nodes : ℕ) (took strings : List (List ℕ)) → to < nodes → me ≢ to
@@ -218,6 +292,7 @@ module _ (c : Config) (programs : List (List Instruction)) where
     node : new.known.node ≡ old.known.node
     reported : new.known.reported ≡ old.known.reported
     events : new.known.events ≡ es
+    took : (b : List ℕ) → Contains old.known.took b → Contains new.known.took b
 
   gave_seated : (wire : TableId) (s : Shown) (p p' : Held) → IsSeated wire c programs s p
       → Gives p p' s.events → IsSeated wire c programs s p'
@@ -230,6 +305,7 @@ module _ (c : Config) (programs : List (List Instruction)) where
     config = h.config;
     program = h.program;
     given = record { more = []; is = sym (append-nil p'.known.events ∙ g.events); can = tt };
+    took = can-more p.known.took p'.known.took (length programs) s.me s.events g.took h.took;
   }
 
   pub events_seated : (wire : TableId) (s : Shown) (p p' : Held) (es : List Mark) → es ≡ s.events
@@ -240,6 +316,7 @@ module _ (c : Config) (programs : List (List Instruction)) where
     node = ap (λ (v : View). v.node) known;
     reported = ap (λ (v : View). v.reported) known;
     events = ap (λ (v : View). v.events) known ∙ is;
+    took = λ b there. subst (λ (v : View). Contains v.took b) (sym known) there;
   })
 
   pub taken_seated : (wire : TableId) (s : Shown) (p p' : Held) (es : List Mark)
@@ -251,6 +328,8 @@ module _ (c : Config) (programs : List (List Instruction)) where
     node = ap (λ (v : View). v.node) known;
     reported = ap (λ (v : View). v.reported) known;
     events = ap (λ (v : View). v.events) known ∙ is;
+    took = λ b there. subst (λ (v : View). Contains v.took b) (sym known)
+        (Contains-append_left p.known.took strings b there);
   })
 
   pub same_seated : (wire : TableId) (s : Shown) (p p' : Held) → p'.ether ≡ p.ether
@@ -288,6 +367,8 @@ module _ (c : Config) (programs : List (List Instruction)) where
           ∙ sym (append-nil p.known.events);
       can = tt;
     };
+    took = subst (AllCanBeMade p.known.took (length programs) s.me)
+        (sym (ap (λ (x : Shown). x.events) f.site)) tt;
   }
 
   -- as the calls of a site answer

@@ -61,6 +61,8 @@ macro_rules! string {
 }
 
 #[cfg(test)]
+mod ahead;
+#[cfg(test)]
 mod common;
 #[cfg(test)]
 mod counts;

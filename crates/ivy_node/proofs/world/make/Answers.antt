@@ -2,7 +2,8 @@ use Rattle.std.proofs.Common.{rules, refl, ◌≡◌, slice_get, Some, sym, ◌<
 use Rattle.std.proofs.lemmas.Option.{slice_get_read}
 use Rattle.ivy_model.specs.declared.Config.{Config}
 use Rattle.ivy_memory.proofs.Beginning.{err_there}
-use Rattle.ivy_node.proofs.Making.{turn_went, turn_refused, pulse_went, delivery_went, delivery_refused}
+use Rattle.ivy_node.proofs.Making.{turn_went, turn_refused, pulse_went, delivery_refused}
+use Rattle.ivy_node.proofs.GoingOn.{went_there, delivery_went}
 use Rattle.ivy_node.proofs.world.make.Goals as goal
 
 pub returns-in_err-program_turn-in-Turn-clause-cause : goal.returns-in_err-program_turn-in-Turn-clause-cause
@@ -58,15 +59,15 @@ collect-requires-in-Pulse g c =
 
 pub returns-in_ok-program_turn-in-Turn-clause-ok : goal.returns-in_ok-program_turn-in-Turn-clause-ok
 returns-in_ok-program_turn-in-Turn-clause-ok g c =
-    (turn_went c.args.config.now c.args.sites.now.items c.args.sent.now.items c.in-Turn.node c.index_mut-site.result.now c.program_turn.new.self c.collect.new.site c.in_ok-program_turn-in-Turn.field-0 c.args.step c.collect.new.sent.items c.requires.sites (slice_get_read c.args.sites.now.items (length c.args.sites.now.items) c.in-Turn.node c.index_mut-site.result.now refl (search rules) c.index_mut-site.ensures.value) c.in_ok-program_turn-in-Turn.ensures.done c.in-Turn.is c.collect.ensures.site (c.collect.ensures.sent ∙ ap (λ l. l ++ c.program_turn.new.self.waiting) c.reserve.ensures.items)).made
+    (went_there _ _ _ _ _ _ (turn_went c.args.config.now c.args.sites.now.items c.args.sent.now.items c.in-Turn.node c.index_mut-site.result.now c.program_turn.new.self c.collect.new.site c.in_ok-program_turn-in-Turn.field-0 c.args.step c.collect.new.sent.items c.requires.sites (slice_get_read c.args.sites.now.items (length c.args.sites.now.items) c.in-Turn.node c.index_mut-site.result.now refl (search rules) c.index_mut-site.ensures.value) c.in_ok-program_turn-in-Turn.ensures.done c.in-Turn.is c.collect.ensures.site (c.collect.ensures.sent ∙ ap (λ l. l ++ c.program_turn.new.self.waiting) c.reserve.ensures.items))).made
 
 pub returns-in_ok-program_turn-in-Turn-clause-sites : goal.returns-in_ok-program_turn-in-Turn-clause-sites
 returns-in_ok-program_turn-in-Turn-clause-sites g c =
-    (turn_went c.args.config.now c.args.sites.now.items c.args.sent.now.items c.in-Turn.node c.index_mut-site.result.now c.program_turn.new.self c.collect.new.site c.in_ok-program_turn-in-Turn.field-0 c.args.step c.collect.new.sent.items c.requires.sites (slice_get_read c.args.sites.now.items (length c.args.sites.now.items) c.in-Turn.node c.index_mut-site.result.now refl (search rules) c.index_mut-site.ensures.value) c.in_ok-program_turn-in-Turn.ensures.done c.in-Turn.is c.collect.ensures.site (c.collect.ensures.sent ∙ ap (λ l. l ++ c.program_turn.new.self.waiting) c.reserve.ensures.items)).are
+    (went_there _ _ _ _ _ _ (turn_went c.args.config.now c.args.sites.now.items c.args.sent.now.items c.in-Turn.node c.index_mut-site.result.now c.program_turn.new.self c.collect.new.site c.in_ok-program_turn-in-Turn.field-0 c.args.step c.collect.new.sent.items c.requires.sites (slice_get_read c.args.sites.now.items (length c.args.sites.now.items) c.in-Turn.node c.index_mut-site.result.now refl (search rules) c.index_mut-site.ensures.value) c.in_ok-program_turn-in-Turn.ensures.done c.in-Turn.is c.collect.ensures.site (c.collect.ensures.sent ∙ ap (λ l. l ++ c.program_turn.new.self.waiting) c.reserve.ensures.items))).are
 
 pub returns-in_ok-program_turn-in-Turn-clause-programs : goal.returns-in_ok-program_turn-in-Turn-clause-programs
 returns-in_ok-program_turn-in-Turn-clause-programs g c =
-    (turn_went c.args.config.now c.args.sites.now.items c.args.sent.now.items c.in-Turn.node c.index_mut-site.result.now c.program_turn.new.self c.collect.new.site c.in_ok-program_turn-in-Turn.field-0 c.args.step c.collect.new.sent.items c.requires.sites (slice_get_read c.args.sites.now.items (length c.args.sites.now.items) c.in-Turn.node c.index_mut-site.result.now refl (search rules) c.index_mut-site.ensures.value) c.in_ok-program_turn-in-Turn.ensures.done c.in-Turn.is c.collect.ensures.site (c.collect.ensures.sent ∙ ap (λ l. l ++ c.program_turn.new.self.waiting) c.reserve.ensures.items)).programs
+    (went_there _ _ _ _ _ _ (turn_went c.args.config.now c.args.sites.now.items c.args.sent.now.items c.in-Turn.node c.index_mut-site.result.now c.program_turn.new.self c.collect.new.site c.in_ok-program_turn-in-Turn.field-0 c.args.step c.collect.new.sent.items c.requires.sites (slice_get_read c.args.sites.now.items (length c.args.sites.now.items) c.in-Turn.node c.index_mut-site.result.now refl (search rules) c.index_mut-site.ensures.value) c.in_ok-program_turn-in-Turn.ensures.done c.in-Turn.is c.collect.ensures.site (c.collect.ensures.sent ∙ ap (λ l. l ++ c.program_turn.new.self.waiting) c.reserve.ensures.items))).programs
 
 pub returns-in_ok-deliver_shared-in-Deliver-clause-ok : goal.returns-in_ok-deliver_shared-in-Deliver-clause-ok
 returns-in_ok-deliver_shared-in-Deliver-clause-ok g c =
@@ -91,12 +92,12 @@ returns-in_ok-deliver_shared-in-Deliver-clause-programs g c =
 
 pub returns-in_ok-pulse-in-Pulse-clause-ok : goal.returns-in_ok-pulse-in-Pulse-clause-ok
 returns-in_ok-pulse-in-Pulse-clause-ok g c =
-    (pulse_went c.args.config.now c.args.sites.now.items c.args.sent.now.items c.in-Pulse.from c.in-Pulse.to c.index_mut-site-in-Pulse.result.now c.pulse.new.self c.collect-in-Pulse.new.site c.args.step c.collect-in-Pulse.new.sent.items c.requires.sites (slice_get_read c.args.sites.now.items (length c.args.sites.now.items) c.in-Pulse.from c.index_mut-site-in-Pulse.result.now refl (search rules) c.index_mut-site-in-Pulse.ensures.value) (search rules) (search rules) c.in_ok-pulse-in-Pulse.ensures.done c.in-Pulse.is c.collect-in-Pulse.ensures.site (c.collect-in-Pulse.ensures.sent ∙ ap (λ l. l ++ c.pulse.new.self.waiting) c.reserve-in-Pulse.ensures.items)).made
+    (went_there _ _ _ _ _ _ (pulse_went c.args.config.now c.args.sites.now.items c.args.sent.now.items c.in-Pulse.from c.in-Pulse.to c.index_mut-site-in-Pulse.result.now c.pulse.new.self c.collect-in-Pulse.new.site c.args.step c.collect-in-Pulse.new.sent.items c.requires.sites (slice_get_read c.args.sites.now.items (length c.args.sites.now.items) c.in-Pulse.from c.index_mut-site-in-Pulse.result.now refl (search rules) c.index_mut-site-in-Pulse.ensures.value) (search rules) (search rules) c.in_ok-pulse-in-Pulse.ensures.done c.in-Pulse.is c.collect-in-Pulse.ensures.site (c.collect-in-Pulse.ensures.sent ∙ ap (λ l. l ++ c.pulse.new.self.waiting) c.reserve-in-Pulse.ensures.items))).made
 
 pub returns-in_ok-pulse-in-Pulse-clause-sites : goal.returns-in_ok-pulse-in-Pulse-clause-sites
 returns-in_ok-pulse-in-Pulse-clause-sites g c =
-    (pulse_went c.args.config.now c.args.sites.now.items c.args.sent.now.items c.in-Pulse.from c.in-Pulse.to c.index_mut-site-in-Pulse.result.now c.pulse.new.self c.collect-in-Pulse.new.site c.args.step c.collect-in-Pulse.new.sent.items c.requires.sites (slice_get_read c.args.sites.now.items (length c.args.sites.now.items) c.in-Pulse.from c.index_mut-site-in-Pulse.result.now refl (search rules) c.index_mut-site-in-Pulse.ensures.value) (search rules) (search rules) c.in_ok-pulse-in-Pulse.ensures.done c.in-Pulse.is c.collect-in-Pulse.ensures.site (c.collect-in-Pulse.ensures.sent ∙ ap (λ l. l ++ c.pulse.new.self.waiting) c.reserve-in-Pulse.ensures.items)).are
+    (went_there _ _ _ _ _ _ (pulse_went c.args.config.now c.args.sites.now.items c.args.sent.now.items c.in-Pulse.from c.in-Pulse.to c.index_mut-site-in-Pulse.result.now c.pulse.new.self c.collect-in-Pulse.new.site c.args.step c.collect-in-Pulse.new.sent.items c.requires.sites (slice_get_read c.args.sites.now.items (length c.args.sites.now.items) c.in-Pulse.from c.index_mut-site-in-Pulse.result.now refl (search rules) c.index_mut-site-in-Pulse.ensures.value) (search rules) (search rules) c.in_ok-pulse-in-Pulse.ensures.done c.in-Pulse.is c.collect-in-Pulse.ensures.site (c.collect-in-Pulse.ensures.sent ∙ ap (λ l. l ++ c.pulse.new.self.waiting) c.reserve-in-Pulse.ensures.items))).are
 
 pub returns-in_ok-pulse-in-Pulse-clause-programs : goal.returns-in_ok-pulse-in-Pulse-clause-programs
 returns-in_ok-pulse-in-Pulse-clause-programs g c =
-    (pulse_went c.args.config.now c.args.sites.now.items c.args.sent.now.items c.in-Pulse.from c.in-Pulse.to c.index_mut-site-in-Pulse.result.now c.pulse.new.self c.collect-in-Pulse.new.site c.args.step c.collect-in-Pulse.new.sent.items c.requires.sites (slice_get_read c.args.sites.now.items (length c.args.sites.now.items) c.in-Pulse.from c.index_mut-site-in-Pulse.result.now refl (search rules) c.index_mut-site-in-Pulse.ensures.value) (search rules) (search rules) c.in_ok-pulse-in-Pulse.ensures.done c.in-Pulse.is c.collect-in-Pulse.ensures.site (c.collect-in-Pulse.ensures.sent ∙ ap (λ l. l ++ c.pulse.new.self.waiting) c.reserve-in-Pulse.ensures.items)).programs
+    (went_there _ _ _ _ _ _ (pulse_went c.args.config.now c.args.sites.now.items c.args.sent.now.items c.in-Pulse.from c.in-Pulse.to c.index_mut-site-in-Pulse.result.now c.pulse.new.self c.collect-in-Pulse.new.site c.args.step c.collect-in-Pulse.new.sent.items c.requires.sites (slice_get_read c.args.sites.now.items (length c.args.sites.now.items) c.in-Pulse.from c.index_mut-site-in-Pulse.result.now refl (search rules) c.index_mut-site-in-Pulse.ensures.value) (search rules) (search rules) c.in_ok-pulse-in-Pulse.ensures.done c.in-Pulse.is c.collect-in-Pulse.ensures.site (c.collect-in-Pulse.ensures.sent ∙ ap (λ l. l ++ c.pulse.new.self.waiting) c.reserve-in-Pulse.ensures.items))).programs

@@ -4,7 +4,7 @@ use Rattle.std.proofs.lemmas.Option.{slice_get_within, get_or_from_slice_get}
 use Rattle.std.specs.List.{slice_get}
 use Rattle.ivy_wire.specs.Data.{Frame}
 use Rattle.ivy_wire.specs.Lent.{owned_parcel, owned_frame}
-use Rattle.ivy_link.specs.Linked.{frames_of}
+use Rattle.ivy_link.specs.Holding.{link_of, frames_of}
 use Rattle.ivy_link.proofs.Fits.{length-frames_of}
 use Rattle.ivy_link.proofs.link.Link.numbered.Goals as goal
 
@@ -20,4 +20,4 @@ loop-index-preserved g c =
 
 pub returns-clause-ok : goal.returns-clause-ok
 returns-clause-ok g c =
-    c.loop-index.invariant ∙ take_all c.loop-index.index (frames_of c.args.self.now (map owned_parcel c.args.parcels.now)) (omega (arith, c.loop-index-test.false, length-frames_of c.args.self.now (map owned_parcel c.args.parcels.now), length-map c.args.parcels.now owned_parcel))
+    c.loop-index.invariant ∙ take_all c.loop-index.index (frames_of c.args.self.now (map owned_parcel c.args.parcels.now)) (omega (arith, c.loop-index-test.false, length-frames_of (link_of c.args.self.now) (map owned_parcel c.args.parcels.now), length-map c.args.parcels.now owned_parcel))

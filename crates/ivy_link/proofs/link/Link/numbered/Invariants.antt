@@ -1,6 +1,6 @@
 use Rattle.std.proofs.Common.{◌≡◌, map, take}
 use Rattle.ivy_wire.specs.Lent.{owned_parcel, owned_frame}
-use Rattle.ivy_link.specs.Linked.{frames_of}
+use Rattle.ivy_link.specs.Holding.{frames_of}
 use Rattle.ivy_link.proofs.link.Link.numbered.Given as goal
 
 abbrev pub invariant-loop-index : goal.invariant-loop-index

@@ -1,5 +1,6 @@
-use Rattle.std.proofs.Common.{map}
+use Rattle.std.proofs.Common.{map, ap}
 use Rattle.ivy_wire.specs.Lent.{owned_parcel}
+use Rattle.ivy_link.specs.Holding.{link_of}
 use Rattle.ivy_node.proofs.Boxes.{numbers-at, sent-within, sent-fit, sent-box}
 use Rattle.ivy_node.proofs.outbox.Outbox.send.Goals as goal
 
@@ -16,4 +17,4 @@ pub keep-requires : goal.keep-requires
 keep-requires g c = record { within = sent-within _ _ c.self.view_is c.self.invariant (map owned_parcel c.args.parcels.now) c.requires.fits }
 
 pub invariant_of-self-2 : goal.invariant_of-self-2
-invariant_of-self-2 g c = sent-box _ _ c.self.view_is c.self.invariant (map owned_parcel c.args.parcels.now) c.keep.new.self c.spell.new.strings.items c.requires.fits c.requires.numbers c.in_ok-keep.ensures.ok
+invariant_of-self-2 g c = sent-box _ _ c.self.view_is c.self.invariant (map owned_parcel c.args.parcels.now) (link_of c.keep.new.self) c.spell.new.strings.items c.keep.new.self.held c.requires.fits c.requires.numbers (ap link_of c.in_ok-keep.ensures.ok)

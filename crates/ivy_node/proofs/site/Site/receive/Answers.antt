@@ -1,100 +1,40 @@
-use denote.Enum.Bare.{sameb}
-use Rattle.std.proofs.Common.{rules, true, ◌≡◌, ◌≢◌, ℕ, List, ◌++◌, ◌∷◌, [], None, sym, refl, ap, ◌∙◌}
-use Rattle.ivy_wire.specs.Lent.{owned_message, owned_body, owned_frame}
-use Rattle.ivy_link.specs.contracts.verdict.Verdict.{the_type}
-use Rattle.ivy_link.specs.declared.Verdict.{Verdict}
-use Rattle.ivy_link.specs.declared.Verdict.TheVariants as verdict
-use Rattle.ivy_link.specs.Linked.{Linked}
-use Rattle.ivy_link.specs.Accepted.{accepted}
-use Rattle.ivy_events.specs.Marks.{Mark, Delivery}
-use Rattle.ivy_node.specs.Outboxes.{Outbox, with_link}
-use Rattle.ivy_node.specs.Sites.{IsSpentDelivery, host_of}
+use Rattle.std.proofs.Common.{refl, ap, subst, ◌∙◌}
+use Rattle.ivy_model.specs.Config.{IsConfig}
+use Rattle.ivy_wire.specs.Lent.{owned_frame}
+use Rattle.ivy_wire.specs.Spelling.{Spells}
 use Rattle.ivy_memory.proofs.Beginning.{err_there}
-use Rattle.ivy_node.proofs.Delivering.{IsHeard, spent_reading, not_mine, spent_message, heard_quietly, heard_message, heard_delivers, heard_site, heard_few}
-use Rattle.ivy_node.proofs.site.Site.receive.Given.{Over}
+use Rattle.ivy_node.specs.Shown.{Shown}
+use Rattle.ivy_node.specs.Sites.{IsSpentDelivery}
+use Rattle.ivy_node.proofs.Delivering.{spent_reading}
+use Rattle.ivy_node.proofs.Receiving.{received_none, received_some, received_early}
 use Rattle.ivy_node.proofs.site.Site.receive.Goals as goal
-use Rattle.ivy_node.proofs.site.Site.receive.Goals.{After-accept, then-eq-2+in-Some+in_ok-handle, then-eq-2+in_default, else-eq-2}
-
--- the test for the next one
-is_next : (v : Verdict) → true ≡ sameb the_type v verdict.Next → v ≡ verdict.Next
-is_next verdict.Next same = refl
-is_next verdict.Repeat same = absurd cc
-is_next verdict.Ahead same = absurd cc
-is_next verdict.NotMine same = absurd cc
-
-module _ (g : Over) (c : After-accept g) where
-  apart : c.offer-verdict.result ≢ verdict.NotMine
-  apart = search rules
-
-  -- what the fields are before the frame is accepted
-  heard : IsHeard (record { config = c.self.inside.outbox.config; me = c.self.inside.outbox.me; node = record { core = host_of c.self.inside.memory c.self.inside.machine c.self.inside.history.items; link = c.self.inside.outbox.link }; events = c.self.inside.events.marks; waiting = c.self.inside.outbox.waiting }) (owned_frame c.in_ok-frame.frame) c.offer-verdict.result (host_of c.if-eq-2.self-inside.memory c.if-eq-2.self-inside.machine c.if-eq-2.self-inside.history.items) c.if-eq-2.self-inside.outbox
-  heard = elim c.if-eq-2.branch [
-    | then-eq-2+in-Some+in_ok-handle w ↦
-        let next : c.offer-verdict.result ≡ verdict.Next = is_next c.offer-verdict.result w.if-eq-2.ensures in
-        rw w.self-inside-is (heard_message _ (owned_frame c.in_ok-frame.frame) c.offer-verdict.result (owned_message w.in-Some.message) _ _ next (ap owned_body (sym w.take.ensures.value ∙ w.in-Some.is)) w.in_ok-handle.ensures.ok w.in_ok-handle.ensures.took w.in_ok-handle.ensures.few w.in_ok-handle.ensures.posted)
-    | then-eq-2+in_default w ↦
-        let none : c.in_ok-frame.frame.body ≡ None = search rules in
-        rw w.self-inside-is (heard_quietly _ (owned_frame c.in_ok-frame.frame) c.offer-verdict.result apart (λ n. ap owned_body none))
-    | else-eq-2 w ↦
-        let other : c.offer-verdict.result ≢ verdict.Next = search rules in
-        rw w.self-inside-is (heard_quietly _ (owned_frame c.in_ok-frame.frame) c.offer-verdict.result apart (λ n. absurd (other n)))
-  ]
-
-  -- the frame is accepted without its message, of which nothing is read then
-  without_body : (l : Linked) → accepted l c.if-eq-2.frame ≡ accepted l c.in_ok-frame.frame
-  without_body l = elim c.if-eq-2.branch [
-    | then-eq-2+in-Some+in_ok-handle w ↦ rw w.frame-is refl
-    | then-eq-2+in_default w ↦ rw w.frame-is refl
-    | else-eq-2 w ↦ rw w.frame-is refl
-  ]
-
-  accepts : (new : Outbox) → new ≡ with_link c.if-eq-2.self-inside.outbox (accepted c.if-eq-2.self-inside.outbox.link c.if-eq-2.frame)
-      → new ≡ with_link c.if-eq-2.self-inside.outbox (accepted c.if-eq-2.self-inside.outbox.link (owned_frame c.in_ok-frame.frame))
-  accepts new is = is ∙ ap (with_link c.if-eq-2.self-inside.outbox) (without_body c.if-eq-2.self-inside.outbox.link)
-
-  -- the delivery is listed behind the events before
-  listed : (marks : List Mark) (copy bytes : List ℕ) → c.reserve.new.self.marks ≡ c.self.inside.events.marks → marks ≡ c.if-eq-2.self-inside.events.marks ++ Delivery copy ∷ [] → copy ≡ bytes
-      → marks ≡ c.self.inside.events.marks ++ Delivery bytes ∷ []
-  listed marks copy bytes same pushed copied =
-      let kept : c.if-eq-2.self-inside.events.marks ≡ c.self.inside.events.marks = elim c.if-eq-2.branch [
-        | then-eq-2+in-Some+in_ok-handle w ↦ rw w.self-inside-is same
-        | then-eq-2+in_default w ↦ rw w.self-inside-is same
-        | else-eq-2 w ↦ rw w.self-inside-is same
-      ] in
-      pushed ∙ (ap (λ (ms : List Mark). ms ++ Delivery copy ∷ []) kept ∙ ap (λ b. c.self.inside.events.marks ++ Delivery b ∷ []) copied)
 
 pub returns-in_err-frame-clause-spent : goal.returns-in_err-frame-clause-spent
 returns-in_err-frame-clause-spent g c =
     err_there c.from_residual.result (IsSpentDelivery c.args.self.now c.args.bytes.now) _ c.from_residual.ensures.1
     (spent_reading _ _ c.self.view_is c.config-config.result c.args.bytes.now _ _ c.config-config.ensures.is c.in_err-frame.ensures.fault)
 
-pub returns-then-eq-clause-done : goal.returns-then-eq-clause-done
-returns-then-eq-clause-done g c =
-    let not : c.offer-verdict.result ≡ verdict.NotMine = search rules in
-    not_mine _ _ c.self.view_is c.config-config.result (owned_frame c.in_ok-frame.frame) c.args.bytes.now c.offer-verdict.result
-    (record { config = c.config-config.ensures.is; limits = c.config-config.ensures.limits; spelled = c.in_ok-frame.ensures.found; is = c.offer-verdict.ensures }) not
+pub hold-requires : goal.hold-requires
+hold-requires g c =
+    let config = c.config-config.ensures.is ∙ ap (λ (x : Shown). x.config) c.self.view_is in
+    let some = rw c.in-Some.is at c.in_ok-early.ensures.early in
+    record {
+      early = received_early c.args.bytes.now c.in-Some.string c.in_ok-verdict.verdict c.args.self.now c.hear.new.self (subst IsConfig config c.config-config.ensures.limits)
+          (owned_frame c.in_ok-frame.frame) (subst (λ k. Spells k (owned_frame c.in_ok-frame.frame) c.args.bytes.now) config c.in_ok-frame.ensures.found) some.1 some.0
+          c.in_ok-verdict.ensures.done c.in_ok-verdict.ensures.early;
+    }
 
-pub returns-in_err-handle-clause-spent : goal.returns-in_err-handle-clause-spent
-returns-in_err-handle-clause-spent g c =
-    let next : c.offer-verdict.result ≡ verdict.Next = search rules in
-    err_there c.from_residual-in_err-handle.result (IsSpentDelivery c.args.self.now c.args.bytes.now) _ c.from_residual-in_err-handle.ensures.1
-    (spent_message _ _ c.self.view_is c.config-config.result (owned_frame c.in_ok-frame.frame) c.args.bytes.now c.offer-verdict.result
-    (record { config = c.config-config.ensures.is; limits = c.config-config.ensures.limits; spelled = c.in_ok-frame.ensures.found; is = c.offer-verdict.ensures }) next (owned_message c.in-Some.message) (ap owned_body (sym c.take.ensures.value ∙ c.in-Some.is)) _ c.in_err-handle.ensures.fault)
+pub returns-in-Some-clause-done : goal.returns-in-Some-clause-done
+returns-in-Some-clause-done g c =
+    let config = c.config-config.ensures.is ∙ ap (λ (x : Shown). x.config) c.self.view_is in
+    let some = rw c.in-Some.is at c.in_ok-early.ensures.early in
+    received_some c.args.bytes.now c.in-Some.string c.in_ok-verdict.verdict c.in_ok-frame.frame.source c.args.self.now c.hear.new.self c.hold.new.self (subst IsConfig config c.config-config.ensures.limits)
+    (owned_frame c.in_ok-frame.frame) (subst (λ k. Spells k (owned_frame c.in_ok-frame.frame) c.args.bytes.now) config c.in_ok-frame.ensures.found) refl some.1 some.0
+    c.in_ok-verdict.ensures.same.0 c.in_ok-verdict.ensures.done c.hold.ensures.after
 
-pub invariant_of-self-2 : goal.invariant_of-self-2
-invariant_of-self-2 g c =
-    heard_site _ c.config-config.result (owned_frame c.in_ok-frame.frame) c.args.bytes.now c.offer-verdict.result
-    (record { config = c.config-config.ensures.is; limits = c.config-config.ensures.limits; spelled = c.in_ok-frame.ensures.found; is = c.offer-verdict.ensures })
-    (apart g (goal.at.invariant_of-self-2 g c).After-accept) _ _ c.accept.new.self c.push_delivery.new.self.marks c.self.invariant (heard g (goal.at.invariant_of-self-2 g c).After-accept)
-    (accepts g (goal.at.invariant_of-self-2 g c).After-accept _ c.accept.ensures) (listed g (goal.at.invariant_of-self-2 g c).After-accept c.push_delivery.new.self.marks c.in_ok-string.string c.args.bytes.now c.in_ok-reserve.ensures.same c.push_delivery.ensures c.in_ok-string.ensures)
-
-pub returns-clause-done : goal.returns-clause-done
-returns-clause-done g c =
-    let events = listed g (goal.at.returns-clause-done g c).After-accept c.push_delivery.new.self.marks c.in_ok-string.string c.args.bytes.now c.in_ok-reserve.ensures.same c.push_delivery.ensures c.in_ok-string.ensures in
-    heard_delivers _ _ c.self.view_is c.config-config.result (owned_frame c.in_ok-frame.frame) c.args.bytes.now c.offer-verdict.result
-    (record { config = c.config-config.ensures.is; limits = c.config-config.ensures.limits; spelled = c.in_ok-frame.ensures.found; is = c.offer-verdict.ensures })
-    (apart g (goal.at.returns-clause-done g c).After-accept) _ _ c.accept.new.self c.push_delivery.new.self.marks (heard g (goal.at.returns-clause-done g c).After-accept) (accepts g (goal.at.returns-clause-done g c).After-accept _ c.accept.ensures) events
-
-pub returns-clause-few : goal.returns-clause-few
-returns-clause-few g c =
-    heard_few _ _ c.self.view_is (owned_frame c.in_ok-frame.frame) c.offer-verdict.result _ _ c.accept.new.self (heard g (goal.at.returns-clause-few g c).After-accept) (accepts g (goal.at.returns-clause-few g c).After-accept _ c.accept.ensures)
+pub returns-in_default-clause-done : goal.returns-in_default-clause-done
+returns-in_default-clause-done g c =
+    let config = c.config-config.ensures.is ∙ ap (λ (x : Shown). x.config) c.self.view_is in
+    let none = rw c.in_default.is at c.in_ok-early.ensures.early in
+    received_none c.args.bytes.now c.in_ok-verdict.verdict c.in_ok-frame.frame.source c.args.self.now c.hear.new.self (subst IsConfig config c.config-config.ensures.limits)
+    (owned_frame c.in_ok-frame.frame) (subst (λ k. Spells k (owned_frame c.in_ok-frame.frame) c.args.bytes.now) config c.in_ok-frame.ensures.found) refl none c.in_ok-verdict.ensures.done

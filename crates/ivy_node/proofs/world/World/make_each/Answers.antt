@@ -1,9 +1,9 @@
-use Rattle.std.proofs.Common.{◌≡◌, get_or, slice_get, Some, rules, subst}
+use Rattle.std.proofs.Common.{get_or, slice_get, rules, subst}
 use Rattle.std.proofs.lemmas.List.{take_more}
 use Rattle.std.proofs.lemmas.Option.{slice_get-get_or}
 use Rattle.ivy_host.specs.Managers.{managed_ops}
 use Rattle.ivy_events.specs.declared.Move.TheVariants.{Turn}
-use Rattle.ivy_events.specs.Worlds.{moved}
+use Rattle.ivy_events.specs.Worlds.{Moves}
 use Rattle.ivy_host.specs.Hosts.{host_rules}
 use Rattle.ivy_node.proofs.Leading.{leads_one}
 use Rattle.ivy_node.proofs.Worlds.{named_exactly}
@@ -11,7 +11,7 @@ use Rattle.ivy_node.proofs.world.World.make_each.Goals as goal
 
 pub loop-place-preserved : goal.loop-place-preserved
 loop-place-preserved g c =
-    let made = subst (λ x. moved (host_rules managed_ops) x c.loop-place.self.world (get_or c.args.moves.now c.loop-place.place (Turn 0)) ≡ Some c.make.new.self.world) c.loop-place.invariant.config c.in_default.ensures.ok in record {
+    let made = subst (λ x. Moves (host_rules managed_ops) x c.loop-place.self.world (get_or c.args.moves.now c.loop-place.place (Turn 0)) c.make.new.self.world) c.loop-place.invariant.config c.in_default.ensures.ok in record {
       config = search rules;
       programs = search rules;
       led = rw (take_more c.args.moves.now c.loop-place.place (Turn 0) c.loop-place-test.true) (leads_one (host_rules managed_ops) c.args.self.now.config _ _ _ _ _ c.loop-place.invariant.led made);

@@ -1,4 +1,4 @@
-use Rattle.ivy_session.proofs.Seats.{may_give, took_item}
+use Rattle.ivy_session.proofs.Seats.{may_give, take_seated, took_item}
 use Rattle.ivy_session.proofs.seated.Seated.take_item.Goals as goal
 
 pub take-requires-clause-events : goal.take-requires-clause-events
@@ -9,3 +9,8 @@ take-requires-clause-events g c =
 pub returns-clause-took : goal.returns-clause-took
 returns-clause-took g c =
     took_item c.take.result c.self.inside.pass c.take.new.pass _ c.take.ensures.known
+
+pub invariant_of-self : goal.invariant_of-self
+invariant_of-self g c =
+    take_seated g.S.Setup.config g.S.Setup.programs _ c.take.result c.self.inside.site c.self.inside.pass c.take.new.pass _
+    c.event_list.ensures.is c.take.ensures.pass c.take.ensures.known c.self.invariant

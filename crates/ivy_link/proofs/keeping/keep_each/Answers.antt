@@ -1,7 +1,9 @@
 use Rattle.std.proofs.Common.{rules, ◌<◌, length, ◌+◌, ◌^◌, ap, ◌∙◌, arith}
 use Rattle.ivy_link.specs.Linked.{with_message}
+use Rattle.ivy_link.specs.Sides.{held_of}
+use Rattle.ivy_link.proofs.Peers.{stays-same}
 use Rattle.ivy_link.proofs.Sending.{kept-inside, kept-here, kept-more, copy-here}
-use Rattle.ivy_link.proofs.link.keep_each.Goals as goal
+use Rattle.ivy_link.proofs.keeping.keep_each.Goals as goal
 
 pub index_mut-requires : goal.index_mut-requires
 index_mut-requires g c =
@@ -19,7 +21,9 @@ keep-requires-clause-number g c =
 pub loop-parcel-preserved : goal.loop-parcel-preserved
 loop-parcel-preserved g c =
     let facts = copy-here c.args.sides.now.items c.args.parcels.now c.loop-parcel.sides.items c.loop-parcel.parcel-index c.from.result c.loop-parcel-test.true c.from.ensures c.loop-parcel.copies.items c.pop_front.new.self.items c.in-Some.copy c.loop-parcel.invariant.copies c.in-Some.ensures.items in
+    let at : c.from.result < length c.loop-parcel.sides.items = kept-inside c.args.sides.now.items c.args.parcels.now c.loop-parcel.sides.items c.loop-parcel.parcel-index c.from.result c.loop-parcel-test.true c.from.ensures c.loop-parcel.invariant.keeping in
     record {
       keeping = kept-more c.args.sides.now.items c.args.parcels.now c.loop-parcel.sides.items c.loop-parcel.parcel-index c.from.result c.loop-parcel-test.true c.from.ensures c.index_mut.result.now c.keep.new.self c.loop-parcel.invariant.keeping c.index_mut.ensures.value (c.keep.ensures.peer ∙ ap (with_message c.index_mut.result.now.peer) facts.0) c.keep.ensures.room;
+      held = stays-same held_of c.args.sides.now.items c.loop-parcel.sides.items c.from.result c.index_mut.result.now c.keep.new.self c.loop-parcel.invariant.held at c.index_mut.ensures.value c.keep.ensures.held;
       copies = facts.1;
     }

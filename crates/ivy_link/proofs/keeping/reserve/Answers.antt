@@ -1,11 +1,11 @@
 use Rattle.std.proofs.Common.{◌≡◌, ◌<◌, ◌≤◌, length, map, take, ap, arith}
 use Rattle.std.proofs.lemmas.List.{length-map, take_all}
 use Rattle.ivy_wire.specs.Lent.{owned_parcel}
-use Rattle.ivy_link.specs.Sides.{side_at, count_to}
-use Rattle.ivy_link.proofs.Peers.{room-same}
+use Rattle.ivy_link.specs.Sides.{peer_of, held_of, side_at, count_to}
+use Rattle.ivy_link.proofs.Peers.{stays-same}
 use Rattle.ivy_link.proofs.Counting.{room-more, room-none}
 use Rattle.ivy_link.proofs.Sending.{ready-within, parcel_at, parcel-here, parcel-inside}
-use Rattle.ivy_link.proofs.link.reserve.Goals as goal
+use Rattle.ivy_link.proofs.keeping.reserve.Goals as goal
 
 pub index_mut-requires : goal.index_mut-requires
 index_mut-requires g c =
@@ -15,7 +15,12 @@ index_mut-requires g c =
 pub returns-in_err-reserve-clause-peers : goal.returns-in_err-reserve-clause-peers
 returns-in_err-reserve-clause-peers g c =
     let at : c.from.result < length c.loop-parcel.sides.items = ready-within c.args.sides.now.items c.loop-parcel.sides.items c.args.parcels.now c.loop-parcel.parcel-index c.from.result c.loop-parcel.invariant.peers c.requires.within c.loop-parcel-test.true c.from.ensures in
-    room-same c.args.sides.now.items c.loop-parcel.sides.items c.from.result c.index_mut.result.now c.reserve.new.self c.loop-parcel.invariant.peers at c.index_mut.ensures.value c.reserve.ensures.peer
+    stays-same peer_of c.args.sides.now.items c.loop-parcel.sides.items c.from.result c.index_mut.result.now c.reserve.new.self c.loop-parcel.invariant.peers at c.index_mut.ensures.value c.reserve.ensures.peer
+
+pub returns-in_err-reserve-clause-held : goal.returns-in_err-reserve-clause-held
+returns-in_err-reserve-clause-held g c =
+    let at : c.from.result < length c.loop-parcel.sides.items = ready-within c.args.sides.now.items c.loop-parcel.sides.items c.args.parcels.now c.loop-parcel.parcel-index c.from.result c.loop-parcel.invariant.peers c.requires.within c.loop-parcel-test.true c.from.ensures in
+    stays-same held_of c.args.sides.now.items c.loop-parcel.sides.items c.from.result c.index_mut.result.now c.reserve.new.self c.loop-parcel.invariant.held at c.index_mut.ensures.value c.reserve.ensures.held
 
 pub loop-parcel-preserved : goal.loop-parcel-preserved
 loop-parcel-preserved g c =
@@ -23,7 +28,8 @@ loop-parcel-preserved g c =
     let more : c.count_to-more.result ≡ count_to (map owned_parcel c.args.parcels.now) (parcel_at c.args.parcels.now c.loop-parcel.parcel-index).dest = c.count_to-more.ensures in
     let room : c.count_to-more.result ≤ c.reserve.new.self.room = c.in_ok-reserve.ensures.room in
     record {
-      peers = room-same c.args.sides.now.items c.loop-parcel.sides.items c.from.result c.index_mut.result.now c.reserve.new.self c.loop-parcel.invariant.peers at c.index_mut.ensures.value c.reserve.ensures.peer;
+      peers = stays-same peer_of c.args.sides.now.items c.loop-parcel.sides.items c.from.result c.index_mut.result.now c.reserve.new.self c.loop-parcel.invariant.peers at c.index_mut.ensures.value c.reserve.ensures.peer;
+      held = stays-same held_of c.args.sides.now.items c.loop-parcel.sides.items c.from.result c.index_mut.result.now c.reserve.new.self c.loop-parcel.invariant.held at c.index_mut.ensures.value c.reserve.ensures.held;
       room = room-more c.loop-parcel.sides.items (map owned_parcel c.args.parcels.now) c.loop-parcel.parcel-index c.from.result (parcel_at c.args.parcels.now c.loop-parcel.parcel-index) c.reserve.new.self (parcel-inside c.args.parcels.now c.loop-parcel.parcel-index c.loop-parcel-test.true) (parcel-here c.args.parcels.now c.loop-parcel.parcel-index c.loop-parcel-test.true) c.from.ensures at (omega (arith, more, room)) c.loop-parcel.invariant.room;
     }
 
