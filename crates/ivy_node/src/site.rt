@@ -375,11 +375,11 @@ impl<A: Allocator + Copy> Site<A> {
         ensures few { length self.new.waiting ≤ length self.old.waiting + most_delivered }
         ensures spent { IfErr result (IsSpentDelivery self.old bytes.now) }
     {
-        let (verdict, from) = self.receive(bytes)?;
-        if verdict == Verdict::Next {
+        let (answer, from) = self.receive(bytes)?;
+        if answer == Verdict::Next {
             self.go_on(from);
         }
-        Ok(verdict)
+        Ok(answer)
     }
 
     /// A pulse to another node: what that node has not acknowledged waits to be put on the wire again, at most
