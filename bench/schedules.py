@@ -158,12 +158,12 @@ def page_schedule(moves):
 
     - into its string (`encode` in `ivy_wire/src/writing.rt`),
     - into what the link keeps until it is acknowledged (`Link::keep` in `ivy_link/src/link.rt`),
-    - with the string into the receiver's list of events (`Site::deliver` in `ivy_node/src/site.rt`),
     - out of the string into the receiver's spare page, which is then exchanged with the one of its table
       (`Coherence::unlock` in `ivy_coherence/src/handle.rt`), or into the table at once where other nodes have to give
       their copies up first (`owned_with`).
 
-    The world keeps the string as it was made, and the sender's table lends the page up to `encode` and `keep`.
+    The world and the receiver's list of events own the string as it was made, and the sender's table lends the page up
+    to `encode` and `keep`.
     """
     network = Network()
     for node in range(NODES):
