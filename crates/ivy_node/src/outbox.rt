@@ -6,11 +6,11 @@ ghost use Rattle.ivy_wire.specs.Spelling.{spelling, Fits, FitsParcel};
 ghost use Rattle.ivy_link.specs.Linked.{first_link, frames_of, sends, has_numbers, AreWithin};
 ghost use Rattle.ivy_link.specs.Accepted.{offered, accepted};
 ghost use Rattle.ivy_link.specs.Pulsed.{frames_again, pulsed};
-ghost use Rattle.ivy_node.specs.Outboxes.{with_link, with_waiting, with_sending, Takes, most_sent};
+ghost use Rattle.ivy_node.specs.Outboxes.{with_link, with_waiting, with_sending, Takes, most_sent, next_dest};
 
 use ivy_link::{Link, Verdict};
 use ivy_model::{Config, Fault};
-use ivy_wire::{Bytes, Frame, Parcel, Post, encode};
+use ivy_wire::{Bytes, Frame, Parcel, Post, destination, encode};
 use std::alloc::Allocator;
 use std::collections::VecDeque;
 use std::marker::Model;
@@ -123,6 +123,13 @@ impl<A: Allocator + Copy> Outbox<A> {
         ensures { IsTrue result ↔ (self.now.waiting ≢ []) }
     {
         !self.waiting.is_empty()
+    }
+
+    /// The node that the first string that waits is for.
+    pub(crate) fn next_destination(&self) -> Option<u8>
+        ensures { result ≡ next_dest self.now.waiting }
+    {
+        destination(self.waiting.front()?.bytes())
     }
 
     /// What a frame is to this node.

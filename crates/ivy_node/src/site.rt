@@ -6,7 +6,7 @@ ghost use Rattle.ivy_wire.specs.Faults.{checked};
 ghost use Rattle.ivy_program.specs.Steps.{IsAsking, HasEnded, Asks, step_of, answered_with};
 ghost use Rattle.ivy_host.specs.Managers.{managed_ops};
 ghost use Rattle.ivy_events.specs.Nodes.{pulsing};
-ghost use Rattle.ivy_node.specs.Outboxes.{most_sent};
+ghost use Rattle.ivy_node.specs.Outboxes.{most_sent, next_dest};
 ghost use Rattle.ivy_node.specs.Shown.{after_pulse_to};
 ghost use Rattle.ivy_node.specs.Sites.{first_shown, host_of, AfterHostTurn, HasNoNumbers, AfterTurn, AfterDelivery, IsSpentTurn, IsSpentDelivery, TakesFrame, IsSameNode, IsMadeByEvents, IsSentBy};
 ghost use Rattle.ivy_events.specs.Marks.{marks};
@@ -184,6 +184,13 @@ impl<A: Allocator + Copy> Site<A> {
         ensures { IsTrue result ↔ (self.now.waiting ≢ []) }
     {
         self.outbox.has_frame()
+    }
+
+    /// The node that the first string that waits is for. It takes no memory.
+    pub fn next_destination(&self) -> Option<u8>
+        ensures { result ≡ next_dest self.now.waiting }
+    {
+        self.outbox.next_destination()
     }
 
     /// One turn of the program: the call in progress is asked for its reply, which is recorded, or an instruction is

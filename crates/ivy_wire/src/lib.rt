@@ -9,6 +9,7 @@
 #![tactic(auto)]
 
 mod bytes;
+mod destination;
 mod frame;
 mod grammar;
 mod page;
@@ -17,6 +18,7 @@ mod reading;
 mod writing;
 
 pub use bytes::Bytes;
+pub use destination::destination;
 pub use frame::{Content, Frame, FrameKind, Message};
 pub use grammar::grammar_is_prefix_free;
 pub use page::Page;
