@@ -19,9 +19,10 @@ impl Bell {
         }
     }
 
-    /// There is one thing more to do. Who waits for it is not woken yet.
-    fn count(&self) {
+    /// There is one thing more to do.
+    fn ring(&self) {
         self.rings.fetch_add(1, Ordering::SeqCst);
+        self.wake();
     }
 
     fn rings(&self) -> u64 {
@@ -64,20 +65,19 @@ impl Bells {
         self.served.rings()
     }
 
-    /// So many frames were put for the node, or are about to be.
+    /// So many frames were put for the node.
     pub(crate) fn put(&self) -> u64 {
         self.put.rings()
     }
 
-    /// A frame is about to be put for the node.
-    pub(crate) fn count_put(&self) {
-        self.put.count();
+    /// A frame was put for the node: its wire worker is woken.
+    pub(crate) fn ring_put(&self) {
+        self.put.ring();
     }
 
     /// The node has served a frame: its program worker is woken.
     pub(crate) fn ring_served(&self) {
-        self.served.count();
-        self.served.wake();
+        self.served.ring();
     }
 
     /// Whether frames of the node wait to be put.

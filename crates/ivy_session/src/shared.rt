@@ -9,6 +9,7 @@ use ivy_model::Fault;
 use std::alloc::Allocator;
 use std::sync::atomic::{AtomicBool, AtomicU64, Ordering};
 use std::sync::{Mutex, Wait};
+use std::thread;
 
 /// So many turns a round of pulses has at most.
 const MOST_ROUND: u64 = 8_192;
@@ -109,17 +110,10 @@ impl<A: Allocator> Shared<A> {
         self.wake_all();
     }
 
-    /// A frame is about to be put for a node.
-    pub(crate) fn count_put(&self, to: u8) {
-        if let Some(bells) = self.bells.get(usize::from(to)) {
-            bells.count_put();
-        }
-    }
-
-    /// Wakes the wire worker of a node.
-    fn wake_wire(&self, node: u8) {
+    /// A frame was put for a node: its wire worker is woken.
+    fn ring_put(&self, node: u8) {
         if let Some(bells) = self.bells.get(usize::from(node)) {
-            bells.wake_wire();
+            bells.ring_put();
         }
     }
 
@@ -127,9 +121,10 @@ impl<A: Allocator> Shared<A> {
     /// node that its first frame was for.
     pub(crate) fn tell(&self, own: &Bells, turn: WireTurn, to: Option<u8>) {
         match (turn, to) {
-            (WireTurn::Sent, Some(to)) => self.wake_wire(to),
+            (WireTurn::Sent, Some(to)) => self.ring_put(to),
             (WireTurn::Served(Verdict::Next), _) => own.ring_served(),
-            (WireTurn::Served(Verdict::Ahead) | WireTurn::Lost | WireTurn::Dropped, _) => self.lose(),
+            (WireTurn::Served(Verdict::Ahead) | WireTurn::Dropped, _) => self.lose(),
+            (WireTurn::Returned, _) => thread::yield_now(),
             _ => {}
         }
     }

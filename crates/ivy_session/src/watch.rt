@@ -14,17 +14,22 @@ const LOOKS: u32 = 500;
 const SEARCH: u32 = 64;
 
 /// So many microseconds a wire worker first sleeps at most. It then sleeps twice as long each time, but for a bound.
-const NAP: u64 = 400;
+const NAP: u64 = 1_000;
 
 /// So often that time is doubled at most.
-const DOUBLINGS: u32 = 4;
+const DOUBLINGS: u32 = 3;
 
 /// So many microseconds a program worker sleeps at most.
 const PROGRAM_NAP: u64 = 10_000;
 
 /// A program worker, which had nothing to do when its node had served so many frames, waits until it has served one
 /// more, or for a while.
-pub(crate) fn rest_program<A: Allocator, R: Wait>(rt: &R, shared: &Shared<A>, bells: &Bells, served: u64) {
+pub(crate) fn rest_program<A: Allocator, R: Wait>(
+    rt: &R,
+    shared: &Shared<A>,
+    bells: &Bells,
+    served: u64,
+) {
     for _ in 0..LOOKS {
         if bells.served() != served || shared.is_stopped() {
             return;
@@ -65,17 +70,18 @@ impl Watch {
     }
 
     /// It has made a turn, before which so many frames had been put for its node.
-    pub(crate) fn note(&mut self, bells: &Bells, turn: WireTurn, put: u64) {
+    pub(crate) fn note(&mut self, turn: WireTurn, put: u64) {
         match turn {
-            WireTurn::Sent | WireTurn::Lost => self.naps = 0,
+            WireTurn::Sent => self.naps = 0,
+            WireTurn::Lost => self.turns = self.round,
             WireTurn::Served(_) => {
                 self.naps = 0;
                 self.misses = 0;
-                self.done = self.done.saturating_add(1).min(bells.put());
+                self.done = self.done.saturating_add(1);
             }
             WireTurn::Empty | WireTurn::Returned | WireTurn::Dropped => {
                 self.misses = self.misses.saturating_add(1);
-                if self.misses >= SEARCH {
+                if self.misses >= SEARCH || self.done > put {
                     self.misses = 0;
                     self.done = put;
                 }
@@ -93,7 +99,12 @@ impl Watch {
 
     /// Waits until there is something to do, or for a while. Where a frame was lost, or nobody has woken it for a
     /// while, a round of pulses is what there is to do.
-    pub(crate) fn rest<A: Allocator, R: Wait>(&mut self, rt: &R, shared: &Shared<A>, bells: &Bells) {
+    pub(crate) fn rest<A: Allocator, R: Wait>(
+        &mut self,
+        rt: &R,
+        shared: &Shared<A>,
+        bells: &Bells,
+    ) {
         if self.turns > 0 {
             self.turns -= 1;
             return;

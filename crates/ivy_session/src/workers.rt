@@ -81,7 +81,6 @@ impl Pulses {
         &mut self,
         rt: &R,
         seated: &mut Seated<'_, S, A>,
-        shared: &Shared<A>,
     ) -> Result<(WireTurn, Option<u8>), Fault>
         ensures { IfErr result IsStop }
     {
@@ -91,11 +90,7 @@ impl Pulses {
             self.last = seated.pulse_next(self.last)?;
         }
         let to = seated.next_destination();
-        if let Some(to) = to {
-            shared.count_put(to);
-        }
-        let turn = seated.wire_turn(rt)?;
-        Ok((turn, to))
+        Ok((seated.wire_turn(rt)?, to))
     }
 }
 
@@ -118,13 +113,13 @@ fn run_wire<S: Setup, A: Allocator + Copy, R: Wait, G: Gate>(
         let put = bells.put();
         let mut seated = seat.lock(rt);
         gate.enter(node, Role::Wire, seated.records());
-        let turn = pulses.turn(rt, &mut seated, shared);
+        let turn = pulses.turn(rt, &mut seated);
         bells.set_waiting(seated.has_frame());
         drop(seated);
         match turn {
             Ok((turn, to)) => {
                 shared.tell(bells, turn, to);
-                watch.note(bells, turn, put);
+                watch.note(turn, put);
             }
             Err(fault) => {
                 shared.stop(rt, fault);
@@ -159,8 +154,9 @@ where
         let mut next = 0u8;
         for (seat, bells) in seats.iter().zip(all.bells()) {
             let node = next;
-            let program =
-                scope.spawn(move || run_program(rt, seat, bells, node, limits, all, gate));
+            let program = scope.spawn(move || run_program(
+                rt, seat, bells, node, limits, all, gate,
+            ));
             let wire = scope.spawn(move || run_wire(rt, seat, bells, node, limits, all, gate));
             if program.is_err() || wire.is_err() {
                 all.stop(rt, Fault::Memory);

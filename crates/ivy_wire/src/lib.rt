@@ -9,7 +9,6 @@
 #![tactic(auto)]
 
 mod bytes;
-mod destination;
 mod frame;
 mod grammar;
 mod page;
@@ -18,10 +17,9 @@ mod reading;
 mod writing;
 
 pub use bytes::Bytes;
-pub use destination::destination;
 pub use frame::{Content, Frame, FrameKind, Message};
 pub use grammar::grammar_is_prefix_free;
 pub use page::Page;
 pub use parcel::{Parcel, Post};
-pub use reading::{decode, read};
+pub use reading::{decode, destination, read};
 pub use writing::encode;
