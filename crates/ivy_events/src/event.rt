@@ -96,7 +96,7 @@ impl<A: Allocator> Events<A> {
 }
 
 impl<A: Allocator + Copy> Events<A> {
-    /// A copy of the list. Err only where the allocator has no memory.
+    /// A copy of the list, which shares its strings. Err only where the allocator has no memory.
     pub fn copy(&self, alloc: A) -> Result<Events<A>, AllocError>
         ensures { IfOk result (λ copy. copy.marks ≡ self.now.marks) }
     {

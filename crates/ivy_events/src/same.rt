@@ -6,21 +6,18 @@ use crate::event::Event;
 use ivy_wire::Bytes;
 use std::alloc::{AllocError, Allocator};
 
-/// A copy of one entry.
-fn copy_event<A: Allocator>(
-    alloc: A,
-    event: &Event<Bytes<A>>,
-) -> Result<Event<Bytes<A>>, AllocError>
+/// A copy of one entry, which shares its string.
+fn copy_event<A: Allocator>(event: &Event<Bytes<A>>) -> Result<Event<Bytes<A>>, AllocError>
     ensures copy { IfOk result (λ e. marks_of e ≡ marks_of event.now) }
 {
     match event {
         Event::Turns(n) => Ok(Event::Turns(*n)),
-        Event::Delivered(bytes) => Ok(Event::Delivered(Bytes::new(alloc, bytes.bytes())?)),
+        Event::Delivered(bytes) => Ok(Event::Delivered(bytes.share()?)),
         Event::Pulsed(to) => Ok(Event::Pulsed(*to)),
     }
 }
 
-/// A copy of the entries.
+/// A copy of the entries, which shares their strings.
 pub(crate) fn copy_events<A: Allocator + Copy>(
     alloc: A,
     events: &[Event<Bytes<A>>],
@@ -29,7 +26,7 @@ pub(crate) fn copy_events<A: Allocator + Copy>(
 {
     let mut copy = Vec::new(alloc);
     for event in events {
-        let one = copy_event(alloc, event)?;
+        let one = copy_event(event)?;
         copy.reserve(1)?;
         copy.push_reserved(one);
     }

@@ -409,7 +409,9 @@ fn destinations(rt: HostRuntime) -> Result<(), Fail> {
 fn kept_strings(rt: HostRuntime) -> Result<(), Fail> {
     let copied = Bytes::new(rt.alloc(), &[1, 2])?;
     assert_eq!(rt; copied.bytes(), [1, 2].as_slice());
-    let moved = Bytes::from_vec(vec![in rt.alloc(); 1, 2]?);
-    assert_eq!(rt; moved.bytes(), [1, 2].as_slice());
+    let moved = Bytes::from_vec(rt.alloc(), vec![in rt.alloc(); 1, 2]?)?;
+    let shared = moved.share()?;
+    drop(moved);
+    assert_eq!(rt; shared.bytes(), [1, 2].as_slice());
     Ok(())
 }

@@ -49,7 +49,7 @@ fn spelled<A: Allocator + Copy>(
 {
     let mut strings = VecDeque::with_capacity(alloc, frames.len())?;
     for frame in frames {
-        strings.push_back(Bytes::from_vec(encode(alloc, config, frame)?))?;
+        strings.push_back(Bytes::from_vec(alloc, encode(alloc, config, frame)?)?)?;
     }
     Ok(strings)
 }
@@ -73,7 +73,7 @@ fn spell<A: Allocator + Copy>(
     strings.reserve(parcels.len())?;
     for index in 0..parcels.len() {
         let frame = link.frame(parcels, index);
-        strings.push_back(Bytes::from_vec(encode(alloc, config, &frame)?))?;
+        strings.push_back(Bytes::from_vec(alloc, encode(alloc, config, &frame)?)?)?;
     }
     Ok(())
 }

@@ -21,7 +21,7 @@ use ivy_memory::{Answer, Memory};
 use ivy_model::{Call, Config, Fault, Record, Reply};
 use ivy_program::{Machine, Next, Program};
 use ivy_wire::{Bytes, read};
-use std::alloc::Allocator;
+use std::alloc::{AllocError, Allocator};
 use std::marker::Model;
 
 /// One node of a shared memory, with the program that it runs.
@@ -50,6 +50,21 @@ impl<A: Allocator> Model for Site<A> {
     ghost view = { λ s. record { config = s.outbox.config; me = s.outbox.me; node = record { core = record { memory = s.memory; process = s.machine; history = s.history.items }; link = s.outbox.link }; events = s.events.marks; waiting = s.outbox.waiting } };
 
     ghost invariant = { λ s. IsSite (record { config = s.outbox.config; me = s.outbox.me; node = record { core = record { memory = s.memory; process = s.machine; history = s.history.items }; link = s.outbox.link }; events = s.events.marks; waiting = s.outbox.waiting }) };
+}
+
+/// The string for the event list: it is shared where it can be, and else copied.
+fn listed<A: Allocator + Copy>(
+    alloc: A,
+    bytes: &[u8],
+    shared: Option<&Bytes<A>>,
+) -> Result<Bytes<A>, AllocError>
+    requires { IfSome shared (λ string. string.now ≡ bytes.now) }
+    ensures { IfOk result (λ string. string ≡ bytes.now) }
+{
+    match shared {
+        Some(string) => string.share(),
+        None => Bytes::new(alloc, bytes),
+    }
 }
 
 /// A reply is recorded, and the program goes on with it.
@@ -242,10 +257,13 @@ impl<A: Allocator + Copy> Site<A> {
         }
     }
 
-    /// A string comes, any bytes at all [1, 11 to 17]. What the frame in it is to this node is the answer: one
-    /// for another node is left alone, and the message of the next one is served before the frame is accepted.
-    /// A page in it is lent to what serves the message. A refused delivery changes nothing.
-    pub fn deliver(&mut self, bytes: &[u8]) -> Result<Verdict, Fault>
+    /// What [`Site::deliver`] does, with the string for the event list where it can be shared.
+    fn receive<'s>(
+        &'s mut self,
+        bytes: &[u8],
+        shared: Option<&'s Bytes<A>>,
+    ) -> Result<Verdict, Fault>
+        requires { IfSome shared (λ string. string.now ≡ bytes.now) }
         ensures same { IsSameNode self.old self.new }
         ensures done { MatchResult result (λ verdict. AfterDelivery bytes.now verdict self.old self.new) (λ _. self.new ≡ self.old) }
         ensures refused { MatchResult (checked self.old.config bytes.now) (λ _. IfErr result IsWant) (λ fault. result ≡ Err fault) }
@@ -259,15 +277,40 @@ impl<A: Allocator + Copy> Site<A> {
             return Ok(verdict);
         }
         self.events.reserve()?;
-        let copy = Bytes::new(self.alloc, bytes)?;
+        let string = listed(self.alloc, bytes, shared)?;
         if verdict == Verdict::Next {
             if let Some(message) = frame.body.take() {
                 self.memory.handle(frame.source, message, &mut self.outbox)?;
             }
         }
         self.outbox.accept(&frame);
-        self.events.push_delivery(copy);
+        self.events.push_delivery(string);
         Ok(verdict)
+    }
+
+    /// A string comes, any bytes at all [1, 11 to 17]. What the frame in it is to this node is the answer: one
+    /// for another node is left alone, and the message of the next one is served before the frame is accepted.
+    /// A page in it is lent to what serves the message. The event list has a copy of the bytes. A refused delivery
+    /// changes nothing.
+    pub fn deliver(&mut self, bytes: &[u8]) -> Result<Verdict, Fault>
+        ensures same { IsSameNode self.old self.new }
+        ensures done { MatchResult result (λ verdict. AfterDelivery bytes.now verdict self.old self.new) (λ _. self.new ≡ self.old) }
+        ensures refused { MatchResult (checked self.old.config bytes.now) (λ _. IfErr result IsWant) (λ fault. result ≡ Err fault) }
+        ensures few { length self.new.waiting ≤ length self.old.waiting + most_sent }
+        ensures spent { IfErr result (IsSpentDelivery self.old bytes.now) }
+    {
+        self.receive(bytes, None)
+    }
+
+    /// A string comes, as [`Site::deliver`] says. The event list shares it, so its bytes are not copied.
+    pub fn deliver_shared(&mut self, string: &Bytes<A>) -> Result<Verdict, Fault>
+        ensures same { IsSameNode self.old self.new }
+        ensures done { MatchResult result (λ verdict. AfterDelivery string.now verdict self.old self.new) (λ _. self.new ≡ self.old) }
+        ensures refused { MatchResult (checked self.old.config string.now) (λ _. IfErr result IsWant) (λ fault. result ≡ Err fault) }
+        ensures few { length self.new.waiting ≤ length self.old.waiting + most_sent }
+        ensures spent { IfErr result (IsSpentDelivery self.old string.now) }
+    {
+        self.receive(string.bytes(), Some(string))
     }
 
     /// A pulse to another node: what that node has not acknowledged waits to be put on the wire again, at most

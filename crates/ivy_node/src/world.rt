@@ -99,7 +99,7 @@ fn make<A: Allocator + Copy>(
             }
             sent.reserve(MOST_SENT)?;
             let site = &mut sites[to as usize];
-            let _ = site.deliver(sent[index as usize].bytes())?;
+            let _ = site.deliver_shared(&sent[index as usize])?;
             collect(site, sent);
         }
         Move::Pulse { from, to } => {

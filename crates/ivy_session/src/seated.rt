@@ -127,12 +127,12 @@ impl<'e, S: Setup, A: Allocator + Copy> Seated<'e, S, A> {
     }
 
     /// A string that the pass took is delivered to the site [1, 11 to 17]. A refused delivery changes nothing.
-    pub fn deliver(&mut self, bytes: &[u8]) -> Result<Verdict, Fault>
-        requires took { Contains self.old.pass.known.took bytes.now }
+    pub fn deliver(&mut self, string: &Bytes<A>) -> Result<Verdict, Fault>
+        requires took { Contains self.old.pass.known.took string.now }
         ensures pass { self.new.pass ≡ self.old.pass }
-        ensures done { MatchResult result (λ verdict. AfterDelivery bytes.now verdict self.old.site self.new.site) (λ _. self.new ≡ self.old) }
+        ensures done { MatchResult result (λ verdict. AfterDelivery string.now verdict self.old.site self.new.site) (λ _. self.new ≡ self.old) }
     {
-        self.site.deliver(bytes)
+        self.site.deliver_shared(string)
     }
 
     /// Puts the first frame that waits, if there is one.
@@ -188,7 +188,7 @@ impl<'e, S: Setup, A: Allocator + Copy> Seated<'e, S, A> {
         let Item::Frame(frame) = item else {
             return Ok(WireTurn::Dropped);
         };
-        match self.deliver(frame.bytes()) {
+        match self.deliver(&frame) {
             Ok(Verdict::NotMine) => Ok(self.give_back(rt, frame)),
             Ok(verdict) => Ok(WireTurn::Served(verdict)),
             Err(Fault::Memory) => Err(Fault::Memory),

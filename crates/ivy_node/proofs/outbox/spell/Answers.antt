@@ -12,7 +12,7 @@ encode-requires-clause-fits g c = fits_read c.args.config.now (frames_of c.args.
 
 pub loop-index-preserved : goal.loop-index-preserved
 loop-index-preserved g c =
-    c.in_ok-push_back.ensures.items ∙ spelled_one (frames_of c.args.link.now (map owned_parcel c.args.parcels.now)) c.loop-index.index (owned_frame c.frame-frame.result) c.args.strings.now.items c.loop-index.strings.items c.from_vec.result c.frame-frame.ensures c.loop-index.invariant (c.from_vec.ensures ∙ c.in_ok-encode.ensures.spelled.text)
+    c.in_ok-push_back.ensures.items ∙ spelled_one (frames_of c.args.link.now (map owned_parcel c.args.parcels.now)) c.loop-index.index (owned_frame c.frame-frame.result) c.args.strings.now.items c.loop-index.strings.items c.in_ok-from_vec.field-0 c.frame-frame.ensures c.loop-index.invariant (c.in_ok-from_vec.ensures ∙ c.in_ok-encode.ensures.spelled.text)
 
 pub returns-clause-ok : goal.returns-clause-ok
 returns-clause-ok g c =

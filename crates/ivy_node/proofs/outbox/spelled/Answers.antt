@@ -7,4 +7,4 @@ encode-requires-clause-fits g c = fits_at c.args.config.now c.args.frames.now c.
 
 pub loop-frame-preserved : goal.loop-frame-preserved
 loop-frame-preserved g c =
-    c.in_ok-push_back.ensures.items ∙ spelled_more c.args.frames.now c.loop-frame.frame-index _ c.loop-frame.strings.items c.from_vec.result c.loop-frame-test.true c.loop-frame.invariant (c.from_vec.ensures ∙ c.in_ok-encode.ensures.spelled.text)
+    c.in_ok-push_back.ensures.items ∙ spelled_more c.args.frames.now c.loop-frame.frame-index _ c.loop-frame.strings.items c.in_ok-from_vec.field-0 c.loop-frame-test.true c.loop-frame.invariant (c.in_ok-from_vec.ensures ∙ c.in_ok-encode.ensures.spelled.text)

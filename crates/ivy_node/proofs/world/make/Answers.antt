@@ -18,16 +18,16 @@ collect-requires g c =
     let ok = c.in_ok-reserve-in-Turn.ensures.ok in
     record { room = omega (arith, few, none, room, len, ok) }
 
-pub returns-in_err-deliver-in-Deliver-clause-cause : goal.returns-in_err-deliver-in-Deliver-clause-cause
-returns-in_err-deliver-in-Deliver-clause-cause g c =
-    let found : slice_get c.args.sent.now.items c.in-Deliver.index ≡ Some c.bytes.result.now =
+pub returns-in_err-deliver_shared-in-Deliver-clause-cause : goal.returns-in_err-deliver_shared-in-Deliver-clause-cause
+returns-in_err-deliver_shared-in-Deliver-clause-cause g c =
+    let found : slice_get c.args.sent.now.items c.in-Deliver.index ≡ Some c.index.result.now =
     ap (λ l. slice_get l c.in-Deliver.index) (sym c.reserve-in-Deliver.ensures.items)
-    ∙ (slice_get_read c.reserve-in-Deliver.new.self.items (length c.reserve-in-Deliver.new.self.items) c.in-Deliver.index c.index.result.now refl (search rules) c.index.ensures ∙ ap Some (sym c.bytes.ensures)) in
-    err_there c.from_residual-in_err-deliver-in-Deliver.result _ _ c.from_residual-in_err-deliver-in-Deliver.ensures.1 (delivery_refused c.args.config.now c.args.sites.now.items c.args.sent.now.items c.in-Deliver.index c.in-Deliver.to c.index_mut-site-in-Deliver.result.now c.bytes.result.now c.args.step _ _ c.requires.limits c.requires.sites c.requires.spelled (slice_get_read c.args.sites.now.items (length c.args.sites.now.items) c.in-Deliver.to c.index_mut-site-in-Deliver.result.now refl (search rules) c.index_mut-site-in-Deliver.ensures.value) found c.in-Deliver.is c.in_err-deliver-in-Deliver.ensures.refused c.in_err-deliver-in-Deliver.ensures.spent)
+    ∙ (slice_get_read c.reserve-in-Deliver.new.self.items (length c.reserve-in-Deliver.new.self.items) c.in-Deliver.index c.index.result.now refl (search rules) c.index.ensures) in
+    err_there c.from_residual-in_err-deliver_shared-in-Deliver.result _ _ c.from_residual-in_err-deliver_shared-in-Deliver.ensures.1 (delivery_refused c.args.config.now c.args.sites.now.items c.args.sent.now.items c.in-Deliver.index c.in-Deliver.to c.index_mut-site-in-Deliver.result.now c.index.result.now c.args.step _ _ c.requires.limits c.requires.sites c.requires.spelled (slice_get_read c.args.sites.now.items (length c.args.sites.now.items) c.in-Deliver.to c.index_mut-site-in-Deliver.result.now refl (search rules) c.index_mut-site-in-Deliver.ensures.value) found c.in-Deliver.is c.in_err-deliver_shared-in-Deliver.ensures.refused c.in_err-deliver_shared-in-Deliver.ensures.spent)
 
 pub collect-requires-in-Deliver : goal.collect-requires-in-Deliver
 collect-requires-in-Deliver g c =
-    let few = c.in_ok-deliver-in-Deliver.ensures.few in
+    let few = c.in_ok-deliver_shared-in-Deliver.ensures.few in
     let none = ap length (c.requires.sites.none_waits c.in-Deliver.to c.index_mut-site-in-Deliver.result.now (slice_get_read c.args.sites.now.items (length c.args.sites.now.items) c.in-Deliver.to c.index_mut-site-in-Deliver.result.now refl (search rules) c.index_mut-site-in-Deliver.ensures.value)) in
     let room = c.in_ok-reserve-in-Deliver.ensures.capacity in
     let len = c.in_ok-reserve-in-Deliver.ensures.len in
@@ -68,26 +68,26 @@ pub returns-in_ok-program_turn-in-Turn-clause-programs : goal.returns-in_ok-prog
 returns-in_ok-program_turn-in-Turn-clause-programs g c =
     (turn_went c.args.config.now c.args.sites.now.items c.args.sent.now.items c.in-Turn.node c.index_mut-site.result.now c.program_turn.new.self c.collect.new.site c.in_ok-program_turn-in-Turn.field-0 c.args.step c.collect.new.sent.items c.requires.sites (slice_get_read c.args.sites.now.items (length c.args.sites.now.items) c.in-Turn.node c.index_mut-site.result.now refl (search rules) c.index_mut-site.ensures.value) c.in_ok-program_turn-in-Turn.ensures.done c.in-Turn.is c.collect.ensures.site (c.collect.ensures.sent ∙ ap (λ l. l ++ c.program_turn.new.self.waiting) c.reserve.ensures.items)).programs
 
-pub returns-in_ok-deliver-in-Deliver-clause-ok : goal.returns-in_ok-deliver-in-Deliver-clause-ok
-returns-in_ok-deliver-in-Deliver-clause-ok g c =
-    let found : slice_get c.args.sent.now.items c.in-Deliver.index ≡ Some c.bytes.result.now =
+pub returns-in_ok-deliver_shared-in-Deliver-clause-ok : goal.returns-in_ok-deliver_shared-in-Deliver-clause-ok
+returns-in_ok-deliver_shared-in-Deliver-clause-ok g c =
+    let found : slice_get c.args.sent.now.items c.in-Deliver.index ≡ Some c.index.result.now =
     ap (λ l. slice_get l c.in-Deliver.index) (sym c.reserve-in-Deliver.ensures.items)
-    ∙ (slice_get_read c.reserve-in-Deliver.new.self.items (length c.reserve-in-Deliver.new.self.items) c.in-Deliver.index c.index.result.now refl (search rules) c.index.ensures ∙ ap Some (sym c.bytes.ensures)) in
-    (delivery_went c.args.config.now c.args.sites.now.items c.args.sent.now.items c.in-Deliver.index c.in-Deliver.to c.index_mut-site-in-Deliver.result.now c.deliver.new.self c.collect-in-Deliver.new.site c.bytes.result.now c.in_ok-deliver-in-Deliver.field-0 c.args.step c.collect-in-Deliver.new.sent.items c.requires.limits c.requires.sites (slice_get_read c.args.sites.now.items (length c.args.sites.now.items) c.in-Deliver.to c.index_mut-site-in-Deliver.result.now refl (search rules) c.index_mut-site-in-Deliver.ensures.value) found c.in_ok-deliver-in-Deliver.ensures.done c.in-Deliver.is c.collect-in-Deliver.ensures.site (c.collect-in-Deliver.ensures.sent ∙ ap (λ l. l ++ c.deliver.new.self.waiting) c.reserve-in-Deliver.ensures.items)).made
+    ∙ (slice_get_read c.reserve-in-Deliver.new.self.items (length c.reserve-in-Deliver.new.self.items) c.in-Deliver.index c.index.result.now refl (search rules) c.index.ensures) in
+    (delivery_went c.args.config.now c.args.sites.now.items c.args.sent.now.items c.in-Deliver.index c.in-Deliver.to c.index_mut-site-in-Deliver.result.now c.deliver_shared.new.self c.collect-in-Deliver.new.site c.index.result.now c.in_ok-deliver_shared-in-Deliver.field-0 c.args.step c.collect-in-Deliver.new.sent.items c.requires.limits c.requires.sites (slice_get_read c.args.sites.now.items (length c.args.sites.now.items) c.in-Deliver.to c.index_mut-site-in-Deliver.result.now refl (search rules) c.index_mut-site-in-Deliver.ensures.value) found c.in_ok-deliver_shared-in-Deliver.ensures.done c.in-Deliver.is c.collect-in-Deliver.ensures.site (c.collect-in-Deliver.ensures.sent ∙ ap (λ l. l ++ c.deliver_shared.new.self.waiting) c.reserve-in-Deliver.ensures.items)).made
 
-pub returns-in_ok-deliver-in-Deliver-clause-sites : goal.returns-in_ok-deliver-in-Deliver-clause-sites
-returns-in_ok-deliver-in-Deliver-clause-sites g c =
-    let found : slice_get c.args.sent.now.items c.in-Deliver.index ≡ Some c.bytes.result.now =
+pub returns-in_ok-deliver_shared-in-Deliver-clause-sites : goal.returns-in_ok-deliver_shared-in-Deliver-clause-sites
+returns-in_ok-deliver_shared-in-Deliver-clause-sites g c =
+    let found : slice_get c.args.sent.now.items c.in-Deliver.index ≡ Some c.index.result.now =
     ap (λ l. slice_get l c.in-Deliver.index) (sym c.reserve-in-Deliver.ensures.items)
-    ∙ (slice_get_read c.reserve-in-Deliver.new.self.items (length c.reserve-in-Deliver.new.self.items) c.in-Deliver.index c.index.result.now refl (search rules) c.index.ensures ∙ ap Some (sym c.bytes.ensures)) in
-    (delivery_went c.args.config.now c.args.sites.now.items c.args.sent.now.items c.in-Deliver.index c.in-Deliver.to c.index_mut-site-in-Deliver.result.now c.deliver.new.self c.collect-in-Deliver.new.site c.bytes.result.now c.in_ok-deliver-in-Deliver.field-0 c.args.step c.collect-in-Deliver.new.sent.items c.requires.limits c.requires.sites (slice_get_read c.args.sites.now.items (length c.args.sites.now.items) c.in-Deliver.to c.index_mut-site-in-Deliver.result.now refl (search rules) c.index_mut-site-in-Deliver.ensures.value) found c.in_ok-deliver-in-Deliver.ensures.done c.in-Deliver.is c.collect-in-Deliver.ensures.site (c.collect-in-Deliver.ensures.sent ∙ ap (λ l. l ++ c.deliver.new.self.waiting) c.reserve-in-Deliver.ensures.items)).are
+    ∙ (slice_get_read c.reserve-in-Deliver.new.self.items (length c.reserve-in-Deliver.new.self.items) c.in-Deliver.index c.index.result.now refl (search rules) c.index.ensures) in
+    (delivery_went c.args.config.now c.args.sites.now.items c.args.sent.now.items c.in-Deliver.index c.in-Deliver.to c.index_mut-site-in-Deliver.result.now c.deliver_shared.new.self c.collect-in-Deliver.new.site c.index.result.now c.in_ok-deliver_shared-in-Deliver.field-0 c.args.step c.collect-in-Deliver.new.sent.items c.requires.limits c.requires.sites (slice_get_read c.args.sites.now.items (length c.args.sites.now.items) c.in-Deliver.to c.index_mut-site-in-Deliver.result.now refl (search rules) c.index_mut-site-in-Deliver.ensures.value) found c.in_ok-deliver_shared-in-Deliver.ensures.done c.in-Deliver.is c.collect-in-Deliver.ensures.site (c.collect-in-Deliver.ensures.sent ∙ ap (λ l. l ++ c.deliver_shared.new.self.waiting) c.reserve-in-Deliver.ensures.items)).are
 
-pub returns-in_ok-deliver-in-Deliver-clause-programs : goal.returns-in_ok-deliver-in-Deliver-clause-programs
-returns-in_ok-deliver-in-Deliver-clause-programs g c =
-    let found : slice_get c.args.sent.now.items c.in-Deliver.index ≡ Some c.bytes.result.now =
+pub returns-in_ok-deliver_shared-in-Deliver-clause-programs : goal.returns-in_ok-deliver_shared-in-Deliver-clause-programs
+returns-in_ok-deliver_shared-in-Deliver-clause-programs g c =
+    let found : slice_get c.args.sent.now.items c.in-Deliver.index ≡ Some c.index.result.now =
     ap (λ l. slice_get l c.in-Deliver.index) (sym c.reserve-in-Deliver.ensures.items)
-    ∙ (slice_get_read c.reserve-in-Deliver.new.self.items (length c.reserve-in-Deliver.new.self.items) c.in-Deliver.index c.index.result.now refl (search rules) c.index.ensures ∙ ap Some (sym c.bytes.ensures)) in
-    (delivery_went c.args.config.now c.args.sites.now.items c.args.sent.now.items c.in-Deliver.index c.in-Deliver.to c.index_mut-site-in-Deliver.result.now c.deliver.new.self c.collect-in-Deliver.new.site c.bytes.result.now c.in_ok-deliver-in-Deliver.field-0 c.args.step c.collect-in-Deliver.new.sent.items c.requires.limits c.requires.sites (slice_get_read c.args.sites.now.items (length c.args.sites.now.items) c.in-Deliver.to c.index_mut-site-in-Deliver.result.now refl (search rules) c.index_mut-site-in-Deliver.ensures.value) found c.in_ok-deliver-in-Deliver.ensures.done c.in-Deliver.is c.collect-in-Deliver.ensures.site (c.collect-in-Deliver.ensures.sent ∙ ap (λ l. l ++ c.deliver.new.self.waiting) c.reserve-in-Deliver.ensures.items)).programs
+    ∙ (slice_get_read c.reserve-in-Deliver.new.self.items (length c.reserve-in-Deliver.new.self.items) c.in-Deliver.index c.index.result.now refl (search rules) c.index.ensures) in
+    (delivery_went c.args.config.now c.args.sites.now.items c.args.sent.now.items c.in-Deliver.index c.in-Deliver.to c.index_mut-site-in-Deliver.result.now c.deliver_shared.new.self c.collect-in-Deliver.new.site c.index.result.now c.in_ok-deliver_shared-in-Deliver.field-0 c.args.step c.collect-in-Deliver.new.sent.items c.requires.limits c.requires.sites (slice_get_read c.args.sites.now.items (length c.args.sites.now.items) c.in-Deliver.to c.index_mut-site-in-Deliver.result.now refl (search rules) c.index_mut-site-in-Deliver.ensures.value) found c.in_ok-deliver_shared-in-Deliver.ensures.done c.in-Deliver.is c.collect-in-Deliver.ensures.site (c.collect-in-Deliver.ensures.sent ∙ ap (λ l. l ++ c.deliver_shared.new.self.waiting) c.reserve-in-Deliver.ensures.items)).programs
 
 pub returns-in_ok-pulse-in-Pulse-clause-ok : goal.returns-in_ok-pulse-in-Pulse-clause-ok
 returns-in_ok-pulse-in-Pulse-clause-ok g c =

@@ -1,5 +1,8 @@
-use Rattle.std.proofs.Common.{rules, ◌≡◌, ◌≢◌, ℕ, List, ◌++◌, ◌∷◌, [], None, sym, refl, ap, ◌∙◌}
+use denote.Enum.Bare.{sameb}
+use Rattle.std.proofs.Common.{rules, true, ◌≡◌, ◌≢◌, ℕ, List, ◌++◌, ◌∷◌, [], None, sym, refl, ap, ◌∙◌}
 use Rattle.ivy_wire.specs.Lent.{owned_message, owned_body, owned_frame}
+use Rattle.ivy_link.specs.contracts.verdict.Verdict.{the_type}
+use Rattle.ivy_link.specs.declared.Verdict.{Verdict}
 use Rattle.ivy_link.specs.declared.Verdict.TheVariants as verdict
 use Rattle.ivy_link.specs.Linked.{Linked}
 use Rattle.ivy_link.specs.Accepted.{accepted}
@@ -8,9 +11,16 @@ use Rattle.ivy_node.specs.Outboxes.{Outbox, with_link}
 use Rattle.ivy_node.specs.Sites.{IsSpentDelivery, host_of}
 use Rattle.ivy_memory.proofs.Beginning.{err_there}
 use Rattle.ivy_node.proofs.Delivering.{IsHeard, spent_reading, not_mine, spent_message, heard_quietly, heard_message, heard_delivers, heard_site, heard_few}
-use Rattle.ivy_node.proofs.site.Site.deliver.Given.{Over}
-use Rattle.ivy_node.proofs.site.Site.deliver.Goals as goal
-use Rattle.ivy_node.proofs.site.Site.deliver.Goals.{After-accept, then-eq-2+in-Some+in_ok-handle, then-eq-2+in_default, else-eq-2}
+use Rattle.ivy_node.proofs.site.Site.receive.Given.{Over}
+use Rattle.ivy_node.proofs.site.Site.receive.Goals as goal
+use Rattle.ivy_node.proofs.site.Site.receive.Goals.{After-accept, then-eq-2+in-Some+in_ok-handle, then-eq-2+in_default, else-eq-2}
+
+-- the test for the next one
+is_next : (v : Verdict) → true ≡ sameb the_type v verdict.Next → v ≡ verdict.Next
+is_next verdict.Next same = refl
+is_next verdict.Repeat same = absurd cc
+is_next verdict.Ahead same = absurd cc
+is_next verdict.NotMine same = absurd cc
 
 module _ (g : Over) (c : After-accept g) where
   apart : c.offer-verdict.result ≢ verdict.NotMine
@@ -20,7 +30,7 @@ module _ (g : Over) (c : After-accept g) where
   heard : IsHeard (record { config = c.self.inside.outbox.config; me = c.self.inside.outbox.me; node = record { core = host_of c.self.inside.memory c.self.inside.machine c.self.inside.history.items; link = c.self.inside.outbox.link }; events = c.self.inside.events.marks; waiting = c.self.inside.outbox.waiting }) (owned_frame c.in_ok-frame.frame) c.offer-verdict.result (host_of c.if-eq-2.self-inside.memory c.if-eq-2.self-inside.machine c.if-eq-2.self-inside.history.items) c.if-eq-2.self-inside.outbox
   heard = elim c.if-eq-2.branch [
     | then-eq-2+in-Some+in_ok-handle w ↦
-        let next : c.offer-verdict.result ≡ verdict.Next = search rules in
+        let next : c.offer-verdict.result ≡ verdict.Next = is_next c.offer-verdict.result w.if-eq-2.ensures in
         rw w.self-inside-is (heard_message _ (owned_frame c.in_ok-frame.frame) c.offer-verdict.result (owned_message w.in-Some.message) _ _ next (ap owned_body (sym w.take.ensures.value ∙ w.in-Some.is)) w.in_ok-handle.ensures.ok w.in_ok-handle.ensures.took w.in_ok-handle.ensures.few w.in_ok-handle.ensures.posted)
     | then-eq-2+in_default w ↦
         let none : c.in_ok-frame.frame.body ≡ None = search rules in
@@ -76,11 +86,11 @@ invariant_of-self-2 g c =
     heard_site _ c.config-config.result (owned_frame c.in_ok-frame.frame) c.args.bytes.now c.offer-verdict.result
     (record { config = c.config-config.ensures.is; limits = c.config-config.ensures.limits; spelled = c.in_ok-frame.ensures.found; is = c.offer-verdict.ensures })
     (apart g (goal.at.invariant_of-self-2 g c).After-accept) _ _ c.accept.new.self c.push_delivery.new.self.marks c.self.invariant (heard g (goal.at.invariant_of-self-2 g c).After-accept)
-    (accepts g (goal.at.invariant_of-self-2 g c).After-accept _ c.accept.ensures) (listed g (goal.at.invariant_of-self-2 g c).After-accept c.push_delivery.new.self.marks c.in_ok-copy.copy c.args.bytes.now c.in_ok-reserve.ensures.same c.push_delivery.ensures c.in_ok-copy.ensures)
+    (accepts g (goal.at.invariant_of-self-2 g c).After-accept _ c.accept.ensures) (listed g (goal.at.invariant_of-self-2 g c).After-accept c.push_delivery.new.self.marks c.in_ok-string.string c.args.bytes.now c.in_ok-reserve.ensures.same c.push_delivery.ensures c.in_ok-string.ensures)
 
 pub returns-clause-done : goal.returns-clause-done
 returns-clause-done g c =
-    let events = listed g (goal.at.returns-clause-done g c).After-accept c.push_delivery.new.self.marks c.in_ok-copy.copy c.args.bytes.now c.in_ok-reserve.ensures.same c.push_delivery.ensures c.in_ok-copy.ensures in
+    let events = listed g (goal.at.returns-clause-done g c).After-accept c.push_delivery.new.self.marks c.in_ok-string.string c.args.bytes.now c.in_ok-reserve.ensures.same c.push_delivery.ensures c.in_ok-string.ensures in
     heard_delivers _ _ c.self.view_is c.config-config.result (owned_frame c.in_ok-frame.frame) c.args.bytes.now c.offer-verdict.result
     (record { config = c.config-config.ensures.is; limits = c.config-config.ensures.limits; spelled = c.in_ok-frame.ensures.found; is = c.offer-verdict.ensures })
     (apart g (goal.at.returns-clause-done g c).After-accept) _ _ c.accept.new.self c.push_delivery.new.self.marks (heard g (goal.at.returns-clause-done g c).After-accept) (accepts g (goal.at.returns-clause-done g c).After-accept _ c.accept.ensures) events
