@@ -64,11 +64,11 @@ def barrier(meetings):
 
 
 def page(hand_overs):
-    """Each of eight nodes in turn adds to one word, so the word's page is handed round."""
-    for node in range(8):
-        yield from (f"node {node}", f"set r1 {node}", "set r2 8", f"set r4 {LARGE_PAGE}", "set r5 1")
+    """Two nodes in turn add to one word, so the word's page is handed to and fro."""
+    for node in range(2):
+        yield from (f"node {node}", f"set r1 {node}", "set r2 2", f"set r4 {LARGE_PAGE}", "set r5 1")
         body = ["await r3 r0 r1", "load 8 r6 r4", "add r6 r6 r5", "store 8 r4 r6", "advance r0", "add r1 r1 r2"]
-        yield from loop(hand_overs // 8, body)
+        yield from loop(hand_overs // 2, body)
 
 
 def waits(laps):
