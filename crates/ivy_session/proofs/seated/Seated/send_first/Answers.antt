@@ -1,4 +1,4 @@
-use Rattle.ivy_session.proofs.Seats.{may_give, less_seated, sends_from}
+use Rattle.ivy_session.proofs.Seats.{may_give, less_seated, sends_from, put_seated}
 use Rattle.ivy_session.proofs.seated.Seated.send_first.Goals as goal
 
 pub put-requires-clause-events : goal.put-requires-clause-events
@@ -14,3 +14,11 @@ put-requires-clause-frame g c =
     sends_from g.S.Setup.config g.S.Setup.programs _ c.self.inside.site c.take_frame.new.self
     c.self.inside.pass _ c.in_ok-frame.frame c.event_list.ensures.is c.in_ok-frame.ensures.taken.1
     c.self.invariant c.in_ok-frame.ensures.sent
+
+pub invariant_of-self-2 : goal.invariant_of-self-2
+invariant_of-self-2 g c =
+    put_seated g.S.Setup.config g.S.Setup.programs _ c.put.result c.take_frame.new.self
+    c.self.inside.pass c.put.new.pass _ c.in_ok-frame.frame
+    c.event_list.ensures.is c.put.ensures.pass c.put.ensures.known
+    (less_seated g.S.Setup.config g.S.Setup.programs _ c.self.inside.site c.take_frame.new.self
+    c.self.inside.pass c.in_ok-frame.ensures.taken.1 c.self.invariant)

@@ -25,8 +25,7 @@ returns-in-Ok g c =
         bytes = c.in-Frame.frame;
         took = subst (λ (p : Held). Contains p.known.took c.in-Frame.frame) (sym c.in-Ok.ensures.pass) taken;
         mine = apart;
-        delivered = subst (λ (b : List ℕ). AfterDelivery b c.in-Ok.verdict c.args.self.now.site c.deliver.new.self.site) c.bytes.ensures
-            (subst (λ (s : Shown). AfterDelivery c.bytes.result.now c.in-Ok.verdict s c.deliver.new.self.site) site c.in-Ok.ensures.done);
+        delivered = subst (λ (s : Shown). AfterDelivery c.in-Frame.frame c.in-Ok.verdict s c.deliver.new.self.site) site c.in-Ok.ensures.done;
       };
       want = tt;
     }
