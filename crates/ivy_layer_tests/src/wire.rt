@@ -1,7 +1,7 @@
 //! Frames as strings of bytes: the worked examples, and each fault of a string that spells no frame.
 use ivy_model::{Config, Fault, Kind};
 use ivy_wire::{
-    Bytes, Content, Frame, FrameKind, Message, Page, decode, encode, grammar_is_prefix_free, read,
+    Bytes, Content, Frame, FrameKind, Message, Page, decode, destination, encode, grammar_is_prefix_free, read,
 };
 use std::alloc::{Allocator, Global};
 use std::process::Abort;
@@ -393,6 +393,15 @@ fn pages(rt: HostRuntime) -> Result<(), Fail> {
     assert_eq!(rt; page.bytes(), ONES);
     assert!(rt; page.clone()? == page);
     assert!(rt; page != Page::new(rt.alloc(), ZEROS)?);
+    Ok(())
+}
+
+/// A request from node 1 to node 0, and a string that has no destination.
+#[test]
+fn destinations(rt: HostRuntime) -> Result<(), Fail> {
+    let request = [b'I', b'V', 1, 1, 1, 0, 0, 13];
+    assert_eq!(rt; destination(&request), Some(0));
+    assert_eq!(rt; destination(&request[..5]), None);
     Ok(())
 }
 

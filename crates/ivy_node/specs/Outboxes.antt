@@ -7,6 +7,7 @@ use Rattle.ivy_model.specs.declared.Fault.{Fault}
 use Rattle.ivy_model.specs.declared.Fault.TheVariants.{Memory, NumbersSpent}
 use Rattle.ivy_wire.specs.Data.{Parcel}
 use Rattle.ivy_wire.specs.Spelling.{spelling}
+use Rattle.ivy_wire.specs.Destinations.{dest_of}
 use Rattle.ivy_link.specs.Linked.{Linked, Sending, sends, has_numbers}
 use Rattle.ivy_link.specs.Fitting.{FitsLink}
 use Rattle.ivy_link.specs.Windows.{Window}
@@ -96,6 +97,11 @@ Takes None old new = (old.waiting ≡ []) × (new ≡ old)
 Takes (Some bytes) old new =
     (old.waiting ≡ bytes ∷ new.waiting) × (new.config ≡ old.config) × (new.me ≡ old.me)
     × (new.link ≡ old.link) × (new.held ≡ old.held)
+
+-- the destination of the first string, if one waits
+abbrev pub next_dest : List (List ℕ) → Option ℕ
+next_dest [] = None
+next_dest (bytes ∷ rest) = dest_of bytes
 
 pub takes_none : (o : Outbox) → HasNumbers o []
 takes_none o = refl

@@ -9,11 +9,11 @@ ghost use Rattle.ivy_link.specs.Fitting.{FitsLink};
 ghost use Rattle.ivy_link.specs.Windows.{first_window};
 ghost use Rattle.ivy_link.specs.Holding.{link_of, accepted, after_hold, ready_of, after_taking};
 ghost use Rattle.ivy_link.specs.Pulsed.{frames_again, pulsed};
-ghost use Rattle.ivy_node.specs.Outboxes.{holding_of, with_holding, with_waiting, with_sending, Takes, most_sent};
+ghost use Rattle.ivy_node.specs.Outboxes.{holding_of, with_holding, with_waiting, with_sending, Takes, most_sent, next_dest};
 
 use ivy_link::{Link, Verdict};
 use ivy_model::{Config, Fault};
-use ivy_wire::{Bytes, Frame, Parcel, Post, encode};
+use ivy_wire::{Bytes, Frame, Parcel, Post, destination, encode};
 use std::alloc::Allocator;
 use std::collections::VecDeque;
 use std::marker::Model;
@@ -128,6 +128,13 @@ impl<A: Allocator + Copy> Outbox<A> {
         ensures { IsTrue result ↔ (self.now.waiting ≢ []) }
     {
         !self.waiting.is_empty()
+    }
+
+    /// The node that the first string that waits is for.
+    pub(crate) fn next_destination(&self) -> Option<u8>
+        ensures { result ≡ next_dest self.now.waiting }
+    {
+        destination(self.waiting.front()?.bytes())
     }
 
     /// What a frame is to this node.

@@ -8,7 +8,7 @@ ghost use Rattle.ivy_host.specs.Managers.{managed_ops};
 ghost use Rattle.ivy_events.specs.Nodes.{pulsing};
 ghost use Rattle.ivy_link.specs.Accepted.{offered};
 ghost use Rattle.ivy_link.specs.Holding.{ready_of};
-ghost use Rattle.ivy_node.specs.Outboxes.{most_sent, most_delivered};
+ghost use Rattle.ivy_node.specs.Outboxes.{most_sent, most_delivered, next_dest};
 ghost use Rattle.ivy_node.specs.Shown.{holding_at, after_pulse_to};
 ghost use Rattle.ivy_node.specs.Sites.{first_shown, host_of, AfterHostTurn, HasNoNumbers, AfterTurn, Delivers, CameEarlyAs, AfterDelivery, Receives, WentOnOnce, WentOn, IsHeld, early_at, HoldsString, without_ready, IsSpentTurn, IsSpentDelivery, TakesFrame, IsSameNode, IsMadeByEvents, IsSentBy};
 ghost use Rattle.ivy_events.specs.Marks.{marks};
@@ -201,6 +201,13 @@ impl<A: Allocator + Copy> Site<A> {
         ensures { IsTrue result ↔ (self.now.waiting ≢ []) }
     {
         self.outbox.has_frame()
+    }
+
+    /// The node that the first string that waits is for. It takes no memory.
+    pub fn next_destination(&self) -> Option<u8>
+        ensures { result ≡ next_dest self.now.waiting }
+    {
+        self.outbox.next_destination()
     }
 
     /// One turn of the program: the call in progress is asked for its reply, which is recorded, or an instruction is

@@ -1,79 +1,115 @@
 //! How workers wait, and are woken.
-use crate::gate::Role;
 use std::sync::Wait;
+use std::sync::atomic::{AtomicBool, AtomicU64, Ordering};
 use std::thread::Parker;
 use std::time::Duration;
 
-/// So many microseconds a worker sleeps at most, which has nothing to do: a lost frame is sent again by a pulse, which is
-/// counted in turns.
-const NAP: u64 = 200;
+/// A count of what there is to do for a worker, and what the worker sleeps on.
+#[derive(Drop)]
+struct Bell {
+    rings: AtomicU64,
+    parker: Parker,
+}
 
-/// What a node's two workers sleep on.
+impl Bell {
+    fn new() -> Bell {
+        Bell {
+            rings: AtomicU64::new(0),
+            parker: Parker::new(),
+        }
+    }
+
+    /// There is one thing more to do.
+    fn ring(&self) {
+        self.rings.fetch_add(1, Ordering::SeqCst);
+        self.wake();
+    }
+
+    fn rings(&self) -> u64 {
+        self.rings.load(Ordering::SeqCst)
+    }
+
+    fn wake(&self) {
+        self.parker.unpark();
+    }
+
+    /// Sleeps until it is woken, so many microseconds at most.
+    fn sleep<R: Wait>(&self, rt: &R, most: u64) {
+        self.parker.park_timeout(rt, Duration::from_micros(most));
+    }
+}
+
+/// What there is to do for the two workers of a node.
 #[derive(Drop)]
 pub(crate) struct Bells {
-    program: Parker,
-    wire: Parker,
+    /// Frames that the node has served, which its program may have waited for.
+    served: Bell,
+    /// Frames that were put for the node.
+    put: Bell,
+    /// Whether frames of the node wait to be put.
+    waiting: AtomicBool,
 }
 
 impl Bells {
-    /// Nobody sleeps yet.
+    /// There is nothing to do yet.
     pub(crate) fn new() -> Bells {
         Bells {
-            program: Parker::new(),
-            wire: Parker::new(),
+            served: Bell::new(),
+            put: Bell::new(),
+            waiting: AtomicBool::new(false),
         }
     }
 
-    /// Wakes the node's program worker.
-    pub(crate) fn ring_program(&self) {
-        self.program.unpark();
+    /// So many frames the node has served.
+    pub(crate) fn served(&self) -> u64 {
+        self.served.rings()
     }
 
-    /// Wakes the node's wire worker.
-    pub(crate) fn ring_wire(&self) {
-        self.wire.unpark();
+    /// So many frames were put for the node.
+    pub(crate) fn put(&self) -> u64 {
+        self.put.rings()
     }
 
-    /// Wakes both.
-    pub(crate) fn ring(&self) {
-        self.ring_program();
-        self.ring_wire();
+    /// A frame was put for the node: its wire worker is woken.
+    pub(crate) fn ring_put(&self) {
+        self.put.ring();
     }
 
-    /// A worker of the node rests, which has had nothing to do for one more turn.
-    pub(crate) fn rest<R: Wait>(&self, rt: &R, role: Role, idle: &mut Idle) {
-        match role {
-            Role::Program => idle.rest(rt, &self.program),
-            Role::Wire => idle.rest(rt, &self.wire),
+    /// The node has served a frame: its program worker is woken.
+    pub(crate) fn ring_served(&self) {
+        self.served.ring();
+    }
+
+    /// Whether frames of the node wait to be put.
+    pub(crate) fn has_waiting(&self) -> bool {
+        self.waiting.load(Ordering::SeqCst)
+    }
+
+    /// Says whether frames of the node wait to be put. The node's site is locked.
+    pub(crate) fn set_waiting(&self, waiting: bool) {
+        if waiting != self.has_waiting() {
+            self.waiting.store(waiting, Ordering::SeqCst);
         }
     }
-}
 
-/// How long a worker has had nothing to do, and how long it goes on before it sleeps.
-#[derive(Drop)]
-pub(crate) struct Idle {
-    turns: u64,
-    patience: u64,
-}
-
-impl Idle {
-    /// It has just worked. So many idle turns in a row it goes on at once, and then it sleeps.
-    pub(crate) fn new(patience: u64) -> Idle {
-        Idle { turns: 0, patience }
+    /// Wakes the wire worker.
+    pub(crate) fn wake_wire(&self) {
+        self.put.wake();
     }
 
-    /// It has worked again.
-    pub(crate) fn end(&mut self) {
-        self.turns = 0;
+    /// Wakes both workers.
+    pub(crate) fn wake(&self) {
+        self.served.wake();
+        self.put.wake();
     }
 
-    /// One more turn had nothing to do. A worker that has gone on for long enough sleeps until its bell rings, or for a
-    /// while. It does not yield: on a machine that computes it would come back too late.
-    fn rest<R: Wait>(&mut self, rt: &R, bell: &Parker) {
-        if self.turns < self.patience {
-            self.turns += 1;
-        } else {
-            bell.park_timeout(rt, Duration::from_micros(NAP));
-        }
+    /// The program worker sleeps until it is woken, so many microseconds at most.
+    pub(crate) fn sleep_program<R: Wait>(&self, rt: &R, most: u64) {
+        self.served.sleep(rt, most);
+    }
+
+    /// The wire worker sleeps until it is woken, so many microseconds at most.
+    pub(crate) fn sleep_wire<R: Wait>(&self, rt: &R, most: u64) {
+        self.put.sleep(rt, most);
     }
 }

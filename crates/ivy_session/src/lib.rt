@@ -14,6 +14,7 @@ mod seated;
 mod seating;
 mod session;
 mod shared;
+mod watch;
 mod wire_turn;
 mod workers;
 

@@ -5,6 +5,7 @@ ghost use Rattle.ivy_events.specs.Nodes.{pulsing};
 ghost use Rattle.ivy_program.specs.Steps.{HasEnded};
 ghost use Rattle.ivy_ether.specs.Items.{strings_in};
 ghost use Rattle.ivy_ether.specs.Views.{with_seat};
+ghost use Rattle.ivy_node.specs.Outboxes.{next_dest};
 ghost use Rattle.ivy_node.specs.Shown.{after_pulse_to};
 ghost use Rattle.ivy_node.specs.Sites.{first_shown, AfterTurn, AfterDelivery};
 ghost use Rattle.ivy_session.specs.Places.{place, IsSeated, IsFreshSeat};
@@ -83,6 +84,13 @@ impl<'e, S: Setup, A: Allocator + Copy> Seated<'e, S, A> {
         ensures { IsTrue result ↔ (self.now.site.waiting ≢ []) }
     {
         self.site.has_frame()
+    }
+
+    /// The node that the first frame that waits is for.
+    pub fn next_destination(&self) -> Option<u8>
+        ensures { result ≡ next_dest self.now.site.waiting }
+    {
+        self.site.next_destination()
     }
 
     /// One turn of the site's program [1, 17]. A refused turn changes nothing.

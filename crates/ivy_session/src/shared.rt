@@ -2,15 +2,17 @@
 ghost use Rattle.std.specs.Prelude.{IfSome, IfErr};
 ghost use Rattle.ivy_session.specs.Faults.{IsStop};
 
-use crate::bells::{Bells, Idle};
-use crate::gate::Role;
+use crate::bells::Bells;
+use crate::wire_turn::WireTurn;
+use ivy_link::Verdict;
 use ivy_model::Fault;
 use std::alloc::Allocator;
 use std::sync::atomic::{AtomicBool, AtomicU64, Ordering};
 use std::sync::{Mutex, Wait};
+use std::thread;
 
-/// So many idle turns in a row a wire worker goes on at most before it sleeps.
-const MOST_PATIENCE: u64 = 8_192;
+/// So many turns a round of pulses has at most.
+const MOST_ROUND: u64 = 8_192;
 
 /// Why a session ends before its programs do.
 #[derive(Drop)]
@@ -19,13 +21,15 @@ struct Stop {
     ghost why: { IsStop fault },
 }
 
-/// How many programs have ended, whether the session stops before they all have, and what the workers sleep on.
+/// How many programs have ended, whether the session stops before they all have, how many frames were lost, and what
+/// the workers sleep on.
 #[derive(Drop)]
 pub(crate) struct Shared<A: Allocator> {
     programs: u64,
     ended: AtomicU64,
     stopped: AtomicBool,
     stop: Mutex<Option<Stop>>,
+    losses: AtomicU64,
     bells: Vec<Bells, A>,
 }
 
@@ -44,6 +48,7 @@ impl<A: Allocator> Shared<A> {
             ended: AtomicU64::new(0),
             stopped: AtomicBool::new(false),
             stop: Mutex::new(None),
+            losses: AtomicU64::new(0),
             bells,
         })
     }
@@ -51,7 +56,7 @@ impl<A: Allocator> Shared<A> {
     /// One more program has ended.
     pub(crate) fn end(&self) {
         self.ended.fetch_add(1, Ordering::SeqCst);
-        self.ring_all();
+        self.wake_all();
     }
 
     /// The session stops with this fault, unless it has stopped with another one.
@@ -64,7 +69,7 @@ impl<A: Allocator> Shared<A> {
         }
         drop(stop);
         self.stopped.store(true, Ordering::SeqCst);
-        self.ring_all();
+        self.wake_all();
     }
 
     /// Whether the session stops before all programs have ended.
@@ -77,46 +82,50 @@ impl<A: Allocator> Shared<A> {
         self.is_stopped() || self.ended.load(Ordering::SeqCst) >= self.programs
     }
 
-    /// In so many turns a wire worker has pulsed to each other node, but for a bound: so long it does not sleep, since
-    /// what it sent may be lost.
+    /// In so many turns a wire worker pulses to each other node, but for a bound.
     pub(crate) fn round(&self, pulse_every: u64) -> u64 {
-        self.programs.saturating_mul(pulse_every).min(MOST_PATIENCE)
+        self.programs.saturating_mul(pulse_every).min(MOST_ROUND)
     }
 
     /// Wakes all workers, so that they see how the session stands.
-    fn ring_all(&self) {
+    fn wake_all(&self) {
         for bells in &self.bells {
-            bells.ring();
+            bells.wake();
         }
     }
 
-    /// Wakes the wire workers of all nodes but this one.
-    pub(crate) fn ring_others(&self, node: u8) {
-        for (other, bells) in self.bells.iter().enumerate() {
-            if other != usize::from(node) {
-                bells.ring_wire();
-            }
-        }
+    /// What the workers of each node sleep on.
+    pub(crate) fn bells(&self) -> &[Bells] {
+        &self.bells
     }
 
-    /// Wakes the program worker of a node.
-    pub(crate) fn ring_program(&self, node: u8) {
+    /// So many frames were lost, of those that anybody knows of.
+    pub(crate) fn losses(&self) -> u64 {
+        self.losses.load(Ordering::SeqCst)
+    }
+
+    /// A frame is lost. All wire workers pulse, so that it is sent again.
+    fn lose(&self) {
+        self.losses.fetch_add(1, Ordering::SeqCst);
+        self.wake_all();
+    }
+
+    /// A frame was put for a node: its wire worker is woken.
+    fn ring_put(&self, node: u8) {
         if let Some(bells) = self.bells.get(usize::from(node)) {
-            bells.ring_program();
+            bells.ring_put();
         }
     }
 
-    /// Wakes the wire worker of a node.
-    pub(crate) fn ring_wire(&self, node: u8) {
-        if let Some(bells) = self.bells.get(usize::from(node)) {
-            bells.ring_wire();
-        }
-    }
-
-    /// A worker of a node rests, which has had nothing to do for one more turn.
-    pub(crate) fn rest<R: Wait>(&self, rt: &R, node: u8, role: Role, idle: &mut Idle) {
-        if let Some(bells) = self.bells.get(usize::from(node)) {
-            bells.rest(rt, role, idle);
+    /// Tells the workers what a turn on the wire came to: `own` are the bells of the node that made it, and `to` is the
+    /// node that its first frame was for.
+    pub(crate) fn tell(&self, own: &Bells, turn: WireTurn, to: Option<u8>) {
+        match (turn, to) {
+            (WireTurn::Sent, Some(to)) => self.ring_put(to),
+            (WireTurn::Served(Verdict::Next), _) => own.ring_served(),
+            (WireTurn::Served(Verdict::Ahead) | WireTurn::Dropped, _) => self.lose(),
+            (WireTurn::Returned, _) => thread::yield_now(),
+            _ => {}
         }
     }
 
@@ -129,6 +138,7 @@ impl<A: Allocator> Shared<A> {
             ended: _,
             stopped: _,
             stop,
+            losses: _,
             bells: _,
         } = self;
         match stop.into_inner() {

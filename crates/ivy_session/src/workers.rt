@@ -2,11 +2,12 @@
 ghost use Rattle.std.specs.Prelude.{IfErr};
 ghost use Rattle.ivy_session.specs.Faults.{IsStop};
 
-use crate::bells::Idle;
+use crate::bells::Bells;
 use crate::gate::{Gate, Role};
 use crate::limits::Limits;
 use crate::seated::Seated;
 use crate::shared::Shared;
+use crate::watch::{Watch, rest_program};
 use crate::wire_turn::WireTurn;
 use ivy_ether::Setup;
 use ivy_model::Fault;
@@ -16,34 +17,33 @@ use std::sync::{Mutex, Wait};
 use std::thread;
 use std::thread::Threads;
 
-/// So many idle turns in a row a program worker goes on before it sleeps.
-const PROGRAM_PATIENCE: u64 = 64;
-
 /// Makes the turns of a node's program, one turn a lock, until it has ended.
 fn run_program<S: Setup, A: Allocator + Copy, R: Wait, G: Gate>(
     rt: &R,
     seat: &Mutex<Seated<'_, S, A>>,
+    bells: &Bells,
     node: u8,
     limits: Limits,
     shared: &Shared<A>,
     gate: &G,
 ) {
-    let mut idle = Idle::new(PROGRAM_PATIENCE);
     for _ in 0..limits.turns {
         if shared.is_stopped() {
             return;
         }
+        let served = bells.served();
         let mut seated = seat.lock(rt);
         gate.enter(node, Role::Program, seated.records());
         let turn = seated.program_turn();
         let waits = seated.has_frame();
+        bells.set_waiting(waits);
         drop(seated);
         if waits {
-            shared.ring_wire(node);
+            bells.wake_wire();
         }
         match turn {
-            Ok(Turn::Moved) => idle.end(),
-            Ok(Turn::Idle) => shared.rest(rt, node, Role::Program, &mut idle),
+            Ok(Turn::Moved) => {}
+            Ok(Turn::Idle) => rest_program(rt, shared, bells, served),
             Ok(Turn::Ended) => {
                 shared.end();
                 return;
@@ -75,12 +75,13 @@ impl Pulses {
         }
     }
 
-    /// One turn on the wire, with a pulse before it where it is time for one [1, 17].
+    /// One turn on the wire, with a pulse before it where it is time for one [1, 17]. It also says whom the first frame
+    /// that waited was for.
     fn turn<S: Setup, A: Allocator + Copy, R: Wait>(
         &mut self,
         rt: &R,
         seated: &mut Seated<'_, S, A>,
-    ) -> Result<WireTurn, Fault>
+    ) -> Result<(WireTurn, Option<u8>), Fault>
         ensures { IfErr result IsStop }
     {
         self.turns = self.turns.saturating_add(1);
@@ -88,7 +89,8 @@ impl Pulses {
             self.turns = 0;
             self.last = seated.pulse_next(self.last)?;
         }
-        seated.wire_turn(rt)
+        let to = seated.next_destination();
+        Ok((seated.wire_turn(rt)?, to))
     }
 }
 
@@ -96,44 +98,35 @@ impl Pulses {
 fn run_wire<S: Setup, A: Allocator + Copy, R: Wait, G: Gate>(
     rt: &R,
     seat: &Mutex<Seated<'_, S, A>>,
+    bells: &Bells,
     node: u8,
     limits: Limits,
     shared: &Shared<A>,
     gate: &G,
 ) {
-    let mut idle = Idle::new(shared.round(limits.pulse_every));
+    let mut watch = Watch::new(shared.round(limits.pulse_every));
     let mut pulses = Pulses::new(limits.pulse_every);
     for _ in 0..limits.turns {
         if shared.is_over() {
             return;
         }
+        let put = bells.put();
         let mut seated = seat.lock(rt);
         gate.enter(node, Role::Wire, seated.records());
         let turn = pulses.turn(rt, &mut seated);
-        let waits = seated.has_frame();
+        bells.set_waiting(seated.has_frame());
         drop(seated);
         match turn {
-            Ok(WireTurn::Sent) => {
-                idle.end();
-                shared.ring_others(node);
-            }
-            Ok(WireTurn::Returned) => {
-                shared.ring_others(node);
-                thread::yield_now();
-            }
-            Ok(WireTurn::Served(_)) => {
-                idle.end();
-                shared.ring_program(node);
-            }
-            Ok(WireTurn::Lost | WireTurn::Empty | WireTurn::Dropped) if waits => idle.end(),
-            Ok(WireTurn::Lost | WireTurn::Empty | WireTurn::Dropped) => {
-                shared.rest(rt, node, Role::Wire, &mut idle);
+            Ok((turn, to)) => {
+                shared.tell(bells, turn, to);
+                watch.note(turn, put);
             }
             Err(fault) => {
                 shared.stop(rt, fault);
                 return;
             }
         }
+        watch.rest(rt, shared, bells);
     }
     if !shared.is_over() {
         shared.stop(rt, Fault::TurnLimit);
@@ -159,10 +152,12 @@ where
     let all = &shared;
     thread::scope(thread::scope_env(), rt, |scope| {
         let mut next = 0u8;
-        for seat in seats {
+        for (seat, bells) in seats.iter().zip(all.bells()) {
             let node = next;
-            let program = scope.spawn(move || run_program(rt, seat, node, limits, all, gate));
-            let wire = scope.spawn(move || run_wire(rt, seat, node, limits, all, gate));
+            let program = scope.spawn(move || run_program(
+                rt, seat, bells, node, limits, all, gate,
+            ));
+            let wire = scope.spawn(move || run_wire(rt, seat, bells, node, limits, all, gate));
             if program.is_err() || wire.is_err() {
                 all.stop(rt, Fault::Memory);
             }

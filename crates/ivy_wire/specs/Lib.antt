@@ -3,6 +3,7 @@ pub mod Lengths
 pub mod Spelling
 pub mod Faults
 pub mod Reading
+pub mod Destinations
 pub mod Grammar
 pub mod Lent
 pub use Rattle.ivy_model.specs.Config

@@ -21,5 +21,5 @@ pub use frame::{Content, Frame, FrameKind, Message};
 pub use grammar::grammar_is_prefix_free;
 pub use page::Page;
 pub use parcel::{Parcel, Post};
-pub use reading::{decode, read};
+pub use reading::{decode, destination, read};
 pub use writing::encode;

@@ -5,6 +5,7 @@ ghost use Rattle.ivy_wire.specs.Lengths.{header_len, call_len};
 ghost use Rattle.ivy_wire.specs.Spelling.{text_len, Spells};
 ghost use Rattle.ivy_wire.specs.Data.{Frame as SeenFrame};
 ghost use Rattle.ivy_wire.specs.Reading.{content_at, message_at, frame_at};
+ghost use Rattle.ivy_wire.specs.Destinations.{dest_of, IsDestination};
 ghost use Rattle.ivy_wire.specs.Lent.{owned_content, owned_body, owned_frame};
 ghost use Rattle.ivy_wire.specs.Faults.{kind_at, is_sound_content, is_sound_text, checked_in, checked, len_at, frame_number_at, ack_at, text_at};
 
@@ -13,6 +14,18 @@ use crate::page::Page;
 use byteorder::{BigEndian, ByteOrder};
 use ivy_model::{Config, Fault};
 use std::alloc::Allocator;
+
+/// The place of the destination in a header.
+const DESTINATION: usize = 5;
+
+/// The node that the frame of a string is for, without a look at the rest of it. None where the string
+/// is shorter. It takes no memory.
+pub fn destination(bytes: &[u8]) -> Option<u8>
+    ensures is { result ≡ dest_of bytes.now }
+    ensures frame { IsDestination bytes.now result }
+{
+    bytes.get(DESTINATION).copied()
+}
 
 #[tactic(auto, unfolding(crate::specs::Faults::kind_at))]
 fn kind_at(code: u8) -> Option<FrameKind>
