@@ -1,2 +1,4 @@
+pub mod Judging
+pub mod Leading
 pub mod Printing
 pub mod Simulating

@@ -1,9 +1,11 @@
 -- What is printed of one node after another.
-use Rattle.std.proofs.Common.{◌≡◌, ℕ, ◌+◌, ◌<◌, ◌≤◌, ◌↔◌, Bool, true, false, IsTrue, IfSome, inl, inr, List, [], ◌∷◌, ◌++◌, length, take, slice_get, Option, Some, ap, sym, subst, ◌∙◌, refl, arith, append-nil, add-zero, zero-add, append_assoc}
+use Rattle.std.proofs.Common.{◌≡◌, ℕ, ◌+◌, ◌<◌, ◌≤◌, ◌↔◌, Bool, true, false, IsTrue, IfSome, inl, inr, List, [], ◌∷◌, ◌++◌, length, take, slice_get, Option, Some, None, ap, sym, subst, ◌∙◌, refl, arith, append-nil, add-zero, zero-add, append_assoc}
 use Rattle.std.proofs.lemmas.List.{length-take-le}
 use Rattle.std.proofs.lemmas.Option.{slice_get_within, slice_get_cases}
 use Rattle.ivy_program.specs.Steps.{Step, Local, Asks, Ends}
-use Rattle.ivy_texts.proofs.Printing.{taken-more}
+use Rattle.std.specs.Io.KnownBytes.{Appends, Keeps}
+use Rattle.ivy_texts.proofs.Printing.{appends-nothing, appends-more, taken-more}
+use Rattle.ivy.specs.Commands.{Adds, AddsLast}
 use Rattle.ivy.specs.Nodes.{numbered, is_end}
 
 numbered-snoc : {X : Type 0} (text : ℕ → X → List ℕ) (from : ℕ) (xs : List X) (x : X) → numbered text from (xs ++ x ∷ []) ≡ numbered text from xs ++ text (from + length xs) x
@@ -36,3 +38,21 @@ told-end true s h = sym (ap is_end (h.0 refl))
 told-end false (Local x) h = refl
 told-end false (Asks call) h = refl
 told-end false Ends h = h.1 refl
+
+pub adds-nothing : (a : Option (List ℕ)) → Adds a a
+adds-nothing a = ([], appends-nothing a)
+
+pub adds-more : (a b c : Option (List ℕ)) (xs : List ℕ) → Adds a b → Appends b c xs → Adds a c
+adds-more a b c xs h k = (h.0 ++ xs, appends-more a b c h.0 xs h.1 k)
+
+pub adds-on : (a b c : Option (List ℕ)) → Adds a b → Adds b c → Adds a c
+adds-on a b c h k = adds-more a b c k.0 h k.1
+
+pub adds-last : (a b c : Option (List ℕ)) (xs : List ℕ) → Adds a b → Appends b c xs → AddsLast a c xs
+adds-last a b c xs h k = (h.0, appends-more a b c h.0 xs h.1 k)
+
+pub kept-appended : (a b c : Option (List ℕ)) (xs : List ℕ) → Appends a b xs → Keeps b c → Appends a c xs
+kept-appended None b c xs h k = tt
+kept-appended (Some us) None c xs h k = absurd h
+kept-appended (Some us) (Some vs) None xs h k = absurd k
+kept-appended (Some us) (Some vs) (Some ws) xs h k = k ∙ h

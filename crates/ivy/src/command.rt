@@ -1,12 +1,13 @@
 //! Whole commands.
-ghost use Rattle.std.specs.Prelude.{◌≤◌, ◌↔◌, IsTrue, IfOk, MatchResult};
+ghost use Rattle.std.specs.Prelude.{◌≡◌, ◌≤◌, ◌↔◌, ◌⊎◌, IsTrue, IfOk, IfErr, OnOk, MatchResult, length};
 ghost use Rattle.std.specs.Io.KnownBytes.{Appends};
 ghost use Rattle.ivy_model.specs.Config.{IsConfig};
 ghost use Rattle.ivy_model.specs.Legal.{Legal};
 ghost use Rattle.ivy_texts.specs.Lines.{verdict_line};
+ghost use Rattle.ivy.specs.Commands.{config_of, final_status, AreSpelled, IsCarriedOut, IsDone, IsSessionFailure, PrintsDrawn, PrintsMoves, PrintsSession, PrintsVerdict};
 
 use crate::failure::Failure;
-use crate::print::{print_ends, print_outputs};
+use crate::print::{print_outputs, print_world};
 use crate::simulation::run_drawn;
 use crate::texts::Texts;
 use crate::trace::trace_moves;
@@ -14,11 +15,14 @@ use ivy_arguments::{Request, Settings};
 use ivy_model::{Config, Kind, Record, check_order};
 use ivy_node::{Move, Program, World, parse};
 use ivy_session::{Limits, OpenGate, Session};
-use ivy_texts::{parse_order, parse_schedule, print_verdict};
+use ivy_texts::{Order, parse_order, parse_schedule, print_verdict};
 use std::alloc::Global;
-use std::io::Write;
+use std::io::{self, Write};
 use std::sync::Wait;
 use std::thread::Threads;
+
+/// The exit status where the command line, a file or the configuration is at fault.
+const MISUSED: u8 = 2;
 
 /// The exit status of an order that is not legal.
 const NOT_LEGAL: u8 = 3;
@@ -32,8 +36,19 @@ fn programs_of<'a, T: Texts>(
     alloc: Global,
     files: &T,
     name: &'a str,
-) -> Result<Vec<Program<Global>>, Failure<'a>> {
+) -> Result<Vec<Program<Global>>, Failure<'a>>
+    ensures { IfOk result (λ programs. AreSpelled programs.items) }
+{
     Ok(parse(alloc, text_of(files, name)?.as_str())?)
+}
+
+/// The order of a file.
+fn order_of<'a, T: Texts>(
+    alloc: Global,
+    files: &T,
+    name: &'a str,
+) -> Result<Order<Global>, Failure<'a>> {
+    Ok(parse_order(alloc, text_of(files, name)?.as_str())?)
 }
 
 /// The moves of a file.
@@ -45,51 +60,56 @@ fn moves_of<'a, T: Texts>(
     Ok(parse_schedule(alloc, text_of(files, name)?.as_str())?)
 }
 
-/// Runs the programs of a file in threads, and prints what they printed.
-fn run<'a, R: Threads + Wait + Sync, T: Texts, W: Write>(
+/// Runs programs in threads, and prints what they printed.
+fn run<'a, R: Threads + Wait + Sync, W: Write>(
     rt: &R,
     alloc: Global,
-    (file, limits, settings): (&'a str, Limits, Settings),
-    files: &T,
+    programs: Vec<Program<Global>>,
+    limits: Limits,
+    settings: Settings,
     out: &mut W,
-) -> Result<(), Failure<'a>> {
-    let programs = programs_of(alloc, files, file)?;
+) -> Result<(), Failure<'a>>
+    ensures done { OnOk result (PrintsSession (config_of settings (length programs.items)) programs.items (W.contents out.old) (W.contents out.new)) }
+    ensures failed { IfErr result IsSessionFailure }
+{
     let config = settings.config(programs.len())?;
     let report = Session::run(rt, alloc, config, programs, limits, &OpenGate)?;
     print_outputs(&report, out)?;
     Ok(())
 }
 
-/// Runs the programs of a file by a schedule, and prints each move and what they printed.
-fn step<'a, T: Texts, W: Write>(
+/// Runs programs by a schedule, and prints each move and what they printed.
+fn step<'a, W: Write>(
     alloc: Global,
-    (file, schedule, settings): (&'a str, &'a str, Settings),
-    files: &T,
+    programs: Vec<Program<Global>>,
+    moves: &[Move],
+    settings: Settings,
     out: &mut W,
-) -> Result<(), Failure<'a>> {
-    let programs = programs_of(alloc, files, file)?;
-    let moves = moves_of(alloc, files, schedule)?;
+) -> Result<(), Failure<'a>>
+    ensures { OnOk result (PrintsMoves (config_of settings (length programs.items)) programs.items (W.contents out.old) (W.contents out.new) moves.now) }
+{
     let config = settings.config(programs.len())?;
     let mut world = World::new(alloc, config, programs)?;
-    trace_moves(&config, &mut world, &moves, out)?;
-    print_outputs(&world, out)?;
-    print_ends(&world, out)?;
+    trace_moves(&config, &mut world, moves, out)?;
+    print_world(&world, out)?;
     Ok(())
 }
 
-/// Runs the programs of a file by moves that the generator of a seed draws, and prints what they printed.
-fn sim<'a, T: Texts, W: Write>(
+/// Runs programs by moves that the generator of a seed draws, and prints what they printed.
+fn sim<'a, W: Write>(
     alloc: Global,
-    (file, seed, moves, settings): (&'a str, u64, u64, Settings),
-    files: &T,
+    programs: Vec<Program<Global>>,
+    seed: u64,
+    moves: u64,
+    settings: Settings,
     out: &mut W,
-) -> Result<(), Failure<'a>> {
-    let programs = programs_of(alloc, files, file)?;
+) -> Result<(), Failure<'a>>
+    ensures { OnOk result (PrintsDrawn (config_of settings (length programs.items)) programs.items (W.contents out.old) (W.contents out.new) seed moves) }
+{
     let config = settings.config(programs.len())?;
     let mut world = World::new(alloc, config, programs)?;
     run_drawn(&config, &mut world, seed, moves)?;
-    print_outputs(&world, out)?;
-    print_ends(&world, out)?;
+    print_world(&world, out)?;
     Ok(())
 }
 
@@ -109,14 +129,14 @@ fn judge<'a, W: Write>(
     Ok(is_legal)
 }
 
-/// Prints whether the order of a file is legal, and says it.
-fn check<'a, T: Texts, W: Write>(
+/// Prints whether an order is legal, and says it.
+fn check<'a, W: Write>(
     alloc: Global,
-    order: &'a str,
-    files: &T,
+    order: &Order<Global>,
     out: &mut W,
-) -> Result<bool, Failure<'a>> {
-    let order = parse_order(alloc, text_of(files, order)?.as_str())?;
+) -> Result<bool, Failure<'a>>
+    ensures { MatchResult result (λ yes. PrintsVerdict yes (W.contents out.old) (W.contents out.new)) (λ _. Unit {0}) }
+{
     // Legality does not depend on how owners are found.
     let settings = Settings {
         pages: order.sizes.pages,
@@ -127,17 +147,17 @@ fn check<'a, T: Texts, W: Write>(
     judge(alloc, &config, &order.records, out)
 }
 
-/// Carries out what the words ask for, and gives the exit status.
+/// Carries out a request, and gives the exit status.
 fn carry_out<'a, R: Threads + Wait + Sync, T: Texts, W: Write>(
     rt: &R,
     alloc: Global,
-    words: &'a [String],
+    request: Request<'a>,
     files: &T,
     out: &mut W,
 ) -> Result<u8, Failure<'a>>
-    ensures { IfOk result (λ status. status ≤ 3) }
+    ensures { MatchResult result (λ status. IsCarriedOut request.entry status (W.contents out.old) (W.contents out.new)) (λ _. Unit {0}) }
 {
-    match Request::read(alloc, words)? {
+    match request {
         Request::Run {
             file,
             turns,
@@ -145,31 +165,72 @@ fn carry_out<'a, R: Threads + Wait + Sync, T: Texts, W: Write>(
             pulse,
             settings,
         } => {
+            let programs = programs_of(alloc, files, file)?;
             let limits = Limits {
                 capacity,
                 turns,
                 pulse_every: pulse,
             };
-            run(rt, alloc, (file, limits, settings), files, out)?;
+            run(rt, alloc, programs, limits, settings, out)?;
+            Ok(0)
         }
         Request::Step {
             file,
             schedule,
             settings,
-        } => step(alloc, (file, schedule, settings), files, out)?,
+        } => {
+            let programs = programs_of(alloc, files, file)?;
+            let moves = moves_of(alloc, files, schedule)?;
+            step(alloc, programs, &moves, settings, out)?;
+            Ok(0)
+        }
         Request::Sim {
             file,
             seed,
             moves,
             settings,
-        } => sim(alloc, (file, seed, moves, settings), files, out)?,
+        } => {
+            let programs = programs_of(alloc, files, file)?;
+            sim(alloc, programs, seed, moves, settings, out)?;
+            Ok(0)
+        }
         Request::Check { order } => {
-            if !check(alloc, order, files, out)? {
-                return Ok(NOT_LEGAL);
-            }
+            let order = order_of(alloc, files, order)?;
+            let is_legal = check(alloc, &order, out)?;
+            Ok(if is_legal { 0 } else { NOT_LEGAL })
         }
     }
-    Ok(0)
+}
+
+/// Carries out what the words ask for, and gives the exit status.
+fn obey<'a, R: Threads + Wait + Sync, T: Texts, W: Write>(
+    rt: &R,
+    alloc: Global,
+    words: &'a [String],
+    files: &T,
+    out: &mut W,
+) -> Result<u8, Failure<'a>>
+    ensures { MatchResult result (λ status. IsDone status (W.contents out.old) (W.contents out.new)) (λ _. Unit {0}) }
+{
+    let request = Request::read(alloc, words)?;
+    carry_out(rt, alloc, request, files, out)
+}
+
+/// The exit status of a command that ended so, and where standard output then took all of it or not. Standard error is
+/// told of a failure.
+///
+/// What is found before a run stands, since nothing was printed then. Else nothing more is printed where standard output
+/// did not take all.
+fn concluded<E: Write>(done: Result<u8, Failure<'_>>, flushed: io::Result<()>, err: &mut E) -> u8
+    ensures { result ≡ final_status done.entry flushed }
+{
+    let failure = match (done, flushed) {
+        (Ok(status), Ok(())) => return status,
+        (Err(failure), Ok(())) => failure,
+        (Err(failure), Err(_)) if failure.status() == MISUSED => failure,
+        (_, Err(_)) => Failure::Unwritten,
+    };
+    failure.report(err)
 }
 
 /// Carries out a command and gives its exit status: 0 where it was done, 1 where the run was refused
@@ -185,13 +246,10 @@ pub fn perform<R: Threads + Wait + Sync, T: Texts, O: Write, E: Write>(
     out: &mut O,
     err: &mut E,
 ) -> u8
-    ensures { result ≤ 3 }
+    ensures known { result ≤ 3 }
+    ensures done { (result ≡ 0) ⊎ (result ≡ 3) → IsDone result (O.contents out.old) (O.contents out.new) }
 {
-    let done = carry_out(rt, alloc, words, files, out);
-    let failure = match (out.flush(), done) {
-        (Ok(()), Ok(status)) => return status,
-        (Ok(()), Err(failure)) => failure,
-        (Err(_), _) => Failure::Unwritten,
-    };
-    failure.report(err)
+    let done = obey(rt, alloc, words, files, out);
+    let flushed = out.flush();
+    concluded(done, flushed, err)
 }

@@ -1,5 +1,6 @@
 //! Why a command was not carried out.
-ghost use Rattle.std.specs.Prelude.{◌≤◌};
+ghost use Rattle.std.specs.Prelude.{◌≡◌};
+ghost use Rattle.ivy.specs.Commands.{failure_status};
 
 use ivy_arguments::CommandLineError;
 use ivy_model::Fault;
@@ -22,9 +23,8 @@ pub enum Failure<'a> {
 
 impl Failure<'_> {
     /// The exit status: 2 where the command line, a file or the configuration is at fault, else 1.
-    fn status(&self) -> u8
-        ensures failed { 1 ≤ result }
-        ensures known { result ≤ 2 }
+    pub fn status(&self) -> u8
+        ensures { result ≡ failure_status self.now }
     {
         match self {
             Failure::BadCommandLine | Failure::CannotRead(_) => 2,
@@ -36,8 +36,7 @@ impl Failure<'_> {
     /// Tells standard error of the failure, and gives the exit status. Nothing more is printed where
     /// standard output took no more.
     pub fn report<E: Write>(&self, err: &mut E) -> u8
-        ensures failed { 1 ≤ result }
-        ensures known { result ≤ 2 }
+        ensures { result ≡ failure_status self.now }
     {
         if *self != Failure::Unwritten {
             // The status tells of the failure also where standard error takes nothing.
@@ -59,6 +58,10 @@ impl fmt::Display for Failure<'_> {
 }
 
 impl From<Fault> for Failure<'_> {
+    ghost use Rattle.ivy.specs.declared.failure.Failure.TheVariants.{Refused};
+
+    ghost from_gives = { λ fault failure. failure ≡ Refused fault };
+
     fn from(fault: Fault) -> Self {
         Failure::Refused(fault)
     }
@@ -72,6 +75,10 @@ impl From<AllocError> for Failure<'_> {
 
 /// Of all streams, only standard output is written with its errors looked at.
 impl From<io::Error> for Failure<'_> {
+    ghost use Rattle.ivy.specs.declared.failure.Failure.TheVariants.{Unwritten};
+
+    ghost from_gives = { λ _ failure. failure ≡ Unwritten };
+
     fn from(_error: io::Error) -> Self {
         Failure::Unwritten
     }

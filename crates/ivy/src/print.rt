@@ -1,6 +1,7 @@
 //! What is printed of all nodes.
 ghost use Rattle.std.specs.Prelude.{◌≡◌, OnOk, length};
 ghost use Rattle.std.specs.Io.KnownBytes.{Appends};
+ghost use Rattle.ivy.specs.Commands.{world_text};
 ghost use Rattle.ivy.specs.Nodes.{outputs_text, ends_text};
 
 use ivy_node::World;
@@ -81,4 +82,13 @@ pub fn print_ends<A: Allocator + Copy, W: Write>(world: &World<A>, out: &mut W) 
         print_end(node, world.ended(node), out)?;
     }
     Ok(())
+}
+
+/// Prints what the programs of a world printed, and then which of them have ended.
+pub fn print_world<A: Allocator + Copy, W: Write>(world: &World<A>, out: &mut W) -> io::Result<()>
+    requires { length world.now.world.nodes ≡ world.now.config.nodes }
+    ensures { OnOk result (Appends (W.contents out.old) (W.contents out.new) (world_text world.now.world)) }
+{
+    print_outputs(world, out)?;
+    print_ends(world, out)
 }

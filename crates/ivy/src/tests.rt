@@ -2,7 +2,7 @@ use crate::command::perform;
 use crate::texts::Texts;
 use ivy_model::Fault;
 use std::alloc::{AllocError, Global};
-use std::io::{self, Write};
+use std::io::{self, ErrorKind, Write};
 use std::process::Abort;
 use std::sync::Wait;
 use std::test::Fail;
@@ -437,5 +437,48 @@ fn unwritten(rt: HostRuntime) -> Result<(), Fail> {
     );
     assert_eq!(rt; answer, 1);
     assert!(rt; told.is_empty());
+    Ok(())
+}
+
+/// A stream that takes nothing, and fails where it is flushed.
+#[derive(Drop)]
+struct Shut;
+
+impl Write for Shut {
+    fn write(&mut self, _buf: &[u8]) -> io::Result<usize> {
+        Ok(0)
+    }
+
+    fn flush(&mut self) -> io::Result<()> {
+        Err(io::Error::from(ErrorKind::StorageFull))
+    }
+}
+
+/// Command lines over a stream that fails where it is flushed, their status, and what is told.
+const UNFLUSHED: [(&str, u8, &str); 7] = [
+    ("walk load", 2, "ivy: bad command line\n"),
+    ("run missing", 2, "ivy: cannot read missing\n"),
+    ("step faulty moves", 2, "ivy: 20 ProgramFault line 2\n"),
+    ("sim lone", 2, "ivy: 2 BadConfig\n"),
+    ("run endless --turns 5", 1, ""),
+    ("run empty", 1, ""),
+    ("sim empty", 1, ""),
+];
+
+/// What is found before a run is told all the same.
+#[test]
+fn unflushed(rt: HostRuntime) -> Result<(), Fail> {
+    let alloc = rt.alloc();
+    for (line, status, err) in UNFLUSHED {
+        let words = words_of(alloc, line)?;
+        let files = Shelf {
+            alloc,
+            files: &FILES,
+        };
+        let mut told: Vec<u8> = Vec::new(alloc);
+        let answer = perform(&rt, alloc, &words, &files, &mut Shut, &mut told);
+        assert_eq!(rt; String::from_utf8(told)?.as_str(), err, "{line}");
+        assert_eq!(rt; answer, status, "{line}");
+    }
     Ok(())
 }

@@ -1,8 +1,12 @@
 //! Worlds that run by a schedule, with a trace of each move.
+ghost use Rattle.std.specs.Prelude.{◌≡◌, [], ◌∷◌, OnOk};
 ghost use Rattle.ivy_model.specs.Config.{IsConfig};
+ghost use Rattle.ivy_node.specs.Runs.{IsLedTo};
+ghost use Rattle.ivy.specs.Commands.{Adds};
 
 use crate::failure::Failure;
-use ivy_model::{Config, Fault, Record};
+use crate::moves::make;
+use ivy_model::{Config, Record};
 use ivy_node::{Move, World};
 use ivy_texts::{Decimal, MoveText, RecordText, kind_name};
 use ivy_wire::{Bytes, read};
@@ -35,6 +39,7 @@ fn trace_sent<A: Allocator + Copy, W: Write>(
     out: &mut W,
 ) -> Result<(), Failure<'static>>
     requires { IsConfig config.now }
+    ensures { OnOk result (Adds (W.contents out.old) (W.contents out.new)) }
 {
     for index in from..sent.len() {
         let frame = read(config, sent[index].bytes())?;
@@ -52,7 +57,9 @@ fn trace_sent<A: Allocator + Copy, W: Write>(
 }
 
 /// Prints a line for each record from this one on.
-fn trace_records<W: Write>(history: &[Record], from: usize, out: &mut W) -> io::Result<()> {
+fn trace_records<W: Write>(history: &[Record], from: usize, out: &mut W) -> io::Result<()>
+    ensures { OnOk result (Adds (W.contents out.old) (W.contents out.new)) }
+{
     for place in from..history.len() {
         writeln!(out, "  {}", RecordText(history[place]))?;
     }
@@ -67,10 +74,13 @@ fn trace_move<A: Allocator + Copy, W: Write>(
     out: &mut W,
 ) -> Result<(), Failure<'static>>
     requires { IsConfig config.now }
+    ensures made { OnOk result (IsLedTo world.old.config world.old.world (step ∷ []) world.new.world) }
+    ensures config { world.new.config ≡ world.old.config }
+    ensures printed { OnOk result (Adds (W.contents out.old) (W.contents out.new)) }
 {
     let sent = world.sent().len();
     let records = history_of(world, node_of(step)).len();
-    if let Err((_place, fault)) = world.run(&[step]) {
+    if let Err(fault) = make(world, step) {
         writeln!(out, "  refused {}", Decimal(u64::from(fault.number())))?;
         return Err(Failure::Refused(fault));
     }
@@ -91,6 +101,8 @@ pub fn trace_moves<A: Allocator + Copy, W: Write>(
     out: &mut W,
 ) -> Result<(), Failure<'static>>
     requires { IsConfig config.now }
+    ensures made { OnOk result (IsLedTo world.old.config world.old.world moves.now world.new.world) }
+    ensures printed { OnOk result (Adds (W.contents out.old) (W.contents out.new)) }
 {
     for (before, step) in moves.iter().enumerate() {
         writeln!(out, "{} {}", Decimal(before as u64 + 1), MoveText(*step))?;

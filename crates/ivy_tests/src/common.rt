@@ -1,11 +1,10 @@
-//! What the tests share: configurations, worlds and what they have to show, nodes and strings.
-ghost use Rattle.std.specs.Prelude.{◌≡◌, ◌<◌, length, IfOk, IfErr};
+//! What the tests share: configurations, worlds and what they have to show, and strings.
+ghost use Rattle.std.specs.Prelude.{◌<◌, length, IfErr};
 
-use growths::Refusing;
 use ivy_model::{Call, Config, Fault, Kind, Record, Reply};
-use ivy_node::{Move, Program, Site, Turn, Verdict, World, parse};
+use ivy_node::{Move, World, parse};
 use ivy_wire::{FrameKind, read};
-use std::alloc::{Allocator, Global};
+use std::alloc::Allocator;
 use std::process::Abort;
 use std::test::Fail;
 
@@ -170,63 +169,6 @@ pub(crate) fn check_run<A: Allocator + Copy>(
     check_world(rt, alloc, &mut world, run, stages)
 }
 
-/// Node 0 of a configuration, whose program is empty.
-pub(crate) fn owner<A: Allocator + Copy>(alloc: A, config: &Config) -> Result<Site<A>, Fail> {
-    config.check()?;
-    Ok(Site::new(alloc, config, 0, Program::new(alloc, Vec::new(alloc)))?)
-}
-
-/// The node of this number of a pair, with the last program of a text.
-pub(crate) fn node_of<A: Allocator + Copy>(alloc: A, me: u8, text: &str) -> Result<Site<A>, Fail>
-    ensures { IfOk result (λ site. (site.config.nodes ≡ 2) × (site.me ≡ me)) }
-{
-    PAIR.check()?;
-    if me >= PAIR.nodes {
-        return Err("no such node".into());
-    }
-    let program = parse(alloc, text)?.pop().ok_or("no program")?;
-    Ok(Site::new(alloc, &PAIR, me, program)?)
-}
-
-/// A turn of a node. Of all that is promised of it, callers need only this.
-pub(crate) fn take_turn<A: Allocator + Copy>(site: &mut Site<A>) -> Result<Turn, Fault>
-    ensures { (site.new.config ≡ site.old.config) × (site.new.me ≡ site.old.me) }
-{
-    site.program_turn()
-}
-
-/// So many turns of a node.
-pub(crate) fn take_turns<A: Allocator + Copy>(
-    site: &mut Site<A>,
-    number: u64,
-) -> Result<(), Fault> {
-    for _ in 0..number {
-        take_turn(site)?;
-    }
-    Ok(())
-}
-
-/// A string comes to a node. Of all that is promised of it, callers need nothing.
-pub(crate) fn receive<A: Allocator + Copy>(
-    site: &mut Site<A>,
-    bytes: &[u8],
-) -> Result<Verdict, Fault> {
-    site.deliver(bytes)
-}
-
-/// Takes the next string of a node. Whether it is this one.
-pub(crate) fn has_next<A: Allocator + Copy>(
-    alloc: A,
-    site: &mut Site<A>,
-    written: Written,
-) -> Result<bool, Fail> {
-    let wanted = string(alloc, written)?;
-    match site.take_frame() {
-        Some(sent) => Ok(sent.bytes() == wanted.as_slice()),
-        None => Ok(false),
-    }
-}
-
 fn add_words<A: Allocator + Copy>(
     alloc: A,
     string: &mut Vec<u8, A>,
@@ -283,24 +225,6 @@ pub(crate) fn deliver(index: u64, to: u64) -> Move {
 /// A pulse from a node to another.
 pub(crate) fn pulse(from: u64, to: u64) -> Move {
     Move::Pulse { from, to }
-}
-
-/// Whether the growth to be refused was asked for. The call has the fault 1 exactly where it was, and no
-/// other fault.
-pub(crate) fn is_met(
-    rt: &impl Abort,
-    memory: &Refusing<Global>,
-    n: u64,
-    fault: Option<Fault>,
-) -> bool {
-    let met = memory.asked(n) >= n;
-    memory.refuse(0);
-    assert_eq!(rt;
-        fault,
-        if met { Some(Fault::Memory) } else { None },
-        "growth {n}"
-    );
-    met
 }
 
 /// More growths than any call here asks for.

@@ -1,24 +1,21 @@
 //! Counts: nodes that advance them and wait for them. A count is a word of page 0, so a node reads and writes
 //! it where it has that page, and faults for it as for any other.
-use crate::common::{
-    PAIR, Run, Shown, Stage, Written, check_run, ended, has_next, loaded, node_of, receive,
-    refused, stored, string, take_turns,
-};
+use crate::common::{PAIR, Run, Shown, Stage, Written, check_run, ended, loaded, refused, stored};
 use ivy_model::{Call, Record, Reply};
-use ivy_node::{Move, Site, Verdict};
+use ivy_node::Move;
 use std::alloc::Allocator;
 use std::process::Abort;
 use std::test::Fail;
 
 /// An advance of count 0, which is done.
-pub(crate) fn advanced(node: u8) -> Record {
+fn advanced(node: u8) -> Record {
     let call = Call::Advance { k: 0 };
     let reply = Reply::Done;
     Record { node, call, reply }
 }
 
 /// An await of count 0, which is answered a value.
-pub(crate) fn awaited(node: u8, least: u64, value: u64) -> Record {
+fn awaited(node: u8, least: u64, value: u64) -> Record {
     let call = Call::Await { k: 0, least };
     let reply = Reply::Value(value);
     Record { node, call, reply }
@@ -169,55 +166,6 @@ fn every_string_thrice(rt: HostRuntime) -> Result<(), Fail> {
     check_notice(&rt, rt.alloc(), &[(&moves, 8), (&NOTICE_AGAIN, 8)])
 }
 
-/// A string comes to a node three times in a row. Whether it is new and then a repeat, twice.
-fn is_once_new<A: Allocator + Copy>(
-    alloc: A,
-    site: &mut Site<A>,
-    written: Written,
-) -> Result<bool, Fail> {
-    let given = string(alloc, written)?;
-    Ok(
-        receive(site, &given) == Ok(Verdict::Next)
-            && receive(site, &given) == Ok(Verdict::Repeat)
-            && receive(site, &given) == Ok(Verdict::Repeat),
-    )
-}
-
-/// A node makes so many turns and asks for a page, which comes three times.
-fn gets_thrice<A: Allocator + Copy>(
-    rt: &impl Abort,
-    alloc: A,
-    site: &mut Site<A>,
-    turns: u64,
-    asks: &str,
-    gets: &str,
-) -> Result<(), Fail> {
-    take_turns(site, turns)?;
-    assert!(rt; has_next(alloc, site, (asks, None))?);
-    assert!(rt; is_once_new(alloc, site, (gets, Some(0)))?);
-    Ok(())
-}
-
-fn gets_both_thrice<A: Allocator + Copy>(
-    rt: &impl Abort,
-    alloc: A,
-    site: &mut Site<A>,
-) -> Result<(), Fail> {
-    gets_thrice(rt, alloc, site, 3, STORE_ASKS, STORE_GETS)?;
-    gets_thrice(rt, alloc, site, 2, ADVANCE_ASKS, ADVANCE_GETS)?;
-    take_turns(site, 1)?;
-    assert!(rt; site.take_frame().is_none() && site.ended());
-    assert!(rt; site.history() == [stored(1, 8, 64, 9), advanced(1)].as_slice());
-    Ok(())
-}
-
-/// Both pages come to node 1 three times, and it asks and is answered as if they came once.
-#[test]
-fn pages_given_thrice(rt: HostRuntime) -> Result<(), Fail> {
-    let mut site = node_of(rt.alloc(), 1, NOTICE)?;
-    gets_both_thrice(&rt, rt.alloc(), &mut site)
-}
-
 /// Makes so many turns of node 0, which sends nothing. Asserts what it shows.
 fn check_alone<A: Allocator + Copy>(
     rt: &impl Abort,
@@ -318,17 +266,17 @@ fn big_endian_widths(rt: HostRuntime) -> Result<(), Fail> {
 }
 
 /// Node 1 asks for page 0, for the first of its calls, and is given it.
-pub(crate) const FIRST_ASKS: &str =
+const FIRST_ASKS: &str =
     "495601020100000d 0000000000000001 0000000000000000 01 0000000000000001 00000000";
 
-pub(crate) const FIRST_GETS: &str =
+const FIRST_GETS: &str =
     "495601040001004e 0000000000000001 0000000000000000 01 0000000000000001 00000000 00";
 
 /// Node 0, which gave page 0 away, asks for a copy of it, for the first of its calls, and is given it.
-pub(crate) const RETRY_ASKS: &str =
+const RETRY_ASKS: &str =
     "495601010001000d 0000000000000002 0000000000000001 00 0000000000000001 00000000";
 
-pub(crate) const RETRY_GETS: &str =
+const RETRY_GETS: &str =
     "495601030100004d 0000000000000002 0000000000000001 00 0000000000000001 00000000";
 
 /// Node 0 awaits both advances of node 1.
@@ -407,57 +355,4 @@ fn await_tried_again(rt: HostRuntime) -> Result<(), Fail> {
         },
         &[(&WAKES_MOVES, 8)],
     )
-}
-
-/// Node 1 advances and reads a count, and advances it again.
-const FULL: &str = "node 0
-node 1
-advance r0
-count r1 r0
-print r1
-advance r0
-status r2
-print r2
-";
-
-/// Node 1 asks for the page, which comes with a full count, and goes on to its end.
-fn gets_full<A: Allocator + Copy>(
-    rt: &impl Abort,
-    alloc: A,
-    site: &mut Site<A>,
-) -> Result<(), Fail> {
-    take_turns(site, 1)?;
-    assert!(rt; has_next(alloc, site, (FIRST_ASKS, None))?);
-    let given = string(alloc, (FIRST_GETS, Some(u64::MAX)))?;
-    assert!(rt; receive(site, &given) == Ok(Verdict::Next));
-    take_turns(site, 6)?;
-    Ok(())
-}
-
-/// Another node asks for a copy of the page, whose count is full still.
-fn gives_full<A: Allocator + Copy>(
-    rt: &impl Abort,
-    alloc: A,
-    site: &mut Site<A>,
-) -> Result<(), Fail> {
-    let asked = string(alloc, (RETRY_ASKS, None))?;
-    assert!(rt; receive(site, &asked) == Ok(Verdict::Next));
-    assert!(rt; has_next(alloc, site, (RETRY_GETS, Some(u64::MAX)))?);
-    Ok(())
-}
-
-fn is_full<A: Allocator + Copy>(rt: &impl Abort, alloc: A, site: &mut Site<A>) -> Result<(), Fail> {
-    gets_full(rt, alloc, site)?;
-    let refused = refused(1, Call::Advance { k: 0 }, 7);
-    let records = [refused, counted(1, 0, 18_446_744_073_709_551_615), refused];
-    assert!(rt; site.history() == records.as_slice() && site.ended());
-    assert!(rt; site.output() == [18_446_744_073_709_551_615, 7].as_slice());
-    gives_full(rt, alloc, site)
-}
-
-/// The page is forged: its count is full. Nothing changes, neither where the page comes nor where it is at hand.
-#[test]
-fn full_count(rt: HostRuntime) -> Result<(), Fail> {
-    let mut site = node_of(rt.alloc(), 1, FULL)?;
-    is_full(&rt, rt.alloc(), &mut site)
 }

@@ -173,10 +173,10 @@ fn calls_of_node_1(rt: HostRuntime) -> Result<(), Fail> {
 }
 
 /// Node 1 asks for eight bytes, as the first of its calls, and is given them at 64.
-pub(crate) const ALLOC_ASKS: &str =
+const ALLOC_ASKS: &str =
     "4956010701000011 0000000000000001 0000000000000000 01 0000000000000001 0000000000000008";
 
-pub(crate) const ALLOC_GETS: &str =
+const ALLOC_GETS: &str =
     "4956010800010012 0000000000000001 0000000000000000 01 0000000000000001 00 0000000000000040";
 
 #[test]

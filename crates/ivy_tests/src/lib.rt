@@ -1,5 +1,5 @@
 //! Tests of the crates together: programs run by given schedules over a wire that loses, repeats and
-//! reorders, nodes that are handed forged strings, and each growth of memory refused in turn.
+//! reorders, and each growth of whole runs refused in turn.
 //!
 //! That every run is coherent is proved, so these tests hold no property of all runs. They hold what no
 //! contract says: the bytes of the worked examples, and that a call can succeed, and go on after a refusal.
@@ -73,16 +73,10 @@ mod eight_nodes;
 #[cfg(test)]
 mod first_load;
 #[cfg(test)]
-mod growths_of_sites;
-#[cfg(test)]
-mod growths_of_strings;
-#[cfg(test)]
 mod growths_of_worlds;
 #[cfg(test)]
 mod heap;
 #[cfg(test)]
 mod schedules;
-#[cfg(test)]
-mod site_alone;
 #[cfg(test)]
 mod stores;

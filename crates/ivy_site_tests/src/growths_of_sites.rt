@@ -5,10 +5,9 @@
 ghost use Rattle.std.specs.Prelude.{◌≡◌, IfOk};
 
 use crate::common::{
-    LOADS, MANY, REPLY, REQUEST, Written, has_next, is_met, node_of, receive, string, take_turn,
+    ALLOC_ASKS, ALLOC_GETS, COUNT_ASKS, COUNT_GETS, LOADS, MANY, REPLY, REQUEST, RETRY_ASKS,
+    RETRY_GETS, Written, has_next, is_met, node_of, receive, string, take_turn,
 };
-use crate::counts::{FIRST_ASKS, FIRST_GETS, RETRY_ASKS, RETRY_GETS};
-use crate::heap::{ALLOC_ASKS, ALLOC_GETS};
 use growths::Refusing;
 use ivy_model::{Call, Fault, Record, Reply};
 use ivy_node::Site;
@@ -37,7 +36,7 @@ enum Step<'a> {
 #[derive(Clone, Copy)]
 struct Growing<'a> {
     me: u8,
-    /// Its program is the last one of this text.
+    /// Its program.
     text: &'a str,
     before: &'a [Step<'a>],
     /// The string that comes. Where there is none, the node makes a turn.
@@ -135,6 +134,20 @@ fn check_site<A: Allocator + Copy>(
     Ok(())
 }
 
+/// Both nodes sent and were answered what they have to, and show the same.
+fn check_both<A: Allocator + Copy>(
+    rt: &impl Abort,
+    alloc: A,
+    growing: &Growing,
+    site: &mut Site<A>,
+    twin: &mut Site<A>,
+) -> Result<(), Fail> {
+    check_site(rt, alloc, site, growing)?;
+    check_site(rt, alloc, twin, growing)?;
+    assert!(rt; same_sites(site, twin));
+    Ok(())
+}
+
 /// The n-th growth is refused. Whether it was asked for.
 fn refused_at(
     rt: &impl Abort,
@@ -146,9 +159,7 @@ fn refused_at(
     let mut site = begun(memory, growing)?;
     let mut twin = begun(memory, growing)?;
     let met = go_on_at(rt, memory, n, comes, &mut site, &mut twin);
-    check_site(rt, memory, &mut site, growing)?;
-    check_site(rt, memory, &mut twin, growing)?;
-    assert!(rt; same_sites(&site, &twin), "growth {n}");
+    check_both(rt, memory, growing, &mut site, &mut twin)?;
     Ok(met)
 }
 
@@ -209,7 +220,11 @@ fn growths_of_a_request_that_comes(rt: HostRuntime) -> Result<(), Fail> {
     growths_of(&rt, rt.alloc(), &REQUEST_COMES)
 }
 
-const LOADED: [Record; 1] = [loaded!(1, 64, 0)];
+const LOADED: [Record; 1] = [Record {
+    node: 1,
+    call: Call::Load { width: 8, addr: 64 },
+    reply: Reply::Value(0),
+}];
 
 const ADVANCED: [Record; 1] = [Record {
     node: 0,
@@ -268,7 +283,7 @@ const ADVANCE_ASKS: Growing = Growing {
     text: ADVANCES,
     before: &[],
     comes: None,
-    sends: Some((FIRST_ASKS, None)),
+    sends: Some((COUNT_ASKS, None)),
     answers: &[],
 };
 
@@ -281,16 +296,16 @@ fn growths_of_an_advance_that_asks(rt: HostRuntime) -> Result<(), Fail> {
 const GIVING: [Step; 4] = [
     Step::Turn,
     Step::Turn,
-    Step::Comes((FIRST_ASKS, None)),
-    Step::Sends((FIRST_GETS, Some(0))),
+    Step::Comes((COUNT_ASKS, None)),
+    Step::Sends((COUNT_GETS, Some(0))),
 ];
 
 /// Then it tries the await again, and asks for a copy.
 const WAITING: [Step; 6] = [
     Step::Turn,
     Step::Turn,
-    Step::Comes((FIRST_ASKS, None)),
-    Step::Sends((FIRST_GETS, Some(0))),
+    Step::Comes((COUNT_ASKS, None)),
+    Step::Sends((COUNT_GETS, Some(0))),
     Step::Turn,
     Step::Sends((RETRY_ASKS, None)),
 ];
@@ -412,14 +427,22 @@ fn growths_of_a_block_that_comes(rt: HostRuntime) -> Result<(), Fail> {
     growths_of(&rt, rt.alloc(), &BLOCK_COMES)
 }
 
+/// Node 1 makes two turns, and its request goes on the wire.
+fn ask<A: Allocator + Copy>(site: &mut Site<A>) -> Result<(), Fault>
+    ensures { (site.new.config ≡ site.old.config) × (site.new.me ≡ site.old.me) }
+{
+    take_turn(site)?;
+    take_turn(site)?;
+    let _ = site.take_frame();
+    Ok(())
+}
+
 /// Node 1, whose request is on the wire.
 fn asking<A: Allocator + Copy>(alloc: A) -> Result<Site<A>, Fail>
     ensures { IfOk result (λ site. (site.config.nodes ≡ 2) × (site.me ≡ 1)) }
 {
     let mut site = node_of(alloc, 1, LOADS)?;
-    take_turn(&mut site)?;
-    take_turn(&mut site)?;
-    let _ = site.take_frame();
+    ask(&mut site)?;
     Ok(site)
 }
 
@@ -456,11 +479,22 @@ fn pulse_of<A: Allocator + Copy>(
     met
 }
 
+/// What node 1 sends then is its request, and nothing more.
+fn sends_request<A: Allocator + Copy>(
+    rt: &impl Abort,
+    alloc: A,
+    n: u64,
+    site: &mut Site<A>,
+) -> Result<(), Fail> {
+    assert!(rt; has_next(alloc, site, (REQUEST, None))?, "growth {n}");
+    assert!(rt; site.take_frame().is_none(), "growth {n}");
+    Ok(())
+}
+
 fn pulse_at(rt: &impl Abort, memory: &Refusing<Global>, n: u64) -> Result<bool, Fail> {
     let mut site = asking(memory)?;
     let met = pulse_of(rt, memory, n, &mut site);
-    assert!(rt; has_next(memory, &mut site, (REQUEST, None))?, "growth {n}");
-    assert!(rt; site.take_frame().is_none(), "growth {n}");
+    sends_request(rt, memory, n, &mut site)?;
     Ok(met)
 }
 
