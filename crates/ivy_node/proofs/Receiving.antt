@@ -1,6 +1,6 @@
 -- What a site does with a string that comes and with one that it held, from what its parts did. `v` is what the fields are
 -- seen as, `n` the value.
-use Rattle.std.proofs.Common.{◌≡◌, ◌≢◌, ℕ, ◌+◌, List, [], ◌∷◌, ◌++◌, true, false, Option, Some, None, Contains, Result, Ok, Err, MatchResult, refl, sym, ap, subst, ◌∙◌, arith}
+use Rattle.std.proofs.Common.{◌≡◌, ◌≢◌, ℕ, ◌+◌, List, [], ◌∷◌, ◌++◌, true, false, Option, Some, None, Contains, Result, Ok, Err, MatchResult, MatchOption, refl, sym, ap, subst, ◌∙◌, arith}
 use Rattle.std.specs.Prelude.{IfSome}
 use Rattle.std.proofs.lemmas.Bool.{eq-eqb}
 use Rattle.ivy_model.specs.declared.Config.{Config}
@@ -21,7 +21,7 @@ use Rattle.ivy_link.specs.Windows.{with_string}
 use Rattle.ivy_link.specs.Holding.{Holding, link_of, window_at, can_hold, place_in, after_hold, after_taking, ready_of}
 use Rattle.ivy_node.specs.Outboxes.{Outbox, holding_of, with_holding}
 use Rattle.ivy_node.specs.Shown.{Shown, holding_at, after_delivery}
-use Rattle.ivy_node.specs.Sites.{early_at, IsSite, IsHeld, Delivers, CameEarlyAs, Holds, HoldsString, Receives, holding_in, without_ready, GoesOnOnce, GoesOn, WentOnOnce, WentOn, Follows, AfterDelivery}
+use Rattle.ivy_node.specs.Sites.{early_at, IsSite, IsHeld, Delivers, CameEarlyAs, Holds, HoldsString, Hears, Receives, holding_in, without_ready, GoesOnOnce, GoesOn, WentOnOnce, WentOn, Follows, AfterDelivery}
 use Rattle.ivy_node.proofs.HeldStrings.{CameEarly, IsNextOf, holding-holds, taking-holds, put-back-same}
 use Rattle.ivy_node.proofs.Boxes.{link-kept}
 
@@ -110,39 +110,45 @@ nothing_held verdict.Next f bytes mid ne = refl
 nothing_held verdict.Repeat f bytes mid ne = refl
 nothing_held verdict.Ahead f bytes mid ne = absurd (ne refl)
 
-pub received_none : (bytes : List ℕ) (w : Verdict) (from : ℕ) (old mid : Shown) → IsConfig old.config → (f : Frame) → Spells old.config f bytes → f.source ≡ from → offered old.node.link f ≢ verdict.Ahead
-    → Delivers bytes w old mid → Receives bytes w from old mid
-received_none bytes w from old mid limits f spelled source ne d =
-    let same : f ≡ d.frame = spelled_same old.config limits f d.frame bytes spelled d.spelled in
-    record {
-      mid = mid;
-      first = d;
-      from = ap (λ (x : Frame). x.source) (sym same) ∙ source;
-      holds = nothing_held w d.frame bytes mid (λ e. ne (ap (offered old.node.link) same ∙ (sym d.is ∙ e)));
-    }
+pub hears : (bytes : List ℕ) (w : Verdict) (from : ℕ) (early : Option (List ℕ)) (old new : Shown) → IsConfig old.config → (f : Frame) → Spells old.config f bytes → f.source ≡ from
+    → Delivers bytes w old new → CameEarlyAs w bytes new → MatchOption early (w ≢ verdict.Ahead) (λ string. (string ≡ bytes) × (w ≡ verdict.Ahead)) → Hears bytes w from early old new
+hears bytes w from None old new limits f spelled source d came early = record {
+  first = d;
+  from = ap (λ (x : Frame). x.source) (sym (spelled_same old.config limits f d.frame bytes spelled d.spelled)) ∙ source;
+  early = early;
+}
+hears bytes w from (Some string) old new limits f spelled source d came early = record {
+  first = d;
+  from = ap (λ (x : Frame). x.source) (sym (spelled_same old.config limits f d.frame bytes spelled d.spelled)) ∙ source;
+  early = (early.0, subst (Contains (early_at new)) (sym early.0) (subst (λ x. CameEarlyAs x bytes new) early.1 came), early.1);
+}
 
-is_ahead : (bytes : List ℕ) (w : Verdict) (old mid : Shown) → IsConfig old.config → (f : Frame) → Spells old.config f bytes → offered old.node.link f ≡ verdict.Ahead → Delivers bytes w old mid → w ≡ verdict.Ahead
-is_ahead bytes w old mid limits f spelled ahead d =
-    d.is ∙ (ap (offered old.node.link) (sym (spelled_same old.config limits f d.frame bytes spelled d.spelled)) ∙ ahead)
+pub received_none : (bytes : List ℕ) (w : Verdict) (from : ℕ) (early : Option (List ℕ)) (old mid : Shown) → early ≡ None → Hears bytes w from early old mid → Receives bytes w from old mid
+received_none bytes w from early old mid none h =
+    let ne : w ≢ verdict.Ahead = subst (λ o. MatchOption o (w ≢ verdict.Ahead) (λ string. (string ≡ bytes) × Contains (early_at mid) string × (w ≡ verdict.Ahead))) none h.early in
+    record { mid = mid; first = h.first; from = h.from; holds = nothing_held w h.first.frame bytes mid ne }
 
-pub received_early : (bytes string : List ℕ) (w : Verdict) (old mid : Shown) → IsConfig old.config → (f : Frame) → Spells old.config f bytes → offered old.node.link f ≡ verdict.Ahead → string ≡ bytes
-    → Delivers bytes w old mid → CameEarlyAs w bytes mid → Contains (early_at mid) string
-received_early bytes string w old mid limits f spelled ahead same d came =
-    subst (Contains (early_at mid)) (sym same) (subst (λ x. CameEarlyAs x bytes mid) (is_ahead bytes w old mid limits f spelled ahead d) came)
+told_early : (bytes string : List ℕ) (w : Verdict) (from : ℕ) (early : Option (List ℕ)) (old mid : Shown) → early ≡ Some string → Hears bytes w from early old mid
+    → (string ≡ bytes) × Contains (early_at mid) string × (w ≡ verdict.Ahead)
+told_early bytes string w from early old mid some h =
+    subst (λ o. MatchOption o (w ≢ verdict.Ahead) (λ s. (s ≡ bytes) × Contains (early_at mid) s × (w ≡ verdict.Ahead))) some h.early
+
+pub received_early : (bytes string : List ℕ) (w : Verdict) (from : ℕ) (early : Option (List ℕ)) (old mid : Shown) → early ≡ Some string → Hears bytes w from early old mid → Contains (early_at mid) string
+received_early bytes string w from early old mid some h = (told_early bytes string w from early old mid some h).1.0
 
 held_as : (w : Verdict) (f : Frame) (bytes : List ℕ) (mid new : Shown) → w ≡ verdict.Ahead → new ≡ holding_in mid f bytes → Holds w f bytes mid new
 held_as w f bytes mid new ahead is = subst (λ x. Holds x f bytes mid new) (sym ahead) is
 
-pub received_some : (bytes string : List ℕ) (w : Verdict) (from : ℕ) (old mid new : Shown) → IsConfig old.config → (f : Frame) → Spells old.config f bytes → f.source ≡ from → offered old.node.link f ≡ verdict.Ahead → string ≡ bytes
-    → mid.config ≡ old.config → Delivers bytes w old mid → ((g : Frame) → Spells mid.config g string → new ≡ holding_in mid g string) → Receives bytes w from old new
-received_some bytes string w from old mid new limits f spelled source ahead same config d held =
-    let one : f ≡ d.frame = spelled_same old.config limits f d.frame bytes spelled d.spelled in
-    let there : Spells mid.config d.frame string = subst (λ k. Spells k d.frame string) (sym config) (subst (Spells old.config d.frame) (sym same) d.spelled) in
+pub received_some : (bytes string : List ℕ) (w : Verdict) (from : ℕ) (early : Option (List ℕ)) (old mid new : Shown) → early ≡ Some string → Hears bytes w from early old mid
+    → mid.config ≡ old.config → HoldsString string mid new → Receives bytes w from old new
+received_some bytes string w from early old mid new some h config held =
+    let told = told_early bytes string w from early old mid some h in
+    let there : Spells mid.config h.first.frame string = subst (λ k. Spells k h.first.frame string) (sym config) (subst (Spells old.config h.first.frame) (sym told.0) h.first.spelled) in
     record {
       mid = mid;
-      first = d;
-      from = ap (λ (x : Frame). x.source) (sym one) ∙ source;
-      holds = held_as w d.frame bytes mid new (is_ahead bytes w old mid limits f spelled ahead d) (held d.frame there ∙ ap (holding_in mid d.frame) same);
+      first = h.first;
+      from = h.from;
+      holds = held_as w h.first.frame bytes mid new told.1.1 (held h.first.frame there ∙ ap (holding_in mid h.first.frame) told.0);
     }
 
 -- a string that was held

@@ -1,5 +1,5 @@
 -- What the calls of a site do.
-use Rattle.std.specs.Prelude.{◌≡◌, ℕ, ◌+◌, List, [], ◌∷◌, ◌++◌, replicate, Bool, true, false, Option, Some, None, Contains}
+use Rattle.std.specs.Prelude.{◌≡◌, ◌≢◌, ℕ, ◌+◌, List, [], ◌∷◌, ◌++◌, replicate, MatchOption, Bool, true, false, Option, Some, None, Contains}
 use Rattle.ivy_model.specs.declared.Config.{Config}
 use Rattle.ivy_model.specs.declared.Call.{Call}
 use Rattle.ivy_model.specs.declared.Fault.{Fault}
@@ -98,6 +98,12 @@ Holds verdict.NotMine f bytes mid new = new ≡ mid
 Holds verdict.Next f bytes mid new = new ≡ mid
 Holds verdict.Repeat f bytes mid new = new ≡ mid
 Holds verdict.Ahead f bytes mid new = new ≡ holding_in mid f bytes
+
+-- the source, and the string again where it came too early
+pub record Hears (bytes : List ℕ) (verdict : Verdict) (source : ℕ) (early : Option (List ℕ)) (old new : Shown) : Type 0 where
+  pub first : Delivers bytes verdict old new
+  pub from : first.frame.source ≡ source
+  pub early : MatchOption early (verdict ≢ verdict.Ahead) (λ string. (string ≡ bytes) × Contains (early_at new) string × (verdict ≡ verdict.Ahead))
 
 pub record Receives (bytes : List ℕ) (verdict : Verdict) (source : ℕ) (old new : Shown) : Type 0 where
   pub mid : Shown

@@ -10,7 +10,7 @@ ghost use Rattle.ivy_link.specs.Accepted.{offered};
 ghost use Rattle.ivy_link.specs.Holding.{ready_of};
 ghost use Rattle.ivy_node.specs.Outboxes.{most_sent, most_delivered, next_dest};
 ghost use Rattle.ivy_node.specs.Shown.{holding_at, after_pulse_to};
-ghost use Rattle.ivy_node.specs.Sites.{first_shown, host_of, AfterHostTurn, HasNoNumbers, AfterTurn, Delivers, CameEarlyAs, AfterDelivery, Receives, WentOnOnce, WentOn, IsHeld, early_at, HoldsString, without_ready, IsSpentTurn, IsSpentDelivery, TakesFrame, IsSameNode, IsMadeByEvents, IsSentBy};
+ghost use Rattle.ivy_node.specs.Sites.{first_shown, host_of, AfterHostTurn, HasNoNumbers, AfterTurn, AfterDelivery, Hears, Receives, WentOnOnce, WentOn, IsHeld, early_at, HoldsString, without_ready, IsSpentTurn, IsSpentDelivery, TakesFrame, IsSameNode, IsMadeByEvents, IsSentBy};
 ghost use Rattle.ivy_events.specs.Marks.{marks};
 ghost use Rattle.ivy_model.specs.Legal.{HasWidth};
 
@@ -54,19 +54,17 @@ impl<A: Allocator> Model for Site<A> {
     ghost invariant = { λ s. IsSite (record { config = s.outbox.config; me = s.outbox.me; node = record { core = record { memory = s.memory; process = s.machine; history = s.history.items }; link = s.outbox.link }; events = s.events.marks; waiting = s.outbox.waiting; held = s.outbox.held }) };
 }
 
-/// The string for the event list: it is shared where it can be, and else copied.
-fn listed<A: Allocator + Copy>(
-    alloc: A,
-    bytes: &[u8],
-    shared: Option<&Bytes<A>>,
-) -> Result<Bytes<A>, AllocError>
-    requires { IfSome shared (λ string. string.now ≡ bytes.now) }
-    ensures { IfOk result (λ string. string ≡ bytes.now) }
+/// The string once more, where its frame came before its turn.
+fn if_ahead<A: Allocator + Copy>(
+    verdict: Verdict,
+    string: &Bytes<A>,
+) -> Result<Option<Bytes<A>>, AllocError>
+    ensures { IfOk result (λ o. MatchOption o (verdict ≢ Verdict.Ahead) (λ held. (held ≡ string.now) × (verdict ≡ Verdict.Ahead))) }
 {
-    match shared {
-        Some(string) => string.share(),
-        None => Bytes::new(alloc, bytes),
+    if verdict == Verdict::Ahead {
+        return Ok(Some(string.share()?));
     }
+    Ok(None)
 }
 
 /// A reply is recorded, and the program goes on with it.
@@ -259,49 +257,37 @@ impl<A: Allocator + Copy> Site<A> {
         }
     }
 
-    /// A string comes, and neither is it held nor does the site go on.
-    fn hear<'s>(&'s mut self, bytes: &[u8], shared: Option<&'s Bytes<A>>) -> Result<Verdict, Fault>
-        requires { IfSome shared (λ string. string.now ≡ bytes.now) }
+    /// A string comes, and neither is it held nor does the site go on. The answer is the verdict, the node that the
+    /// frame comes from, and, of a frame that came before its turn, the string once more, to be held.
+    fn hear(
+        &mut self,
+        string: &Bytes<A>,
+    ) -> Result<(Verdict, u8, Option<Bytes<A>>), Fault>
         ensures same { IsSameNode self.old self.new }
-        ensures done { MatchResult result (λ verdict. Delivers bytes.now verdict self.old self.new) (λ _. self.new ≡ self.old) }
-        ensures early { IfOk result (λ verdict. CameEarlyAs verdict bytes.now self.new) }
-        ensures refused { MatchResult (checked self.old.config bytes.now) (λ _. IfErr result IsWant) (λ fault. result ≡ Err fault) }
+        ensures done { MatchResult result (λ h. Hears string.now h.0 h.1 h.2 self.old self.new) (λ _. self.new ≡ self.old) }
+        ensures from { IfOk result (λ h. h.1 < self.old.config.nodes) }
+        ensures refused { MatchResult (checked self.old.config string.now) (λ _. IfErr result IsWant) (λ fault. result ≡ Err fault) }
         ensures few { length self.new.waiting ≤ length self.old.waiting + 8 }
-        ensures spent { IfErr result (IsSpentDelivery self.old bytes.now) }
+        ensures spent { IfErr result (IsSpentDelivery self.old string.now) }
     {
         let config = self.outbox.config();
-        let mut frame = read(&config, bytes)?;
+        let mut frame = read(&config, string.bytes())?;
+        let from = frame.source;
         let verdict = self.outbox.offer(&frame);
         if verdict == Verdict::NotMine {
-            return Ok(verdict);
+            return Ok((verdict, from, None));
         }
         self.events.reserve()?;
-        let string = listed(self.alloc, bytes, shared)?;
+        let held = if_ahead(verdict, string)?;
+        let listed = string.share()?;
         if verdict == Verdict::Next {
             if let Some(message) = frame.body.take() {
-                self.memory.handle(frame.source, message, &mut self.outbox)?;
+                self.memory.handle(from, message, &mut self.outbox)?;
             }
         }
         self.outbox.accept(&frame);
-        self.events.push_delivery(string);
-        Ok(verdict)
-    }
-
-    /// The string of a frame that came before its turn, to be held.
-    fn early(
-        &self,
-        frame: &Frame<&[u8]>,
-        bytes: &[u8],
-        shared: Option<&Bytes<A>>,
-    ) -> Result<Option<Bytes<A>>, AllocError>
-        requires source { frame.now.source < self.now.config.nodes }
-        requires shared { IfSome shared (λ string. string.now ≡ bytes.now) }
-        ensures early { IfOk result (λ o. MatchOption o (offered self.now.node.link frame.now ≢ Verdict.Ahead) (λ string. (string ≡ bytes.now) × (offered self.now.node.link frame.now ≡ Verdict.Ahead))) }
-    {
-        if self.outbox.offer(frame) == Verdict::Ahead {
-            return Ok(Some(listed(self.alloc, bytes, shared)?));
-        }
-        Ok(None)
+        self.events.push_delivery(listed);
+        Ok((verdict, from, held))
     }
 
     /// Holds a string that came too early.
@@ -325,26 +311,17 @@ impl<A: Allocator + Copy> Site<A> {
     }
 
     /// What [`Site::deliver`] does before the site goes on, with the node that the frame comes from.
-    fn receive<'s>(
-        &'s mut self,
-        bytes: &[u8],
-        shared: Option<&'s Bytes<A>>,
-    ) -> Result<(Verdict, u8), Fault>
-        requires { IfSome shared (λ string. string.now ≡ bytes.now) }
+    fn receive(&mut self, string: &Bytes<A>) -> Result<(Verdict, u8), Fault>
         ensures same { IsSameNode self.old self.new }
-        ensures done { MatchResult result (λ r. Receives bytes.now r.0 r.1 self.old self.new) (λ _. self.new ≡ self.old) }
+        ensures done { MatchResult result (λ r. Receives string.now r.0 r.1 self.old self.new) (λ _. self.new ≡ self.old) }
         ensures from { IfOk result (λ r. r.1 < self.old.config.nodes) }
-        ensures refused { MatchResult (checked self.old.config bytes.now) (λ _. IfErr result IsWant) (λ fault. result ≡ Err fault) }
+        ensures refused { MatchResult (checked self.old.config string.now) (λ _. IfErr result IsWant) (λ fault. result ≡ Err fault) }
         ensures few { length self.new.waiting ≤ length self.old.waiting + 8 }
-        ensures spent { IfErr result (IsSpentDelivery self.old bytes.now) }
+        ensures spent { IfErr result (IsSpentDelivery self.old string.now) }
     {
-        let config = self.outbox.config();
-        let frame = read(&config, bytes)?;
-        let from = frame.source;
-        let early = self.early(&frame, bytes, shared)?;
-        let verdict = self.hear(bytes, shared)?;
-        if let Some(string) = early {
-            self.hold(string);
+        let (verdict, from, early) = self.hear(string)?;
+        if let Some(held) = early {
+            self.hold(held);
         }
         Ok((verdict, from))
     }
@@ -372,7 +349,7 @@ impl<A: Allocator + Copy> Site<A> {
         let Some(string) = self.take_ready(from) else {
             return false;
         };
-        match self.receive(string.bytes(), Some(&string)) {
+        match self.receive(&string) {
             Ok(_) => true,
             Err(_) => {
                 self.hold(string);
@@ -410,11 +387,10 @@ impl<A: Allocator + Copy> Site<A> {
         ensures few { length self.new.waiting ≤ length self.old.waiting + most_delivered }
         ensures spent { IfErr result (IsSpentDelivery self.old bytes.now) }
     {
-        let (answer, from) = self.receive(bytes, None)?;
-        if answer == Verdict::Next {
-            self.go_on(from);
-        }
-        Ok(answer)
+        let config = self.outbox.config();
+        read(&config, bytes)?;
+        let string = Bytes::new(self.alloc, bytes)?;
+        self.deliver_shared(&string)
     }
 
     /// A string comes, as [`Site::deliver`] says. The event list and the link share it, so its bytes are not
@@ -426,7 +402,7 @@ impl<A: Allocator + Copy> Site<A> {
         ensures few { length self.new.waiting ≤ length self.old.waiting + most_delivered }
         ensures spent { IfErr result (IsSpentDelivery self.old string.now) }
     {
-        let (answer, from) = self.receive(string.bytes(), Some(string))?;
+        let (answer, from) = self.receive(string)?;
         if answer == Verdict::Next {
             self.go_on(from);
         }

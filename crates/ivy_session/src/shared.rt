@@ -94,9 +94,9 @@ impl<A: Allocator> Shared<A> {
         }
     }
 
-    /// What the workers of each node sleep on.
-    pub(crate) fn bells(&self) -> &[Bells] {
-        &self.bells
+    /// What the workers of a node sleep on.
+    pub(crate) fn bells(&self, node: u8) -> Option<&Bells> {
+        self.bells.get(usize::from(node))
     }
 
     /// So many frames were lost, of those that anybody knows of.
@@ -112,7 +112,7 @@ impl<A: Allocator> Shared<A> {
 
     /// A frame was put for a node: its wire worker is woken.
     fn ring_put(&self, node: u8) {
-        if let Some(bells) = self.bells.get(usize::from(node)) {
+        if let Some(bells) = self.bells(node) {
             bells.ring_put();
         }
     }
@@ -123,7 +123,7 @@ impl<A: Allocator> Shared<A> {
         match (turn, to) {
             (WireTurn::Sent, Some(to)) => self.ring_put(to),
             (WireTurn::Served(Verdict::Next), _) => own.ring_served(),
-            (WireTurn::Served(Verdict::Ahead) | WireTurn::Dropped, _) => self.lose(),
+            (WireTurn::Dropped, _) => self.lose(),
             (WireTurn::Returned, _) => thread::yield_now(),
             _ => {}
         }

@@ -152,8 +152,11 @@ where
     let all = &shared;
     thread::scope(thread::scope_env(), rt, |scope| {
         let mut next = 0u8;
-        for (seat, bells) in seats.iter().zip(all.bells()) {
+        for seat in seats {
             let node = next;
+            let Some(bells) = all.bells(node) else {
+                return;
+            };
             let program = scope.spawn(move || run_program(
                 rt, seat, bells, node, limits, all, gate,
             ));

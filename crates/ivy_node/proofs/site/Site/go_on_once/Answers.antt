@@ -11,7 +11,7 @@ hold-requires g c =
 pub returns-in-Ok-clause-done : goal.returns-in-Ok-clause-done
 returns-in-Ok-clause-done g c =
     went_once c.args.self.now c.receive.new.self c.args.from _ c.in-Some.string _ c.in-Some.ensures.limits c.in-Some.ensures.ready c.in-Some.ensures.held
-    (subst (λ (x : Shown). Receives c.in-Some.string c.in-Ok.field-0.0 c.in-Ok.field-0.1 x c.receive.new.self) c.in-Some.ensures.after (subst (λ b. Receives b c.in-Ok.field-0.0 c.in-Ok.field-0.1 c.take_ready.new.self c.receive.new.self) c.bytes.ensures c.in-Ok.ensures.done))
+    (subst (λ (x : Shown). Receives c.in-Some.string c.in-Ok.field-0.0 c.in-Ok.field-0.1 x c.receive.new.self) c.in-Some.ensures.after c.in-Ok.ensures.done)
 
 pub returns-in-Err-clause-done : goal.returns-in-Err-clause-done
 returns-in-Err-clause-done g c =
