@@ -134,7 +134,7 @@ told_early bytes string w from early old mid some h =
     subst (λ o. MatchOption o (w ≢ verdict.Ahead) (λ s. (s ≡ bytes) × Contains (early_at mid) s × (w ≡ verdict.Ahead))) some h.early
 
 pub received_early : (bytes string : List ℕ) (w : Verdict) (from : ℕ) (early : Option (List ℕ)) (old mid : Shown) → early ≡ Some string → Hears bytes w from early old mid → Contains (early_at mid) string
-received_early bytes string w from early old mid some h = (told_early bytes string w from early old mid some h).1.0
+received_early bytes string w from early old mid some h = (told_early bytes string w from early old mid some h).1
 
 held_as : (w : Verdict) (f : Frame) (bytes : List ℕ) (mid new : Shown) → w ≡ verdict.Ahead → new ≡ holding_in mid f bytes → Holds w f bytes mid new
 held_as w f bytes mid new ahead is = subst (λ x. Holds x f bytes mid new) (sym ahead) is
@@ -148,7 +148,7 @@ received_some bytes string w from early old mid new some h config held =
       mid = mid;
       first = h.first;
       from = h.from;
-      holds = held_as w h.first.frame bytes mid new told.1.1 (held h.first.frame there ∙ ap (holding_in mid h.first.frame) told.0);
+      holds = held_as w h.first.frame bytes mid new told.2 (held h.first.frame there ∙ ap (holding_in mid h.first.frame) told.0);
     }
 
 -- a string that was held

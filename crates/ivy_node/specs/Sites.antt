@@ -99,11 +99,12 @@ Holds verdict.Next f bytes mid new = new ≡ mid
 Holds verdict.Repeat f bytes mid new = new ≡ mid
 Holds verdict.Ahead f bytes mid new = new ≡ holding_in mid f bytes
 
--- the source, and the string again where it came too early
-pub record Hears (bytes : List ℕ) (verdict : Verdict) (source : ℕ) (early : Option (List ℕ)) (old new : Shown) : Type 0 where
-  pub first : Delivers bytes verdict old new
+-- also the source, and the string again where it came too early
+pub record Hears (bytes : List ℕ) (answer : Verdict) (source : ℕ) (again : Option (List ℕ)) (old new : Shown) : Type 0 where
+  pub first : Delivers bytes answer old new
   pub from : first.frame.source ≡ source
-  pub early : MatchOption early (verdict ≢ verdict.Ahead) (λ string. (string ≡ bytes) × Contains (early_at new) string × (verdict ≡ verdict.Ahead))
+  pub early : MatchOption again (answer ≢ verdict.Ahead)
+      (λ string. (string ≡ bytes) × Contains (early_at new) string × (answer ≡ verdict.Ahead))
 
 pub record Receives (bytes : List ℕ) (verdict : Verdict) (source : ℕ) (old new : Shown) : Type 0 where
   pub mid : Shown

@@ -74,7 +74,8 @@ module _ (g : Over) (c : After-accept g) where
 pub returns-in_err-frame-clause-spent : goal.returns-in_err-frame-clause-spent
 returns-in_err-frame-clause-spent g c =
     err_there c.from_residual.result (IsSpentDelivery c.args.self.now c.args.string.now) _ c.from_residual.ensures.1
-    (spent_reading _ _ c.self.view_is c.config-config.result c.args.string.now _ _ c.config-config.ensures.is (subst (λ b. checked c.config-config.result b ≡ Err _) c.bytes.ensures c.in_err-frame.ensures.fault))
+    (subst (λ b. IsSpentDelivery c.args.self.now b c.in_err-frame.field-0.0) c.bytes.ensures
+    (spent_reading _ _ c.self.view_is c.config-config.result c.bytes.result.now _ _ c.config-config.ensures.is c.in_err-frame.ensures.fault))
 
 pub returns-then-eq-clause-done : goal.returns-then-eq-clause-done
 returns-then-eq-clause-done g c =
