@@ -1,7 +1,8 @@
 //! Frames as strings of bytes: the worked examples, and each fault of a string that spells no frame.
 use ivy_model::{Config, Fault, Kind};
 use ivy_wire::{
-    Bytes, Content, Frame, FrameKind, Message, Page, decode, destination, encode, grammar_is_prefix_free, read,
+    Bytes, Content, Frame, FrameKind, Message, Page, decode, destination, encode,
+    grammar_is_prefix_free, read,
 };
 use std::alloc::{Allocator, Global};
 use std::process::Abort;

@@ -48,7 +48,7 @@ fn gives_back(
 {
     let string = Bytes::new(alloc, &[mark])?;
     match link.hold(&frame(dest, number), string) {
-        Some(back) => Ok(back.bytes() == &[mark]),
+        Some(back) => Ok(back.bytes() == [mark].as_slice()),
         None => Ok(false),
     }
 }
