@@ -259,10 +259,7 @@ impl<A: Allocator + Copy> Site<A> {
 
     /// A string comes, and neither is it held nor does the site go on. The answer is the verdict, the node that the
     /// frame comes from, and, of a frame that came before its turn, the string once more, to be held.
-    fn hear(
-        &mut self,
-        string: &Bytes<A>,
-    ) -> Result<(Verdict, u8, Option<Bytes<A>>), Fault>
+    fn hear(&mut self, string: &Bytes<A>) -> Result<(Verdict, u8, Option<Bytes<A>>), Fault>
         ensures same { IsSameNode self.old self.new }
         ensures done { MatchResult result (λ h. Hears string.now h.0 h.1 h.2 self.old self.new) (λ _. self.new ≡ self.old) }
         ensures from { IfOk result (λ h. h.1 < self.old.config.nodes) }

@@ -122,4 +122,3 @@ returns-clause-done g c =
 pub returns-clause-few : goal.returns-clause-few
 returns-clause-few g c =
     heard_few _ _ c.self.view_is (owned_frame c.in_ok-frame.frame) c.offer-verdict.result _ _ c.accept.new.self c.offer-verdict.ensures (heard g (goal.at.returns-clause-few g c).After-accept) (accepts g (goal.at.returns-clause-few g c).After-accept _ c.accept.ensures)
-
