@@ -10,6 +10,7 @@ from pathlib import Path
 from timing import run_once, write_lines
 
 PAGE_SIZE = 256
+LARGE_PAGE = 4096
 RUNS = 3
 COMPUTES = "while True: pass"
 
@@ -23,6 +24,7 @@ class Session:
     count: int
     text: Callable[[int], Iterable]
     beside: int = 0
+    options: tuple = ()
 
 
 def loop(laps, body):
@@ -54,6 +56,21 @@ def ring(nodes):
     return text
 
 
+def barrier(meetings):
+    """Eight nodes meet so often: each advances the one count, and awaits that all have."""
+    for node in range(8):
+        yield from (f"node {node}", "set r1 8", "set r2 8")
+        yield from loop(meetings, ["advance r0", "await r3 r0 r1", "add r1 r1 r2"])
+
+
+def page(hand_overs):
+    """Two nodes in turn add to one word, so the word's page is handed to and fro."""
+    for node in range(2):
+        yield from (f"node {node}", f"set r1 {node}", "set r2 2", f"set r4 {LARGE_PAGE}", "set r5 1")
+        body = ["await r3 r0 r1", "load 8 r6 r4", "add r6 r6 r5", "store 8 r4 r6", "advance r0", "add r1 r1 r2"]
+        yield from loop(hand_overs // 2, body)
+
+
 def waits(laps):
     """Node 0 computes alone, and seven nodes wait until it is done."""
     yield "node 0"
@@ -69,6 +86,8 @@ SESSIONS = (
     Session("run-ring-2", "hand-over", 4_000, ring(2)),
     Session("run-ring-2-beside", "hand-over", 4_000, ring(2), beside=4),
     Session("run-ring-8", "hand-over", 1_600, ring(8)),
+    Session("run-barrier", "meeting", 300, barrier),
+    Session("run-page", "hand-over", 10_000, page, options=("--page-size", str(LARGE_PAGE), "--pages", "2")),
     Session("run-waits", "lap", 3_000_000, waits),
 )
 
@@ -83,7 +102,7 @@ def timed(words):
 def row_of(program, session, folder):
     """The columns of a session: those of the run that took the least time of three."""
     others = [subprocess.Popen([sys.executable, "-c", COMPUTES]) for _ in range(session.beside)]
-    words = [program, "run", write_lines(Path(folder) / "program", session.text(session.count))]
+    words = [program, "run", write_lines(Path(folder) / "program", session.text(session.count)), *session.options]
     try:
         wall, seconds, memory = min(timed(words) for _ in range(RUNS))
     finally:
