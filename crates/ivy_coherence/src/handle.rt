@@ -291,7 +291,7 @@ impl<M: Manager, A: Allocator> Coherence<M, A> {
             Entry::AwaitAcks(state)
                 if state.waiting().call() == call && state.left().contains(from) => {
                 let waiting = state.waiting().copied();
-                let mut left = state.left().copied();
+                let mut left = *state.left();
                 left.remove(from);
                 self.left_with(from, page, left, waiting, post)?;
             }

@@ -1,5 +1,5 @@
 use Rattle.std.proofs.Common.{◌≡◌, length, ◌∙◌, ap}
-use Rattle.ivy_coherence.proofs.Opened.{fits_spare, spare_then, unlocked_below, unlock_word, unlock_fits, unlock_sound}
+use Rattle.ivy_coherence.proofs.Opened.{fits_spare, spare_then, unlock_word, unlock_fits, unlock_sound}
 use Rattle.ivy_coherence.proofs.coherence.Coherence.unlock.Goals as goal
 
 pub copy_from-requires : goal.copy_from-requires
@@ -9,9 +9,6 @@ pub carry_out-out-requires : goal.carry_out-out-requires
 carry_out-out-requires g c =
     rw (c.word.ensures, c.copy_from.ensures)
     (unlock_word g.met.M.Manager.laws _ _ c.self.view_is c.self.invariant.0 c.args.page c.args.write c.args.bytes.now c.args.waiting.now c.requires.waits c.requires.sized)
-
-pub settle-requires-clause-below : goal.settle-requires-clause-below
-settle-requires-clause-below g c = rw c.unlocked_as-idle.ensures (unlocked_below c.args.write)
 
 pub settle-requires-clause-fits : goal.settle-requires-clause-fits
 settle-requires-clause-fits g c =
