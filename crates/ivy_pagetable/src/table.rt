@@ -106,7 +106,8 @@ impl<A: Allocator> PageTable<A> {
         ensures bytes { result.now ≡ page_at self.now page }
         ensures sized { length result.now ≡ self.now.page_size }
     {
-        &self.region[place(page, self.page_size)]
+        let place = place(page, self.page_size);
+        &self.region[place]
     }
 
     /// The bytes of all pages, in order. It takes no memory.
