@@ -13,9 +13,7 @@ use Rattle.ivy_pagetable.specs.declared.Entry.TheVariants as entry
 use Rattle.ivy_pagetable.specs.declared.Out.{Out}
 use Rattle.ivy_pagetable.specs.declared.PutOff.{PutOff}
 use Rattle.ivy_pagetable.specs.declared.Word.{Word}
-use Rattle.ivy_pagetable.specs.Limits.{most_nodes_in_a_byte}
 use Rattle.ivy_pagetable.specs.NodeSets.{Nodes, IsBelow, nodes_of}
-use Rattle.ivy_pagetable.proofs.Bits.{empty_below}
 use Rattle.ivy_pagetable.specs.States.{IdleState, WaitingState, AwaitAcksState}
 use Rattle.ivy_pagetable.specs.TableState.{Table}
 use Rattle.ivy_pagetable.specs.Tables.{entry_at, page_at, with_entry, with_page}
@@ -26,7 +24,7 @@ use Rattle.ivy_pagetable.specs.Manager.{Ops, Laws}
 use Rattle.ivy_coherence.specs.Coherent.{Coherent}
 use Rattle.ivy_serving.specs.Limits.{most_posted}
 use Rattle.ivy_serving.specs.Serving.{settled, invalidations}
-use Rattle.ivy_coherence.specs.Steps.{IsWaiting, IsCollecting, is_none, unlocked_as}
+use Rattle.ivy_coherence.specs.Steps.{asked, asked_at, IsWaiting, IsCollecting, is_none, unlocked_as}
 use Rattle.ivy_coherence.specs.Faults.{IsIdleAt, HasToAsk, suffices, fault_entry}
 use Rattle.ivy_serving.specs.Sound.{CanBeServed, AreOthers, IsSoundIdle}
 use Rattle.ivy_coherence.specs.Sound.{IsSound}
@@ -47,11 +45,6 @@ module _ {S : Type 0} (n v : Coherent S) (same : v ≡ n) where
       let k_is : v.config ≡ k = ap (λ (x : Coherent S). x.config) same ∙ sym config in
       let me_is : v.me ≡ node = ap (λ (x : Coherent S). x.me) same ∙ sym me in
       subst (λ x. All (FitsParcel k x) ps) me_is (subst (λ x. All (FitsParcel x v.me) ps) k_is fits)
-
--- the nodes that have a copy of a page that just came
-pub unlocked_below : (write : Bool) → IsBelow most_nodes_in_a_byte (unlocked_as write).copies
-unlocked_below true = empty_below most_nodes_in_a_byte
-unlocked_below false = empty_below most_nodes_in_a_byte
 
 -- a set without a node is the empty set
 pub none_is : (nodes : Nodes) (b : Bool) → (IsTrue b → nodes ≡ set.empty) → (nodes ≡ set.empty → IsTrue b) → b ≡ is_none nodes
@@ -224,6 +217,14 @@ module _ {S : Type 0} {ops : Ops S} (laws : Laws ops) (n v : Coherent S) (same :
   asked_sound page q i j after bytes t m b inside is can bytes_are copied idle_is table manager breaches =
       let keeps = idle_asked-keeps laws v page q i s (subst (λ (x : Coherent S). page < x.config.pages) (sym same) inside) is (subst (λ (x : Coherent S). CanBeServed x.config x.me q) (sym same) can) in
       rw (table, manager, breaches, idle_is, bytes_are, copied) keeps.0
+
+  pub asked_then : (page : ℕ) (q : PutOff) (i j after : IdleState) (bytes : List ℕ) (t : Table) (m : S) (b : ℕ) → entry_at v.table page ≡ entry.Idle i → bytes ≡ page_at v.table page → j ≡ i
+      → after ≡ (settled ops v.me q.origin page bytes j v.manager v.breaches None (q ∷ [])).idle → t ≡ with_entry v.table page (entry.Idle after)
+      → m ≡ (settled ops v.me q.origin page bytes j v.manager v.breaches None (q ∷ [])).manager → b ≡ (settled ops v.me q.origin page bytes j v.manager v.breaches None (q ∷ [])).breaches
+      → record v { table = t; manager = m; breaches = b } ≡ (asked_at ops n page q).after
+  asked_then page q i j after bytes t m b is bytes_are copied idle_is table manager breaches =
+      subst (λ (x : Coherent S). record v { table = t; manager = m; breaches = b } ≡ (asked_at ops x page q).after) same
+      (rw (table, manager, breaches, idle_is, bytes_are, copied) (ap (λ e. (asked ops v page q e).after) (sym is)))
 
   -- an access of this node's program
   pub hit_sound : (page : ℕ) (w : Word) (t : Table) → page < n.config.pages → IsWord n.config.page_size w → t ≡ with_page v.table page (carried_out w (page_at v.table page)).bytes → IsSound ops (record v { table = t })

@@ -160,7 +160,7 @@ impl<M: Manager, A: Allocator> Coherence<M, A> {
             return Ok(Entry::AwaitRead(waiting));
         }
         if idle.is_owner() {
-            let left = idle.copies().copied();
+            let left = *idle.copies();
             invalidate(self.me, page, call, &left, post)?;
             return Ok(Entry::AwaitAcks(AwaitAcks::new(left, waiting)));
         }

@@ -169,7 +169,7 @@ impl<M: Manager, A: Allocator> Coherence<M, A> {
         let reply = Some(write);
         let after = settle(at, reply, idle, &mut self.manager, breaches, messages, post)?;
         self.table.set_entry(page, Entry::Idle(after));
-        self.table.swap_page(page, &mut self.spare);
+        self.table.install(page, self.spare.bytes());
         self.done = Some(out);
         self.locked = None;
         Ok(())
@@ -291,7 +291,7 @@ impl<M: Manager, A: Allocator> Coherence<M, A> {
             Entry::AwaitAcks(state)
                 if state.waiting().call() == call && state.left().contains(from) => {
                 let waiting = state.waiting().copied();
-                let mut left = state.left().copied();
+                let mut left = *state.left();
                 left.remove(from);
                 self.left_with(from, page, left, waiting, post)?;
             }

@@ -17,24 +17,26 @@ const CONFIG: Config = Config {
 fn sets_of_nodes(rt: HostRuntime) {
     let mut set = NodeSet::new();
     assert!(rt; set.is_empty());
-    set.insert(31);
+    set.insert(7);
     set.insert(0);
-    set.insert(7);
-    set.insert(7);
-    assert_eq!(rt; set.nodes().as_slice(), [0, 7, 31].as_slice());
-    assert!(rt; set.contains(7) && !set.contains(8));
-    set.remove(7);
-    set.remove(8);
-    assert_eq!(rt; set.copied().nodes().as_slice(), [0, 31].as_slice());
+    set.insert(5);
+    set.insert(5);
+    assert_eq!(rt; set.nodes().as_slice(), [0, 5, 7].as_slice());
+    assert!(rt; set.contains(5) && !set.contains(6));
+    let before = set;
+    set.remove(5);
+    set.remove(6);
+    assert_eq!(rt; set.nodes().as_slice(), [0, 7].as_slice());
+    assert!(rt; before.contains(5));
 }
 
 #[test]
 fn all_nodes_in_a_set(rt: HostRuntime) {
     let mut set = NodeSet::new();
-    for node in 0..32 {
-        set.insert(31 - node);
+    for node in 0..8 {
+        set.insert(7 - node);
     }
-    assert_eq!(rt; set.nodes().len(), 32);
+    assert_eq!(rt; set.nodes().len(), 8);
 }
 
 /// Bit i of the number stands for node i.
@@ -115,10 +117,9 @@ fn page_of_a_table(rt: HostRuntime) -> Result<(), Fail> {
     Ok(())
 }
 
-/// A page comes with a word carried out on it already; the bytes that were there before stay whole
-/// in the spare page.
+/// A page comes with a word carried out on it already, and the pages beside it stay.
 #[test]
-fn page_exchanged_with_a_spare_one(rt: HostRuntime) -> Result<(), Fail> {
+fn page_installed_from_a_spare_one(rt: HostRuntime) -> Result<(), Fail> {
     let mut table = PageTable::new(rt.alloc(), &CONFIG, 0)?;
     table.install(1, [7u8; 128].as_slice());
     let mut spare = Page::zeros(rt.alloc(), 128)?;
@@ -129,10 +130,9 @@ fn page_exchanged_with_a_spare_one(rt: HostRuntime) -> Result<(), Fail> {
         value: 9,
     };
     assert_eq!(rt; spare.carry_out(store), Out::Done);
-    table.swap_page(1, &mut spare);
+    table.install(1, spare.bytes());
     assert_eq!(rt; (table.page(1)[63], table.page(1)[64]), (1, 9));
     assert_eq!(rt; table.page(0), [0u8; 128].as_slice());
-    assert_eq!(rt; spare.bytes(), [7u8; 128].as_slice());
     Ok(())
 }
 
@@ -141,6 +141,18 @@ fn byte_of_a_page_written(rt: HostRuntime) -> Result<(), Fail> {
     let mut table = PageTable::new(rt.alloc(), &CONFIG, 0)?;
     table.page_mut(1)[3] = 9;
     assert_eq!(rt; table.page(1)[3], 9);
+    Ok(())
+}
+
+/// All pages are one slice, in order.
+#[test]
+fn bytes_of_all_pages(rt: HostRuntime) -> Result<(), Fail> {
+    let mut table = PageTable::new(rt.alloc(), &CONFIG, 0)?;
+    table.install(0, [7u8; 128].as_slice());
+    table.install(1, [9u8; 128].as_slice());
+    let bytes = table.bytes();
+    assert_eq!(rt; bytes.len(), 256);
+    assert_eq!(rt; (bytes[127], bytes[128]), (7, 9));
     Ok(())
 }
 

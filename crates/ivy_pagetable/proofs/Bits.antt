@@ -1,20 +1,22 @@
 -- Sets of nodes as numbers: bit q of the number stands for node q.
-use Rattle.std.proofs.Common.{◌≡◌, ℕ, zero, suc, ◌+◌, ◌*◌, ◌/◌, ◌%◌, ◌^◌, ◌<◌, ◌≤◌, Bool, true, false, not, ◌&&◌, ◌||◌, cond, eqb, ltb, List, [], ◌∷◌, length, get_or, take, refl, sym, ap, ◌∙◌, arith, inl, inr, add-one, eqb-true, true≢false, eq-or-lt_of_le}
+use Rattle.std.proofs.Common.{◌≡◌, ◌≢◌, ℕ, zero, suc, ◌+◌, ◌-◌, ◌*◌, ◌/◌, ◌%◌, ◌^◌, ◌<◌, ◌≤◌, Bool, true, false, not, ◌&&◌, ◌||◌, cond, eqb, List, [], ◌∷◌, ◌++◌, length, IsTrue, ◌↔◌, refl, sym, ap, ◌∙◌, arith, inl, inr, add-one, w8, min, eqb-true, true≢false}
 use Rattle.std.specs.List.{filter, range_with_len, sum_by}
 use Rattle.std.specs.Int.{bit_at}
-use Rattle.std.specs.Int.RustNames.{bit_or}
+use Rattle.std.specs.Int.RustNames.{bit_or, bit_and}
 use Rattle.std.specs.Ordering.{nat_cmp}
 use Rattle.std.specs.FinSet as set
 use Rattle.std.specs.FinSet.{contains-empty}
-use Rattle.std.proofs.Math.Nat.{pow-succ', pow-le-pow_right, one-mul}
-use Rattle.std.proofs.lemmas.Bool.{cases_Bool, cases_lt, cases_eq, and_parts, false_from_ne_true, eqb-false, eq-eqb, ne_eqb, lt-ltb, le-ltb}
-use Rattle.std.proofs.lemmas.List.{take_all}
-use Rattle.std.proofs.lemmas.List.Sums.{sum_by-cons, sum_by_more}
-use Rattle.std.proofs.lemmas.Map.Views.{any-filter_same}
-use Rattle.std.proofs.lemmas.Nat.{or_comm, or_shifted, one_shl, pow_pos}
-use Rattle.std.proofs.lemmas.Nat.Bits.{bit_at_lowest, bit_at-suc, bit_at_above}
-use Rattle.ivy_pagetable.specs.NodeSets.{Nodes, AscendsFrom, nodes_of, IsBelow, bits_of, nodes_with}
-use Rattle.ivy_pagetable.proofs.NodeSets.{lists, contains_list, tied, untied, sets_equal, held, nodes_of_list}
+use Rattle.std.proofs.Math.Nat.{pow-succ', zero-min}
+use Rattle.std.proofs.lemmas.Bool.{cases_Bool, cases_lt, cases_eq, and_parts, false_from_ne_true, eq-eqb, ne_eqb}
+use Rattle.std.proofs.lemmas.List.Elements.{filter-append}
+use Rattle.std.proofs.lemmas.List.FromFn.{length-range_with_len}
+use Rattle.std.proofs.lemmas.List.Sums.{sum_by-cons, length-filter, count_by-le-length}
+use Rattle.std.proofs.lemmas.List.{append-nil}
+use Rattle.std.proofs.lemmas.Nat.{pow_pos}
+use Rattle.std.proofs.lemmas.Nat.Bits.{bit_at-zero, bit_at-lt, bit_at_lowest, bit_at-suc, bit_at_above, bit_at_and, bit_at_set_same, bit_at_set_other, bit_at_clear_same, bit_at_clear_other, same_from_bits_below}
+use Rattle.ivy_pagetable.specs.NodeSets.{Nodes, nodes_of, IsBelow, bits_of, nodes_with}
+use Rattle.ivy_pagetable.specs.Bytes.{lists, has, in_range, lists_with, no_bit, contains_with}
+use Rattle.ivy_pagetable.proofs.NodeSets.{tied, untied, sets_equal}
 
 -- which sets lie below a number
 pub empty_below : (n : ℕ) → IsBelow n set.empty
@@ -102,42 +104,6 @@ pub bits_of_below : (n : ℕ) (s : Nodes) → IsBelow n s → bits_of s < 2 ^ n
 unfolding bits_of nodes_of
 bits_of_below n s low = number_below 32 (set.contains s) n low
 
--- the numbers of a range
-in_range : (first n q : ℕ) → first ≤ q → q < first + n → lists (range_with_len first n) q ≡ true
-in_range first zero q le lt = absurd (omega (arith, le, lt))
-in_range first (suc n) q le lt =
-    elim (cases_Bool (eqb first q)) [
-      | inl y ↦ ap (λ b. b || lists (range_with_len (first + 1) n) q) y
-      | inr y ↦ ap (λ b. b || lists (range_with_len (first + 1) n) q) y
-          ∙ in_range (first + 1) n q (above (eqb-false first q y)) (omega (arith, lt))
-    ]
-  where
-    above : (first ≡ q → ⊥) → first + 1 ≤ q
-    above n = elim (eq-or-lt_of_le le) [ inl e ↦ absurd (n e) | inr lt ↦ omega (arith, lt) ]
-
-abbrev has : ℕ → ℕ → Bool
-has bits q = eqb (bit_at bits q) 1
-
-lists_with : (bits q : ℕ) → set.contains (nodes_with bits) q ≡ (has bits q && lists (range_with_len 0 32) q)
-unfolding nodes_with
-lists_with bits q =
-    contains_list (filter (has bits) (range_with_len 0 32)) q
-    ∙ any-filter_same (λ y. eqb y q) (has bits) (has bits q) (λ k e. ap (has bits) (eqb-true k q e)) (range_with_len 0 32)
-
-no_bit : (bits n q : ℕ) → bits < 2 ^ n → n ≤ q → has bits q ≡ false
-no_bit bits n q small le = ap (λ x. eqb x 1) (bit_at_above bits n q small le)
-
-pub contains_with : (bits q : ℕ) → bits < 2 ^ 32 → set.contains (nodes_with bits) q ≡ eqb (bit_at bits q) 1
-contains_with bits q small =
-    lists_with bits q ∙ elim (cases_lt q 32) [
-      | inl lt ↦ ap (λ b. has bits q && b) (in_range 0 32 q (omega arith) lt) ∙ and_true (has bits q)
-      | inr le ↦ ap (λ b. b && lists (range_with_len 0 32) q) (no_bit bits 32 q small le) ∙ sym (no_bit bits 32 q small le)
-    ]
-  where
-    and_true : (b : Bool) → (b && true) ≡ b
-    and_true true = refl
-    and_true false = refl
-
 pub with_below : (n bits : ℕ) → bits < 2 ^ n → IsBelow n (nodes_with bits)
 with_below n bits small q is =
     elim (cases_lt q n) [
@@ -158,72 +124,94 @@ with_bits_of n s le low =
     back true = refl
     back false = refl
 
-pow_rises : (m n : ℕ) → m ≤ n → 2 ^ m ≤ 2 ^ n
-pow_rises m n le = pow-le-pow_right (omega arith) le
-
--- the steps of `bits`: what stands before a node of an ascending list makes a number below its bit
-before : (least : ℕ) (xs : List ℕ) (i : ℕ) → AscendsFrom least xs → i < length xs → sum_by (λ q. 2 ^ q) (take i xs) + 2 ^ least ≤ 2 ^ get_or xs i 0
-before least [] i up lt = absurd (omega (arith, lt))
-before least (x ∷ xs) zero up lt = omega (arith, pow_rises least x up.0)
-before least (x ∷ xs) (suc i) up lt =
-    omega (arith, sum_by-cons (λ q. 2 ^ q) x (take i xs), before (x + 1) xs i up.1 (omega (arith, lt)), doubled x, pow_rises least x up.0)
-
-with_bit : (n bits node : ℕ) → bits < 2 ^ node → node < n → bit_or bits (1 * 2 ^ node % 2 ^ n) ≡ bits + 2 ^ node
-with_bit n bits node small lt =
-    ap (bit_or bits) (one_shl node n lt) ∙ or_comm bits (2 ^ node) ∙ ap (λ x. bit_or x bits) (sym (one-mul (2 ^ node))) ∙ or_shifted 1 node bits small ∙ omega arith
-
-pub listed_below : (n : ℕ) (xs : List ℕ) (i : ℕ) → IsBelow n (set.from_list xs) → i < length xs → get_or xs i 0 < n
-listed_below n xs i low lt = low (get_or xs i 0) (held xs i (get_or xs i 0) lt refl)
-
-pub next_bit : (n : ℕ) (xs : List ℕ) (i bits : ℕ) → AscendsFrom 0 xs → IsBelow n (set.from_list xs) → i < length xs → bits ≡ sum_by (λ q. 2 ^ q) (take i xs)
-    → bit_or bits (1 * 2 ^ get_or xs i 0 % 2 ^ n) ≡ sum_by (λ q. 2 ^ q) (take (i + 1) xs)
-next_bit n xs i bits up low lt is =
-    with_bit n bits (get_or xs i 0) (omega (arith, is, before 0 xs i up lt)) (listed_below n xs i low lt)
-    ∙ ap (λ x. x + 2 ^ get_or xs i 0) is ∙ sym (sum_by_more (λ q. 2 ^ q) xs i 0 lt)
-
-pub all_bits : (xs : List ℕ) (i bits : ℕ) → AscendsFrom 0 xs → length xs ≤ i → bits ≡ sum_by (λ q. 2 ^ q) (take i xs) → bits ≡ bits_of (set.from_list xs)
-unfolding bits_of
-all_bits xs i bits up le is = is ∙ ap (λ ys. sum_by (λ q. 2 ^ q) ys) (take_all i xs le ∙ sym (nodes_of_list xs up))
-
--- the steps of `from_bits`: a set has the nodes below k of which the number has the bits
-pub no_nodes : (bits q : ℕ) → set.contains {R = nat_cmp} set.empty q ≡ (ltb q 0 && eqb (bit_at bits q) 1)
-no_nodes bits q = contains-empty nat_cmp q ∙ sym (ap (λ b. b && has bits q) (le-ltb q 0 (omega arith)))
-
-same_test : (q k : ℕ) → (k ≡ q → ⊥) → ltb q (k + 1) ≡ ltb q k
-same_test q k other =
-    elim (cases_lt q k) [
-      | inl lt ↦ lt-ltb q (k + 1) (omega (arith, lt)) ∙ sym (lt-ltb q k lt)
-      | inr le ↦ le-ltb q (k + 1) (past le) ∙ sym (le-ltb q k le)
-    ]
+-- a number of 32 bits is that of its nodes
+pub bits_of_with : (bits : ℕ) → bits < 2 ^ 32 → bits_of (nodes_with bits) ≡ bits
+bits_of_with bits small =
+    same_from_bits_below 32 (bits_of (nodes_with bits)) bits (bits_of_below 32 (nodes_with bits) (with_below 32 bits small)) small (λ q lt. (
+    bits_of_bit (nodes_with bits) q lt ∙ ap (λ b. cond b 1 0) (contains_with bits q small) ∙ bit (bit_at bits q) (bit_at-lt bits q)
+    ))
   where
-    past : k ≤ q → k + 1 ≤ q
-    past le = elim (eq-or-lt_of_le le) [ inl e ↦ absurd (other e) | inr lt ↦ omega (arith, lt) ]
+    bit : (x : ℕ) → x < 2 → cond (eqb x 1) 1 0 ≡ x
+    bit zero lt = refl
+    bit (suc zero) lt = refl
+    bit (suc (suc x)) lt = absurd (omega (arith, lt))
 
-pub one_more_node : (s : Nodes) (bits k q : ℕ) → bit_at bits k ≡ 1 → set.contains s q ≡ (ltb q k && eqb (bit_at bits q) 1)
-    → set.contains (set.insert s k) q ≡ (ltb q (k + 1) && eqb (bit_at bits q) 1)
-one_more_node s bits k q bit is =
-    tied q k s ∙ elim (cases_eq k q) [
-      | inl e ↦ ap (λ b. b || set.contains s q) (eq-eqb k q e)
-          ∙ sym (ap (λ b. b && has bits q) (lt-ltb q (k + 1) (omega (arith, e))) ∙ ap (has bits) (sym e) ∙ ap (λ x. eqb x 1) bit)
-      | inr other ↦ ap (λ b. b || set.contains s q) (ne_eqb k q other) ∙ is ∙ ap (λ b. b && has bits q) (sym (same_test q k other))
-    ]
+-- no bit, and no node
+pub no_bits : nodes_with 0 ≡ set.empty
+no_bits = sets_equal _ _ (λ q. lists_with 0 q ∙ ap (λ x. eqb x 1 && lists (range_with_len 0 32) q) (bit_at-zero q) ∙ sym (contains-empty nat_cmp q))
 
-pub no_more_node : (s : Nodes) (bits k q : ℕ) → (bit_at bits k ≡ 1 → ⊥) → set.contains s q ≡ (ltb q k && eqb (bit_at bits q) 1)
-    → set.contains s q ≡ (ltb q (k + 1) && eqb (bit_at bits q) 1)
-no_more_node s bits k q bit is =
-    is ∙ elim (cases_eq k q) [
-      | inl e ↦ ap (λ b. b && has bits q) (le-ltb q k (omega (arith, e)))
-          ∙ sym (ap (λ b. b && has bits q) (lt-ltb q (k + 1) (omega (arith, e))) ∙ ap (has bits) (sym e) ∙ ne_eqb (bit_at bits k) 1 bit)
-      | inr other ↦ ap (λ b. b && has bits q) (sym (same_test q k other))
-    ]
+pub emptiness : (bits : ℕ) → bits < 2 ^ 32 → IsTrue (eqb bits 0) ↔ (nodes_with bits ≡ set.empty)
+emptiness bits small = (λ t. ap nodes_with (eqb-true bits 0 t) ∙ no_bits, λ e. eq-eqb bits 0 (sym (bits_of_with bits small) ∙ ap bits_of (e ∙ sym no_bits) ∙ bits_of_with 0 (omega arith)))
 
-pub all_nodes : (s : Nodes) (bits k : ℕ) → k ≤ 32 → bits < 2 ^ k → ((q : ℕ) → set.contains s q ≡ (ltb q k && eqb (bit_at bits q) 1)) → s ≡ nodes_with bits
-all_nodes s bits k le small each =
-    sets_equal _ _ (λ q. each q ∙ within q ∙ sym (contains_with bits q (omega (arith, small, pow_rises k 32 le))))
+-- a bit that is set, and one that is cleared
+pub with_bit : (bits node : ℕ) → node < 8 → nodes_with (bit_or bits (1 * 2 ^ node % 2 ^ 8)) ≡ set.insert (nodes_with bits) node
+with_bit bits node few =
+    sets_equal _ _ (λ q. lists_with new q ∙ elim (cases_eq node q) [
+      | inl e ↦ ap (λ k. has new k && here k) (sym e) ∙ ap (λ x. eqb x 1 && here node) (bit_at_set_same w8 bits node few) ∙ in_range 0 32 node (omega arith) (omega (arith, few))
+          ∙ sym (tied q node _ ∙ ap (λ b. b || set.contains (nodes_with bits) q) (eq-eqb node q e))
+      | inr other ↦ ap (λ x. eqb x 1 && here q) (bit_at_set_other w8 bits node few q (λ e. other (sym e))) ∙ sym (lists_with bits q)
+          ∙ sym (tied q node _ ∙ ap (λ b. b || set.contains (nodes_with bits) q) (ne_eqb node q other))
+    ])
   where
-    within : (q : ℕ) → (ltb q k && eqb (bit_at bits q) 1) ≡ eqb (bit_at bits q) 1
-    within q =
-        elim (cases_lt q k) [
-          | inl lt ↦ ap (λ b. b && has bits q) (lt-ltb q k lt)
-          | inr past ↦ ap (λ b. b && has bits q) (le-ltb q k past) ∙ sym (no_bit bits k q small past)
+    new : ℕ
+    new = bit_or bits (1 * 2 ^ node % 2 ^ 8)
+
+    here : ℕ → Bool
+    here q = lists (range_with_len 0 32) q
+
+pub without_bit : (bits node : ℕ) → bits < 2 ^ 8 → node < 8 → nodes_with (bit_and bits (255 - 1 * 2 ^ node % 2 ^ 8)) ≡ set.remove (nodes_with bits) node
+without_bit bits node small few =
+    sets_equal _ _ (λ q. lists_with new q ∙ elim (cases_eq node q) [
+      | inl e ↦ ap (λ k. has new k && here q) (sym e) ∙ ap (λ x. eqb x 1 && here q) (bit_at_clear_same w8 bits node few)
+          ∙ sym (untied q node _ ∙ ap (λ b. not b && set.contains (nodes_with bits) q) (eq-eqb node q e))
+      | inr other ↦ ap (λ b. b && here q) (others q other) ∙ sym (lists_with bits q)
+          ∙ sym (untied q node _ ∙ ap (λ b. not b && set.contains (nodes_with bits) q) (ne_eqb node q other))
+    ])
+  where
+    new : ℕ
+    new = bit_and bits (255 - 1 * 2 ^ node % 2 ^ 8)
+
+    here : ℕ → Bool
+    here q = lists (range_with_len 0 32) q
+
+    others : (q : ℕ) → node ≢ q → has new q ≡ has bits q
+    others q other =
+        elim (cases_lt q 8) [
+          | inl lt ↦ ap (λ x. eqb x 1) (bit_at_clear_other w8 bits node few q lt (λ e. other (sym e)))
+          | inr past ↦ ap (λ x. eqb x 1) (bit_at_and bits (255 - 1 * 2 ^ node % 2 ^ 8) q)
+              ∙ ap (λ x. eqb (min x (bit_at (255 - 1 * 2 ^ node % 2 ^ 8) q)) 1) (bit_at_above bits 8 q small past)
+              ∙ ap (λ x. eqb x 1) (zero-min (bit_at (255 - 1 * 2 ^ node % 2 ^ 8) q)) ∙ sym (no_bit bits 8 q small past)
         ]
+
+-- the steps of `nodes`: those below k that a test passes
+abbrev pub passing : (ℕ → Bool) → ℕ → List ℕ
+passing test k = filter test (range_with_len 0 k)
+
+range_more : (first k : ℕ) → range_with_len first (suc k) ≡ range_with_len first k ++ (first + k) ∷ []
+range_more first zero = ap (λ (x : ℕ). x ∷ []) (omega arith)
+range_more first (suc k) = ap (λ xs. first ∷ xs) (range_more (first + 1) k ∙ ap (λ (x : ℕ). range_with_len (first + 1) k ++ x ∷ []) (omega arith))
+
+pub passing_more : (test : ℕ → Bool) (k : ℕ) → passing test (k + 1) ≡ passing test k ++ cond (test k) (k ∷ []) []
+passing_more test k =
+    ap (passing test) (add-one k) ∙ ap (filter test) (range_more 0 k ∙ ap (λ (x : ℕ). range_with_len 0 k ++ x ∷ []) (omega arith))
+    ∙ filter-append test (range_with_len 0 k) (k ∷ [])
+
+pub passing_few : (test : ℕ → Bool) (k : ℕ) → length (passing test k) ≤ k
+passing_few test k = omega (
+  arith,
+  length-filter test (range_with_len 0 k),
+  count_by-le-length test (range_with_len 0 k),
+  length-range_with_len 0 k,
+)
+
+pub nodes_below : (s : Nodes) → IsBelow 8 s → passing (set.contains s) 8 ≡ nodes_of s
+unfolding nodes_of
+nodes_below s low = sym (none_from 24)
+  where
+    none_from : (n : ℕ) → passing (set.contains s) (8 + n) ≡ passing (set.contains s) 8
+    none_from zero = refl
+    none_from (suc n) =
+        let q : ℕ = 8 + n in
+        ap (passing (set.contains s)) (omega arith) ∙ passing_more (set.contains s) q
+        ∙ ap (λ b. passing (set.contains s) q ++ cond b (q ∷ []) []) (false_from_ne_true (set.contains s q) (λ is. omega (arith, low q is)))
+        ∙ append-nil (passing (set.contains s) q) ∙ none_from n

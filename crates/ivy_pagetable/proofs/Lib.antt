@@ -1,3 +1,4 @@
 pub mod NodeSets
 pub mod Words
 pub mod Bits
+pub mod Regions

@@ -1,20 +1,27 @@
--- What a page and a page table end as, where the bytes of a page are lent to be written.
-use Rattle.std.specs.Prelude.{ℕ, List, length}
-use Rattle.std.specs.List.{refill}
+-- What a page table ends as, where the bytes of a page are lent to be written. What is written has the page's length. The
+-- logic asks for a table at any other list too: that goes over the bytes of the region from the page's first one on.
+use Rattle.std.specs.Prelude.{ℕ, ◌*◌, List, ◌++◌, length, take, drop, if◌then◌else◌, ◌==◌}
+use Rattle.std.specs.List.{concat, refill}
 use Rattle.std.specs.Borrow.{Lends, Fml, RattleType, MutBor, Array, u8}
-use Rattle.ivy_pagetable.specs.contracts.page.Page.{the_row}
 use Rattle.ivy_pagetable.specs.contracts.table.PageTable as table
 use Rattle.std.specs.declared.alloc.Allocator.{Ghosts}
-use Rattle.ivy_pagetable.specs.TableState.{Table}
-use Rattle.ivy_pagetable.specs.Tables.{page_at, with_page}
+use Rattle.ivy_pagetable.specs.TableState.{Table, pages_in}
+use Rattle.ivy_pagetable.specs.Tables.{with_page}
 
-abbrev pub rewritten : List ℕ → List ℕ → List ℕ
-rewritten old new = refill (length old) old new
+abbrev pub poured : List ℕ → ℕ → List ℕ → List ℕ
+poured bytes at new = refill (length bytes) bytes (take at bytes ++ (new ++ drop (length new) (drop at bytes)))
+
+abbrev pub spilled : Table → ℕ → List ℕ → Table
+spilled t page new = record {
+  page_size = t.page_size;
+  entries = t.entries;
+  pages = pages_in t.page_size (length t.entries) (poured (concat t.pages) (page * t.page_size) new);
+}
+
+abbrev pub written : Table → ℕ → List ℕ → Table
+written t page new = if length new == t.page_size then with_page t page new else spilled t page new
 
 module _ (A : RattleType) (heap : Ghosts A.Denot) where
-  abbrev pub LendsBytes : MutBor (List ℕ) → MutBor (List ℕ) → Fml
-  LendsBytes page bytes = Lends (the_row A heap) (Array u8 0) page bytes (rewritten page.now)
-
   abbrev pub LendsPage : MutBor Table → ℕ → MutBor (List ℕ) → Fml
-  LendsPage t page bytes = Lends (table.the_row A heap)
-      (Array u8 0) t bytes (λ new. with_page t.now page (rewritten (page_at t.now page) new))
+  LendsPage t page bytes =
+      Lends (table.the_row A heap) (Array u8 0) t bytes (written t.now page)

@@ -7,8 +7,8 @@ most_put_off = 8
 
 -- nodes in a set, which are the numbers below this one
 abbrev pub most_nodes_in_a_set : ℕ
-most_nodes_in_a_set = 32
+most_nodes_in_a_set = 8
 
--- nodes in a set that is shown as the bits of one byte
-abbrev pub most_nodes_in_a_byte : ℕ
-most_nodes_in_a_byte = 8
+-- definitions look for the nodes of a set among the numbers below this one
+abbrev pub numbers_of_nodes : ℕ
+numbers_of_nodes = 32

@@ -1,11 +1,11 @@
 -- Sets of nodes.
-use Rattle.std.specs.Prelude.{◌≡◌, ℕ, ◌+◌, ◌^◌, ◌<◌, ◌≤◌, true, List, [], ◌∷◌, filter, sum_by, ◌==◌}
+use Rattle.std.specs.Prelude.{◌≡◌, ℕ, ◌^◌, ◌<◌, true, List, filter, sum_by, ◌==◌}
 use Rattle.std.specs.Int.{bit_at}
 use Rattle.std.specs.List.{range_with_len}
 use Rattle.std.specs.Ordering.{nat_cmp}
 use Rattle.std.specs.FinSet as set
 use Rattle.std.specs.Coded.{Coded, coded_ℕ}
-use Rattle.ivy_pagetable.specs.Limits.{most_nodes_in_a_set}
+use Rattle.ivy_pagetable.specs.Limits.{numbers_of_nodes}
 
 abbrev pub Nodes : Type 0
 Nodes = set.FinSet nat_cmp
@@ -14,14 +14,9 @@ Nodes = set.FinSet nat_cmp
 abbrev pub nodes_code : Coded Nodes
 nodes_code = set.code coded_ℕ
 
--- the list ascends, from a least number on, and lies below the limit
-abbrev pub AscendsFrom : ℕ → List ℕ → Type 0
-AscendsFrom least [] = least ≤ most_nodes_in_a_set
-AscendsFrom least (x ∷ xs) = (least ≤ x) × AscendsFrom (x + 1) xs
-
 -- the nodes of a set, in ascending order
 unfoldable pub nodes_of : Nodes → List ℕ
-nodes_of s = filter (set.contains s) (range_with_len 0 most_nodes_in_a_set)
+nodes_of s = filter (set.contains s) (range_with_len 0 numbers_of_nodes)
 
 -- each node of the set is a number below n
 abbrev pub IsBelow : ℕ → Nodes → Type 0
@@ -34,4 +29,4 @@ bits_of s = sum_by (λ q. 2 ^ q) (nodes_of s)
 -- the nodes whose bits the number has
 unfoldable pub nodes_with : ℕ → Nodes
 nodes_with bits =
-    set.from_list (filter (λ q. bit_at bits q == 1) (range_with_len 0 most_nodes_in_a_set))
+    set.from_list (filter (λ q. bit_at bits q == 1) (range_with_len 0 numbers_of_nodes))

@@ -1,5 +1,5 @@
 -- What contracts see of a page table.
-use Rattle.std.specs.Prelude.{◌≡◌, ℕ, List, length, All}
+use Rattle.std.specs.Prelude.{ℕ, zero, suc, List, [], ◌∷◌, take, drop}
 use Rattle.ivy_pagetable.specs.declared.entry.Entry.{Entry}
 
 pub record Table : Type 0 where
@@ -7,7 +7,7 @@ pub record Table : Type 0 where
   pub entries : List Entry
   pub pages : List (List ℕ)
 
--- an entry for each page, and each page of the one size
-pub record IsTable (t : Table) : Type 0 where
-  pub paired : length t.entries ≡ length t.pages
-  pub sized : All (λ bytes. length bytes ≡ t.page_size) t.pages
+-- the pages of a region, in order: as many as there are, each of the one size
+abbrev pub pages_in : ℕ → ℕ → List ℕ → List (List ℕ)
+pages_in size zero bytes = []
+pages_in size (suc pages) bytes = take size bytes ∷ pages_in size pages (drop size bytes)

@@ -62,7 +62,7 @@ impl Idle {
         requires node { node < most_nodes_in_a_set }
         ensures { result ≡ record { access = Read; owner = true; copies = set.insert self.now.copies node } }
     {
-        let mut copies = self.copies.copied();
+        let mut copies = self.copies;
         copies.insert(node);
         Idle {
             access: Access::Read,
@@ -78,7 +78,7 @@ impl Idle {
         Idle {
             access: self.access,
             owner: self.owner,
-            copies: self.copies.copied(),
+            copies: self.copies,
         }
     }
 

@@ -1,38 +1,46 @@
 ghost use Rattle.std.specs.Prelude.{◌≡◌, ◌<◌, ◌↔◌, IsTrue};
 ghost use Rattle.std.specs.FinSet as set;
-ghost use Rattle.ivy_pagetable.specs.Limits.{most_nodes_in_a_set, most_nodes_in_a_byte};
-ghost use Rattle.ivy_pagetable.specs.NodeSets.{nodes_of, IsBelow, bits_of, nodes_with};
+ghost use Rattle.ivy_pagetable.specs.Limits.{most_nodes_in_a_set};
+ghost use Rattle.ivy_pagetable.specs.NodeSets.{nodes_of, bits_of, nodes_with};
 
 use arrayvec::ArrayVec;
 use std::marker::Model;
 
-/// A set of nodes, each of a number below 32.
-#[derive(Drop)]
+/// How many nodes there are.
+const MOST_NODES: usize = 8;
+
+/// A set of nodes, each of a number below 8. Bit i of the byte stands for node i.
+#[derive(Clone, Copy)]
 pub struct NodeSet {
-    nodes: ArrayVec<u8, 32>,
+    bits: u8,
 }
 
 impl Model for NodeSet {
     ghost use Rattle.std.specs.Ordering.{nat_cmp};
     ghost use Rattle.std.specs.FinSet as set;
     ghost use Rattle.std.specs.Coded.{coded_ℕ};
-    ghost use Rattle.ivy_pagetable.specs.NodeSets.{AscendsFrom};
+    ghost use Rattle.std.specs.Prelude.{◌<◌, ◌^◌};
+    ghost use Rattle.ivy_pagetable.specs.NodeSets.{nodes_with};
+    ghost use Rattle.ivy_pagetable.specs.Bytes.{byte_of, byte_of_with};
 
     ghost Value = { set.FinSet nat_cmp };
 
     ghost coded = { set.code coded_ℕ };
 
-    ghost view = { λ s. set.from_list s.nodes.items };
+    ghost view = { λ s. nodes_with s.bits };
 
-    ghost invariant = { λ s. AscendsFrom 0 s.nodes.items };
+    ghost invariant = { λ s. s.bits < 2 ^ 8 };
+
+    ghost inverse = { λ nodes. record { bits = byte_of nodes } };
+
+    ghost inverse_ok = { λ s small i. record { bits = byte_of_with s.bits small i } };
 }
 
-fn copied(nodes: &ArrayVec<u8, 32>) -> ArrayVec<u8, 32>
-    ensures { result.items ≡ nodes.now.items }
+fn has(bits: u8, node: u8) -> bool
+    requires { node < most_nodes_in_a_set }
+    ensures { result ≡ set.contains (nodes_with bits) node }
 {
-    let mut copied = ArrayVec::new();
-    copied.try_extend_from_slice(nodes).unwrap();
-    copied
+    bits >> node & 1 == 1
 }
 
 impl NodeSet {
@@ -40,9 +48,7 @@ impl NodeSet {
     pub fn new() -> NodeSet
         ensures { result ≡ set.empty }
     {
-        NodeSet {
-            nodes: ArrayVec::new(),
-        }
+        NodeSet { bits: 0 }
     }
 
     /// Whether the node is one of them.
@@ -50,7 +56,7 @@ impl NodeSet {
         requires { node < most_nodes_in_a_set }
         ensures { result ≡ set.contains self.now node }
     {
-        self.nodes.contains(&node)
+        has(self.bits, node)
     }
 
     /// The same with this node.
@@ -58,9 +64,7 @@ impl NodeSet {
         requires { node < most_nodes_in_a_set }
         ensures { self.new ≡ set.insert self.old node }
     {
-        if let Err(place) = self.nodes.binary_search(&node) {
-            self.nodes.insert(place, node);
-        }
+        self.bits |= 1 << node;
     }
 
     /// The same without this node.
@@ -68,57 +72,40 @@ impl NodeSet {
         requires { node < most_nodes_in_a_set }
         ensures { self.new ≡ set.remove self.old node }
     {
-        if let Ok(place) = self.nodes.binary_search(&node) {
-            self.nodes.remove(place);
-        }
+        self.bits &= !(1 << node);
     }
 
     /// Whether there is none.
     pub fn is_empty(&self) -> bool
         ensures { IsTrue result ↔ (self.now ≡ set.empty) }
     {
-        self.nodes.is_empty()
+        self.bits == 0
     }
 
     /// The nodes in ascending order.
-    pub fn nodes(&self) -> ArrayVec<u8, 32>
+    pub fn nodes(&self) -> ArrayVec<u8, MOST_NODES>
         ensures { result.items ≡ nodes_of self.now }
     {
-        copied(&self.nodes)
-    }
-
-    /// The same set.
-    pub fn copied(&self) -> NodeSet
-        ensures { result ≡ self.now }
-    {
-        NodeSet {
-            nodes: copied(&self.nodes),
+        let mut nodes = ArrayVec::new();
+        for node in 0..8 {
+            if has(self.bits, node) {
+                nodes.push(node);
+            }
         }
+        nodes
     }
 
-    /// The nodes as the bits of a number, bit 0 the least: a frame carries a copy set so. Each node
-    /// lies below 8.
+    /// The nodes as the bits of a number, bit 0 the least: a frame carries a copy set so.
     pub fn bits(&self) -> u8
-        requires { IsBelow most_nodes_in_a_byte self.now }
         ensures { result ≡ bits_of self.now }
     {
-        let mut bits = 0;
-        for &node in self.nodes.as_slice() {
-            bits |= 1 << node;
-        }
-        bits
+        self.bits
     }
 
     /// The nodes whose bits the number has.
     pub fn from_bits(bits: u8) -> NodeSet
         ensures { result ≡ nodes_with bits }
     {
-        let mut set = NodeSet::new();
-        for node in 0..8 {
-            if bits >> node & 1 == 1 {
-                set.insert(node);
-            }
-        }
-        set
+        NodeSet { bits }
     }
 }

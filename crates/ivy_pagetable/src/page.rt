@@ -1,11 +1,11 @@
-ghost use Rattle.std.specs.Prelude.{◌≡◌, ◌<◌, All, ℕ, List, length, replicate, IfOk};
-ghost use Rattle.ivy_pagetable.specs.Words.{IsWord, carried_out, width_of, offset_of, number_at};
+ghost use Rattle.std.specs.Prelude.{◌≡◌, ℕ, List, length, replicate, IfOk};
+ghost use Rattle.ivy_pagetable.specs.Words.{IsWord, carried_out};
 
 use crate::word::{Out, Word};
 use std::alloc::{AllocError, Allocator};
 use std::marker::Model;
 
-/// The bytes of a page, those of a table or spare ones.
+/// The bytes of a page that are not those of a table.
 #[derive(Drop)]
 pub struct Page<A: Allocator> {
     bytes: Vec<u8, A>,
@@ -18,9 +18,6 @@ impl<A: Allocator> Model for Page<A> {
 }
 
 impl<A: Allocator> Page<A> {
-    ghost use Rattle.std.specs.Borrow.{sem};
-    ghost use Rattle.ivy_pagetable.specs.Lending.{LendsBytes};
-
     /// A page of this many zeros. Err only where the allocator has no memory.
     pub fn zeros(alloc: A, len: usize) -> Result<Self, AllocError>
         ensures { IfOk result (λ page. page ≡ replicate len 0) }
@@ -37,27 +34,12 @@ impl<A: Allocator> Page<A> {
         &self.bytes
     }
 
-    pub(crate) fn bytes_mut(&mut self) -> &mut [u8]
-        ensures* writes_back { sem 𝓛 (LendsBytes A.row A.Allocator self.entry result) }
-        ensures value { result.now ≡ self.old }
-    {
-        &mut self.bytes
-    }
-
     /// Copies these bytes to the page, as many as it has.
     pub fn copy_from(&mut self, bytes: &[u8])
         requires { length bytes.now ≡ length self.old }
         ensures { self.new ≡ bytes.now }
     {
         self.bytes.copy_from_slice(bytes);
-    }
-
-    pub(crate) fn number(&self, word: Word) -> u64
-        requires { IsWord (length self.now) word }
-        ensures number { result ≡ number_at (width_of word) (offset_of word) self.now }
-        ensures fact { All (λ b. b < 256) self.now }
-    {
-        word.number(&self.bytes)
     }
 
     /// Carries a word out on the page.

@@ -1,4 +1,5 @@
-ghost use Rattle.std.specs.Prelude.{◌≡◌, ◌<◌, All, length, replicate, if◌then◌else◌, IfOk, IsOkUnless};
+ghost use Rattle.std.specs.Prelude.{◌≡◌, ◌+◌, ◌*◌, ◌<◌, All, length, replicate, if◌then◌else◌, IfOk, IsOkUnless};
+ghost use Rattle.std.specs.List.{concat};
 ghost use Rattle.ivy_model.specs.Config.{IsConfig};
 ghost use Rattle.ivy_pagetable.specs.Entries.{can_put_off, with_put_off};
 ghost use Rattle.ivy_pagetable.specs.Tables.{first_entry, entry_at, page_at, with_entry, with_page, first_table};
@@ -7,13 +8,12 @@ ghost use Rattle.ivy_pagetable.specs.Words.{IsWord, carried_out, width_of, offse
 use crate::access::Access;
 use crate::entry::Entry;
 use crate::idle::Idle;
-use crate::page::Page;
 use crate::put_off::PutOff;
 use crate::word::{Out, Word};
 use ivy_model::{Config, Fault};
 use std::alloc::{AllocError, Allocator};
 use std::marker::Model;
-use std::mem;
+use std::ops::Range;
 
 /// The page table of a node: the entry and the bytes of each page, which its number names. There
 /// are as many as the configuration has, all of its one size.
@@ -21,11 +21,13 @@ use std::mem;
 pub struct PageTable<A: Allocator> {
     page_size: u32,
     entries: Vec<Entry, A>,
-    pages: Vec<Page<A>, A>,
+    /// The bytes of all pages, in order.
+    region: Vec<u8, A>,
 }
 
 impl<A: Allocator> Model for PageTable<A> {
-    ghost use Rattle.ivy_pagetable.specs.TableState.{Table, IsTable};
+    ghost use Rattle.std.specs.Prelude.{◌≡◌, ◌*◌, length};
+    ghost use Rattle.ivy_pagetable.specs.TableState.{Table, pages_in};
     ghost use Rattle.std.specs.Coded.{codes};
     ghost use Rattle.ivy_pagetable.specs.NodeSets.{nodes_code};
 
@@ -33,9 +35,9 @@ impl<A: Allocator> Model for PageTable<A> {
 
     ghost coded = { Prim.hlevel (codes, nodes_code) };
 
-    ghost view = { λ t. record { page_size = t.page_size; entries = t.entries.items; pages = t.pages.items } };
+    ghost view = { λ t. record { page_size = t.page_size; entries = t.entries.items; pages = pages_in t.page_size (length t.entries.items) t.region.items } };
 
-    ghost invariant = { λ t. IsTable (record { page_size = t.page_size; entries = t.entries.items; pages = t.pages.items }) };
+    ghost invariant = { λ t. length t.region.items ≡ length t.entries.items * t.page_size };
 }
 
 fn first_entry(me: u8) -> Entry
@@ -58,18 +60,14 @@ fn first_entries<A: Allocator>(alloc: A, pages: u32, me: u8) -> Result<Vec<Entry
     Ok(entries)
 }
 
-fn first_pages<A: Allocator + Copy>(
-    alloc: A,
-    pages: u32,
-    page_size: u32,
-) -> Result<Vec<Page<A>, A>, AllocError>
-    ensures { IfOk result (λ all. all.items ≡ replicate pages (replicate page_size 0)) }
+/// Where a page lies in the region.
+fn place(page: u32, page_size: u32) -> Range<usize>
+    ensures start { result.start ≡ page * page_size }
+    ensures end { result.end ≡ page * page_size + page_size }
 {
-    let mut all = Vec::new(alloc);
-    for _ in 0..pages {
-        all.push(Page::zeros(alloc, page_size as usize)?)?;
-    }
-    Ok(all)
+    let size = page_size as usize;
+    let start = page as usize * size;
+    start..start + size
 }
 
 impl<A: Allocator + Copy> PageTable<A> {
@@ -81,11 +79,11 @@ impl<A: Allocator + Copy> PageTable<A> {
         ensures memory { IsOkUnless result Fault.Memory }
     {
         let entries = first_entries(alloc, config.pages, me)?;
-        let pages = first_pages(alloc, config.pages, config.page_size)?;
+        let len = config.pages as usize * config.page_size as usize;
         Ok(PageTable {
             page_size: config.page_size,
             entries,
-            pages,
+            region: vec![in alloc; 0u8; len]?,
         })
     }
 }
@@ -108,7 +106,15 @@ impl<A: Allocator> PageTable<A> {
         ensures bytes { result.now ≡ page_at self.now page }
         ensures sized { length result.now ≡ self.now.page_size }
     {
-        self.pages[page as usize].bytes()
+        let place = place(page, self.page_size);
+        &self.region[place]
+    }
+
+    /// The bytes of all pages, in order. It takes no memory.
+    pub fn bytes(&self) -> &[u8]
+        ensures { result.now ≡ concat self.now.pages }
+    {
+        &self.region
     }
 
     /// The bytes of the page, to be written.
@@ -118,7 +124,8 @@ impl<A: Allocator> PageTable<A> {
         ensures bytes { result.now ≡ page_at self.old page }
         ensures sized { length result.now ≡ self.old.page_size }
     {
-        self.pages[page as usize].bytes_mut()
+        let place = place(page, self.page_size);
+        self.region.slice_mut(place)
     }
 
     /// Replaces the entry of the page.
@@ -145,18 +152,7 @@ impl<A: Allocator> PageTable<A> {
         requires sized { length bytes.now ≡ self.old.page_size }
         ensures { self.new ≡ with_page self.old page bytes.now }
     {
-        self.pages[page as usize].copy_from(bytes);
-    }
-
-    /// Exchanges the page's bytes with those of a spare page of the same length, and copies none.
-    pub fn swap_page(&mut self, page: u32, spare: &mut Page<A>)
-        requires page { page < length self.old.entries }
-        requires sized { length spare.old ≡ self.old.page_size }
-        ensures table { self.new ≡ with_page self.old page spare.old }
-        ensures spare { spare.new ≡ page_at self.old page }
-        ensures size { length spare.new ≡ self.old.page_size }
-    {
-        mem::swap(&mut self.pages[page as usize], spare);
+        self.page_mut(page).copy_from_slice(bytes);
     }
 
     /// The number that stands where the word lies in the page, highest byte first: stored again, it
@@ -167,7 +163,7 @@ impl<A: Allocator> PageTable<A> {
         ensures number { result ≡ number_at (width_of word) (offset_of word) (page_at self.now page) }
         ensures fact { All (λ b. b < 256) (page_at self.now page) }
     {
-        self.pages[page as usize].number(word)
+        word.number(self.page(page))
     }
 
     /// Carries a word out on the page.
@@ -177,6 +173,6 @@ impl<A: Allocator> PageTable<A> {
         ensures out { result ≡ (carried_out word (page_at self.old page)).out }
         ensures bytes { self.new ≡ with_page self.old page (carried_out word (page_at self.old page)).bytes }
     {
-        self.pages[page as usize].carry_out(word)
+        word.carry_out(self.page_mut(page))
     }
 }

@@ -3,8 +3,8 @@ ghost use Rattle.std.specs.Prelude.{◌≡◌, ◌+◌, ◌<◌, ◌≤◌, ◌+
 ghost use Rattle.ivy_model.specs.Wants.{IsWant};
 ghost use Rattle.ivy_wire.specs.Lent.{owned_content, owned_parcel};
 ghost use Rattle.ivy_wire.specs.Spelling.{FitsParcel};
-ghost use Rattle.ivy_pagetable.specs.Limits.{most_nodes_in_a_byte};
-ghost use Rattle.ivy_pagetable.specs.NodeSets.{IsBelow, nodes_of};
+ghost use Rattle.ivy_pagetable.specs.Limits.{most_nodes_in_a_set};
+ghost use Rattle.ivy_pagetable.specs.NodeSets.{nodes_of};
 ghost use Rattle.ivy_pagetable.specs.Manager.{brought_back};
 ghost use Rattle.ivy_serving.specs.Serving.{serving, settled, counted, parcel_to, served_by_owner, served_by_other, served, all_served, invalidations};
 ghost use Rattle.ivy_serving.specs.Limits.{most_posted};
@@ -89,13 +89,11 @@ fn serve_as_owner<'a, M: Manager>(
 )
     requires room { length out.old.items < most_posted }
     requires owner { idle.old.owner ≡ true }
-    requires below { IsBelow most_nodes_in_a_byte idle.old.copies }
-    requires origin { message.origin < most_nodes_in_a_byte }
+    requires origin { message.origin < most_nodes_in_a_set }
     ensures after { let before = serving idle.old manager.old breaches.old (map owned_parcel out.old.items) in
         let after = serving idle.new manager.new breaches.new (map owned_parcel out.new.items) in
         after ≡ served_by_owner M.ops at.entry.me at.entry.page at.entry.bytes.now
         before message.origin message.call message.kind }
-    ensures below { IsBelow most_nodes_in_a_byte idle.new.copies }
     ensures room { length out.new.items ≤ length out.old.items + 1 }
 {
     let PutOff { kind, origin, call } = message;
@@ -111,7 +109,7 @@ fn serve_as_owner<'a, M: Manager>(
             *idle = idle.with_reader(origin);
         }
         Request::Write => {
-            let mut others = idle.copies().copied();
+            let mut others = *idle.copies();
             others.remove(origin);
             let copies = others.bits();
             out.push(parcel_to(
@@ -141,13 +139,11 @@ fn serve_as_other<'a, M: Manager>(
     out: &mut Parcels<'a>,
 )
     requires room { length out.old.items < most_posted }
-    requires below { IsBelow most_nodes_in_a_byte idle.old.copies }
     ensures after { (breaches : ℕ) →
         let before = serving idle.old manager.old breaches (map owned_parcel out.old.items) in
         let after = serving idle.new manager.new breaches (map owned_parcel out.new.items) in
         after ≡ served_by_other M.ops at.entry.me at.entry.page at.entry.bytes.now
         before message.origin message.call message.kind }
-    ensures below { IsBelow most_nodes_in_a_byte idle.new.copies }
     ensures room { length out.new.items ≤ length out.old.items + 1 }
 {
     let PutOff { kind, origin, call } = message;
@@ -181,12 +177,10 @@ fn serve<'a, M: Manager>(
     out: &mut Parcels<'a>,
 )
     requires room { length out.old.items < most_posted }
-    requires below { IsBelow most_nodes_in_a_byte idle.old.copies }
-    requires origin { message.origin < most_nodes_in_a_byte }
+    requires origin { message.origin < most_nodes_in_a_set }
     ensures after { let before = serving idle.old manager.old breaches.old (map owned_parcel out.old.items) in
         let after = serving idle.new manager.new breaches.new (map owned_parcel out.new.items) in
         after ≡ served M.ops at.entry.me at.entry.page at.entry.bytes.now before message }
-    ensures below { IsBelow most_nodes_in_a_byte idle.new.copies }
     ensures room { length out.new.items ≤ length out.old.items + 1 }
 {
     if idle.is_owner() {
@@ -207,8 +201,7 @@ fn serve_all<'a, M: Manager>(
 )
     requires few { length messages.now ≤ most_posted }
     requires empty { out.old.items ≡ [] }
-    requires below { IsBelow most_nodes_in_a_byte idle.old.copies }
-    requires origins { All (λ q. q.origin < most_nodes_in_a_byte) messages.now }
+    requires origins { All (λ q. q.origin < most_nodes_in_a_set) messages.now }
     ensures after { let before = serving idle.old manager.old breaches.old [] in
         let after = serving idle.new manager.new breaches.new (map owned_parcel out.new.items) in
         after ≡ all_served M.ops at.entry.me at.entry.page at.entry.bytes.now before messages.now }
@@ -244,8 +237,7 @@ pub fn settle<M: Manager, P: Post>(
 ) -> Result<Idle, Fault>
     requires mine { at.me ≡ M.ops.me manager.old }
     requires few { length messages.now ≤ most_posted }
-    requires below { IsBelow most_nodes_in_a_byte idle.copies }
-    requires origins { All (λ q. q.origin < most_nodes_in_a_byte) messages.now }
+    requires origins { All (λ q. q.origin < most_nodes_in_a_set) messages.now }
     requires fits { All (FitsParcel (P.config post.old) (P.node post.old))
         (settled M.ops at.me at.from at.page at.bytes.now
         idle manager.old breaches.old reply messages.now).posted }

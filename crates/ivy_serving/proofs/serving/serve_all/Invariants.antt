@@ -1,7 +1,5 @@
 use Rattle.std.proofs.Common.{◌≡◌, ◌≤◌, [], length, map, drop}
 use Rattle.ivy_wire.specs.Lent.{owned_parcel}
-use Rattle.ivy_pagetable.specs.Limits.{most_nodes_in_a_byte}
-use Rattle.ivy_pagetable.specs.NodeSets.{IsBelow}
 use Rattle.ivy_serving.specs.Serving.{serving, all_served}
 use Rattle.ivy_serving.proofs.serving.serve_all.Given as goal
 
@@ -11,7 +9,6 @@ invariant-loop-message g l =
     let ops = g.M.Manager.ops in
     record {
       room : length l.out.items ≤ l.message-index;
-      below : IsBelow most_nodes_in_a_byte l.idle.copies;
       after : all_served ops l.at.me l.at.page l.at.bytes.now (serving l.idle l.manager l.breaches (map owned_parcel l.out.items)) (drop l.message-index l.messages)
           ≡ all_served ops l.at.me l.at.page l.at.bytes.now (serving l.initial.idle l.initial.manager l.initial.breaches []) l.messages;
     }

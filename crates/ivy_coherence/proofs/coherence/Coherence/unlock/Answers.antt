@@ -1,5 +1,5 @@
-use Rattle.std.proofs.Common.{◌≡◌, length, ◌∙◌, ap}
-use Rattle.ivy_coherence.proofs.Opened.{fits_spare, spare_then, unlocked_below, unlock_word, unlock_fits, unlock_sound}
+use Rattle.std.proofs.Common.{◌≡◌, length}
+use Rattle.ivy_coherence.proofs.Opened.{fits_spare, spare_then, unlock_word, unlock_fits, unlock_sound}
 use Rattle.ivy_coherence.proofs.coherence.Coherence.unlock.Goals as goal
 
 pub copy_from-requires : goal.copy_from-requires
@@ -9,9 +9,6 @@ pub carry_out-out-requires : goal.carry_out-out-requires
 carry_out-out-requires g c =
     rw (c.word.ensures, c.copy_from.ensures)
     (unlock_word g.met.M.Manager.laws _ _ c.self.view_is c.self.invariant.0 c.args.page c.args.write c.args.bytes.now c.args.waiting.now c.requires.waits c.requires.sized)
-
-pub settle-requires-clause-below : goal.settle-requires-clause-below
-settle-requires-clause-below g c = rw c.unlocked_as-idle.ensures (unlocked_below c.args.write)
 
 pub settle-requires-clause-fits : goal.settle-requires-clause-fits
 settle-requires-clause-fits g c =
@@ -32,6 +29,6 @@ invariant_of-self-2 g c =
       unlock_sound g.met.M.Manager.laws _ _ c.self.view_is c.self.invariant.0 c.args.from c.args.page c.args.write c.bytes.result.now c.carry_out-out.new.self c.args.waiting.now c.unlocked_as-idle.result _ c.put_offs-messages.result.now _ _ _ _
           (record { below = c.requires.from; foreign = c.requires.foreign; inside = c.requires.page; sized = sized }) long c.requires.waits
           c.unlocked_as-idle.ensures c.put_offs-messages.ensures.list c.in_ok-after.ensures.idle
-          (rw c.set_entry.ensures at c.swap_page.ensures.table) c.in_ok-after.ensures.manager c.in_ok-after.ensures.breaches,
-      c.swap_page.ensures.size ∙ ap (λ t. t.page_size) c.set_entry.ensures ∙ c.self.invariant.0.size,
+          (rw (c.set_entry.ensures, c.bytes-2.ensures) at c.install.ensures) c.in_ok-after.ensures.manager c.in_ok-after.ensures.breaches,
+      spare_then _ _ c.self.view_is c.args.bytes.now _ c.requires.sized cc,
     )

@@ -2,12 +2,8 @@ use Rattle.std.proofs.Common.{rules, ◌≡◌, ◌∙◌, sym, ap, length}
 use Rattle.ivy_pagetable.specs.Words.{IsWord, carried_out}
 use Rattle.ivy_pagetable.specs.declared.Entry.TheVariants as entry
 use Rattle.ivy_pagetable.specs.Tables.{page_at, with_entry, with_page}
-use Rattle.ivy_pagetable.proofs.Bits.{empty_below}
 use Rattle.ivy_coherence.proofs.Opened.{restored, page_then, pages_inside, last_word_at, last_fits, last_sound}
 use Rattle.ivy_coherence.proofs.coherence.Coherence.write.Goals as goal
-
-pub settle-requires-clause-below : goal.settle-requires-clause-below
-settle-requires-clause-below g c = rw c.owned.ensures (empty_below 8)
 
 pub settle-requires-clause-fits : goal.settle-requires-clause-fits
 settle-requires-clause-fits g c =

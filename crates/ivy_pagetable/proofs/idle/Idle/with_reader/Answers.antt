@@ -7,6 +7,6 @@ invariant_of-result c = record {
   owned = λ _ e. cc;
   written = λ _. refl;
   alone = λ e. cc;
-  shared = λ _ _ e. not_empty c.copied-copies.result c.args.node (sym c.insert.ensures ∙ e);
+  shared = λ _ _ e. not_empty c.self.inside.copies c.args.node (sym c.insert.ensures ∙ e);
   nobody = λ e. cc;
 }

@@ -1,8 +1,28 @@
-use Rattle.std.proofs.Common.{sym, ap, ◌∙◌}
-use Rattle.ivy_pagetable.specs.NodeSets.{nodes_of}
-use Rattle.ivy_pagetable.proofs.NodeSets.{nodes_of_list}
+use Rattle.std.proofs.Common.{◌≡◌, ap, cond, sym, ◌∙◌, ◌++◌, ◌∷◌, [], length, arith, subst}
+use Rattle.std.specs.FinSet as set
+use Rattle.std.proofs.lemmas.List.{append-nil}
+use Rattle.ivy_pagetable.specs.NodeSets.{IsBelow}
+use Rattle.ivy_pagetable.proofs.Bits.{passing, passing_few, passing_more, nodes_below, with_below}
 use Rattle.ivy_pagetable.proofs.node_set.NodeSet.nodes.Goals as goal
+use Rattle.ivy_pagetable.proofs.node_set.NodeSet.nodes.Goals.{then-has, else-has}
+
+pub push-requires : goal.push-requires
+push-requires c = (omega arith, omega (arith, c.loop-node.invariant, ap length c.loop-node.invariant, passing_few (set.contains c.args.self.now) c.loop-node.node))
+
+pub loop-node-preserved : goal.loop-node-preserved
+loop-node-preserved c =
+    let has = set.contains c.args.self.now in
+    let is = c.has.ensures ∙ ap (λ s. set.contains s c.loop-node.node) c.self.view_is in
+    elim c.if-has.branch [
+      | then-has w ↦ ap (λ v. v.items) w.nodes-is ∙ w.push.ensures.items
+          ∙ (λ i. c.loop-node.invariant i ++ c.loop-node.node ∷ [])
+          ∙ sym (passing_more has c.loop-node.node ∙ ap (λ b. passing has c.loop-node.node ++ cond b (c.loop-node.node ∷ []) []) (sym is ∙ w.if-has.true))
+      | else-has w ↦ ap (λ v. v.items) w.nodes-is ∙ c.loop-node.invariant
+          ∙ sym (passing_more has c.loop-node.node ∙ ap (λ b. passing has c.loop-node.node ++ cond b (c.loop-node.node ∷ []) []) (sym is ∙ w.if-has.false) ∙ append-nil _)
+    ]
 
 pub returns : goal.returns
 returns c =
-    c.copied.ensures ∙ sym (nodes_of_list c.self.inside.nodes.items c.self.invariant) ∙ ap nodes_of c.self.view_is
+    let low = subst (IsBelow 8) c.self.view_is (with_below 8 c.self.inside.bits c.self.invariant) in
+    let all : c.loop-node.node ≡ 8 = omega arith in
+    c.loop-node.invariant ∙ ap (passing (set.contains c.args.self.now)) all ∙ nodes_below c.args.self.now low
