@@ -48,6 +48,8 @@ pub(crate) struct Bells {
     put: Bell,
     /// Whether frames of the node wait to be put.
     waiting: AtomicBool,
+    /// Whether a frame that was put for the node was looked for in vain.
+    missing: AtomicBool,
 }
 
 impl Bells {
@@ -57,6 +59,7 @@ impl Bells {
             served: Bell::new(),
             put: Bell::new(),
             waiting: AtomicBool::new(false),
+            missing: AtomicBool::new(false),
         }
     }
 
@@ -89,6 +92,25 @@ impl Bells {
     pub(crate) fn set_waiting(&self, waiting: bool) {
         if waiting != self.has_waiting() {
             self.waiting.store(waiting, Ordering::SeqCst);
+        }
+    }
+
+    /// Whether a frame that was put for the node was looked for in vain.
+    pub(crate) fn is_missing(&self) -> bool {
+        self.missing.load(Ordering::SeqCst)
+    }
+
+    /// Says whether a frame that was put for the node was looked for in vain.
+    pub(crate) fn set_missing(&self, missing: bool) {
+        if missing != self.is_missing() {
+            self.missing.store(missing, Ordering::SeqCst);
+        }
+    }
+
+    /// A frame was put back, which may be the one that was looked for in vain.
+    pub(crate) fn ring_returned(&self) {
+        if self.is_missing() && self.missing.swap(false, Ordering::SeqCst) {
+            self.put.ring();
         }
     }
 

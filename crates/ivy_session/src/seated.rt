@@ -16,7 +16,7 @@ use ivy_ether::{Ether, Item, Pass, Put, Setup, Wired};
 use ivy_link::Verdict;
 use ivy_model::Fault;
 use ivy_node::{Site, Turn};
-use ivy_wire::Bytes;
+use ivy_wire::{Bytes, destination};
 use std::alloc::Allocator;
 use std::marker::Model;
 use std::sync::Wait;
@@ -30,6 +30,8 @@ pub struct Seated<'e, S: Setup, A: Allocator> {
     ether: &'e Ether<S, A>,
     site: Site<A>,
     pass: Pass<Wired<A>>,
+    /// The node that the frame is for which was put back last.
+    returned_to: Option<u8>,
 }
 
 impl<'e, S: Setup, A: Allocator> Model for Seated<'e, S, A> {
@@ -69,7 +71,12 @@ impl<'e, S: Setup, A: Allocator + Copy> Seated<'e, S, A> {
         requires fresh { IsFreshSeat ether.now S.config S.programs site pass }
         ensures { result ≡ place site pass }
     {
-        Seated { ether, site, pass }
+        Seated {
+            ether,
+            site,
+            pass,
+            returned_to: None,
+        }
     }
 
     /// How many records the site's history has.
@@ -91,6 +98,11 @@ impl<'e, S: Setup, A: Allocator + Copy> Seated<'e, S, A> {
         ensures { result ≡ next_dest self.now.site.waiting }
     {
         self.site.next_destination()
+    }
+
+    /// The node that the frame is for which was put back last, if one was.
+    pub(crate) fn returned_to(&self) -> Option<u8> {
+        self.returned_to
     }
 
     /// One turn of the site's program [1, 17]. A refused turn changes nothing.
@@ -164,6 +176,7 @@ impl<'e, S: Setup, A: Allocator + Copy> Seated<'e, S, A> {
         ensures site { self.new.site ≡ self.old.site }
         ensures which { (result ≡ WireTurn.Returned) ⊎ (result ≡ WireTurn.Dropped) }
     {
+        self.returned_to = destination(frame.bytes());
         match self
             .ether
             .put_back(rt, &mut self.pass, self.site.event_list(), frame)
@@ -212,7 +225,12 @@ impl<'e, S: Setup, A: Allocator + Copy> Seated<'e, S, A> {
     pub(crate) fn into_parts(self) -> (&'e Ether<S, A>, Site<A>, Pass<Wired<A>>)
         ensures { IsSeated result.0.now S.config S.programs result.1 result.2 }
     {
-        let Seated { ether, site, pass } = self;
+        let Seated {
+            ether,
+            site,
+            pass,
+            returned_to: _,
+        } = self;
         (ether, site, pass)
     }
 }

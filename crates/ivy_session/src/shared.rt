@@ -9,7 +9,6 @@ use ivy_model::Fault;
 use std::alloc::Allocator;
 use std::sync::atomic::{AtomicBool, AtomicU64, Ordering};
 use std::sync::{Mutex, Wait};
-use std::thread;
 
 /// So many turns a round of pulses has at most.
 const MOST_ROUND: u64 = 8_192;
@@ -117,14 +116,21 @@ impl<A: Allocator> Shared<A> {
         }
     }
 
+    /// A frame was put back that is for a node, whose wire worker may have looked for it in vain.
+    fn ring_returned(&self, node: u8) {
+        if let Some(bells) = self.bells(node) {
+            bells.ring_returned();
+        }
+    }
+
     /// Tells the workers what a turn on the wire came to: `own` are the bells of the node that made it, and `to` is the
-    /// node that its first frame was for.
+    /// node that the frame is for which was put, or put back.
     pub(crate) fn tell(&self, own: &Bells, turn: WireTurn, to: Option<u8>) {
         match (turn, to) {
             (WireTurn::Sent, Some(to)) => self.ring_put(to),
             (WireTurn::Served(Verdict::Next), _) => own.ring_served(),
             (WireTurn::Dropped, _) => self.lose(),
-            (WireTurn::Returned, _) => thread::yield_now(),
+            (WireTurn::Returned, Some(to)) => self.ring_returned(to),
             _ => {}
         }
     }

@@ -5,6 +5,7 @@ use crate::wire_turn::WireTurn;
 use std::alloc::Allocator;
 use std::hint::spin_loop;
 use std::sync::Wait;
+use std::thread;
 
 /// So often a worker looks for something to do before it sleeps. What is near comes meanwhile, and on a machine that
 /// computes it is soon over: who has slept is the first to be given a processor.
@@ -12,6 +13,9 @@ const LOOKS: u32 = 500;
 
 /// A wire worker makes so many turns for a frame that was put for its node, and then takes it for lost.
 const SEARCH: u32 = 64;
+
+/// After so many of these turns it lets others go first: one of them may have the frame.
+const PATIENCE: u32 = 2;
 
 /// So many microseconds a wire worker first sleeps at most. It then sleeps twice as long each time, but for a bound.
 const NAP: u64 = 1_000;
@@ -70,7 +74,7 @@ impl Watch {
     }
 
     /// It has made a turn, before which so many frames had been put for its node.
-    pub(crate) fn note(&mut self, turn: WireTurn, put: u64) {
+    pub(crate) fn note(&mut self, bells: &Bells, turn: WireTurn, put: u64) {
         match turn {
             WireTurn::Sent => self.naps = 0,
             WireTurn::Lost => self.turns = self.round,
@@ -78,15 +82,27 @@ impl Watch {
                 self.naps = 0;
                 self.misses = 0;
                 self.done = self.done.saturating_add(1);
+                bells.set_missing(false);
             }
-            WireTurn::Empty | WireTurn::Returned | WireTurn::Dropped => {
+            WireTurn::Empty | WireTurn::Dropped => self.give_up(bells, put),
+            WireTurn::Returned => {
                 self.misses = self.misses.saturating_add(1);
                 if self.misses >= SEARCH || self.done > put {
-                    self.misses = 0;
-                    self.done = put;
+                    self.give_up(bells, put);
                 }
             }
         }
+    }
+
+    /// What is missing of the frames that were put is lost, or another worker has it and puts it back: who does so is
+    /// told that it is missing, and one more turn looks for what was put back before.
+    fn give_up(&mut self, bells: &Bells, put: u64) {
+        self.misses = 0;
+        if self.done >= put || bells.is_missing() {
+            self.done = put;
+            return;
+        }
+        bells.set_missing(true);
     }
 
     /// Whether there is something to do.
@@ -108,6 +124,9 @@ impl Watch {
         if self.turns > 0 {
             self.turns -= 1;
             return;
+        }
+        if self.misses > PATIENCE {
+            thread::yield_now();
         }
         if shared.losses() != self.losses {
             self.losses = shared.losses();

@@ -75,8 +75,8 @@ impl Pulses {
         }
     }
 
-    /// One turn on the wire, with a pulse before it where it is time for one [1, 17]. It also says whom the first frame
-    /// that waited was for.
+    /// One turn on the wire, with a pulse before it where it is time for one [1, 17]. It also says whom the frame is for
+    /// which was put, or put back.
     fn turn<S: Setup, A: Allocator + Copy, R: Wait>(
         &mut self,
         rt: &R,
@@ -89,8 +89,12 @@ impl Pulses {
             self.turns = 0;
             self.last = seated.pulse_next(self.last)?;
         }
-        let to = seated.next_destination();
-        Ok((seated.wire_turn(rt)?, to))
+        let first = seated.next_destination();
+        let turn = seated.wire_turn(rt)?;
+        if turn == WireTurn::Returned {
+            return Ok((turn, seated.returned_to()));
+        }
+        Ok((turn, first))
     }
 }
 
@@ -119,7 +123,7 @@ fn run_wire<S: Setup, A: Allocator + Copy, R: Wait, G: Gate>(
         match turn {
             Ok((turn, to)) => {
                 shared.tell(bells, turn, to);
-                watch.note(turn, put);
+                watch.note(bells, turn, put);
             }
             Err(fault) => {
                 shared.stop(rt, fault);
