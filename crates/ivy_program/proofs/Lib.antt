@@ -12,3 +12,5 @@ pub mod Jumps
 pub mod Orders
 pub mod Unique
 pub mod Reading
+pub mod Settled
+pub mod Whole

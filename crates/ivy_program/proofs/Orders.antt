@@ -1,5 +1,5 @@
 -- The lines of a text, one after another.
-use Rattle.std.proofs.Common.{◌≡◌, ◌∙◌, ◌⊎◌, inl, inr, ⊎_elim, ℕ, suc, zero, ◌+◌, ◌<◌, Bool, true, false, List, [], ◌∷◌, ◌++◌, Option, Some, None, length, take, slice_get, unwrap_or, refl, sym, ap, subst, length-append, arith}
+use Rattle.std.proofs.Common.{◌≡◌, ◌∙◌, ◌⊎◌, inl, inr, ⊎_elim, ℕ, suc, zero, ◌+◌, ◌<◌, ◌≤◌, Bool, true, false, List, [], ◌∷◌, ◌++◌, Option, Some, None, length, take, slice_get, unwrap_or, refl, sym, ap, subst, length-append, arith}
 use Rattle.std.proofs.Math.Seq.{take-append_seam}
 use Rattle.std.proofs.lemmas.List.{take-append-le}
 use Rattle.std.proofs.lemmas.Option.{slice_get_within}
@@ -9,11 +9,11 @@ use Rattle.ivy_program.specs.Parts.{Part, joined}
 use Rattle.ivy_program.specs.Readings.{Changes, IsLeast, IsOutOfOrder, IsReadAs, lesser, parts_from, parts_of}
 use Rattle.ivy_program.proofs.Least.{least_same, least_join}
 
--- one line more
-parts_more : (ps : List Part) (n k : ℕ) (ls : List (Option Line)) (l : Option Line) → k ≡ n + length ls
-    → parts_from ps n (ls ++ l ∷ []) ≡ unwrap_or (joined (parts_from ps n ls) k l) (parts_from ps n ls)
-parts_more ps n k [] l e = ap (λ m. unwrap_or (joined ps m l) ps) (omega arith)
-parts_more ps n k (x ∷ ls) l e = parts_more (unwrap_or (joined ps n x) ps) (n + 1) k ls l (omega arith)
+-- the lines after others
+pub parts_front : (ps : List Part) (n k : ℕ) (ls rest : List (Option Line)) → k ≡ n + length ls
+    → parts_from ps n (ls ++ rest) ≡ parts_from (parts_from ps n ls) k rest
+parts_front ps n k [] rest e = ap (λ m. parts_from ps m rest) (omega (arith, e))
+parts_front ps n k (x ∷ ls) rest e = parts_front (unwrap_or (joined ps n x) ps) (n + 1) k ls rest (omega (arith, e))
 
 changed_to : {X : Type 0} (ok : Bool) (old new : X) (o : Option X) → Changes ok old o new → unwrap_or o old ≡ new
 changed_to true old new o h = ap (λ p. unwrap_or p old) h
@@ -29,6 +29,27 @@ get_front [] ys k l = absurd (omega (arith, l))
 get_front (x ∷ xs) ys zero l = refl
 get_front (x ∷ xs) ys (suc k) l = get_front xs ys k (omega (arith, l))
 
+-- the lines out of order among those in front, whatever comes after them
+pub out_before : (read rest : List (Option Line)) (m : ℕ) → IsOutOfOrder read m → IsOutOfOrder (read ++ rest) m
+out_before read rest m h =
+    let within : h.0 < length read = slice_get_within read h.0 h.2 h.3 in (
+      h.0,
+      h.1,
+      h.2,
+      get_front read rest h.0 within ∙ h.3,
+      ap (λ ls. joined (parts_of ls) m h.2) (take-append-le h.0 read rest (omega (arith, within))) ∙ h.4,
+    )
+
+pub out_within : (read rest : List (Option Line)) (m : ℕ) → m ≤ length read → IsOutOfOrder (read ++ rest) m → IsOutOfOrder read m
+out_within read rest m low h =
+    let below : h.0 < length read = omega (arith, low, h.1) in (
+      h.0,
+      h.1,
+      h.2,
+      sym (get_front read rest h.0 below) ∙ h.3,
+      ap (λ ls. joined (parts_of ls) m h.2) (sym (take-append-le h.0 read rest (omega (arith, below)))) ∙ h.4,
+    )
+
 get_last : {X : Type 0} (xs : List X) (x : X) → slice_get (xs ++ x ∷ []) (length xs) ≡ Some x
 get_last [] x = refl
 get_last (y ∷ xs) x = get_last xs x
@@ -39,18 +60,12 @@ module _ (read : List (Option Line)) (line : Option Line) (n : ℕ) (next : n �
   parts_on ok h =
       sym (changed_to ok old new (joined old n line) h)
       ∙ ap (λ ps. unwrap_or (joined ps n line) ps) r.0
-      ∙ sym (parts_more [] 1 n read line (omega arith))
+      ∙ sym (parts_front [] 1 n read (line ∷ []) (omega (arith, next)))
 
   -- a line out of order among one line more
   among : (m : ℕ) → IsOutOfOrder (read ++ line ∷ []) m → IsOutOfOrder read m ⊎ ((m ≡ n) × (joined old n line ≡ None))
   among m h = ⊎_elim
-      (λ below. inl (
-        h.0,
-        h.1,
-        h.2,
-        sym (get_front read (line ∷ []) h.0 below) ∙ h.3,
-        ap (λ ls. joined (parts_of ls) m h.2) (sym (take-append-le h.0 read (line ∷ []) (omega (arith, below)))) ∙ h.4,
-      ))
+      (λ below. inl (out_within read (line ∷ []) m (omega (arith, below, h.1)) h))
       (λ past.
       let within : h.0 < length (read ++ line ∷ []) = slice_get_within (read ++ line ∷ []) h.0 h.2 h.3 in
       let here : length read ≡ h.0 = omega (arith, past, within, length-append read (line ∷ [])) in
@@ -63,16 +78,6 @@ module _ (read : List (Option Line)) (line : Option Line) (n : ℕ) (next : n �
             ∙ (λ i. joined (parts_of (sym front i)) (sym number i) (same i)) ∙ h.4,
       ))
       (cases_lt h.0 (length read))
-
-  before : (m : ℕ) → IsOutOfOrder read m → IsOutOfOrder (read ++ line ∷ []) m
-  before m h =
-      let within : h.0 < length read = slice_get_within read h.0 h.2 h.3 in (
-        h.0,
-        h.1,
-        h.2,
-        get_front read (line ∷ []) h.0 within ∙ h.3,
-        ap (λ ls. joined (parts_of ls) m h.2) (take-append-le h.0 read (line ∷ []) (omega (arith, within))) ∙ h.4,
-      )
 
   now : joined old n line ≡ None → (m : ℕ) → m ≡ n → IsOutOfOrder (read ++ line ∷ []) m
   now h m e = (
@@ -90,7 +95,7 @@ module _ (read : List (Option Line)) (line : Option Line) (n : ℕ) (next : n �
   read_on true h p q = (
     parts_on true h,
     subst (IsLeast (IsOutOfOrder (read ++ line ∷ []))) (sym q)
-        (least_same (IsOutOfOrder read) (IsOutOfOrder (read ++ line ∷ [])) first r.1 before
+        (least_same (IsOutOfOrder read) (IsOutOfOrder (read ++ line ∷ [])) first r.1 (out_before read (line ∷ []))
         (λ m k. ⊎_elim (λ a. a) (λ b. absurd (cc (b.1, h))) (among m k))),
   )
   read_on false h p q = (
@@ -99,7 +104,7 @@ module _ (read : List (Option Line)) (line : Option Line) (n : ℕ) (next : n �
         (least_join (IsOutOfOrder read) (λ m. m ≡ n) (IsOutOfOrder (read ++ line ∷ [])) n refl
         (λ m k. omega arith)
         (λ m k. ⊎_elim (λ a. inl a) (λ b. inr b.0) (among m k))
-        before (now h.0) first r.1),
+        (out_before read (line ∷ [])) (now h.0) first r.1),
   )
 
 -- no line is read yet

@@ -1,7 +1,7 @@
 -- The lines of a text, read one after another.
-use Rattle.std.proofs.Common.{◌≡◌, ◌∙◌, ℕ, ◌+◌, ◌<◌, Bool, Bor, List, [], ◌∷◌, ◌++◌, Option, Some, None, Result, Ok, Err, IfOk, length, get_or, map, refl, ap, sym, subst, arith}
+use Rattle.std.proofs.Common.{◌≡◌, ◌∙◌, ◌⊎◌, inl, inr, ℕ, ◌+◌, ◌<◌, Bool, Bor, List, [], ◌∷◌, ◌++◌, Option, Some, None, Result, Ok, Err, IfOk, length, take, get_or, map, refl, ap, sym, subst, arith}
 use Rattle.std.specs.List.{AllZip, enumerate_from}
-use Rattle.std.proofs.lemmas.List.{length-map, map_push}
+use Rattle.std.proofs.lemmas.List.{length-map, length_push, map_push, take_all, take_more}
 use Rattle.std.proofs.lemmas.List.FromFn.{get_or-enumerate_from, length-enumerate_from}
 use Rattle.std.specs.Str.Lines.{lines}
 use Rattle.ivy_model.specs.declared.Fault.{Fault}
@@ -9,7 +9,7 @@ use Rattle.ivy_program.specs.declared.line.Line.{Line}
 use Rattle.ivy_program.specs.Lines.{Spells}
 use Rattle.ivy_program.specs.Parts.{Part, joined}
 use Rattle.ivy_program.specs.Readings.{Changes, IsReadAs, IsReading, TakesIn}
-use Rattle.ivy_program.specs.Texts.{IsTextReadAs}
+use Rattle.ivy_program.specs.Texts.{IsOnlyReading, IsSettled, IsTextReadAs}
 use Rattle.ivy_program.specs.Words.{words_of}
 use Rattle.ivy_program.proofs.Orders.{known, none_read, read_on}
 use Rattle.ivy_program.proofs.Unique.{readings_same}
@@ -33,9 +33,19 @@ reads_on texts text old new first p n ok r next took q = record {
   leads = read_on r.read took.0 n (next ∙ ap (λ k. k + 1) (length-zip IsReading texts r.read r.each)) old new first r.leads ok took.2 p q;
 }
 
-all_read : (text : List ℕ) (parts : List Part) (first : Option ℕ) → IsReadSoFar (lines text) parts first → IsTextReadAs text parts first
-all_read text parts first r =
-    (r.read, record { each = r.each; only = λ other h. readings_same (lines text) other r.read h r.each }, r.leads)
+-- the first lines of the text are read
+read_of : (text : List ℕ) (texts : List (List ℕ)) (parts : List Part) (first : Option ℕ) → texts ≡ take (length texts) (lines text)
+    → IsReadSoFar texts parts first → (length texts ≡ length (lines text)) ⊎ IsSettled parts first → IsTextReadAs text parts first
+read_of text texts parts first front r ended =
+    let count : length texts ≡ length r.read = length-zip IsReading texts r.read r.each in
+    let same : texts ≡ take (length r.read) (lines text) = front ∙ ap (λ n. take n (lines text)) count in
+    record {
+      read = r.read;
+      only = subst (λ ts. IsOnlyReading ts r.read) same
+          (record { each = r.each; only = λ other h. readings_same texts other r.read h r.each });
+      leads = r.leads;
+      ended = subst (λ n. (n ≡ length (lines text)) ⊎ IsSettled parts first) count ended;
+    }
 
 -- a line that says something is taken in, or is not in order
 pub said : (text : List ℕ) (line : Line) (old new : List Part) (n : ℕ) (r : Result Bool Fault) → Spells (words_of text) line
@@ -59,20 +69,43 @@ reads_next all xs place line turn old new first p n ok r next took q =
     subst (λ texts. IsReadSoFar texts new p) (sym (map_push (λ x. x.1.now) xs (place, line)))
     (reads_on (texts_of xs) line.now old new first p n ok r count took q)
 
-texts_same : (all : List (List ℕ)) (xs : List (ℕ × Bor (List ℕ))) (n : ℕ) → map (λ x. (x.0, x.1.now)) xs ≡ enumerate_from n all → texts_of xs ≡ all
-texts_same [] [] n e = refl
-texts_same (a ∷ all) [] n e = absurd (cc e)
-texts_same [] (x ∷ xs) n e = absurd (cc e)
-texts_same (a ∷ all) (x ∷ xs) n e =
-    let found : ℕ × List ℕ = (x.0, x.1.now) in
+-- lines that come with their places, one after another
+texts_front : (all : List (List ℕ)) (xs : List (ℕ × Bor (List ℕ))) (n : ℕ)
+    → map (λ x. (x.0, x.1.now)) xs ≡ take (length xs) (enumerate_from n all) → texts_of xs ≡ take (length xs) all
+texts_front all [] n e = refl
+texts_front [] (x ∷ xs) n e = absurd (cc e)
+texts_front (a ∷ all) (x ∷ xs) n e =
+    let here : ℕ × List ℕ = (x.0, x.1.now) in
     let wanted : ℕ × List ℕ = (n, a) in
-    let head : found ≡ wanted = cc e in
+    let head : here ≡ wanted = cc e in
     let text : x.1.now ≡ a = ap (λ (p : ℕ × List ℕ). p.1) head in
-    let rest : map (λ x. (x.0, x.1.now)) xs ≡ enumerate_from (n + 1) all = cc e in
-    λ i. text i ∷ texts_same all xs (n + 1) rest i
+    let rest : map (λ x. (x.0, x.1.now)) xs ≡ take (length xs) (enumerate_from (n + 1) all) = cc e in
+    λ i. text i ∷ texts_front all xs (n + 1) rest i
 
 -- all lines that come with their places are read
 pub reads_all : (text : List ℕ) (xs : List (ℕ × Bor (List ℕ))) (parts : List Part) (first : Option ℕ)
     → map (λ x. (x.0, x.1.now)) xs ≡ enumerate_from 0 (lines text) → IsReadSoFar (texts_of xs) parts first → IsTextReadAs text parts first
 reads_all text xs parts first e r =
-    all_read text parts first (subst (λ texts. IsReadSoFar texts parts first) (texts_same (lines text) xs 0 e) r)
+    let numbered : length xs ≡ length (enumerate_from 0 (lines text)) = sym (length-map xs (λ x. (x.0, x.1.now))) ∙ ap length e in
+    let count : length xs ≡ length (lines text) = numbered ∙ length-enumerate_from 0 (lines text) in
+    let front : texts_of xs ≡ take (length xs) (lines text) =
+    texts_front (lines text) xs 0 (e ∙ sym (take_all (length xs) (enumerate_from 0 (lines text)) (omega (arith, numbered)))) in
+    let many : length (texts_of xs) ≡ length xs = length-map xs (λ x. x.1.now) in
+    read_of text (texts_of xs) parts first (front ∙ ap (λ n. take n (lines text)) (sym many)) r (inl (many ∙ count))
+
+-- the next line ends the reading
+pub reads_settled : (text : List ℕ) (xs : List (ℕ × Bor (List ℕ))) (place : ℕ) (line : Bor (List ℕ))
+    → map (λ x. (x.0, x.1.now)) xs ≡ take (length xs) (enumerate_from 0 (lines text))
+    → (length xs < length (enumerate_from 0 (lines text))) × ((place, line.now) ≡ get_or (enumerate_from 0 (lines text)) (length xs) (place, line.now))
+    → (parts : List Part) (first : Option ℕ) → IsReadSoFar (texts_of (xs ++ (place, line) ∷ [])) parts first → IsSettled parts first
+    → IsTextReadAs text parts first
+reads_settled text xs place line before turn parts first r settled =
+    let all : List (List ℕ) = lines text in
+    let within : length xs < length all = omega (arith, turn.0, length-enumerate_from 0 all) in
+    let here : line.now ≡ get_or all (length xs) line.now = ap (λ x. x.1) (turn.1 ∙ get_or-enumerate_from 0 all (length xs) (place, line.now) within) in
+    let more : texts_of (xs ++ (place, line) ∷ []) ≡ take (length xs + 1) all =
+    map_push (λ x. x.1.now) xs (place, line) ∙ (ap (λ ts. ts ++ line.now ∷ []) (texts_front all xs 0 before)
+    ∙ (ap (λ t. take (length xs) all ++ t ∷ []) here ∙ sym (take_more all (length xs) line.now within))) in
+    let many : length (texts_of (xs ++ (place, line) ∷ [])) ≡ length xs + 1 =
+    length-map (xs ++ (place, line) ∷ []) (λ x. x.1.now) ∙ length_push xs (place, line) in
+    read_of text (texts_of (xs ++ (place, line) ∷ [])) parts first (more ∙ ap (λ n. take n all) (sym many)) r (inr settled)

@@ -1,6 +1,6 @@
 -- What a text says, and which of its lines is at fault.
-use Rattle.std.specs.Prelude.{◌≡◌, ◌⊎◌, ℕ, ◌+◌, ◌≤◌, nat_lt, Bool, true, false, List, [], ◌∷◌, Contains, take, slice_get, Option, Some, None, unwrap_or, if◌then◌else◌}
-use Rattle.std.specs.List.{filter_map}
+use Rattle.std.specs.Prelude.{◌≡◌, ◌⊎◌, ℕ, ◌+◌, ◌≤◌, nat_lt, Bool, true, false, List, [], ◌∷◌, Contains, take, slice_get, Option, Some, None, is_some, unwrap_or, if◌then◌else◌}
+use Rattle.std.specs.List.{filter_map, list_all}
 use Rattle.ivy_program.specs.declared.line.Action.{Action}
 use Rattle.ivy_program.specs.declared.line.Action.TheVariants as action
 use Rattle.ivy_program.specs.declared.line.Line.{Line}
@@ -71,6 +71,10 @@ HasLost part number = LosesIn part.labels part.lines number
 -- the line of this number jumps to a name that its program does not have
 abbrev pub IsLost : List Part → ℕ → Type 0
 IsLost parts number = (part : Part) × Contains parts part × HasLost part number
+
+-- each jump of the part finds its label
+abbrev pub finds_all : Part → Bool
+finds_all part = list_all (λ line. is_some (resolved part.labels line.action)) part.lines
 
 -- the line of this number is at fault
 abbrev pub IsAtFault : List (Option Line) → ℕ → Type 0

@@ -1,6 +1,6 @@
 -- What is said of the text of programs.
-use Rattle.std.specs.Prelude.{◌≡◌, ◌⊎◌, ℕ, ◌≤◌, List, length, map, All, Option, Some, None}
-use Rattle.std.specs.List.{AllZip}
+use Rattle.std.specs.Prelude.{◌≡◌, ◌≢◌, ◌⊎◌, ℕ, ◌+◌, ◌≤◌, List, ◌++◌, length, take, map, All, true, Option, Some, None}
+use Rattle.std.specs.List.{AllZip, list_all}
 use Rattle.std.specs.Str.Lines.{lines}
 use Rattle.ivy_model.specs.declared.Fault.{Fault}
 use Rattle.ivy_model.specs.declared.Fault.TheVariants.{Memory, ProgramFault}
@@ -8,7 +8,7 @@ use Rattle.ivy_program.specs.declared.instruction.Instruction.{Instruction}
 use Rattle.ivy_program.specs.declared.line.Line.{Line}
 use Rattle.ivy_program.specs.Instructions.{IsProgram}
 use Rattle.ivy_program.specs.Parts.{Part}
-use Rattle.ivy_program.specs.Readings.{IsAtFault, IsLeast, IsReadAs, IsReading, parts_of, program_of}
+use Rattle.ivy_program.specs.Readings.{finds_all, IsAtFault, IsLeast, IsReadAs, IsReading, parts_of, program_of}
 
 -- memory was refused, or a line, counted from 1, is at fault
 abbrev pub IsRefusal : Fault → Type 0
@@ -29,22 +29,31 @@ abbrev pub IsFaultOf : List (Option Line) → Fault → Type 0
 IsFaultOf lines f = (f ≡ Memory)
     ⊎ ((line : ℕ) × (1 ≤ line) × IsLeast (IsAtFault lines) (Some line) × (f ≡ ProgramFault line))
 
--- what each line of the text says, and it says nothing else
-pub record IsOnlyReading (text : List ℕ) (read : List (Option Line)) : Type 0 where
-  pub each : AllZip IsReading (lines text) read
-  pub only : (other : List (Option Line)) → AllZip IsReading (lines text) other → other ≡ read
+-- what each of these lines says, and it says nothing else
+pub record IsOnlyReading (texts : List (List ℕ)) (read : List (Option Line)) : Type 0 where
+  pub each : AllZip IsReading texts read
+  pub only : (other : List (Option Line)) → AllZip IsReading texts other → other ≡ read
 
--- the lines of the text lead to these parts, and the first that is out of order is this one
-abbrev pub IsTextReadAs : List ℕ → List Part → Option ℕ → Type 0
-IsTextReadAs text parts first = (read : List (Option Line)) × IsOnlyReading text read
-    × IsReadAs read parts first
+-- no further line, whatever it says, can be the least at fault: there is one, and each jump has found its label
+abbrev pub IsSettled : List Part → Option ℕ → Type 0
+IsSettled parts first = (first ≢ None) × (list_all finds_all parts ≡ true)
+
+-- what was read, up to the end of the text or to a fault that is settled, leads to these parts, and the first line that
+-- is out of order is this one
+pub record IsTextReadAs (text : List ℕ) (parts : List Part) (first : Option ℕ) : Type 0 where
+  pub read : List (Option Line)
+  pub only : IsOnlyReading (take (length read) (lines text)) read
+  pub leads : IsReadAs read parts first
+  pub ended : (length read ≡ length (lines text)) ⊎ IsSettled parts first
 
 -- the programs that the text spells
 abbrev pub SpellsText : List ℕ → List (List Instruction) → Type 0
-SpellsText text programs = (read : List (Option Line)) × IsOnlyReading text read
+SpellsText text programs = (read : List (Option Line)) × IsOnlyReading (lines text) read
     × SpellsPrograms read programs
 
--- memory was refused, or this is the least line of the text that is at fault
+-- memory was refused, or this is the least line of the text that is at fault, by what its first lines say, whatever
+-- the others say
 abbrev pub IsFaultOfText : List ℕ → Fault → Type 0
 IsFaultOfText text f = (f ≡ Memory)
-    ⊎ ((read : List (Option Line)) × IsOnlyReading text read × IsFaultOf read f)
+    ⊎ ((read : List (Option Line)) × IsOnlyReading (take (length read) (lines text)) read
+    × ((rest : List (Option Line)) → length read + length rest ≡ length (lines text) → IsFaultOf (read ++ rest) f))

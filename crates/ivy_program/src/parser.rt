@@ -1,10 +1,11 @@
 ghost use Rattle.std.specs.Prelude.{◌≡◌, ◌≤◌, ◌<◌, ◌+◌, ◌^◌, ℕ, List, [], Option, Some, length, All, IfOk, IfErr, OnErr, IfSome, IfNone, IsOkUnless, false};
+ghost use Rattle.std.specs.List.{list_all};
 ghost use Rattle.ivy_program.specs.declared.line.Line.{Line};
 ghost use Rattle.ivy_model.specs.declared.Fault.TheVariants.{Memory};
 ghost use Rattle.ivy_program.specs.Drafts.{has_place, knows_place};
 ghost use Rattle.ivy_program.specs.Instructions.{IsProgram, NamesRegisters, JumpsWithin};
 ghost use Rattle.ivy_program.specs.Parts.{joined, labelled, lengthened, place_of};
-ghost use Rattle.ivy_program.specs.Readings.{Changes, HasLost, IsLeast, IsReadAs, TakesIn, lesser, program_of, resolved};
+ghost use Rattle.ivy_program.specs.Readings.{Changes, finds_all, HasLost, IsLeast, IsReadAs, TakesIn, lesser, program_of, resolved};
 ghost use Rattle.ivy_program.specs.Texts.{ArePrograms, IsFaultOf, IsFaultOfText, IsRefusal, IsTextReadAs, SpellsPrograms, SpellsText};
 
 use crate::instruction::Instruction;
@@ -157,6 +158,15 @@ impl<A: Allocator + Copy> Draft<A> {
         }
     }
 
+    /// Whether each jump finds its label.
+    fn finds_all(&self) -> bool
+        ensures { result ≡ finds_all self.now }
+    {
+        self.lines
+            .iter()
+            .all(|line| self.resolve(line.action).is_some())
+    }
+
     /// The program, or the first line that jumps to an unknown name [1].
     fn program(&self) -> Result<Result<Program<A>, LineNumber>, Fault>
         ensures program { IfOk result (λ read. IfOk read (λ p. p ≡ program_of self.now)) }
@@ -270,8 +280,16 @@ impl<A: Allocator + Copy> Parser<A> {
         }
     }
 
-    /// Reads all lines of a text one after another, and says which is the first at fault. No line is
-    /// kept but what it adds.
+    /// Whether each jump of each program finds its label.
+    fn finds_all(&self) -> bool
+        ensures { result ≡ list_all finds_all self.now }
+    {
+        self.drafts.iter().all(|draft| draft.finds_all())
+    }
+
+    /// Reads the lines of a text one after another, and says which is the first at fault. No line is
+    /// kept but what it adds. It ends at the first one at fault where each jump before it has found its
+    /// label, since no later line can then be the least at fault.
     fn read_all(&mut self, text: &str) -> Result<Option<LineNumber>, Fault>
         requires { self.old ≡ [] }
         ensures read { IfOk result (IsTextReadAs text.now self.new) }
@@ -281,7 +299,11 @@ impl<A: Allocator + Copy> Parser<A> {
         for (before, line) in text.lines().enumerate() {
             let number = LineNumber::after(before);
             if !self.read(number, line)? {
+                let is_first = at_fault.is_none();
                 at_fault = Some(least(at_fault, number));
+                if is_first && self.finds_all() {
+                    return Ok(at_fault);
+                }
             }
         }
         Ok(at_fault)
