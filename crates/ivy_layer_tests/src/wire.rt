@@ -416,3 +416,18 @@ fn kept_strings(rt: HostRuntime) -> Result<(), Fail> {
     assert_eq!(rt; shared.bytes(), [1, 2].as_slice());
     Ok(())
 }
+
+/// A short one lies beside its count, and one byte more does not: both are what they were.
+#[test]
+fn short_and_long_strings(rt: HostRuntime) -> Result<(), Fail> {
+    for len in [0, 41, 42, 43] {
+        let mut bytes = vec![in rt.alloc(); 7; len]?;
+        bytes.push(8)?;
+        let copied = Bytes::new(rt.alloc(), &bytes)?;
+        assert_eq!(rt; copied.bytes(), bytes.as_slice());
+        let shared = copied.share()?;
+        drop(copied);
+        assert_eq!(rt; shared.bytes(), bytes.as_slice());
+    }
+    Ok(())
+}

@@ -35,10 +35,11 @@ pub fits_at : (c : Config) (fs : List (frame.Frame (Bor (List ℕ)))) (i : ℕ) 
 fits_at c fs i d lt fit =
     subst (Fits c) (get_or-map owned_frame fs i d (owned_frame d) lt) (fit i (owned_frame d) (subst (λ n. i < n) (sym (length-map fs owned_frame)) lt))
 
-pub spelled_more : (fs : List (frame.Frame (Bor (List ℕ)))) (i : ℕ) (d : frame.Frame (Bor (List ℕ))) (strings : List (List ℕ)) (string : List ℕ) → i < length fs → strings ≡ map spelling (map owned_frame (take i fs)) → string ≡ spelling (owned_frame (get_or fs i d)) → strings ++ string ∷ [] ≡ map spelling (map owned_frame (take (i + 1) fs))
-spelled_more fs i d strings string lt so here =
-    ap (λ ss. ss ++ string ∷ []) so ∙ (ap (λ s. map spelling (map owned_frame (take i fs)) ++ s ∷ []) here
-    ∙ sym (ap (map spelling) (map_more owned_frame fs i d lt) ∙ map-append spelling (map owned_frame (take i fs)) (owned_frame (get_or fs i d) ∷ [])))
+pub spelled_more : (fs : List (frame.Frame (Bor (List ℕ)))) (i : ℕ) (d : frame.Frame (Bor (List ℕ))) (before strings : List (List ℕ)) (string : List ℕ) → i < length fs → strings ≡ before ++ map spelling (map owned_frame (take i fs)) → string ≡ spelling (owned_frame (get_or fs i d)) → strings ++ string ∷ [] ≡ before ++ map spelling (map owned_frame (take (i + 1) fs))
+spelled_more fs i d before strings string lt so here =
+    let one : map spelling (map owned_frame (take (i + 1) fs)) ≡ map spelling (map owned_frame (take i fs)) ++ spelling (owned_frame (get_or fs i d)) ∷ [] = ap (map spelling) (map_more owned_frame fs i d lt) ∙ map-append spelling (map owned_frame (take i fs)) (owned_frame (get_or fs i d) ∷ []) in
+    ap (λ ss. ss ++ string ∷ []) so ∙ (append_assoc before (map spelling (map owned_frame (take i fs))) (string ∷ [])
+    ∙ ap (λ ss. before ++ ss) (ap (λ s. map spelling (map owned_frame (take i fs)) ++ s ∷ []) here ∙ sym one))
 
 pub fits_read : (c : Config) (fs : List Frame) (i : ℕ) (f : Frame) → slice_get fs i ≡ Some f → All (Fits c) fs → Fits c f
 fits_read c fs i f read fit = subst (Fits c) (get_or_from_slice_get fs i f f read) (fit i f (slice_get_within fs i f read))
@@ -127,9 +128,9 @@ sent-box n v same s ps l ws hs fit numbers is = record {
   fits = subst (FitsLink v.config) (sym is) (sends-fits v.config v.link ps s.fits (own-fit n v same s ps fit) (numbers-at n v same ps numbers));
 }
 
-pub few-added : (n v : Outbox) → v ≡ n → (to : ℕ) (fs : List Frame) (strings ws : List (List ℕ)) → fs ≡ frames_again v.link to → strings ≡ map spelling fs → ws ≡ v.waiting ++ strings → length ws ≤ length n.waiting + 32
-few-added n v same to fs strings ws is spelled added =
-    let all : ws ≡ v.waiting ++ map spelling (frames_again v.link to) = added ∙ ap (λ ss. v.waiting ++ ss) (spelled ∙ ap (map spelling) is) in
+pub few-added : (n v : Outbox) → v ≡ n → (to : ℕ) (fs : List Frame) (ws : List (List ℕ)) → fs ≡ frames_again v.link to → ws ≡ v.waiting ++ map spelling fs → length ws ≤ length n.waiting + 32
+few-added n v same to fs ws is added =
+    let all : ws ≡ v.waiting ++ map spelling (frames_again v.link to) = added ∙ ap (λ fs. v.waiting ++ map spelling fs) is in
     let count : length ws ≡ length (v.waiting ++ map spelling (frames_again v.link to)) = ap length all in
     let before : length v.waiting ≡ length n.waiting = ap (λ (x : Outbox). length x.waiting) same in
     omega (arith, count, before, few v.link to, length-append v.waiting (map spelling (frames_again v.link to)))

@@ -40,22 +40,24 @@ impl<A: Allocator> Model for Outbox<A> {
     ghost invariant = { λ o. IsSoundOutbox (record { config = o.config; me = o.me; link = link_of o.link; waiting = o.waiting.items; held = o.link.held }) };
 }
 
-/// The spellings of the frames, in order.
-fn spelled<A: Allocator + Copy>(
+/// Adds the spellings of the frames, in order. A refused call may have added some.
+fn spell_again<A: Allocator + Copy>(
+    strings: &mut VecDeque<Bytes<A>, A>,
     alloc: A,
     config: &Config,
     frames: &[Frame<&[u8]>],
-) -> Result<VecDeque<Bytes<A>, A>, Fault>
+) -> Result<(), Fault>
     requires limits { IsConfig config.now }
     requires fit { All (Fits config.now) (map owned_frame frames.now) }
-    ensures spelled { IfOk result (λ strings. strings.items ≡ map spelling (map owned_frame frames.now)) }
+    ensures ok { OnOk result (strings.new.items ≡ strings.old.items ++ map spelling (map owned_frame frames.now)) }
+    ensures front { take (length strings.old.items) strings.new.items ≡ strings.old.items }
     ensures memory { IsOkUnless result Fault.Memory }
 {
-    let mut strings = VecDeque::with_capacity(alloc, frames.len())?;
+    strings.reserve(frames.len())?;
     for frame in frames {
         strings.push_back(Bytes::from_vec(alloc, encode(alloc, config, frame)?)?)?;
     }
-    Ok(strings)
+    Ok(())
 }
 
 /// Adds the spellings of the frames of the parcels, in order. A refused call may have added some.
@@ -173,6 +175,24 @@ impl<A: Allocator + Copy> Outbox<A> {
         self.link.take_ready(from)
     }
 
+    /// What a pulse gives waits [1]. A refused call may leave strings after those that waited.
+    fn send_again(&mut self, to: u8) -> Result<bool, Fault>
+        requires to { to < self.old.config.nodes }
+        requires other { to ≢ self.old.me }
+        ensures ok { OnOk result (self.new ≡ with_sending self.old (pulsed self.old.link to)) }
+        ensures err { OnErr result (with_waiting self.new (take (length self.old.waiting) self.new.waiting) ≡ self.old) }
+        ensures few { OnOk result (length self.new.waiting ≤ length self.old.waiting + most_sent) }
+        ensures made { IfOk result (λ made. IsTrue made ↔ (frames_again self.old.link to ≢ [])) }
+        ensures memory { IsOkUnless result Fault.Memory }
+    {
+        let frames = self.link.pulse_frames(to)?;
+        spell_again(&mut self.waiting, self.alloc, &self.config, &frames)?;
+        let made = !frames.is_empty();
+        drop(frames);
+        self.link.pulsed(to);
+        Ok(made)
+    }
+
     /// A pulse to a node: what it has not acknowledged waits again, or an acknowledgement alone does [1].
     /// Says whether a frame was made.
     pub(crate) fn pulse(&mut self, to: u8) -> Result<bool, Fault>
@@ -184,14 +204,14 @@ impl<A: Allocator + Copy> Outbox<A> {
         ensures made { IfOk result (λ made. IsTrue made ↔ (frames_again self.old.link to ≢ [])) }
         ensures memory { IsOkUnless result Fault.Memory }
     {
-        let frames = self.link.pulse_frames(to)?;
-        let mut strings = spelled(self.alloc, &self.config, &frames)?;
-        self.waiting.reserve(strings.len())?;
-        let made = !frames.is_empty();
-        drop(frames);
-        self.link.pulsed(to);
-        let _ = self.waiting.append(&mut strings);
-        Ok(made)
+        let waiting = self.waiting.len();
+        match self.send_again(to) {
+            Ok(made) => Ok(made),
+            Err(fault) => {
+                self.waiting.truncate(waiting);
+                Err(fault)
+            }
+        }
     }
 
     /// Sends the parcels: their messages are kept, and the strings of their frames wait [1]. A refused
