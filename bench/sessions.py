@@ -27,9 +27,10 @@ class Session:
     options: tuple = ()
 
 
-def loop(laps, body):
-    """Instructions that are repeated so often; they use no register above r12."""
-    return ["set r15 1", f"set r14 {laps}", "label again", *body, "sub r14 r14 r15", "jumpz r14 out", "jump again", "label out"]
+def loop(laps, body, name="again"):
+    """Instructions that are repeated so often; they use no register above r12. A program's loops differ in their names."""
+    head = ["set r15 1", f"set r14 {laps}", f"label {name}"]
+    return [*head, *body, "sub r14 r14 r15", f"jumpz r14 {name}out", f"jump {name}", f"label {name}out"]
 
 
 def hits(nodes):
@@ -71,6 +72,23 @@ def page(hand_overs):
         yield from loop(hand_overs // 2, body)
 
 
+def sums(numbers):
+    """Node 0 stores so many numbers; each of eight sums an eighth of them, and all sum the eight sums."""
+    first, sum_page, part = 2 * LARGE_PAGE, LARGE_PAGE, numbers // 8
+    for node in range(8):
+        yield from (f"node {node}", "set r2 8", "set r5 1")
+        if node == 0:
+            yield f"set r1 {first}"
+            yield from loop(numbers, ["store 8 r1 r14", "add r1 r1 r2"], "fill")
+            yield "advance r0"
+        yield from ("await r3 r0 r5", f"set r1 {first + 8 * part * node}", "set r4 0")
+        yield from loop(part, ["load 8 r3 r1", "add r4 r4 r3", "add r1 r1 r2"], "part")
+        yield from (f"set r1 {sum_page + 8 * node}", "store 8 r1 r4", "advance r5", "await r3 r5 r2")
+        yield from (f"set r1 {sum_page}", "set r4 0")
+        yield from loop(8, ["load 8 r3 r1", "add r4 r4 r3", "add r1 r1 r2"], "all")
+        yield "print r4"
+
+
 def waits(laps):
     """Node 0 computes alone, and seven nodes wait until it is done."""
     yield "node 0"
@@ -88,6 +106,7 @@ SESSIONS = (
     Session("run-ring-8", "hand-over", 1_600, ring(8)),
     Session("run-barrier", "meeting", 300, barrier),
     Session("run-page", "hand-over", 10_000, page, options=("--page-size", str(LARGE_PAGE), "--pages", "2")),
+    Session("run-sum", "number", 80_000, sums, options=("--page-size", str(LARGE_PAGE), "--pages", "160")),
     Session("run-waits", "lap", 3_000_000, waits),
 )
 
