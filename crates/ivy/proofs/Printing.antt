@@ -3,8 +3,8 @@ use Rattle.std.proofs.Common.{◌≡◌, ℕ, ◌+◌, ◌<◌, ◌≤◌, ◌�
 use Rattle.std.proofs.lemmas.List.{length-take-le}
 use Rattle.std.proofs.lemmas.Option.{slice_get_within, slice_get_cases}
 use Rattle.ivy_program.specs.Steps.{Step, Local, Asks, Ends}
-use Rattle.std.specs.Io.KnownBytes.{Appends, Keeps}
-use Rattle.ivy_texts.proofs.Printing.{appends-nothing, appends-more, taken-more}
+use Rattle.std.specs.Io.KnownBytes.{Appends}
+use Rattle.ivy_texts.proofs.Printing.{appends-more, taken-more}
 use Rattle.ivy.specs.Commands.{Adds, AddsLast}
 use Rattle.ivy.specs.Nodes.{numbered, is_end}
 
@@ -39,9 +39,6 @@ told-end false (Local x) h = refl
 told-end false (Asks call) h = refl
 told-end false Ends h = h.1 refl
 
-pub adds-nothing : (a : Option (List ℕ)) → Adds a a
-adds-nothing a = ([], appends-nothing a)
-
 pub adds-more : (a b c : Option (List ℕ)) (xs : List ℕ) → Adds a b → Appends b c xs → Adds a c
 adds-more a b c xs h k = (h.0 ++ xs, appends-more a b c h.0 xs h.1 k)
 
@@ -50,9 +47,3 @@ adds-on a b c h k = adds-more a b c k.0 h k.1
 
 pub adds-last : (a b c : Option (List ℕ)) (xs : List ℕ) → Adds a b → Appends b c xs → AddsLast a c xs
 adds-last a b c xs h k = (h.0, appends-more a b c h.0 xs h.1 k)
-
-pub kept-appended : (a b c : Option (List ℕ)) (xs : List ℕ) → Appends a b xs → Keeps b c → Appends a c xs
-kept-appended None b c xs h k = tt
-kept-appended (Some us) None c xs h k = absurd h
-kept-appended (Some us) (Some vs) None xs h k = absurd k
-kept-appended (Some us) (Some vs) (Some ws) xs h k = k ∙ h
