@@ -24,7 +24,8 @@ use Rattle.ivy_worlds.proofs.Worlds.{exclusive_led}
 use Rattle.ivy_routes.proofs.EitherRoutes.{either_awaited, either_routed}
 use Rattle.ivy_routes.proofs.EitherWorlds.{either_no_breach}
 use Rattle.ivy_node.specs.RunState.{Run}
-use Rattle.ivy_node.specs.Runs.{IsLedTo, IsReached, IsExplainedAlong, opening_of}
+use Rattle.ivy_node.specs.Runs.{IsLedTo, IsReached, IsExplainedAlong, IsOfRun, opening_of}
+use Rattle.ivy_node.specs.Shown.{Shown}
 use Rattle.ivy_node.specs.Keeping.{Keeps}
 use Rattle.ivy_node.proofs.Leading.{leads_on}
 use Rattle.ivy_host.proofs.Tame.{tame, opening_is}
@@ -78,6 +79,11 @@ keeps-reached r config each reached = record {
   routes = either_routed r.config config r.programs each;
   explained = λ moves led. explained-along r.config r.programs config each moves;
 }
+
+-- and of a site that is one of it
+pub none-of-run : (s : Shown) → IsOfRun s → s.node.core.memory.coherence.breaches ≡ 0
+none-of-run s r =
+    no_breach-led r.run.config r.run.programs r.limits r.programs r.reached.0 r.run.world r.reached.1 s.me s.node r.node
 
 -- and moves that go on from there
 pub explained-on : (r : Run) → IsConfig r.config → length r.programs ≡ r.config.nodes → (made : List Move) (w : World (Host Managed)) → IsLedTo r.config r.world made w

@@ -1,6 +1,7 @@
 -- What a call of `run` did, and what holds of a world that was reached from its opening.
-use Rattle.std.specs.Prelude.{◌≡◌, ℕ, false, List, [], take, Option, Some, None, Result, Ok, Err}
+use Rattle.std.specs.Prelude.{◌≡◌, ℕ, false, List, [], length, slice_get, take, Option, Some, None, Result, Ok, Err}
 use Rattle.ivy_model.specs.declared.Config.{Config}
+use Rattle.ivy_model.specs.Config.{IsConfig}
 use Rattle.ivy_model.specs.declared.Fault.{Fault}
 use Rattle.ivy_model.specs.declared.Fault.TheVariants.{Memory, NumbersSpent, NoSuchFrame}
 use Rattle.ivy_host.specs.Managers.{Managed, managed_ops}
@@ -10,6 +11,7 @@ use Rattle.ivy_events.specs.Explained.{GoesOn}
 use Rattle.ivy_host.specs.Hosts.{Host, host_rules, answered_by}
 use Rattle.ivy_host.specs.Openings.{opening}
 use Rattle.ivy_node.specs.RunState.{Run}
+use Rattle.ivy_node.specs.Shown.{Shown}
 
 -- the moves that were made: all, or those before the refused one
 abbrev pub made_of : Result (Unit {0}) (ℕ × Fault) → List Move → List Move
@@ -42,6 +44,14 @@ IsLedTo c = Leads (host_rules managed_ops) c
 -- some list of moves leads to this world from the opening of its programs
 abbrev pub IsReached : Run → Type 0
 IsReached r = (before : List Move) × IsLedTo r.config (opening_of r) before r.world
+
+-- the node is one of a world that some moves lead to from the opening of as many programs as there are nodes
+pub record IsOfRun (s : Shown) : Type 0 where
+  pub run : Run
+  pub limits : IsConfig run.config
+  pub programs : length run.programs ≡ run.config.nodes
+  pub reached : IsReached run
+  pub node : slice_get run.world.nodes s.me ≡ Some s.node
 
 -- at the opening no record explains what the nodes were answered, and after each of the moves an order that goes on
 -- from the one before does

@@ -10,6 +10,7 @@ ghost use Rattle.ivy_link.specs.Accepted.{offered};
 ghost use Rattle.ivy_link.specs.Holding.{ready_of};
 ghost use Rattle.ivy_node.specs.Outboxes.{most_sent, most_delivered, next_dest};
 ghost use Rattle.ivy_node.specs.Shown.{holding_at, after_pulse_to};
+ghost use Rattle.ivy_node.specs.Runs.{IsOfRun};
 ghost use Rattle.ivy_node.specs.Sites.{first_shown, host_of, AfterHostTurn, HasNoNumbers, AfterTurn, AfterDelivery, Hears, Receives, WentOnOnce, WentOn, IsHeld, early_at, HoldsString, without_ready, IsSpentTurn, IsSpentDelivery, TakesFrame, IsSameNode, IsMadeByEvents, IsSentBy};
 ghost use Rattle.ivy_events.specs.Marks.{marks};
 ghost use Rattle.ivy_model.specs.Legal.{HasWidth};
@@ -183,6 +184,15 @@ impl<A: Allocator + Copy> Site<A> {
         ensures { IsTrue result ↔ HasEnded self.now.node.core.process }
     {
         self.machine.ended()
+    }
+
+    /// How many messages fitted no rule, up to the greatest number: none where the site is one of a world that moves
+    /// led to. It takes no memory.
+    pub fn breaches(&self) -> u64
+        ensures breaches { result ≡ self.now.node.core.memory.coherence.breaches }
+        ensures none { IsOfRun self.now → result ≡ 0 }
+    {
+        self.memory.breaches()
     }
 
     /// The first string that waits to be put on the wire, taken out. The site's events sent it. It takes no memory.

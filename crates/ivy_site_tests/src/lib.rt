@@ -10,6 +10,8 @@ mod common;
 #[cfg(test)]
 mod counts;
 #[cfg(test)]
+mod forged;
+#[cfg(test)]
 mod growths_of_sites;
 #[cfg(test)]
 mod growths_of_strings;

@@ -29,7 +29,7 @@ fn counted(node: u8, k: u64, value: u64) -> Record {
 }
 
 /// Node 1 stores and then advances count 0. Node 0 awaits that, and then loads.
-const NOTICE: &str = "node 0
+pub(crate) const NOTICE: &str = "node 0
 set r1 1
 await r2 r0 r1
 set r1 64
@@ -43,7 +43,7 @@ advance r0
 ";
 
 /// Node 1 goes to its end first.
-const NOTICE_MOVES: [Move; 21] = [
+pub(crate) const NOTICE_MOVES: [Move; 21] = [
     Move::Turn(1),
     Move::Turn(1),
     Move::Turn(1),

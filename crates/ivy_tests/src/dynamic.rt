@@ -12,7 +12,7 @@ use std::alloc::Allocator;
 use std::process::Abort;
 use std::test::Fail;
 
-const HINTS: Config = Config {
+pub(crate) const HINTS: Config = Config {
     manager: Kind::Dynamic,
     ..TRIO
 };
@@ -103,7 +103,7 @@ fn late_read_page(rt: HostRuntime) -> Result<(), Fail> {
 }
 
 /// Nodes 1 and 2 hold a copy, and then both store. Node 0 loads last.
-const UPGRADE: &str = "node 0
+pub(crate) const UPGRADE: &str = "node 0
 set r1 64
 load 8 r3 r1
 print r3
@@ -227,6 +227,15 @@ const UPGRADE_RUN: Run = Run {
     strings: &UPGRADE_SENT,
     nodes: &UPGRADE_SHOWN,
 };
+
+/// All moves of the run.
+pub(crate) fn upgrade_moves<A: Allocator>(alloc: A) -> Result<Vec<Move, A>, Fail> {
+    let mut moves = Vec::new(alloc);
+    moves.extend_from_slice(&UPGRADE_ASKS)?;
+    moves.extend_from_slice(&UPGRADE_GIVES)?;
+    moves.extend_from_slice(&UPGRADE_LOADS)?;
+    Ok(moves)
+}
 
 #[test]
 fn upgrade_race(rt: HostRuntime) -> Result<(), Fail> {

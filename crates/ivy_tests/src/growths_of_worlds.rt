@@ -5,6 +5,8 @@
 //! requests that are put off and then served in one event. One more run has calls of the heap that node 0 serves for
 //! another node.
 use crate::common::{LOADS, MANY, PAIR, TRIO, deliver, ended, loaded, play, pulse, shows, world};
+use crate::counts::{NOTICE, NOTICE_MOVES};
+use crate::dynamic::{HINTS, UPGRADE, upgrade_moves};
 use crate::eight_nodes::{
     ALL_STORE, EIGHT, ONE_STORES, PUT_OFF_WHILE_AWAITED, moves_of, put_off_by_a_writer,
 };
@@ -132,31 +134,55 @@ fn growths_of(rt: &impl Abort, memory: &Refusing<Global>, growing: &Growing) -> 
     Err("no end of growths".into())
 }
 
+const RUNS: [Growing; 5] = [
+    Growing {
+        config: PAIR,
+        text: LOADS,
+        moves: &MOVES,
+    },
+    Growing {
+        config: PAIR,
+        text: NOTICE,
+        moves: &NOTICE_MOVES,
+    },
+    Growing {
+        config: PAIR,
+        text: UPGRADE_OF_TWO,
+        moves: &UPGRADE_OF_TWO_MOVES,
+    },
+    Growing {
+        config: TRIO,
+        text: UPGRADE_OF_THREE,
+        moves: &UPGRADE_OF_THREE_MOVES,
+    },
+    Growing {
+        config: TRIO,
+        text: LATE,
+        moves: &LATE_MOVES,
+    },
+];
+
 #[test]
 fn growths_of_runs(rt: HostRuntime) -> Result<(), Fail> {
+    let memory = Refusing::new(rt.alloc());
+    for growing in &RUNS {
+        growths_of(&rt, &memory, growing)?;
+    }
+    Ok(())
+}
+
+/// A store whose last acknowledgement brings on a request that was put off, and seven requests that are put off.
+#[test]
+fn growths_of_longer_runs(rt: HostRuntime) -> Result<(), Fail> {
+    let race = upgrade_moves(rt.alloc())?;
     let seven_put_off = put_off_by_a_writer(rt.alloc(), &[7, 0, 2, 3, 4, 5, 6])?;
     let seven_copies = moves_of(rt.alloc(), &PUT_OFF_WHILE_AWAITED)?;
     let memory = Refusing::new(rt.alloc());
     for growing in [
         Growing {
-            config: PAIR,
-            text: LOADS,
-            moves: &MOVES,
-        },
-        Growing {
-            config: PAIR,
-            text: UPGRADE_OF_TWO,
-            moves: &UPGRADE_OF_TWO_MOVES,
-        },
-        Growing {
-            config: TRIO,
-            text: UPGRADE_OF_THREE,
-            moves: &UPGRADE_OF_THREE_MOVES,
-        },
-        Growing {
-            config: TRIO,
-            text: LATE,
-            moves: &LATE_MOVES,
+            config: HINTS,
+            text: UPGRADE,
+            moves: &race,
         },
         Growing {
             config: EIGHT,
