@@ -1,9 +1,9 @@
 //! Frames that nobody sent come to node 0: what each is answered, and how many messages fitted no rule.
-ghost use Rattle.std.specs.Prelude.{◌≡◌};
+ghost use Rattle.std.specs.Prelude.{◌≡◌, ◌<◌};
 
-use crate::common::{PAIR, Written, string};
+use crate::common::{Written, node_of, string};
 use ivy_model::Fault;
-use ivy_node::{Program, Site, Verdict};
+use ivy_node::{Site, Verdict};
 use std::alloc::Allocator;
 use std::process::Abort;
 use std::test::Fail;
@@ -70,20 +70,21 @@ const AGAIN: Written = (
     Some(0),
 );
 
-/// A string comes to a node, and is answered so, with so many breaches then. Of all that is promised of it, callers
-/// need only this.
-fn check_row<A: Allocator + Copy>(
+/// The strings come to a node one after another, and each is answered so, with so many breaches then. Of all that is
+/// promised of it, callers need only this.
+fn check_rows<A: Allocator + Copy>(
     rt: &impl Abort,
     alloc: A,
     site: &mut Site<A>,
-    row: Row,
+    rows: &[Row],
 ) -> Result<(), Fail>
     ensures { (site.new.config ≡ site.old.config) × (site.new.me ≡ site.old.me) }
 {
-    let (written, answer, breaches) = row;
-    let given = string(alloc, written)?;
-    assert!(rt; site.deliver(&given) == answer, "{}", written.0);
-    assert_eq!(rt; site.breaches(), breaches, "{}", written.0);
+    for (written, answer, breaches) in rows {
+        let given = string(alloc, *written)?;
+        assert!(rt; site.deliver(&given) == *answer, "{}", written.0);
+        assert_eq!(rt; site.breaches(), *breaches, "{}", written.0);
+    }
     Ok(())
 }
 
@@ -103,25 +104,21 @@ fn check_sent<A: Allocator + Copy>(
     Ok(())
 }
 
+/// A pulse of node 0. Of all that is promised of it, callers need nothing.
+fn pulse<A: Allocator + Copy>(site: &mut Site<A>) -> Result<(), Fault>
+    requires nodes { 1 < site.old.config.nodes }
+    requires me { site.old.me ≡ 0 }
+{
+    site.pulse(1)
+}
+
 /// Messages that fit no rule are counted and change nothing else. The one request that fits is answered, and its
 /// acknowledgement of what was never sent counts for nothing.
 #[test]
 fn forged_frames_at_node_0(rt: HostRuntime) -> Result<(), Fail> {
-    PAIR.check()?;
-    let mut site = Site::new(
-        rt.alloc(),
-        &PAIR,
-        0,
-        Program::new(rt.alloc(), Vec::new(rt.alloc())),
-    )?;
-    let [page, again, order, own, short, whole] = FORGED;
-    check_row(&rt, rt.alloc(), &mut site, page)?;
-    check_row(&rt, rt.alloc(), &mut site, again)?;
-    check_row(&rt, rt.alloc(), &mut site, order)?;
-    check_row(&rt, rt.alloc(), &mut site, own)?;
-    check_row(&rt, rt.alloc(), &mut site, short)?;
-    check_row(&rt, rt.alloc(), &mut site, whole)?;
+    let mut site = node_of(rt.alloc(), 0, "node 0\n")?;
+    check_rows(&rt, rt.alloc(), &mut site, &FORGED)?;
     check_sent(&rt, rt.alloc(), &mut site, ANSWER)?;
-    site.pulse(1)?;
+    pulse(&mut site)?;
     check_sent(&rt, rt.alloc(), &mut site, AGAIN)
 }
