@@ -17,11 +17,12 @@ const SEARCH: u32 = 64;
 /// After so many of these turns it lets others go first: one of them may have the frame.
 const PATIENCE: u32 = 2;
 
-/// So many microseconds a wire worker first sleeps at most. It then sleeps twice as long each time, but for a bound.
+/// So many microseconds a wire worker first sleeps at most. Each time that nobody wakes it, it sleeps twice as long from
+/// then on, but for a bound: where work for it is long in coming, rounds of pulses would only take time from the others.
 const NAP: u64 = 1_000;
 
 /// So often that time is doubled at most.
-const DOUBLINGS: u32 = 3;
+const DOUBLINGS: u32 = 5;
 
 /// So many microseconds a program worker sleeps at most.
 const PROGRAM_NAP: u64 = 10_000;
@@ -56,7 +57,7 @@ pub(crate) struct Watch {
     turns: u64,
     /// It has pulsed for so many losses.
     losses: u64,
-    /// So often in a row it slept until nobody woke it.
+    /// So often nobody woke it.
     naps: u32,
 }
 
@@ -76,10 +77,9 @@ impl Watch {
     /// It has made a turn, before which so many frames had been put for its node.
     pub(crate) fn note(&mut self, bells: &Bells, turn: WireTurn, put: u64) {
         match turn {
-            WireTurn::Sent => self.naps = 0,
+            WireTurn::Sent => {}
             WireTurn::Lost => self.turns = self.round,
             WireTurn::Served(_) => {
-                self.naps = 0;
                 self.misses = 0;
                 self.done = self.done.saturating_add(1);
                 bells.set_missing(false);
