@@ -29,7 +29,7 @@ use command::perform;
 use failure::Failure;
 use ivy_model::Fault;
 use std::env;
-use std::io::{self, BufWriter, Write};
+use std::io::{self, BufWriter, ErrorKind, Write};
 use std::process::ExitCode;
 use std::rt::{Env, Files};
 use std::sync::Wait;
@@ -37,7 +37,7 @@ use std::thread::Threads;
 use texts::FilesOf;
 
 /// Hands the words of the command line, the files and the streams to the command. Err only where
-/// memory is short before it begins.
+/// memory is short before it begins, or a word is not UTF-8.
 fn performed<R, O, E>(rt: &R, out: O, err: &mut E) -> io::Result<u8>
 where
     R: Env + Files + AllocGlobal + Threads + Wait + Sync,
@@ -50,11 +50,19 @@ where
     Ok(perform(rt, rt.alloc(), &words, &files, &mut out, err))
 }
 
+/// Why the command did not begin.
+fn failure_of(error: &io::Error) -> Failure<'static> {
+    match error.kind() {
+        ErrorKind::OutOfMemory => Failure::Refused(Fault::Memory),
+        _ => Failure::BadCommandLine,
+    }
+}
+
 fn main(rt: HostRuntime) -> ExitCode {
     let mut err = rt.stderr();
     let status = match performed(&rt, rt.stdout(), &mut err) {
         Ok(status) => status,
-        Err(_) => Failure::Refused(Fault::Memory).report(&mut err),
+        Err(error) => failure_of(&error).report(&mut err),
     };
     ExitCode::from(status)
 }
