@@ -147,46 +147,6 @@ fn refused_strings(rt: HostRuntime) -> Result<(), Fail> {
     )
 }
 
-/// A page that nobody asked for.
-const FORGED_PAGE: Written = (
-    "495601030100004d 0000000000000001 0000000000000000 00 0000000000000001 00000001 \
-     ffffffffffffffff ffffffffffffffff ffffffffffffffff ffffffffffffffff \
-     ffffffffffffffff ffffffffffffffff ffffffffffffffff ffffffffffffffff",
-    None,
-);
-
-const FORGED: [Row; 5] = [
-    (FORGED_PAGE, Ok(Verdict::Next)),
-    (FORGED_PAGE, Ok(Verdict::Repeat)),
-    (
-        (
-            "495601050100000d 0000000000000002 0000000000000000 01 0000000000000001 00000001",
-            None,
-        ),
-        Ok(Verdict::Next),
-    ),
-    (
-        (
-            "495601010100000d 0000000000000003 0000000000000000 00 0000000000000001 00000001",
-            None,
-        ),
-        Ok(Verdict::Next),
-    ),
-    (
-        (
-            "495601010100000d 0000000000000005 0000000000000000 01 0000000000000001 00000001",
-            None,
-        ),
-        Ok(Verdict::Ahead),
-    ),
-];
-
-/// Messages that fit no rule are taken in their order, and answered nothing.
-#[test]
-fn forged_messages(rt: HostRuntime) -> Result<(), Fail> {
-    check_owner(&rt, rt.alloc(), &PAIR, &FORGED, &[])
-}
-
 /// The strings of a site are taken out in the order in which they were made.
 #[test]
 fn order_of_strings(rt: HostRuntime) -> Result<(), Fail> {
