@@ -9,6 +9,8 @@ mod alloc;
 #[cfg(test)]
 mod event;
 #[cfg(test)]
+mod foreign;
+#[cfg(test)]
 mod model;
 #[cfg(test)]
 mod pagetable;

@@ -9,7 +9,7 @@ use std::process::Abort;
 use std::test::Fail;
 
 /// Two nodes, and two pages of 64 bytes.
-const PAIR: Config = Config {
+pub(crate) const PAIR: Config = Config {
     nodes: 2,
     pages: 2,
     page_size: 64,
@@ -20,12 +20,16 @@ const PAIR: Config = Config {
 const THREE: Config = Config { nodes: 3, ..PAIR };
 
 /// A page of zeros, and one of bytes that are all ones.
-const ZEROS: &[u8] = &[0; 64];
+pub(crate) const ZEROS: &[u8] = &[0; 64];
 
 const ONES: &[u8] = &[255; 64];
 
 /// The string that is written as hexadecimal words, and then a page.
-fn string<A: Allocator + Copy>(alloc: A, words: &str, page: &[u8]) -> Result<Vec<u8, A>, Fail> {
+pub(crate) fn string<A: Allocator + Copy>(
+    alloc: A,
+    words: &str,
+    page: &[u8],
+) -> Result<Vec<u8, A>, Fail> {
     let mut string = Vec::new(alloc);
     for word in words.split(' ') {
         string.extend_from_slice(&hex::decode(alloc, word)?)?;
@@ -343,7 +347,7 @@ fn wrong_pages(rt: HostRuntime) -> Result<(), Fail> {
 }
 
 /// All kinds with their numbers, and the lengths of their bodies where a page has 64 bytes.
-const KINDS_AND_LENGTHS: [(FrameKind, u8, u16); 11] = [
+pub(crate) const KINDS_AND_LENGTHS: [(FrameKind, u8, u16); 11] = [
     (FrameKind::Ack, 0, 0),
     (FrameKind::ReadReq, 1, 13),
     (FrameKind::WriteReq, 2, 13),
