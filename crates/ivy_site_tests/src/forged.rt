@@ -1,9 +1,13 @@
 //! Frames that nobody sent come to node 0: what each is answered, and how many messages fitted no rule.
 ghost use Rattle.std.specs.Prelude.{◌≡◌, ◌<◌};
 
-use crate::common::{Written, node_of, string};
+use crate::common::{LOADS, REPLY, Written, node_of, receive, string, take_turns};
+use crate::site_alone::is_misspelled;
 use ivy_model::Fault;
 use ivy_node::{Site, Verdict};
+use rand_core::SeedableRng;
+use rand_core::utils::NextWord;
+use rand_pcg::Lcg64Xsh32;
 use std::alloc::Allocator;
 use std::process::Abort;
 use std::test::Fail;
@@ -121,4 +125,56 @@ fn forged_frames_at_node_0(rt: HostRuntime) -> Result<(), Fail> {
     check_sent(&rt, rt.alloc(), &mut site, ANSWER)?;
     pulse(&mut site)?;
     check_sent(&rt, rt.alloc(), &mut site, AGAIN)
+}
+
+/// Puts a byte at a place, both of them drawn, where there is such a place.
+fn put_drawn(bytes: &mut [u8], generator: &mut Lcg64Xsh32) {
+    let [place, byte, _, _] = generator.next_word().to_le_bytes();
+    if let Some(old) = bytes.get_mut(usize::from(place)) {
+        *old = byte;
+    }
+}
+
+/// What a node shows of its state.
+fn shown<A: Allocator + Copy>(site: &Site<A>) -> (u64, bool, usize, usize) {
+    (
+        site.breaches(),
+        site.has_frame(),
+        site.history().len(),
+        site.output().len(),
+    )
+}
+
+/// A reply with some bytes changed is taken, or refused as one that spells no frame. Then the node shows what it did.
+fn check_altered<A: Allocator + Copy>(
+    rt: &impl Abort,
+    alloc: A,
+    site: &mut Site<A>,
+    reply: &[u8],
+    generator: &mut Lcg64Xsh32,
+) -> Result<(), Fail> {
+    let mut bytes = Vec::from_slice(alloc, reply)?;
+    put_drawn(&mut bytes, generator);
+    put_drawn(&mut bytes, generator);
+    put_drawn(&mut bytes, generator);
+    let before = shown(site);
+    let answer = receive(site, &bytes);
+    if answer.is_err() {
+        assert!(rt; is_misspelled(answer), "{bytes:?}");
+        assert!(rt; shown(site) == before, "{bytes:?}");
+    }
+    Ok(())
+}
+
+/// A node that waits for a reply is handed ten thousand that differ from it in drawn bytes.
+#[test]
+fn altered_replies(rt: HostRuntime) -> Result<(), Fail> {
+    let reply = string(rt.alloc(), (REPLY, Some(0)))?;
+    let mut site = node_of(rt.alloc(), 1, LOADS)?;
+    take_turns(&mut site, 2)?;
+    let mut generator = Lcg64Xsh32::seed_from_u64(3);
+    for _ in 0..10_000u32 {
+        check_altered(&rt, rt.alloc(), &mut site, &reply, &mut generator)?;
+    }
+    Ok(())
 }

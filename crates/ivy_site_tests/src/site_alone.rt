@@ -205,7 +205,7 @@ fn beginnings_of_a_string(rt: HostRuntime) -> Result<(), Fail> {
 }
 
 /// Whether a string is refused as one that spells no frame.
-fn is_misspelled(answer: Result<Verdict, Fault>) -> bool {
+pub(crate) fn is_misspelled(answer: Result<Verdict, Fault>) -> bool {
     matches!(
         answer,
         Err(
