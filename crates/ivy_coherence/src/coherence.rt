@@ -29,7 +29,7 @@ pub struct Coherence<M: Manager, A: Allocator> {
     pub(crate) locked: Option<u32>,
     pub(crate) done: Option<Out>,
     pub(crate) breaches: u64,
-    /// The bytes of a page that comes are written here, and exchanged with those of the table once the
+    /// The bytes of a page that comes are written here, and copied to the page of the table once the
     /// post took all. No value shows them.
     pub(crate) spare: Page<A>,
 }
