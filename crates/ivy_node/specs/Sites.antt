@@ -100,7 +100,8 @@ Holds verdict.Repeat f bytes mid new = new ≡ mid
 Holds verdict.Ahead f bytes mid new = new ≡ holding_in mid f bytes
 
 -- also the source, and the string again where it came too early
-pub record Hears (bytes : List ℕ) (answer : Verdict) (source : ℕ) (again : Option (List ℕ)) (old new : Shown) : Type 0 where
+pub record Hears (bytes : List ℕ) (answer : Verdict) (source : ℕ) (again : Option (List ℕ))
+    (old new : Shown) : Type 0 where
   pub first : Delivers bytes answer old new
   pub from : first.frame.source ≡ source
   pub early : MatchOption again (answer ≢ verdict.Ahead)

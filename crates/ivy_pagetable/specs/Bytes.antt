@@ -33,7 +33,8 @@ pub lists_with : (bits q : ℕ) → set.contains (nodes_with bits) q ≡ (has bi
 unfolding nodes_with
 lists_with bits q =
     contains-from_list_nat (filter (has bits) (range_with_len 0 32)) q
-    ∙ any-filter_same (λ y. eqb y q) (has bits) (has bits q) (λ k e. ap (has bits) (eqb-true k q e)) (range_with_len 0 32)
+    ∙ any-filter_same (λ y. eqb y q) (has bits) (has bits q) (λ k e. ap (has bits) (eqb-true k q e))
+    (range_with_len 0 32)
 
 pub no_bit : (bits n q : ℕ) → bits < 2 ^ n → n ≤ q → has bits q ≡ false
 no_bit bits n q small le = ap (λ x. eqb x 1) (bit_at_above bits n q small le)
@@ -42,7 +43,8 @@ pub contains_with : (bits q : ℕ) → bits < 2 ^ 32 → set.contains (nodes_wit
 contains_with bits q small =
     lists_with bits q ∙ elim (cases_lt q 32) [
       | inl lt ↦ ap (λ b. has bits q && b) (in_range 0 32 q (omega arith) lt) ∙ and_true (has bits q)
-      | inr le ↦ ap (λ b. b && lists (range_with_len 0 32) q) (no_bit bits 32 q small le) ∙ sym (no_bit bits 32 q small le)
+      | inr le ↦
+          ap (λ b. b && lists (range_with_len 0 32) q) (no_bit bits 32 q small le) ∙ sym (no_bit bits 32 q small le)
     ]
   where
     and_true : (b : Bool) → (b && true) ≡ b
@@ -73,4 +75,5 @@ abbrev pub byte_of : Nodes → ℕ
 byte_of nodes = bits_from 8 (set.contains nodes)
 
 pub byte_of_with : (bits : ℕ) → bits < 2 ^ 8 → byte_of (nodes_with bits) ≡ bits
-byte_of_with bits small = from_bits_of 8 bits (set.contains (nodes_with bits)) small (λ q. contains_with bits q (omega (arith, small)))
+byte_of_with bits small =
+    from_bits_of 8 bits (set.contains (nodes_with bits)) small (λ q. contains_with bits q (omega (arith, small)))

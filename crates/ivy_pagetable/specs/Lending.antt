@@ -1,5 +1,5 @@
--- What a page table ends as, where the bytes of a page are lent to be written. What is written has the page's length. The
--- logic asks for a table at any other list too: that goes over the bytes of the region from the page's first one on.
+-- What a page table ends as, where the bytes of a page are lent to be written. What is written has the page's length.
+-- The logic asks for a table at any other list too: that goes over the bytes of the region from the page's first one on.
 use Rattle.std.specs.Prelude.{ℕ, ◌*◌, List, ◌++◌, length, take, drop, if◌then◌else◌, ◌==◌}
 use Rattle.std.specs.List.{concat, refill}
 use Rattle.std.specs.Borrow.{Lends, Fml, RattleType, MutBor, Array, u8}

@@ -206,17 +206,7 @@ fn beginnings_of_a_string(rt: HostRuntime) -> Result<(), Fail> {
 
 /// Whether a string is refused as one that spells no frame.
 pub(crate) fn is_misspelled(answer: Result<Verdict, Fault>) -> bool {
-    matches!(
-        answer,
-        Err(
-            Fault::ShortFrame
-                | Fault::BadMagic
-                | Fault::BadVersion
-                | Fault::BadKind
-                | Fault::BadNode
-                | Fault::BadBody
-        )
-    )
+    matches!(answer, Err(fault) if matches!(fault.number(), 11..=16))
 }
 
 /// Turns one bit of the byte at this place.
