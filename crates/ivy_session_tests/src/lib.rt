@@ -99,3 +99,5 @@ mod growths_of_sessions;
 mod replays;
 #[cfg(test)]
 mod rows;
+#[cfg(test)]
+mod wire_turns;
