@@ -1,0 +1,17 @@
+//! Tests of `ivy_commands`, which has none of its own, so that it is proved once.
+//!
+//! That a command which says that it is done did what it was asked for is proved, so these tests hold no
+//! property of all commands. They hold what no contract says: what a command line means, the order of the
+//! faults, the lines of a trace, and what standard error is told.
+#![tactic(auto)]
+
+#[cfg(test)]
+mod commands;
+#[cfg(test)]
+mod common;
+#[cfg(test)]
+mod examples;
+#[cfg(test)]
+mod orders;
+#[cfg(test)]
+mod streams;

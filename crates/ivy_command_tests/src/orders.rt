@@ -1,0 +1,108 @@
+//! Orders, and whether they are legal.
+use crate::common::check_over;
+use ivy_examples::File;
+use std::process::Abort;
+use std::sync::Wait;
+use std::test::Fail;
+use std::thread::Threads;
+
+const LOADED_LATER: &str = "\
+ivy order 2 2 64
+1 load 8 64 = value 0
+0 store 8 64 7 = done
+1 load 8 64 = value 7
+";
+
+const LOADED_EARLIER: &str = "\
+ivy order 2 2 64
+1 load 8 64 = value 0
+0 store 8 64 7 = done
+1 load 8 64 = value 0
+";
+
+/// A call of each kind, and each refusal that the flat memory has but for a full count.
+const EACH_CALL: &str = "# two nodes\r\n\r\n\
+\tivy order 2 3 64 # of 3 pages\r\n\
+0 advance 7 = done\n1 await 7 1 = value 1\n1 count 7 = value 1\n1 count 8 = refused 6\n\
+0 alloc 9 = value 64\n1 alloc 8 = value 80\n1 alloc 0 = refused 8\n1 alloc 128 = refused 9\n\
+1 free 64 = done\n1 free 64 = refused 10\n\
+0 store 1 66 255 = done\n0 load 2 66 = value 65280\n\
+0 load 2 65 = refused 3\n0 load 4 192 = refused 4\n0 load 8 56 = refused 5";
+
+/// Asserts what `check` says of an order.
+fn check<R: Abort + AllocGlobal + Threads + Wait + Sync>(
+    rt: &R,
+    text: &str,
+    answer: (u8, &str, &str),
+) -> Result<(), Fail> {
+    let name = "order";
+    check_over(rt, &[File { name, text }], "check order", answer)
+}
+
+#[test]
+fn legal(rt: HostRuntime) -> Result<(), Fail> {
+    for text in [LOADED_LATER, EACH_CALL, "ivy order 2 2 64"] {
+        check(&rt, text, (0, "legal\n", ""))?;
+    }
+    Ok(())
+}
+
+#[test]
+fn not_legal(rt: HostRuntime) -> Result<(), Fail> {
+    for text in [
+        LOADED_EARLIER,
+        "ivy order 2 2 64\n2 load 8 64 = value 0\n",
+        "ivy order 2 2 64\n0 count 0 = value 18446744073709551615\n",
+        "ivy order 2 2 64\n0 await 0 1 = value 0\n",
+        "ivy order 2 2 64\n0 load 8 64 = refused 255\n",
+    ] {
+        check(&rt, text, (3, "not legal\n", ""))?;
+    }
+    Ok(())
+}
+
+/// The least line at fault, before sizes that are out of their limits.
+#[test]
+fn at_fault(rt: HostRuntime) -> Result<(), Fail> {
+    for (text, err) in [
+        ("", "ivy: 20 ProgramFault line 1\n"),
+        ("# nothing\n", "ivy: 20 ProgramFault line 1\n"),
+        ("\nivy order 2 2\n", "ivy: 20 ProgramFault line 2\n"),
+        ("0 count 0 = value 0\n", "ivy: 20 ProgramFault line 1\n"),
+        (
+            "ivy order 1 1 1\n0 count 0 = value 0\n0 load 3 64 = value 0",
+            "ivy: 20 ProgramFault line 3\n",
+        ),
+        (
+            "ivy order 2 2 64\n256 count 0 = value 0\n0 count = value 0\n",
+            "ivy: 20 ProgramFault line 2\n",
+        ),
+        (
+            "ivy order 2 2 64\n0 count 0 = refused 256\n",
+            "ivy: 20 ProgramFault line 2\n",
+        ),
+        (
+            "ivy order 2 2 64\n0 count 0 value 0\n",
+            "ivy: 20 ProgramFault line 2\n",
+        ),
+        (
+            "ivy order 2 2 64\n0 count 0 = value 18446744073709551616\n",
+            "ivy: 20 ProgramFault line 2\n",
+        ),
+        (
+            "ivy order 2 2 64\nivy order 2 2 64\n",
+            "ivy: 20 ProgramFault line 2\n",
+        ),
+        ("ivy order 1 2 64\n", "ivy: 2 BadConfig\n"),
+        ("ivy order 258 2 64\n", "ivy: 2 BadConfig\n"),
+        ("ivy order 2 4294967298 64\n", "ivy: 2 BadConfig\n"),
+        ("ivy order 2 2 96\n", "ivy: 2 BadConfig\n"),
+    ] {
+        check(&rt, text, (2, "", err))?;
+    }
+    check_over(&rt, &[], "check order", (2, "", "ivy: cannot read order\n"))?;
+    for line in ["check", "check order order", "check order --pages 2"] {
+        check_over(&rt, &[], line, (2, "", "ivy: bad command line\n"))?;
+    }
+    Ok(())
+}

@@ -1,0 +1,116 @@
+-- What a command has printed where it was carried out, and with which exit status a command ends.
+use Rattle.std.specs.Prelude.{◌≡◌, ◌↔◌, ℕ, Bool, IsTrue, List, ◌++◌, length, map, Option, Result, Ok, Err, if◌then◌else◌}
+use Rattle.std.specs.Io.KnownBytes.{Appends}
+use Rattle.ivy_arguments.specs.declared.Request.{Request}
+use Rattle.ivy_arguments.specs.declared.Request.TheVariants as request
+use Rattle.ivy_arguments.specs.declared.Settings.{Settings}
+use Rattle.ivy_model.specs.declared.Config.{Config}
+use Rattle.ivy_model.specs.declared.Fault.{Fault}
+use Rattle.ivy_model.specs.declared.Fault.TheVariants.{BadConfig, ProgramFault}
+use Rattle.ivy_model.specs.declared.Record.{Record}
+use Rattle.ivy_model.specs.Legal.{Legal}
+use Rattle.ivy_program.specs.declared.Instruction.{Instruction}
+use Rattle.ivy_program.specs.Texts.{SpellsText}
+use Rattle.ivy_events.specs.declared.Move.{Move}
+use Rattle.ivy_events.specs.Worlds.{World}
+use Rattle.ivy_host.specs.Hosts.{Host}
+use Rattle.ivy_host.specs.Managers.{Managed, managed_ops}
+use Rattle.ivy_host.specs.Openings.{opening}
+use Rattle.ivy_node.specs.Runs.{IsLedTo}
+use Rattle.ivy_session.specs.Faults.{IsSessionFault}
+use Rattle.ivy_session.specs.Reports.{NodeReport, IsReport}
+use Rattle.ivy_texts.specs.Drawn.{seeded}
+use Rattle.ivy_texts.specs.Lines.{verdict_line}
+use Rattle.ivy_commands.specs.declared.failure.Failure.{Failure}
+use Rattle.ivy_commands.specs.declared.failure.Failure.TheVariants.{BadCommandLine, CannotRead, Refused, Unwritten}
+use Rattle.ivy_commands.specs.Nodes.{outputs_text, outputs_of, ends_text}
+use Rattle.ivy_commands.specs.Simulated.{DrawnTo}
+
+-- the configuration of the settings, for so many nodes
+abbrev pub config_of : Settings → ℕ → Config
+config_of s nodes =
+    record { nodes = nodes; pages = s.pages; page_size = s.page_size; manager = s.manager }
+
+-- what the programs of a world printed, and which of them have ended
+abbrev pub world_text : World (Host Managed) → List ℕ
+world_text w = outputs_text (outputs_of w.nodes) ++ ends_text w.nodes
+
+-- something was printed
+abbrev pub Adds : Option (List ℕ) → Option (List ℕ) → Type 0
+Adds old new = (text : List ℕ) × Appends old new text
+
+-- something and then this text was printed
+abbrev pub AddsLast : Option (List ℕ) → Option (List ℕ) → List ℕ → Type 0
+AddsLast old new last = (text : List ℕ) × Appends old new (text ++ last)
+
+module _ (c : Config) (programs : List (List Instruction)) (old new : Option (List ℕ)) where
+  -- a session of these programs has ended, and what its report says that they printed was printed
+  pub record PrintsSession : Type 0 where
+    pub report : List NodeReport
+    pub is : IsReport c programs report
+    pub printed : Appends old new (outputs_text (map (λ (n : NodeReport). n.output) report))
+
+  -- the moves led from the opening of these programs to a world, and after some trace its text was printed
+  pub record PrintsMoves (moves : List Move) : Type 0 where
+    pub end : World (Host Managed)
+    pub led : IsLedTo c (opening managed_ops c programs) moves end
+    pub printed : AddsLast old new (world_text end)
+
+  -- so many moves that the seed draws led from the opening of these programs to a world, and its text was printed
+  pub record PrintsDrawn (seed moves : ℕ) : Type 0 where
+    pub end : World (Host Managed)
+    pub drawn : DrawnTo c (seeded seed) moves (opening managed_ops c programs) end
+    pub printed : Appends old new (world_text end)
+
+-- whether some records are legal under some configuration, and that was printed
+pub record PrintsVerdict (yes : Bool) (old new : Option (List ℕ)) : Type 0 where
+  pub config : Config
+  pub records : List Record
+  pub legal : IsTrue yes ↔ Legal config records
+  pub printed : Appends old new (verdict_line yes)
+
+-- some text spells these programs
+abbrev pub AreSpelled : List (List Instruction) → Type 0
+AreSpelled programs = (text : List ℕ) × SpellsText text programs
+
+-- programs that some text spells have this
+abbrev pub SomeSpelled : (List (List Instruction) → Type 0) → Type 0
+SomeSpelled P = (programs : List (List Instruction)) × AreSpelled programs × P programs
+
+-- the request was carried out with this status
+abbrev pub IsCarriedOut : Request → ℕ → Option (List ℕ) → Option (List ℕ) → Type 0
+IsCarriedOut (request.Run file turns capacity pulse settings) status old new = (status ≡ 0)
+    × SomeSpelled (λ ps. PrintsSession (config_of settings (length ps)) ps old new)
+IsCarriedOut (request.Step file schedule settings) status old new = (status ≡ 0)
+    × SomeSpelled (λ ps. (moves : List Move) × PrintsMoves (config_of settings (length ps)) ps old new moves)
+IsCarriedOut (request.Sim file seed moves settings) status old new = (status ≡ 0)
+    × SomeSpelled (λ ps. PrintsDrawn (config_of settings (length ps)) ps old new seed moves)
+IsCarriedOut (request.Check order) status old new =
+    (yes : Bool) × (status ≡ (if yes then 0 else 3)) × PrintsVerdict yes old new
+
+-- some request was
+abbrev pub IsDone : ℕ → Option (List ℕ) → Option (List ℕ) → Type 0
+IsDone status old new = (request : Request) × IsCarriedOut request status old new
+
+abbrev pub fault_status : Fault → ℕ
+fault_status BadConfig = 2
+fault_status (ProgramFault line) = 2
+fault_status _ = 1
+
+abbrev pub failure_status : Failure → ℕ
+failure_status BadCommandLine = 2
+failure_status (CannotRead name) = 2
+failure_status (Refused fault) = fault_status fault
+failure_status Unwritten = 1
+
+-- standard output took no more, or a session was refused so
+abbrev pub IsSessionFailure : Failure → Type 0
+IsSessionFailure Unwritten = Unit {0}
+IsSessionFailure (Refused fault) = IsSessionFault fault
+IsSessionFailure _ = ⊥
+
+-- a failure has its status, whether standard output took all or not; where it did not, nothing is done
+abbrev pub final_status : {E : Type 0} → Result ℕ Failure → Result (Unit {0}) E → ℕ
+final_status (Err failure) flushed = failure_status failure
+final_status (Ok status) (Ok took) = status
+final_status (Ok status) (Err error) = 1

@@ -1,0 +1,255 @@
+//! Whole commands.
+ghost use Rattle.std.specs.Prelude.{◌≡◌, ◌≤◌, ◌↔◌, ◌⊎◌, IsTrue, IfOk, IfErr, OnOk, MatchResult, length};
+ghost use Rattle.std.specs.Io.KnownBytes.{Appends};
+ghost use Rattle.ivy_model.specs.Config.{IsConfig};
+ghost use Rattle.ivy_model.specs.Legal.{Legal};
+ghost use Rattle.ivy_texts.specs.Lines.{verdict_line};
+ghost use Rattle.ivy_commands.specs.Commands.{config_of, final_status, AreSpelled, IsCarriedOut, IsDone, IsSessionFailure, PrintsDrawn, PrintsMoves, PrintsSession, PrintsVerdict};
+
+use crate::failure::Failure;
+use crate::print::{print_outputs, print_world};
+use crate::simulation::run_drawn;
+use crate::texts::Texts;
+use crate::trace::trace_moves;
+use ivy_arguments::{Request, Settings};
+use ivy_model::{Config, Kind, Record, check_order};
+use ivy_node::{Move, Program, World, parse};
+use ivy_session::{Limits, OpenGate, Session};
+use ivy_texts::{Order, parse_order, parse_schedule, print_verdict};
+use std::alloc::Global;
+use std::io::{self, Write};
+use std::sync::Wait;
+use std::thread::Threads;
+
+/// The exit status where the command line, a file or the configuration is at fault.
+const MISUSED: u8 = 2;
+
+/// The exit status of an order that is not legal.
+const NOT_LEGAL: u8 = 3;
+
+fn text_of<'a, T: Texts>(files: &T, name: &'a str) -> Result<String, Failure<'a>> {
+    files.text(name)?.ok_or(Failure::CannotRead(name))
+}
+
+/// The programs of a file.
+fn programs_of<'a, T: Texts>(
+    alloc: Global,
+    files: &T,
+    name: &'a str,
+) -> Result<Vec<Program<Global>>, Failure<'a>>
+    ensures { IfOk result (λ programs. AreSpelled programs.items) }
+{
+    Ok(parse(alloc, text_of(files, name)?.as_str())?)
+}
+
+/// The order of a file.
+fn order_of<'a, T: Texts>(
+    alloc: Global,
+    files: &T,
+    name: &'a str,
+) -> Result<Order<Global>, Failure<'a>> {
+    Ok(parse_order(alloc, text_of(files, name)?.as_str())?)
+}
+
+/// The moves of a file.
+fn moves_of<'a, T: Texts>(
+    alloc: Global,
+    files: &T,
+    name: &'a str,
+) -> Result<Vec<Move>, Failure<'a>> {
+    Ok(parse_schedule(alloc, text_of(files, name)?.as_str())?)
+}
+
+/// Runs programs in threads, and prints what they printed.
+fn run<'a, R: Threads + Wait + Sync, W: Write>(
+    rt: &R,
+    alloc: Global,
+    programs: Vec<Program<Global>>,
+    limits: Limits,
+    settings: Settings,
+    out: &mut W,
+) -> Result<(), Failure<'a>>
+    ensures done { OnOk result (PrintsSession (config_of settings (length programs.items)) programs.items (W.contents out.old) (W.contents out.new)) }
+    ensures failed { IfErr result IsSessionFailure }
+{
+    let config = settings.config(programs.len())?;
+    let report = Session::run(rt, alloc, config, programs, limits, &OpenGate)?;
+    print_outputs(&report, out)?;
+    Ok(())
+}
+
+/// Runs programs by a schedule, and prints each move and what they printed.
+fn step<'a, W: Write>(
+    alloc: Global,
+    programs: Vec<Program<Global>>,
+    moves: &[Move],
+    settings: Settings,
+    out: &mut W,
+) -> Result<(), Failure<'a>>
+    ensures { OnOk result (PrintsMoves (config_of settings (length programs.items)) programs.items (W.contents out.old) (W.contents out.new) moves.now) }
+{
+    let config = settings.config(programs.len())?;
+    let mut world = World::new(alloc, config, programs)?;
+    trace_moves(&config, &mut world, moves, out)?;
+    print_world(&world, out)?;
+    Ok(())
+}
+
+/// Runs programs by moves that the generator of a seed draws, and prints what they printed.
+fn sim<'a, W: Write>(
+    alloc: Global,
+    programs: Vec<Program<Global>>,
+    seed: u64,
+    moves: u64,
+    settings: Settings,
+    out: &mut W,
+) -> Result<(), Failure<'a>>
+    ensures { OnOk result (PrintsDrawn (config_of settings (length programs.items)) programs.items (W.contents out.old) (W.contents out.new) seed moves) }
+{
+    let config = settings.config(programs.len())?;
+    let mut world = World::new(alloc, config, programs)?;
+    run_drawn(&config, &mut world, seed, moves)?;
+    print_world(&world, out)?;
+    Ok(())
+}
+
+/// Prints whether one flat memory answers so, and says it.
+fn judge<'a, W: Write>(
+    alloc: Global,
+    config: &Config,
+    records: &[Record],
+    out: &mut W,
+) -> Result<bool, Failure<'a>>
+    requires { IsConfig config.now }
+    ensures legal { IfOk result (λ yes. IsTrue yes ↔ Legal config.now records.now) }
+    ensures printed { MatchResult result (λ yes. Appends (W.contents out.old) (W.contents out.new) (verdict_line yes)) (λ _. Unit {0}) }
+{
+    let is_legal = check_order(alloc, config, records)?;
+    print_verdict(is_legal, out)?;
+    Ok(is_legal)
+}
+
+/// Prints whether an order is legal, and says it.
+fn check<'a, W: Write>(
+    alloc: Global,
+    order: &Order<Global>,
+    out: &mut W,
+) -> Result<bool, Failure<'a>>
+    ensures { MatchResult result (λ yes. PrintsVerdict yes (W.contents out.old) (W.contents out.new)) (λ _. Unit {0}) }
+{
+    // Legality does not depend on how owners are found.
+    let settings = Settings {
+        pages: order.sizes.pages,
+        page_size: order.sizes.page_size,
+        manager: Kind::Fixed,
+    };
+    let config = settings.config(order.sizes.nodes as usize)?;
+    judge(alloc, &config, &order.records, out)
+}
+
+/// Carries out a request, and gives the exit status.
+fn carry_out<'a, R: Threads + Wait + Sync, T: Texts, W: Write>(
+    rt: &R,
+    alloc: Global,
+    request: Request<'a>,
+    files: &T,
+    out: &mut W,
+) -> Result<u8, Failure<'a>>
+    ensures { MatchResult result (λ status. IsCarriedOut request.entry status (W.contents out.old) (W.contents out.new)) (λ _. Unit {0}) }
+{
+    match request {
+        Request::Run {
+            file,
+            turns,
+            capacity,
+            pulse,
+            settings,
+        } => {
+            let programs = programs_of(alloc, files, file)?;
+            let limits = Limits {
+                capacity,
+                turns,
+                pulse_every: pulse,
+            };
+            run(rt, alloc, programs, limits, settings, out)?;
+            Ok(0)
+        }
+        Request::Step {
+            file,
+            schedule,
+            settings,
+        } => {
+            let programs = programs_of(alloc, files, file)?;
+            let moves = moves_of(alloc, files, schedule)?;
+            step(alloc, programs, &moves, settings, out)?;
+            Ok(0)
+        }
+        Request::Sim {
+            file,
+            seed,
+            moves,
+            settings,
+        } => {
+            let programs = programs_of(alloc, files, file)?;
+            sim(alloc, programs, seed, moves, settings, out)?;
+            Ok(0)
+        }
+        Request::Check { order } => {
+            let order = order_of(alloc, files, order)?;
+            let is_legal = check(alloc, &order, out)?;
+            Ok(if is_legal { 0 } else { NOT_LEGAL })
+        }
+    }
+}
+
+/// Carries out what the words ask for, and gives the exit status.
+fn obey<'a, R: Threads + Wait + Sync, T: Texts, W: Write>(
+    rt: &R,
+    alloc: Global,
+    words: &'a [String],
+    files: &T,
+    out: &mut W,
+) -> Result<u8, Failure<'a>>
+    ensures { MatchResult result (λ status. IsDone status (W.contents out.old) (W.contents out.new)) (λ _. Unit {0}) }
+{
+    let request = Request::read(alloc, words)?;
+    carry_out(rt, alloc, request, files, out)
+}
+
+/// The exit status of a command that ended so, and where standard output then took all of it or not. Standard error is
+/// told of a failure.
+///
+/// What is found before a run stands, since nothing was printed then. Else nothing more is printed where standard output
+/// did not take all.
+fn concluded<E: Write>(done: Result<u8, Failure<'_>>, flushed: io::Result<()>, err: &mut E) -> u8
+    ensures { result ≡ final_status done.entry flushed }
+{
+    let failure = match (done, flushed) {
+        (Ok(status), Ok(())) => return status,
+        (Err(failure), Ok(())) => failure,
+        (Err(failure), Err(_)) if failure.status() == MISUSED => failure,
+        (_, Err(_)) => Failure::Unwritten,
+    };
+    failure.report(err)
+}
+
+/// Carries out a command and gives its exit status: 0 where it was done, 1 where the run was refused
+/// or standard output took no more, 2 where the command line, a file or the configuration is at
+/// fault, and 3 where an order is not legal.
+///
+/// The first word is the program's name. What is at fault is printed on standard error.
+pub fn perform<R: Threads + Wait + Sync, T: Texts, O: Write, E: Write>(
+    rt: &R,
+    alloc: Global,
+    words: &[String],
+    files: &T,
+    out: &mut O,
+    err: &mut E,
+) -> u8
+    ensures known { result ≤ 3 }
+    ensures done { (result ≡ 0) ⊎ (result ≡ 3) → IsDone result (O.contents out.old) (O.contents out.new) }
+{
+    let done = obey(rt, alloc, words, files, out);
+    let flushed = out.flush();
+    concluded(done, flushed, err)
+}
