@@ -7,9 +7,8 @@ use Rattle.ivy_wire.specs.Data.{Content, Message}
 use Rattle.ivy_pagetable.specs.declared.Entry.{Entry}
 use Rattle.ivy_pagetable.specs.declared.Request.{Request}
 use Rattle.ivy_pagetable.specs.declared.Request.TheVariants as request
-use Rattle.ivy_pagetable.specs.Entries.{put_offs}
 use Rattle.ivy_order.specs.Letters.{Letter, Net, Place, Underway, Aside, Loose, content_of, IsAt, goes_on, installs}
-use Rattle.ivy_order.specs.Rows.{taken, dropped, AreAlike}
+use Rattle.ivy_order.specs.Rows.{taken, dropped}
 use Rattle.ivy_order.proofs.Places.{written-here, written-other, same_or_other, served}
 use Rattle.ivy_order.proofs.Steps.{IsStep, either_entry}
 use Rattle.ivy_order.proofs.Parcels.{rest_told, is_step}
@@ -109,16 +108,3 @@ module _ (c : Config) (n : Net) (f : ℕ → List ℕ) (h : IsCopied c n f) wher
       letters (Underway i j k) l at = h.carried (Underway i j k) l at
       letters (Aside i q k) l at = h.carried (Aside i q k) l at
       letters (Loose k) l at = h.carried (Loose (suc k)) l (ap (λ v. slice_get v (suc k)) loose ∙ at)
-
-  pub alike_copied : {S : Type 0} (m m' : ℕ → S) (n' : Net) → AreAlike m m' n n' → IsCopied c n' f
-  alike_copied m m' n' same = record {
-    had = λ i q has. same.pages i q ∙ h.had i q (subst HasBytes (same.entries i q) has);
-    carried = letters;
-    flat_sized = h.flat_sized;
-    sized = λ i q low inside. ap length (same.pages i q) ∙ h.sized i q low inside;
-  }
-    where
-      letters : (a : Place) (l : Letter) → IsAt n' a l → Carries f l.message.content
-      letters (Underway i j k) l at = h.carried (Underway i j k) l (subst (λ d. d ≤ k) (same.delivered i j) at.0, ap (λ v. slice_get v k) (sym (same.posted i j)) ∙ at.1, at.2, at.3)
-      letters (Aside i q k) l at = h.carried (Aside i q k) l (at.0, ap (λ y. slice_get (put_offs y) k) (sym (same.entries i q)) ∙ at.1, at.2)
-      letters (Loose k) l at = h.carried (Loose k) l (ap (λ v. slice_get v k) (sym same.loose) ∙ at)

@@ -1,34 +1,41 @@
 -- Each row of the table of coherence events keeps a net orderly, under every manager.
+use Rattle.std.specs.Prelude.{ℕ, List}
 use Rattle.ivy_model.specs.declared.Config.{Config}
 use Rattle.ivy_model.specs.Config.{IsConfig}
 use Rattle.ivy_pagetable.specs.Manager.{Ops}
+use Rattle.ivy_order.specs.Letters.{Net}
 use Rattle.ivy_order.specs.Orderly.{IsOrderly}
-use Rattle.ivy_order.specs.Rows.{IsKept}
-use Rattle.ivy_order.proofs.Relabelled.{installed, letter_taken, letter_dropped, alike_orderly}
+use Rattle.ivy_order.specs.Rows.{Notice, Row, IsKept}
+use Rattle.ivy_order.proofs.Relabelled.{installed, letter_taken, letter_dropped}
 use Rattle.ivy_order.proofs.RowsAsked.{read_sent_on, write_sent_on, copy_ended, copy_ended_waiting, put_aside}
 use Rattle.ivy_order.proofs.RowsGiven.{copy_given, page_given}
 use Rattle.ivy_order.proofs.RowsCome.{copy_came, page_came, page_came_shared, acknowledged, all_acknowledged}
 use Rattle.ivy_order.proofs.RowsBegun.{copy_asked, page_asked, copies_ordered_back}
 
+module _ (c : Config) (config : IsConfig c) where
+  pub orderly_by : {n : Net} {f : ℕ → List ℕ} {notice : Notice} {n' : Net} {f' : ℕ → List ℕ}
+      → Row c n f notice n' f' → IsOrderly c n → IsOrderly c n'
+  orderly_by (Row.carries r) o = installed c _ r.node r.page _ o
+  orderly_by (Row.takes r) o = letter_taken c _ r.source r.dest r.message r.first o
+  orderly_by (Row.drops r) o = letter_dropped c _ r.node r.old r.rest r.loose o
+  orderly_by (Row.shares r owner low) o = copy_given c _ r o owner
+  orderly_by (Row.gives r owner low) o = page_given c _ r o owner config low
+  orderly_by (Row.sends_on_read r hop plain away) o = read_sent_on c _ o r hop
+  orderly_by (Row.sends_on_write r hop plain away) o = write_sent_on c _ o r hop
+  orderly_by (Row.ends_copy r sender plain) o = copy_ended c _ o r
+  orderly_by (Row.gives_up r sender) o = copy_ended_waiting c _ o r
+  orderly_by (Row.puts_off r) o = put_aside c _ r o
+  orderly_by (Row.copy_comes bytes r same) o =
+      installed c _ r.node r.page bytes (copy_came c _ o bytes r)
+  orderly_by (Row.page_comes copies bytes r same none) o =
+      installed c _ r.node r.page bytes (page_came c _ o copies bytes r none)
+  orderly_by (Row.page_comes_shared copies bytes r same some out low) o =
+      installed c _ r.node r.page bytes (page_came_shared c _ o copies bytes r same)
+  orderly_by (Row.acknowledges r same left more) o = acknowledged c _ o r
+  orderly_by (Row.acknowledges_last r same left last) o = all_acknowledged c _ o r last
+  orderly_by (Row.asks_copy r hop plain unread away) o = copy_asked c _ r o hop
+  orderly_by (Row.asks_page r hop plain away) o = page_asked c _ r o hop
+  orderly_by (Row.ends_copies r owner reader low out) o = copies_ordered_back c _ r o owner reader
+
 pub orderly-kept : {S : Type 0} (ops : Ops S) (c : Config) → IsConfig c → IsKept ops c (λ m n f. IsOrderly c n)
-orderly-kept ops c config = record {
-  alike = λ m m' n n' f same o. alike_orderly c m m' n n' same o;
-  carries = λ m n f x p s w here inside word is suffices o. installed c n x p _ o;
-  takes = λ m n f i j message none first o. letter_taken c n i j message first o;
-  drops = λ m n f x l rest here loose dest misfits o. letter_dropped c n x l rest loose o;
-  shares = λ m n f x p from o call s rest serves foreign is owner low order. copy_given c n x p rest order from o call s foreign is owner (n.page x p) serves;
-  gives = λ m n f x p from o call s rest serves foreign is owner low order. page_given c n x p rest order from o call s foreign is owner (n.page x p) serves config low;
-  sends_on_read = λ m n f x p from o call s rest serves foreign is owner hop order. read_sent_on c n x p rest order from o call (ops.next_hop (m x) p) s serves foreign is;
-  sends_on_write = λ m n f x p from o call s rest serves foreign is owner hop order. write_sent_on c n x p rest order from o call (ops.next_hop (m x) p) s serves foreign is;
-  ends_copy = λ m n f x p o call s rest serves foreign is owner order. copy_ended c n x p rest order o call s serves foreign is;
-  gives_up = λ m n f x p o call s rest serves foreign is order. copy_ended_waiting c n x p rest order o call s serves foreign is;
-  puts_off = λ m n f x p from q e rest serves foreign orders is room order. put_aside c n x p rest order q e is room from serves foreign orders;
-  copy_comes = λ m n f x p from call w bytes serves foreign is same order. installed c _ x p bytes (copy_came c n x p from call order w bytes serves is);
-  page_comes = λ m n f x p from call copies s bytes serves foreign is same none order. installed c _ x p bytes (page_came c n x p from call order copies s bytes serves is none);
-  page_comes_shared = λ m n f x p from call copies s bytes serves foreign is same some out low order. installed c _ x p bytes (page_came_shared c n x p from call order copies s bytes serves is same);
-  acknowledges = λ m n f x p from call s serves foreign is same left more order. acknowledged c n x p from call order s serves is;
-  acknowledges_last = λ m n f x p from call s serves foreign is same left last order. all_acknowledged c n x p from call order s serves is last;
-  asks_copy = λ m n f x p call s w begins is owner unread hop order. copy_asked c n x p call order s is (ops.next_hop (m x) p) w begins;
-  asks_page = λ m n f x p call s w begins is owner hop order. page_asked c n x p call order s is (ops.next_hop (m x) p) w begins;
-  ends_copies = λ m n f x p call s w begins is owner reader low out order. copies_ordered_back c n x p call order s is w begins owner reader;
-}
+orderly-kept ops c config = record { by = λ row of order. orderly_by c config row order }

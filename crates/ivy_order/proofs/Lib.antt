@@ -13,6 +13,9 @@ pub mod Quiet
 pub mod RowsBegun
 pub mod RowsCome
 pub mod Kept
+pub mod Alike
+pub mod Both
+pub mod Embedded
 pub mod Opening
 pub mod Exclusive
 pub mod Few

@@ -10,7 +10,7 @@ use Rattle.ivy_pagetable.specs.Entries.{put_offs, readable, writable, is_owner, 
 use Rattle.ivy_events.specs.Ordered.{one_more}
 use Rattle.ivy_order.specs.Letters.{Letter, Net, Place, Underway, Aside, Loose, IsAt, installs}
 use Rattle.ivy_order.specs.Orderly.{CanWait, HasCopy, reads, comes, Seat, At, In, IsOwned, IsExpected, IsOrderly}
-use Rattle.ivy_order.specs.Rows.{taken, dropped, AreAlike}
+use Rattle.ivy_order.specs.Rows.{taken, dropped}
 use Rattle.ivy_order.proofs.Places.{served}
 use Rattle.ivy_order.proofs.Needs.{page_of, Needs, needs, refit}
 use Rattle.ivy_order.proofs.Owners.{seat_now}
@@ -153,6 +153,3 @@ module _ (c : Config) (n : Net) where
       letters (Underway i j k) m at = (Underway i j k, at, refl)
       letters (Aside i q k) m at = (Aside i q k, at, refl)
       letters (Loose k) m at = (Loose (suc k), ap (λ v. slice_get v (suc k)) loose ∙ at, refl)
-
-pub alike_orderly : {S : Type 0} (c : Config) (m m' : ℕ → S) (n n' : Net) → AreAlike m m' n n' → IsOrderly c n → IsOrderly c n'
-alike_orderly c m m' n n' same = same_orderly c n n' (record { entries = same.entries; posted = same.posted; delivered = same.delivered; loose = same.loose })

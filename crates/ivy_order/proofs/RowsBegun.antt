@@ -6,8 +6,6 @@ use Rattle.ivy_wire.specs.declared.Content.TheVariants as content
 use Rattle.ivy_wire.specs.Data.{Content}
 use Rattle.ivy_pagetable.specs.declared.Entry.{Entry}
 use Rattle.ivy_pagetable.specs.declared.Entry.TheVariants as entry
-use Rattle.ivy_pagetable.specs.declared.Word.{Word}
-use Rattle.ivy_pagetable.specs.States.{IdleState}
 use Rattle.ivy_pagetable.specs.Accesses.{reads as can_read}
 use Rattle.ivy_pagetable.specs.Entries.{put_offs, readable, writable, is_owner}
 use Rattle.ivy_serving.specs.Serving.{parcel_to, invalidations}
@@ -31,14 +29,16 @@ no_put_offs x z none shut = record {
   alone = λ h. absurd (let f : true ≡ false = sym h ∙ shut in cc);
 }
 
-module _ (c : Config) (n : Net) (x p call : ℕ) (order : IsOrderly c n) (s : IdleState) (is : n.entry x p ≡ entry.Idle s) where
+module _ (c : Config) (n : Net) (r : Begins c n) (order : IsOrderly c n) where
+  open r use {node as x, page as p, call, state as s, word as w, is, loose}
+
   -- a request is posted
-  asked : (hop : ℕ) (body : Content) (z : Entry) → n.loose ≡ [] → put_offs z ≡ [] → writable z ≡ false → is_owner z ≡ false → (readable z ≡ true → can_read s.access ≡ true)
+  asked : (hop : ℕ) (body : Content) (z : Entry) → put_offs z ≡ [] → writable z ≡ false → is_owner z ≡ false → (readable z ≡ true → can_read s.access ≡ true)
       → key_of (letter x hop x call body) ≡ Own x p
       → ((q : ℕ) (bytes : List ℕ) → body ≡ content.ReadRep q bytes → ⊥) → ((q bits : ℕ) (bytes : List ℕ) → body ≡ content.WriteRep q bits bytes → ⊥)
       → IsExpected c (goes_on n x p z [] (parcel_to x hop x call body ∷ [])) (letter x hop x call body)
       → IsOrderly c (goes_on n x p z [] (parcel_to x hop x call body ∷ []))
-  asked hop body z loose none shut plain reader key no_copy no_page fits = step_orderly c n n' x p (entry.Idle s) z served (IsThe at new) step (record {
+  asked hop body z none shut plain reader key no_copy no_page fits = step_orderly c n n' x p (entry.Idle s) z served (IsThe at new) step (record {
     keeps = λ b l bt stays origin page h. absurd (idle_needs s l l.message.content h);
     acks = λ b l q bt stays it. no_copies n n' x p (entry.Idle s) z served (IsThe at new) step q (copies q) l.source;
     news = λ a l it. subst (IsExpected c n') (sym it.1) fits;
@@ -77,24 +77,24 @@ module _ (c : Config) (n : Net) (x p call : ℕ) (order : IsOrderly c n) (s : Id
       written : IsEntryOf x z
       written = no_put_offs x z none shut
 
-  pub copy_asked : (hop : ℕ) (w : Word) → Begins c n x p call → IsOrderly c (goes_on n x p (entry.AwaitRead (waiting_from w call)) [] (parcel_to x hop x call (content.ReadReq p) ∷ []))
-  copy_asked hop w begins = asked hop (content.ReadReq p) (entry.AwaitRead (waiting_from w call)) begins.loose refl refl refl (λ h. absurd (let f : false ≡ true = h in cc)) refl
+  pub copy_asked : (hop : ℕ) → IsOrderly c (goes_on n x p (entry.AwaitRead (waiting_from w call)) [] (parcel_to x hop x call (content.ReadReq p) ∷ []))
+  copy_asked hop = asked hop (content.ReadReq p) (entry.AwaitRead (waiting_from w call)) refl refl refl (λ h. absurd (let f : false ≡ true = h in cc)) refl
       (λ q bytes h. cc) (λ q bits bytes h. cc)
-      (record { below = begins.here; inside = begins.page }, subst (λ y. AwaitsCopy y call) (sym (written-here n.entry x p (entry.AwaitRead (waiting_from w call)) x p refl refl)) refl)
+      (record { below = r.here; inside = r.inside }, subst (λ y. AwaitsCopy y call) (sym (written-here n.entry x p (entry.AwaitRead (waiting_from w call)) x p refl refl)) refl)
 
-  pub page_asked : (hop : ℕ) (w : Word) → Begins c n x p call
+  pub page_asked : (hop : ℕ)
       → IsOrderly c (goes_on n x p (entry.AwaitWrite (record { had_copy = can_read s.access; waiting = waiting_from w call })) [] (parcel_to x hop x call (content.WriteReq p) ∷ []))
-  page_asked hop w begins = asked hop (content.WriteReq p) (entry.AwaitWrite (record { had_copy = can_read s.access; waiting = waiting_from w call })) begins.loose refl refl refl (λ h. h) refl
+  page_asked hop = asked hop (content.WriteReq p) (entry.AwaitWrite (record { had_copy = can_read s.access; waiting = waiting_from w call })) refl refl refl (λ h. h) refl
       (λ q bytes h. cc) (λ q bits bytes h. cc) (
-        record { below = begins.here; inside = begins.page },
+        record { below = r.here; inside = r.inside },
         subst (λ y. AwaitsPage y call) (sym (written-here n.entry x p (entry.AwaitWrite (record { had_copy = can_read s.access; waiting = waiting_from w call })) x p refl refl)) refl,
       )
 
   -- orders to give copies up are posted
-  pub copies_ordered_back : (w : Word) → Begins c n x p call → s.owner ≡ true → can_read s.access ≡ true
+  pub copies_ordered_back : s.owner ≡ true → can_read s.access ≡ true
       → IsOrderly c (goes_on n x p (entry.AwaitAcks (record { left = s.copies; waiting = waiting_from w call })) [] (invalidations x p call s.copies))
-  copies_ordered_back w begins owner reader = ordered_orderly c n n' x p (entry.Idle s) z served order call s.copies step
-      (record { below = begins.here; inside = begins.page })
+  copies_ordered_back owner reader = ordered_orderly c n n' x p (entry.Idle s) z served order call s.copies step
+      (record { below = r.here; inside = r.inside })
       (λ target held. (refl, held))
       (λ l target h key. idle_needs s l l.message.content h)
       (λ b l bt stays origin page h. absurd (idle_needs s l l.message.content h))

@@ -1,8 +1,8 @@
--- The steps of which every event of a world is made, on entries, letters and managers alone: a letter is taken, one
+-- The steps of which every event of a world is made, on managers, entries and letters alone: a letter is taken, one
 -- is served at an idle entry, put off, dropped; a copy, a page or an acknowledgement comes; a word begins to wait.
 -- What each of them keeps, every world keeps.
 -- Beside them stand the pages of the flat memory, which change where a word is carried out.
-use Rattle.std.specs.Prelude.{◌≡◌, ◌≢◌, ◌⊎◌, ◌<◌, ◌≤◌, ℕ, true, false, List, [], ◌∷◌, map, slice_get, Some, if◌then◌else◌, ◌==◌}
+use Rattle.std.specs.Prelude.{◌≡◌, ◌≢◌, ◌⊎◌, ◌<◌, ◌≤◌, ℕ, Bool, true, false, List, [], ◌∷◌, map, slice_get, Some, if◌then◌else◌, ◌==◌}
 use Rattle.std.specs.FinSet as set
 use Rattle.ivy_model.specs.declared.Config.{Config}
 use Rattle.ivy_wire.specs.declared.Content.TheVariants as content
@@ -13,7 +13,7 @@ use Rattle.ivy_pagetable.specs.declared.PutOff.{PutOff}
 use Rattle.ivy_pagetable.specs.declared.Request.TheVariants as request
 use Rattle.ivy_pagetable.specs.declared.Word.{Word}
 use Rattle.ivy_pagetable.specs.NodeSets.{IsBelow, bits_of, nodes_with}
-use Rattle.ivy_pagetable.specs.States.{IdleState, WaitingState, AwaitWriteState, AwaitAcksState}
+use Rattle.ivy_pagetable.specs.States.{IdleState, WaitingState, AwaitWriteState}
 use Rattle.ivy_pagetable.specs.Accesses.{reads}
 use Rattle.ivy_pagetable.specs.Entries.{is_locked, is_owner, can_put_off, with_put_off, without, copying, owning, sharing}
 use Rattle.ivy_pagetable.specs.Words.{IsWord, carried_out}
@@ -61,22 +61,33 @@ with_page flat p bytes q = if q == p then bytes else flat q
 abbrev pub told : {S : Type 0} → (ℕ → S) → ℕ → S → ℕ → S
 told m x s i = if i == x then s else m i
 
--- the same entries, letters and managers
-pub record AreAlike {S : Type 0} (m m' : ℕ → S) (n n' : Net) : Type 0 where
-  pub managers : (i : ℕ) → m' i ≡ m i
-  pub entries : (i p : ℕ) → n'.entry i p ≡ n.entry i p
-  pub pages : (i p : ℕ) → n'.page i p ≡ n.page i p
-  pub breaches : (i : ℕ) → n'.breaches i ≡ n.breaches i
-  pub posted : (i j : ℕ) → n'.posted i j ≡ n.posted i j
-  pub delivered : (i j : ℕ) → n'.delivered i j ≡ n.delivered i j
-  pub loose : n'.loose ≡ n.loose
+-- what the manager of a node is asked, or told, in a step
+pub data Notice : Type 0 where
+  Silent : Notice
+  Asked : (node page hop : ℕ) → Notice
+  Forwarded : (node page : ℕ) (write : Bool) (origin hop : ℕ) → Notice
+  Given : (node page to : ℕ) → Notice
+  Replied : (node page : ℕ) (write : Bool) (from : ℕ) → Notice
+  Invalidated : (node page by : ℕ) → Notice
 
--- a node that serves a letter about a page, with these others left to be served
-pub record Serves (c : Config) (n : Net) (x p : ℕ) (l : Letter) (rest : List Letter) : Type 0 where
-  pub here : x < c.nodes
-  pub page : p < c.pages
-  pub loose : n.loose ≡ l ∷ rest
-  pub dest : l.dest ≡ x
+module _ {S : Type 0} (ops : Ops S) where
+  -- the managers after it
+  abbrev pub noticed : (ℕ → S) → Notice → ℕ → S
+  noticed m Silent = m
+  noticed m (Asked x p hop) = m
+  noticed m (Forwarded x p write origin hop) = told m x (ops.on_forward (m x) p write origin)
+  noticed m (Given x p to) = told m x (ops.on_given (m x) p to)
+  noticed m (Replied x p write from) = told m x (ops.on_replied (m x) p write from)
+  noticed m (Invalidated x p by) = told m x (ops.on_invalidated (m x) p by)
+
+  -- the node is one of the nodes, and the hop is the one that its manager names
+  abbrev pub IsOf : Config → (ℕ → S) → Notice → Type 0
+  IsOf c m Silent = Unit {0}
+  IsOf c m (Asked x p hop) = (x < c.nodes) × (hop ≡ ops.next_hop (m x) p)
+  IsOf c m (Forwarded x p write origin hop) = (x < c.nodes) × (hop ≡ ops.next_hop (m x) p)
+  IsOf c m (Given x p to) = x < c.nodes
+  IsOf c m (Replied x p write from) = x < c.nodes
+  IsOf c m (Invalidated x p by) = x < c.nodes
 
 -- a node that sends a request on, or begins one: to another node
 pub record IsHop (c : Config) (x hop : ℕ) : Type 0 where
@@ -105,135 +116,213 @@ Misfits n x l (content.AllocRep code addr) = Unit {0}
 Misfits n x l (content.FreeReq addr) = Unit {0}
 Misfits n x l (content.FreeRep code) = Unit {0}
 
--- a node at which no word waits and none is served begins to wait
-pub record Begins (c : Config) (n : Net) (x p call : ℕ) : Type 0 where
-  pub here : x < c.nodes
-  pub page : p < c.pages
+-- a word that is to be carried out at an idle entry, where access suffices
+pub record Carries (c : Config) (n : Net) : Type 0 where
+  pub node : ℕ
+  pub page : ℕ
+  pub word : Word
+  pub state : IdleState
+  pub here : node < c.nodes
+  pub inside : page < c.pages
+  pub is_word : IsWord c.page_size word
+  pub is : n.entry node page ≡ entry.Idle state
+  pub enough : suffices state.access word ≡ true
+
+-- the first letter under way from one node to another, while none is served
+pub record Takes (n : Net) : Type 0 where
+  pub source : ℕ
+  pub dest : ℕ
+  pub message : Message
+  pub none : n.loose ≡ []
+  pub first : slice_get (n.posted source dest) (n.delivered source dest) ≡ Some message
+
+-- a letter at a node that fits no rule there
+pub record Drops (c : Config) (n : Net) : Type 0 where
+  pub node : ℕ
+  pub old : Letter
+  pub rest : List Letter
+  pub here : node < c.nodes
+  pub loose : n.loose ≡ old ∷ rest
+  pub dest : old.dest ≡ node
+  pub misfits : Misfits n node old old.message.content
+
+-- a letter that is put off at a locked entry with room; an order, only where a copy is awaited
+pub record PutsOff (c : Config) (n : Net) : Type 0 where
+  pub node : ℕ
+  pub page : ℕ
+  pub from : ℕ
+  pub later : PutOff
+  pub before : Entry
+  pub rest : List Letter
+  pub here : node < c.nodes
+  pub inside : page < c.pages
+  pub loose : n.loose
+      ≡ letter from node later.origin later.call (content_of later.kind page) ∷ rest
+  pub foreign : later.origin ≢ node
+  pub orders : later.kind ≡ request.Invalidate
+      → (from ≡ later.origin) × ((w : WaitingState) × (before ≡ entry.AwaitRead w))
+  pub is : n.entry node page ≡ before
+  pub room : can_put_off before ≡ true
+
+-- a letter of another node is served at an entry of such a state, with these left to be served
+pub record Served {T : Type 0} (c : Config) (n : Net) (at : T → Entry) (ask : ℕ → Content) : Type 0 where
+  pub node : ℕ
+  pub page : ℕ
+  pub from : ℕ
+  pub origin : ℕ
+  pub call : ℕ
+  pub state : T
+  pub rest : List Letter
+  pub here : node < c.nodes
+  pub inside : page < c.pages
+  pub loose : n.loose ≡ letter from node origin call (ask page) ∷ rest
+  pub foreign : origin ≢ node
+  pub is : n.entry node page ≡ at state
+
+-- what a node's own word waits for comes, at an entry of such a state
+pub record Comes {T : Type 0} (c : Config) (n : Net) (at : T → Entry) (bring : ℕ → Content) : Type 0 where
+  pub node : ℕ
+  pub page : ℕ
+  pub from : ℕ
+  pub call : ℕ
+  pub state : T
+  pub here : node < c.nodes
+  pub inside : page < c.pages
+  pub loose : n.loose ≡ letter from node node call (bring page) ∷ []
+  pub foreign : from ≢ node
+  pub is : n.entry node page ≡ at state
+
+-- a word begins to wait at a node at which none waits and none is served
+pub record Begins (c : Config) (n : Net) : Type 0 where
+  pub node : ℕ
+  pub page : ℕ
+  pub call : ℕ
+  pub word : Word
+  pub state : IdleState
+  pub here : node < c.nodes
+  pub inside : page < c.pages
   pub numbered : 1 ≤ call
   pub loose : n.loose ≡ []
-  pub free : (q : ℕ) → is_locked (n.entry x q) ≡ false
+  pub free : (q : ℕ) → is_locked (n.entry node q) ≡ false
+  pub is : n.entry node page ≡ entry.Idle state
 
--- P is kept by each step
-pub record IsKept {S : Type 0} (ops : Ops S) (c : Config)
-    (P : (ℕ → S) → Net → (ℕ → List ℕ) → Type 0) : Type 0 where
-  pub alike : (m m' : ℕ → S) (n n' : Net) (f : ℕ → List ℕ) → AreAlike m m' n n' → P m n f
-      → P m' n' f
+-- a node that waits for the page has no copy any more
+abbrev pub bare : AwaitWriteState → AwaitWriteState
+bare s = record { had_copy = false; waiting = s.waiting }
+
+-- One step from this net and these pages of the flat memory to those, of which a manager has this notice.
+pub data Row (c : Config) (n : Net) (f : ℕ → List ℕ) : Notice → Net → (ℕ → List ℕ) → Type 0 where
   -- a word is carried out where access suffices
-  pub carries : (m : ℕ → S) (n : Net) (f : ℕ → List ℕ) (x p : ℕ) (s : IdleState) (w : Word)
-      → x < c.nodes → p < c.pages → IsWord c.page_size w → n.entry x p ≡ entry.Idle s
-      → suffices s.access w ≡ true
-      → P m n f
-      → P m (installs n x p (carried_out w (n.page x p)).bytes)
-      (with_page f p (carried_out w (f p)).bytes)
+  carries : (r : Carries c n) → Row c n f Silent
+      (installs n r.node r.page (carried_out r.word (n.page r.node r.page)).bytes)
+      (with_page f r.page (carried_out r.word (f r.page)).bytes)
   -- a letter is taken; one that fits no rule is dropped
-  pub takes : (m : ℕ → S) (n : Net) (f : ℕ → List ℕ) (i j : ℕ) (message : Message) → n.loose ≡ []
-      → slice_get (n.posted i j) (n.delivered i j) ≡ Some message → P m n f
-      → P m (taken n i j message) f
-  pub drops : (m : ℕ → S) (n : Net) (f : ℕ → List ℕ) (x : ℕ) (l : Letter) (rest : List Letter)
-      → x < c.nodes
-      → n.loose ≡ l ∷ rest → l.dest ≡ x → Misfits n x l l.message.content → P m n f
-      → P m (dropped n x rest) f
+  takes : (r : Takes n) → Row c n f Silent (taken n r.source r.dest r.message) f
+  drops : (r : Drops c n) → Row c n f Silent (dropped n r.node r.rest) f
   -- at an idle entry of the owner: a copy is given, or the page itself
-  pub shares : (m : ℕ → S) (n : Net) (f : ℕ → List ℕ) (x p from o call : ℕ) (s : IdleState)
-      (rest : List Letter)
-      → Serves c n x p (letter from x o call (content.ReadReq p)) rest → o ≢ x
-      → n.entry x p ≡ entry.Idle s → s.owner ≡ true → IsBelow c.nodes s.copies → P m n f
-      → P m (goes_on n x p (entry.Idle (sharing (set.insert s.copies o))) rest
-      (parcel_to x o o call (content.ReadRep p (n.page x p)) ∷ [])) f
-  pub gives : (m : ℕ → S) (n : Net) (f : ℕ → List ℕ) (x p from o call : ℕ) (s : IdleState)
-      (rest : List Letter)
-      → Serves c n x p (letter from x o call (content.WriteReq p)) rest → o ≢ x
-      → n.entry x p ≡ entry.Idle s → s.owner ≡ true → IsBelow c.nodes s.copies → P m n f
-      → P (told m x (ops.on_given (m x) p o)) (goes_on n x p (entry.Idle without) rest
-      (parcel_to x o o call (content.WriteRep p (bits_of (set.remove s.copies o)) (n.page x p))
-      ∷ [])) f
+  shares : (r : Served c n entry.Idle content.ReadReq) → r.state.owner ≡ true
+      → IsBelow c.nodes r.state.copies
+      → Row c n f Silent
+      (goes_on n r.node r.page (entry.Idle (sharing (set.insert r.state.copies r.origin))) r.rest
+      (parcel_to r.node r.origin r.origin r.call
+      (content.ReadRep r.page (n.page r.node r.page)) ∷ [])) f
+  gives : (r : Served c n entry.Idle content.WriteReq) → r.state.owner ≡ true
+      → IsBelow c.nodes r.state.copies
+      → Row c n f (Given r.node r.page r.origin)
+      (goes_on n r.node r.page (entry.Idle without) r.rest
+      (parcel_to r.node r.origin r.origin r.call
+      (content.WriteRep r.page (bits_of (set.remove r.state.copies r.origin))
+      (n.page r.node r.page)) ∷ [])) f
   -- at an idle entry of another node: a request is sent on, or the copy is given up
-  pub sends_on_read : (m : ℕ → S) (n : Net) (f : ℕ → List ℕ) (x p from o call : ℕ) (s : IdleState)
-      (rest : List Letter)
-      → Serves c n x p (letter from x o call (content.ReadReq p)) rest → o ≢ x
-      → n.entry x p ≡ entry.Idle s → s.owner ≡ false → IsHop c x (ops.next_hop (m x) p) → P m n f
-      → P (told m x (ops.on_forward (m x) p false o)) (goes_on n x p (entry.Idle s) rest
-      (parcel_to x (ops.next_hop (m x) p) o call (content.ReadReq p) ∷ [])) f
-  pub sends_on_write : (m : ℕ → S) (n : Net) (f : ℕ → List ℕ) (x p from o call : ℕ) (s : IdleState)
-      (rest : List Letter)
-      → Serves c n x p (letter from x o call (content.WriteReq p)) rest → o ≢ x
-      → n.entry x p ≡ entry.Idle s → s.owner ≡ false → IsHop c x (ops.next_hop (m x) p) → P m n f
-      → P (told m x (ops.on_forward (m x) p true o)) (goes_on n x p (entry.Idle s) rest
-      (parcel_to x (ops.next_hop (m x) p) o call (content.WriteReq p) ∷ [])) f
-  pub ends_copy : (m : ℕ → S) (n : Net) (f : ℕ → List ℕ) (x p o call : ℕ) (s : IdleState)
-      (rest : List Letter)
-      → Serves c n x p (letter o x o call (content.Inval p)) rest → o ≢ x
-      → n.entry x p ≡ entry.Idle s → s.owner ≡ false → P m n f
-      → P (told m x (ops.on_invalidated (m x) p o)) (goes_on n x p (entry.Idle without) rest
-      (parcel_to x o o call (content.InvalAck p) ∷ [])) f
+  sends_on_read : (r : Served c n entry.Idle content.ReadReq) (hop : ℕ) → r.state.owner ≡ false
+      → IsHop c r.node hop
+      → Row c n f (Forwarded r.node r.page false r.origin hop)
+      (goes_on n r.node r.page (entry.Idle r.state) r.rest
+      (parcel_to r.node hop r.origin r.call
+      (content.ReadReq r.page) ∷ [])) f
+  sends_on_write : (r : Served c n entry.Idle content.WriteReq) (hop : ℕ) → r.state.owner ≡ false
+      → IsHop c r.node hop
+      → Row c n f (Forwarded r.node r.page true r.origin hop)
+      (goes_on n r.node r.page (entry.Idle r.state) r.rest
+      (parcel_to r.node hop r.origin r.call
+      (content.WriteReq r.page) ∷ [])) f
+  ends_copy : (r : Served c n entry.Idle content.Inval) → r.from ≡ r.origin
+      → r.state.owner ≡ false
+      → Row c n f (Invalidated r.node r.page r.origin)
+      (goes_on n r.node r.page (entry.Idle without) r.rest
+      (parcel_to r.node r.origin r.origin r.call (content.InvalAck r.page) ∷ [])) f
   -- at a locked entry: a copy is given up at once where the page is awaited, all else is put off
-  pub gives_up : (m : ℕ → S) (n : Net) (f : ℕ → List ℕ) (x p o call : ℕ) (s : AwaitWriteState)
-      (rest : List Letter)
-      → Serves c n x p (letter o x o call (content.Inval p)) rest → o ≢ x
-      → n.entry x p ≡ entry.AwaitWrite s → P m n f
-      → P (told m x (ops.on_invalidated (m x) p o))
-      (goes_on n x p (entry.AwaitWrite (record { had_copy = false; waiting = s.waiting })) rest
-      (parcel_to x o o call (content.InvalAck p) ∷ [])) f
-  pub puts_off : (m : ℕ → S) (n : Net) (f : ℕ → List ℕ) (x p from : ℕ) (q : PutOff) (e : Entry)
-      (rest : List Letter)
-      → Serves c n x p (letter from x q.origin q.call (content_of q.kind p)) rest → q.origin ≢ x
-      → (q.kind ≡ request.Invalidate
-      → (from ≡ q.origin) × ((w : WaitingState) × (e ≡ entry.AwaitRead w)))
-      → n.entry x p ≡ e → can_put_off e ≡ true → P m n f
-      → P m (goes_on n x p (with_put_off e q) rest []) f
+  gives_up : (r : Served c n entry.AwaitWrite content.Inval) → r.from ≡ r.origin
+      → Row c n f (Invalidated r.node r.page r.origin)
+      (goes_on n r.node r.page (entry.AwaitWrite (bare r.state)) r.rest
+      (parcel_to r.node r.origin r.origin r.call (content.InvalAck r.page) ∷ [])) f
+  puts_off : (r : PutsOff c n)
+      → Row c n f Silent (goes_on n r.node r.page (with_put_off r.before r.later) r.rest []) f
   -- what a word waits for comes: what was put off is loose then
-  pub copy_comes : (m : ℕ → S) (n : Net) (f : ℕ → List ℕ) (x p from call : ℕ) (w : WaitingState)
-      (bytes : List ℕ)
-      → Serves c n x p (letter from x x call (content.ReadRep p bytes)) [] → from ≢ x
-      → n.entry x p ≡ entry.AwaitRead w → w.call ≡ call → P m n f
-      → P (told m x (ops.on_replied (m x) p false from))
-      (installs (goes_on n x p (entry.Idle copying) (map (letter_of x p) w.put_off) []) x p bytes) f
-  pub page_comes : (m : ℕ → S) (n : Net) (f : ℕ → List ℕ) (x p from call copies : ℕ)
-      (s : AwaitWriteState) (bytes : List ℕ)
-      → Serves c n x p (letter from x x call (content.WriteRep p copies bytes)) [] → from ≢ x
-      → n.entry x p ≡ entry.AwaitWrite s → s.waiting.call ≡ call → nodes_with copies ≡ set.empty
-      → P m n f
-      → P (told m x (ops.on_replied (m x) p true from))
+  copy_comes : (bytes : List ℕ) (r : Comes c n entry.AwaitRead (λ p. content.ReadRep p bytes))
+      → r.state.call ≡ r.call
+      → Row c n f (Replied r.node r.page false r.from)
       (installs
-      (goes_on n x p (entry.Idle owning)
-      (map (letter_of x p) s.waiting.put_off) []) x p bytes) f
-  pub page_comes_shared : (m : ℕ → S) (n : Net) (f : ℕ → List ℕ) (x p from call copies : ℕ)
-      (s : AwaitWriteState) (bytes : List ℕ)
-      → Serves c n x p (letter from x x call (content.WriteRep p copies bytes)) [] → from ≢ x
-      → n.entry x p ≡ entry.AwaitWrite s → s.waiting.call ≡ call → nodes_with copies ≢ set.empty
-      → set.contains (nodes_with copies) x ≡ false → IsBelow c.nodes (nodes_with copies) → P m n f
-      → P (told m x (ops.on_replied (m x) p true from))
+      (goes_on n r.node r.page (entry.Idle copying)
+      (map (letter_of r.node r.page) r.state.put_off) []) r.node r.page bytes) f
+  page_comes : (copies : ℕ) (bytes : List ℕ)
+      (r : Comes c n entry.AwaitWrite (λ p. content.WriteRep p copies bytes))
+      → r.state.waiting.call ≡ r.call → nodes_with copies ≡ set.empty
+      → Row c n f (Replied r.node r.page true r.from)
       (installs
-      (goes_on n x p
-      (entry.AwaitAcks (record { left = nodes_with copies; waiting = s.waiting })) []
-      (invalidations x p call (nodes_with copies))) x p bytes) f
-  pub acknowledges : (m : ℕ → S) (n : Net) (f : ℕ → List ℕ) (x p from call : ℕ) (s : AwaitAcksState)
-      → Serves c n x p (letter from x x call (content.InvalAck p)) [] → from ≢ x
-      → n.entry x p ≡ entry.AwaitAcks s → s.waiting.call ≡ call → set.contains s.left from ≡ true
-      → set.remove s.left from ≢ set.empty → P m n f
-      → P m (goes_on n x p
-      (entry.AwaitAcks (record { left = set.remove s.left from; waiting = s.waiting })) [] []) f
-  pub acknowledges_last : (m : ℕ → S) (n : Net) (f : ℕ → List ℕ) (x p from call : ℕ)
-      (s : AwaitAcksState)
-      → Serves c n x p (letter from x x call (content.InvalAck p)) [] → from ≢ x
-      → n.entry x p ≡ entry.AwaitAcks s → s.waiting.call ≡ call → set.contains s.left from ≡ true
-      → set.remove s.left from ≡ set.empty → P m n f
-      → P m (goes_on n x p (entry.Idle owning) (map (letter_of x p) s.waiting.put_off) []) f
+      (goes_on n r.node r.page (entry.Idle owning)
+      (map (letter_of r.node r.page) r.state.waiting.put_off) []) r.node r.page bytes) f
+  page_comes_shared : (copies : ℕ) (bytes : List ℕ)
+      (r : Comes c n entry.AwaitWrite (λ p. content.WriteRep p copies bytes))
+      → r.state.waiting.call ≡ r.call → nodes_with copies ≢ set.empty
+      → set.contains (nodes_with copies) r.node ≡ false → IsBelow c.nodes (nodes_with copies)
+      → Row c n f (Replied r.node r.page true r.from)
+      (installs
+      (goes_on n r.node r.page
+      (entry.AwaitAcks (record { left = nodes_with copies; waiting = r.state.waiting })) []
+      (invalidations r.node r.page r.call (nodes_with copies))) r.node r.page bytes) f
+  acknowledges : (r : Comes c n entry.AwaitAcks content.InvalAck)
+      → r.state.waiting.call ≡ r.call → set.contains r.state.left r.from ≡ true
+      → set.remove r.state.left r.from ≢ set.empty
+      → Row c n f Silent
+      (goes_on n r.node r.page
+      (entry.AwaitAcks
+      (record { left = set.remove r.state.left r.from; waiting = r.state.waiting })) [] []) f
+  acknowledges_last : (r : Comes c n entry.AwaitAcks content.InvalAck)
+      → r.state.waiting.call ≡ r.call → set.contains r.state.left r.from ≡ true
+      → set.remove r.state.left r.from ≡ set.empty
+      → Row c n f Silent
+      (goes_on n r.node r.page (entry.Idle owning)
+      (map (letter_of r.node r.page) r.state.waiting.put_off) []) f
   -- a word begins to wait: for a copy, for the page, for the others to give their copies up
-  pub asks_copy : (m : ℕ → S) (n : Net) (f : ℕ → List ℕ) (x p call : ℕ) (s : IdleState) (w : Word)
-      → Begins c n x p call → n.entry x p ≡ entry.Idle s → s.owner ≡ false → reads s.access ≡ false
-      → IsHop c x (ops.next_hop (m x) p) → P m n f
-      → P m (goes_on n x p (entry.AwaitRead (waiting_from w call)) []
-      (parcel_to x (ops.next_hop (m x) p) x call (content.ReadReq p) ∷ [])) f
-  pub asks_page : (m : ℕ → S) (n : Net) (f : ℕ → List ℕ) (x p call : ℕ) (s : IdleState) (w : Word)
-      → Begins c n x p call → n.entry x p ≡ entry.Idle s → s.owner ≡ false
-      → IsHop c x (ops.next_hop (m x) p) → P m n f
-      → P m (goes_on n x p
-      (entry.AwaitWrite (record { had_copy = reads s.access; waiting = waiting_from w call })) []
-      (parcel_to x (ops.next_hop (m x) p) x call (content.WriteReq p) ∷ [])) f
-  pub ends_copies : (m : ℕ → S) (n : Net) (f : ℕ → List ℕ) (x p call : ℕ) (s : IdleState) (w : Word)
-      → Begins c n x p call → n.entry x p ≡ entry.Idle s → s.owner ≡ true → reads s.access ≡ true
-      → IsBelow c.nodes s.copies → set.contains s.copies x ≡ false → P m n f
-      → P m (goes_on n x p
-      (entry.AwaitAcks (record { left = s.copies; waiting = waiting_from w call })) []
-      (invalidations x p call s.copies)) f
+  asks_copy : (r : Begins c n) (hop : ℕ) → r.state.owner ≡ false → reads r.state.access ≡ false
+      → IsHop c r.node hop
+      → Row c n f (Asked r.node r.page hop)
+      (goes_on n r.node r.page (entry.AwaitRead (waiting_from r.word r.call)) []
+      (parcel_to r.node hop r.node r.call
+      (content.ReadReq r.page) ∷ [])) f
+  asks_page : (r : Begins c n) (hop : ℕ) → r.state.owner ≡ false
+      → IsHop c r.node hop
+      → Row c n f (Asked r.node r.page hop)
+      (goes_on n r.node r.page
+      (entry.AwaitWrite
+      (record { had_copy = reads r.state.access; waiting = waiting_from r.word r.call })) []
+      (parcel_to r.node hop r.node r.call
+      (content.WriteReq r.page) ∷ [])) f
+  ends_copies : (r : Begins c n) → r.state.owner ≡ true → reads r.state.access ≡ true
+      → IsBelow c.nodes r.state.copies → set.contains r.state.copies r.node ≡ false
+      → Row c n f Silent
+      (goes_on n r.node r.page
+      (entry.AwaitAcks
+      (record { left = r.state.copies; waiting = waiting_from r.word r.call })) []
+      (invalidations r.node r.page r.call r.state.copies)) f
+
+-- what is said of managers, a net and the pages of the flat memory
+abbrev pub Claim : Type 0 → Type 1
+Claim S = (ℕ → S) → Net → (ℕ → List ℕ) → Type 0
+
+-- each step keeps it: where it holds before the step, it holds after it
+pub record IsKept {S : Type 0} (ops : Ops S) (c : Config) (P : Claim S) : Type 0 where
+  pub by : {m : ℕ → S} {n : Net} {f : ℕ → List ℕ} {notice : Notice} {n' : Net}
+      {f' : ℕ → List ℕ} → Row c n f notice n' f' → IsOf ops c m notice → P m n f
+      → P (noticed ops m notice) n' f'

@@ -1,6 +1,7 @@
 pub mod Asked
 pub mod Old
 pub mod NoBreach
+pub mod Quiet
 pub mod Claims
 pub mod Moves
 pub mod Managers
@@ -10,4 +11,3 @@ pub mod Owed
 pub mod OwedKept
 pub mod Awaited
 pub mod Found
-pub mod Embedded

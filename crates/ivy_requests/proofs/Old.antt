@@ -10,7 +10,7 @@ use Rattle.ivy_pagetable.specs.declared.Request.{Request}
 use Rattle.ivy_pagetable.specs.declared.Request.TheVariants as request
 use Rattle.ivy_pagetable.specs.Entries.{put_offs, can_put_off, with_put_off}
 use Rattle.ivy_order.specs.Letters.{Letter, Net, Place, Underway, Aside, Loose, content_of, letter_of, IsAt, goes_on, installs}
-use Rattle.ivy_order.specs.Rows.{letter, taken, AreAlike}
+use Rattle.ivy_order.specs.Rows.{letter, taken}
 use Rattle.ivy_order.proofs.Places.{get_append, served, written-here}
 use Rattle.ivy_order.proofs.Parcels.{IsThe, rest_told, is_step}
 use Rattle.ivy_order.proofs.Steps.{IsStep}
@@ -19,11 +19,6 @@ use Rattle.ivy_requests.proofs.Remaining.{IsThere, StaysPutOff, get_first, get_s
 use Rattle.ivy_requests.specs.Managing.{getting}
 
 -- each letter is one of the net before
-pub alike_letters : {S : Type 0} (m m' : ℕ → S) (n n' : Net) → AreAlike m m' n n' → (a : Place) (l : Letter) → IsAt n' a l → (b : Place) × IsAt n b l
-alike_letters m m' n n' same (Underway i j k) l at = (Underway i j k, (subst (λ d. d ≤ k) (same.delivered i j) at.0, ap (λ v. slice_get v k) (sym (same.posted i j)) ∙ at.1, at.2, at.3))
-alike_letters m m' n n' same (Aside i q k) l at = (Aside i q k, (at.0, ap (λ y. slice_get (put_offs y) k) (sym (same.entries i q)) ∙ at.1, at.2))
-alike_letters m m' n n' same (Loose k) l at = (Loose k, ap (λ v. slice_get v k) (sym same.loose) ∙ at)
-
 pub installs_letters : (n : Net) (x p : ℕ) (bytes : List ℕ) (a : Place) (l : Letter) → IsAt (installs n x p bytes) a l → (b : Place) × IsAt n b l
 installs_letters n x p bytes (Underway i j k) l at = (Underway i j k, at)
 installs_letters n x p bytes (Aside i q k) l at = (Aside i q k, at)
@@ -39,9 +34,6 @@ taken_letters n s x m first (Underway i j k) l at = (Underway i j k, (more_to (i
 taken_letters n s x m first (Aside i q k) l at = (Aside i q k, at)
 taken_letters n s x m first (Loose zero) l at = (Underway s x (n.delivered s x), subst (IsAt n (Underway s x (n.delivered s x))) (same_Some _ l at) (omega arith, first, refl, refl))
 taken_letters n s x m first (Loose (suc k)) l at = absurd (none-some l at)
-
-pub alike_old : {S : Type 0} (m m' : ℕ → S) (n n' : Net) → AreAlike m m' n n' → AreOld n n'
-alike_old m m' n n' same = part_old n n' (alike_letters m m' n n' same)
 
 pub installs_old : (n : Net) (x p : ℕ) (bytes : List ℕ) → AreOld n (installs n x p bytes)
 installs_old n x p bytes = part_old n (installs n x p bytes) (installs_letters n x p bytes)

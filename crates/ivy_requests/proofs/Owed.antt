@@ -8,10 +8,10 @@ use Rattle.ivy_pagetable.specs.declared.PutOff.{PutOff}
 use Rattle.ivy_pagetable.specs.Entries.{with_put_off}
 use Rattle.ivy_order.specs.Letters.{Letter, Net, goes_on, installs}
 use Rattle.ivy_order.specs.Orderly.{Key, Own, Order, key_of}
-use Rattle.ivy_order.specs.Rows.{taken, AreAlike}
+use Rattle.ivy_order.specs.Rows.{taken}
 use Rattle.ivy_order.proofs.Needs.{key_origin, key_page}
 use Rattle.ivy_order.proofs.Places.{written-here, written-other, same_or_other}
-use Rattle.ivy_requests.proofs.Remaining.{HasKey, Remain, IsNothing, IsCounted, still_counted, alike_remain, installed_remain, taken_remain, taken_counted, alike_counted}
+use Rattle.ivy_requests.proofs.Remaining.{HasKey, Remain, IsNothing, IsCounted, still_counted, installed_remain, taken_remain, taken_counted}
 
 -- a word that waits at this entry of the node waits for a letter with this key
 abbrev pub Wants : Entry → ℕ → ℕ → Key → Type 0
@@ -57,11 +57,6 @@ all_owed n n' same counted remain o = record {
       ]
       );
 }
-
-pub alike_owed : {S : Type 0} (m m' : ℕ → S) (n n' : Net) → AreAlike m m' n n' → IsOwed n → IsOwed n'
-alike_owed m m' n n' same o = all_owed n n' same.entries
-    (alike_counted m m' n n' same o.counted)
-    (alike_remain m m' n n' same) o
 
 pub installed_owed : (n : Net) (x p : ℕ) (bytes : List ℕ) → IsOwed n → IsOwed (installs n x p bytes)
 installed_owed n x p bytes o = all_owed n (installs n x p bytes) (λ i q. refl) o.counted (installed_remain n x p bytes) o

@@ -1,27 +1,26 @@
 -- Whoever waits has its message, once more after each row. That no message is dropped rests on descent.
-use Rattle.std.proofs.Common.{◌≡◌, ◌<◌, ◌≤◌, ℕ, true, false, List, [], ◌∷◌, map, refl, sym, ap, ◌∙◌, subst, inl, inr, arith}
+use Rattle.std.proofs.Common.{◌≡◌, ◌<◌, ◌≤◌, ℕ, true, List, [], ◌∷◌, map, refl, sym, ap, ◌∙◌, subst, inl, inr, arith}
 use Rattle.std.proofs.lemmas.Bool.{cases_Bool}
 use Rattle.std.proofs.lemmas.Option.{none-some}
 use Rattle.std.specs.FinSet as set
 use Rattle.ivy_model.specs.declared.Config.{Config}
 use Rattle.ivy_model.specs.Config.{IsConfig}
-use Rattle.ivy_wire.specs.declared.Content.TheVariants as content
-use Rattle.ivy_wire.specs.Data.{Content}
+use Rattle.ivy_wire.specs.Data.{Content, Parcel}
 use Rattle.ivy_pagetable.specs.declared.Entry.{Entry}
 use Rattle.ivy_pagetable.specs.declared.Entry.TheVariants as entry
 use Rattle.ivy_pagetable.specs.declared.PutOff.{PutOff}
 use Rattle.ivy_pagetable.specs.declared.Request.{Request}
 use Rattle.ivy_pagetable.specs.declared.Request.TheVariants as request
-use Rattle.ivy_pagetable.specs.NodeSets.{Nodes, IsBelow, bits_of, nodes_with}
+use Rattle.ivy_pagetable.specs.NodeSets.{Nodes, IsBelow, nodes_with}
 use Rattle.ivy_pagetable.specs.States.{IdleState, WaitingState, AwaitAcksState}
-use Rattle.ivy_pagetable.specs.Accesses.{reads}
-use Rattle.ivy_pagetable.specs.Entries.{put_offs, can_put_off, with_put_off, without, copying, owning, sharing}
+use Rattle.ivy_pagetable.specs.Entries.{put_offs, can_put_off, with_put_off, copying, owning}
 use Rattle.ivy_pagetable.specs.Manager.{Ops}
 use Rattle.ivy_serving.specs.Serving.{parcel_to, invalidations}
 use Rattle.ivy_coherence.specs.Faults.{waiting_from}
 use Rattle.ivy_order.specs.Letters.{Letter, Net, content_of, letter_of, goes_on}
 use Rattle.ivy_order.specs.Orderly.{Key, Order, key_of, IsOrderly}
-use Rattle.ivy_order.specs.Rows.{letter, IsKept}
+use Rattle.ivy_order.specs.Rows.{letter, Served, Comes, Begins, Notice, Row, Claim, IsKept}
+use Rattle.ivy_order.proofs.Both.{both-kept}
 use Rattle.ivy_order.proofs.Members.{without_itself, without_any}
 use Rattle.ivy_order.proofs.Needs.{key_origin, key_page}
 use Rattle.ivy_requests.specs.Descending.{Descends}
@@ -29,30 +28,51 @@ use Rattle.ivy_requests.proofs.Moves.{both}
 use Rattle.ivy_requests.proofs.NoBreach.{no_breach}
 use Rattle.ivy_requests.proofs.Old.{put_off_stays, put_off_there}
 use Rattle.ivy_requests.proofs.Remaining.{IsOnly, IsNothing, StaysPutOff, HasKey, served_remain, begun_remain, freed_remain, one_there, orders_there}
-use Rattle.ivy_requests.proofs.Owed.{Wants, IsOwed, put_wants, alike_owed, installed_owed, taken_owed, stays_owed, comes_owed}
+use Rattle.ivy_requests.proofs.Owed.{Wants, IsOwed, put_wants, installed_owed, taken_owed, stays_owed, comes_owed}
 
-module _ (n : Net) (x p : ℕ) (e z : Entry) (is : n.entry x p ≡ e) (o : IsOwed n) where
-  -- a loose letter is served, and one with its key is posted
-  answered : (old : Letter) (rest : List Letter) (dest origin call : ℕ) (body : Content) → n.loose ≡ old ∷ rest → key_of (letter x dest origin call body) ≡ key_of old
-      → StaysPutOff e z → ((k : Key) → Wants z x p k → Wants e x p k) → IsOwed (goes_on n x p z rest (parcel_to x dest origin call body ∷ []))
-  answered old rest dest origin call body loose same still mine = stays_owed n x p e z rest (parcel_to x dest origin call body ∷ []) is o (IsOnly old)
-      (served_remain n x p e z rest (parcel_to x dest origin call body ∷ []) is old loose still)
-      (λ k l gone key. subst (HasKey (goes_on n x p z rest (parcel_to x dest origin call body ∷ []))) (same ∙ ap key_of (sym gone) ∙ key) (one_there n x p z rest dest origin call body o.counted))
+module _ (c : Config) (n : Net) (o : IsOwed n) where
+  -- a letter is served, and one with its key is posted
+  answered : {T : Type 0} {at : T → Entry} {ask : ℕ → Content} (r : Served c n at ask) (z : Entry) (dest : ℕ) (body : Content)
+      → key_of (letter r.node dest r.origin r.call body) ≡ key_of (letter r.from r.node r.origin r.call (ask r.page))
+      → StaysPutOff (at r.state) z → ((k : Key) → Wants z r.node r.page k → Wants (at r.state) r.node r.page k)
+      → IsOwed (goes_on n r.node r.page z r.rest (parcel_to r.node dest r.origin r.call body ∷ []))
+  answered {at = at} {ask = ask} r z dest body same still mine = stays_owed n x p (at s) z rest posts is o (IsOnly old) (served_remain n x p (at s) z rest posts is old loose still)
+      (λ k l gone key. subst (HasKey (goes_on n x p z rest posts)) (same ∙ ap key_of (sym gone) ∙ key) (one_there n x p z rest dest origin call body o.counted))
       (λ k w. inl (mine k w))
+    where
+      open r use {node as x, page as p, from, origin, call, state as s, rest, loose, is}
+
+      old : Letter
+      old = letter from x origin call (ask p)
+
+      posts : List Parcel
+      posts = parcel_to x dest origin call body ∷ []
 
   -- a word begins to wait, and asks
-  asked : (dest call : ℕ) (body : Content) → n.loose ≡ [] → StaysPutOff e z → ((k : Key) → Wants z x p k → key_of (letter x dest x call body) ≡ k)
-      → IsOwed (goes_on n x p z [] (parcel_to x dest x call body ∷ []))
-  asked dest call body none still mine = stays_owed n x p e z [] (parcel_to x dest x call body ∷ []) is o IsNothing
-      (begun_remain n x p e z [] (parcel_to x dest x call body ∷ []) is none still) (λ k l gone key. absurd gone)
-      (λ k w. inr (subst (HasKey (goes_on n x p z [] (parcel_to x dest x call body ∷ []))) (mine k w) (one_there n x p z [] dest x call body o.counted)))
+  asked : (r : Begins c n) (z : Entry) (dest : ℕ) (body : Content) → StaysPutOff (entry.Idle r.state) z
+      → ((k : Key) → Wants z r.node r.page k → key_of (letter r.node dest r.node r.call body) ≡ k)
+      → IsOwed (goes_on n r.node r.page z [] (parcel_to r.node dest r.node r.call body ∷ []))
+  asked r z dest body still mine = stays_owed n x p (entry.Idle s) z [] posts is o IsNothing (begun_remain n x p (entry.Idle s) z [] posts is loose still) (λ k l gone key. absurd gone)
+      (λ k w. inr (subst (HasKey (goes_on n x p z [] posts)) (mine k w) (one_there n x p z [] dest x call body o.counted)))
+    where
+      open r use {node as x, page as p, call, state as s, loose, is}
+
+      posts : List Parcel
+      posts = parcel_to x dest x call body ∷ []
 
   -- what the node waited for comes, and it waits for nothing more: what was put off is loose
-  freed : (old : Letter) (s : IdleState) → z ≡ entry.Idle s → n.loose ≡ old ∷ [] → key_origin (key_of old) ≡ x → key_page (key_of old) ≡ p
-      → IsOwed (goes_on n x p z (map (letter_of x p) (put_offs e)) [])
-  freed old s idle loose origin page = comes_owed n x p e z (map (letter_of x p) (put_offs e)) [] is o (IsOnly old)
-      (freed_remain n x p e z (map (letter_of x p) (put_offs e)) [] is old loose refl)
-      (λ l gone. (ap (λ v. key_origin (key_of v)) gone ∙ origin, ap (λ v. key_page (key_of v)) gone ∙ page)) (λ k w. absurd (subst (λ y. Wants y x p k) idle w))
+  freed : {T : Type 0} {at : T → Entry} {bring : ℕ → Content} (r : Comes c n at bring) (s : IdleState)
+      → key_origin (key_of (letter r.from r.node r.node r.call (bring r.page))) ≡ r.node
+      → key_page (key_of (letter r.from r.node r.node r.call (bring r.page))) ≡ r.page
+      → IsOwed (goes_on n r.node r.page (entry.Idle s) (map (letter_of r.node r.page) (put_offs (at r.state))) [])
+  freed {at = at} {bring = bring} r s origin page = comes_owed n x p (at state) (entry.Idle s) (map (letter_of x p) (put_offs (at state))) [] is o (IsOnly old)
+      (freed_remain n x p (at state) (entry.Idle s) (map (letter_of x p) (put_offs (at state))) [] is old loose refl)
+      (λ l gone. (ap (λ v. key_origin (key_of v)) gone ∙ origin, ap (λ v. key_page (key_of v)) gone ∙ page)) (λ k w. absurd w)
+    where
+      open r use {node as x, page as p, from, call, state, loose, is}
+
+      old : Letter
+      old = letter from x x call (bring p)
 
 -- there are few nodes
 few : (c : Config) → IsConfig c → (nodes : Nodes) → IsBelow c.nodes nodes → (target : ℕ) → set.contains nodes target ≡ true → target < 32
@@ -123,72 +143,48 @@ module _ (n : Net) (x p from : ℕ) (s : AwaitAcksState) (is : n.entry x p ≡ e
             (ap (λ v. set.contains (set.remove s.left from) v) (sym (other_order x p from w.0 k (sym key ∙ ap key_of (sym gone) ∙ same) w.2)) ∙ without_itself s.left from),
       ))
 
-pub owed-kept : {S : Type 0} (ops : Ops S) (c : Config) → IsConfig c → (Q : (ℕ → S) → Net → (ℕ → List ℕ) → Type 0) → IsKept ops c Q
-    → ((m : ℕ → S) (n : Net) (f : ℕ → List ℕ) → Q m n f → IsOrderly c n × Descends n) → IsKept ops c (λ m n f. Q m n f × IsOwed n)
-owed-kept ops c config Q kept known = record {
-  alike = λ m m' n n' f same q. (kept.alike m m' n n' f same q.0, alike_owed m m' n n' same q.1);
-  carries = λ m n f x p s w here inside word is suffices q. (kept.carries m n f x p s w here inside word is suffices q.0, installed_owed n x p _ q.1);
-  takes = λ m n f i j message none first q. (kept.takes m n f i j message none first q.0, taken_owed n i j message first none q.1);
-  drops = λ m n f x l rest here loose dest mis q. absurd (let k = known m n f q.0 in no_breach n k.1 c config k.0 x l rest here loose dest mis);
-  shares = λ m n f x p from o call s rest serves foreign is owner low q. (
-    kept.shares m n f x p from o call s rest serves foreign is owner low q.0,
-    answered n x p (entry.Idle s) (entry.Idle (sharing (set.insert s.copies o))) is q.1 _ rest o o call (content.ReadRep p (n.page x p)) serves.loose refl (λ j r h. h) (λ k w. w),
-  );
-  gives = λ m n f x p from o call s rest serves foreign is owner low q. (
-    kept.gives m n f x p from o call s rest serves foreign is owner low q.0,
-    answered n x p (entry.Idle s) (entry.Idle without) is q.1 _ rest o o call (content.WriteRep p (bits_of (set.remove s.copies o)) (n.page x p)) serves.loose refl (λ j r h. h) (λ k w. w),
-  );
-  sends_on_read = λ m n f x p from o call s rest serves foreign is plain hop q. (
-    kept.sends_on_read m n f x p from o call s rest serves foreign is plain hop q.0,
-    answered n x p (entry.Idle s) (entry.Idle s) is q.1 _ rest (ops.next_hop (m x) p) o call (content.ReadReq p) serves.loose refl (λ j r h. h) (λ k w. w),
-  );
-  sends_on_write = λ m n f x p from o call s rest serves foreign is plain hop q. (
-    kept.sends_on_write m n f x p from o call s rest serves foreign is plain hop q.0,
-    answered n x p (entry.Idle s) (entry.Idle s) is q.1 _ rest (ops.next_hop (m x) p) o call (content.WriteReq p) serves.loose refl (λ j r h. h) (λ k w. w),
-  );
-  ends_copy = λ m n f x p o call s rest serves foreign is plain q. (
-    kept.ends_copy m n f x p o call s rest serves foreign is plain q.0,
-    answered n x p (entry.Idle s) (entry.Idle without) is q.1 _ rest o o call (content.InvalAck p) serves.loose refl (λ j r h. h) (λ k w. w),
-  );
-  gives_up = λ m n f x p o call s rest serves foreign is q. (
-    kept.gives_up m n f x p o call s rest serves foreign is q.0,
-    answered n x p (entry.AwaitWrite s) (entry.AwaitWrite (record { had_copy = false; waiting = s.waiting })) is q.1 _ rest o o call (content.InvalAck p) serves.loose refl (λ j r h. h) (λ k w. w),
-  );
-  puts_off = λ m n f x p from r e rest serves foreign orders is room q. (
-    kept.puts_off m n f x p from r e rest serves foreign orders is room q.0,
-    put_owed n x p from r e rest is room serves.loose q.1,
-  );
-  copy_comes = λ m n f x p from call w bytes serves foreign is same q. (
-    kept.copy_comes m n f x p from call w bytes serves foreign is same q.0,
-    installed_owed _ x p bytes (freed n x p (entry.AwaitRead w) (entry.Idle copying) is q.1 _ copying refl serves.loose refl refl),
-  );
-  page_comes = λ m n f x p from call copies s bytes serves foreign is same none q. (
-    kept.page_comes m n f x p from call copies s bytes serves foreign is same none q.0,
-    installed_owed _ x p bytes (freed n x p (entry.AwaitWrite s) (entry.Idle owning) is q.1 _ owning refl serves.loose refl refl),
-  );
-  page_comes_shared = λ m n f x p from call copies s bytes serves foreign is same some out low q. (
-    kept.page_comes_shared m n f x p from call copies s bytes serves foreign is same some out low q.0,
-    installed_owed _ x p bytes (page_owed n x p call (entry.AwaitWrite s) (nodes_with copies) s.waiting is q.1 (few c config (nodes_with copies) low) (λ j r h. h) _ serves.loose refl refl),
-  );
-  acknowledges = λ m n f x p from call s serves foreign is same left more q. (
-    kept.acknowledges m n f x p from call s serves foreign is same left more q.0,
-    ack_owed n x p from s is q.1 _ serves.loose refl,
-  );
-  acknowledges_last = λ m n f x p from call s serves foreign is same left last q. (
-    kept.acknowledges_last m n f x p from call s serves foreign is same left last q.0,
-    freed n x p (entry.AwaitAcks s) (entry.Idle owning) is q.1 _ owning refl serves.loose refl refl,
-  );
-  asks_copy = λ m n f x p call s w begins is plain unread hop q. (
-    kept.asks_copy m n f x p call s w begins is plain unread hop q.0,
-    asked n x p (entry.Idle s) (entry.AwaitRead (waiting_from w call)) is q.1 (ops.next_hop (m x) p) call (content.ReadReq p) begins.loose (λ j r h. absurd (none-some r h)) (λ k w. sym w),
-  );
-  asks_page = λ m n f x p call s w begins is plain hop q. (
-    kept.asks_page m n f x p call s w begins is plain hop q.0,
-    asked n x p (entry.Idle s) (entry.AwaitWrite (record { had_copy = reads s.access; waiting = waiting_from w call })) is q.1 (ops.next_hop (m x) p) call (content.WriteReq p) begins.loose
-        (λ j r h. absurd (none-some r h)) (λ k w. sym w),
-  );
-  ends_copies = λ m n f x p call s w begins is owner reader low out q. (
-    kept.ends_copies m n f x p call s w begins is owner reader low out q.0,
-    owner_owed n x p call (entry.Idle s) s.copies (waiting_from w call) is q.1 (few c config s.copies low) (λ j r h. absurd (none-some r h)) begins.loose,
-  );
-}
+module _ (c : Config) (config : IsConfig c) where
+  owed_by : {n : Net} {f : ℕ → List ℕ} {notice : Notice} {n' : Net} {f' : ℕ → List ℕ} → Row c n f notice n' f'
+      → IsOrderly c n → Descends n → IsOwed n → IsOwed n'
+  owed_by (Row.carries r) order down o = installed_owed _ r.node r.page _ o
+  owed_by (Row.takes r) order down o = taken_owed _ r.source r.dest r.message r.first r.none o
+  owed_by (Row.drops r) order down o =
+      absurd (no_breach _ down c config order r.node r.old r.rest r.here r.loose r.dest r.misfits)
+  owed_by (Row.shares r owner low) order down o = answered c _ o r _ _ _ refl (λ j q h. h) (λ k w. w)
+  owed_by (Row.gives r owner low) order down o = answered c _ o r _ _ _ refl (λ j q h. h) (λ k w. w)
+  owed_by (Row.sends_on_read r hop plain away) order down o =
+      answered c _ o r _ _ _ refl (λ j q h. h) (λ k w. w)
+  owed_by (Row.sends_on_write r hop plain away) order down o =
+      answered c _ o r _ _ _ refl (λ j q h. h) (λ k w. w)
+  owed_by (Row.ends_copy r sender plain) order down o =
+      answered c _ o r _ _ _ refl (λ j q h. h) (λ k w. w)
+  owed_by (Row.gives_up r sender) order down o =
+      answered c _ o r _ _ _ refl (λ j q h. h) (λ k w. w)
+  owed_by (Row.puts_off r) order down o =
+      put_owed _ r.node r.page r.from r.later r.before r.rest r.is r.room r.loose o
+  owed_by (Row.copy_comes bytes r same) order down o =
+      installed_owed _ r.node r.page bytes (freed c _ o r copying refl refl)
+  owed_by (Row.page_comes copies bytes r same none) order down o =
+      installed_owed _ r.node r.page bytes (freed c _ o r owning refl refl)
+  owed_by (Row.page_comes_shared copies bytes r same some out low) order down o =
+      installed_owed _ r.node r.page bytes
+      (page_owed _ r.node r.page r.call (entry.AwaitWrite r.state) (nodes_with copies) r.state.waiting r.is o
+      (few c config (nodes_with copies) low) (λ j q h. h) _ r.loose refl refl)
+  owed_by (Row.acknowledges r same left more) order down o =
+      ack_owed _ r.node r.page r.from r.state r.is o _ r.loose refl
+  owed_by (Row.acknowledges_last r same left last) order down o = freed c _ o r owning refl refl
+  owed_by (Row.asks_copy r hop plain unread away) order down o =
+      asked c _ o r _ _ _ (λ j q h. absurd (none-some q h)) (λ k w. sym w)
+  owed_by (Row.asks_page r hop plain away) order down o =
+      asked c _ o r _ _ _ (λ j q h. absurd (none-some q h)) (λ k w. sym w)
+  owed_by (Row.ends_copies r owner reader low out) order down o =
+      owner_owed _ r.node r.page r.call (entry.Idle r.state) r.state.copies (waiting_from r.word r.call) r.is o
+      (few c config r.state.copies low) (λ j q h. absurd (none-some q h)) r.loose
+
+-- beside any claim under which nets are orderly and requests go down
+pub owed-kept : {S : Type 0} (ops : Ops S) (c : Config) → IsConfig c → (Q : Claim S) → IsKept ops c Q
+    → ((m : ℕ → S) (n : Net) (f : ℕ → List ℕ) → Q m n f → IsOrderly c n × Descends n)
+    → IsKept ops c (λ m n f. Q m n f × IsOwed n)
+owed-kept ops c config Q kept known = both-kept kept (record {
+  by = λ row of before after owed. (let k = known _ _ _ before in owed_by c config row k.0 k.1 owed);
+})

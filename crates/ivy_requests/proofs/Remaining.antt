@@ -15,7 +15,7 @@ use Rattle.ivy_pagetable.specs.Entries.{put_offs}
 use Rattle.ivy_serving.specs.Serving.{parcel_to, invalidations}
 use Rattle.ivy_order.specs.Letters.{Letter, Net, Place, Underway, Aside, Loose, letter_of, IsAt, goes_on, installs}
 use Rattle.ivy_order.specs.Orderly.{Key, Order, key_of}
-use Rattle.ivy_order.specs.Rows.{letter, AreAlike, taken}
+use Rattle.ivy_order.specs.Rows.{letter, taken}
 use Rattle.ivy_order.proofs.Places.{written-here, written-other, same_or_other}
 
 -- a letter is there
@@ -135,19 +135,6 @@ module _ (n : Net) (x p : ℕ) (e z : Entry) (left : List Letter) (parcels : Lis
       at_number : (j : ℕ) (l : Letter) → slice_get (old ∷ []) j ≡ Some l → IsThere (goes_on n x p z left parcels) l ⊎ IsOnly old l
       at_number zero l g = inr (sym (same_Some old l g))
       at_number (suc j) l g = absurd (none-some l g)
-
--- the same letters in the same places
-module _ {S : Type 0} (m m' : ℕ → S) (n n' : Net) (same : AreAlike m m' n n') where
-  alike_there : (a : Place) (l : Letter) → IsAt n a l → IsAt n' a l
-  alike_there (Underway i j k) l at = (subst (λ d. d ≤ k) (sym (same.delivered i j)) at.0, ap (λ v. slice_get v k) (same.posted i j) ∙ at.1, at.2, at.3)
-  alike_there (Aside i q k) l at = (at.0, ap (λ y. slice_get (put_offs y) k) (same.entries i q) ∙ at.1, at.2)
-  alike_there (Loose k) l at = ap (λ v. slice_get v k) same.loose ∙ at
-
-  pub alike_counted : IsCounted n → IsCounted n'
-  alike_counted counted i j = subst (λ d. d ≤ length (n'.posted i j)) (sym (same.delivered i j)) (subst (λ v. n.delivered i j ≤ length v) (sym (same.posted i j)) (counted i j))
-
-  pub alike_remain : Remain n n' IsNothing
-  alike_remain a l at = inl (a, alike_there a l at)
 
 -- bytes are installed
 pub installed_remain : (n : Net) (x p : ℕ) (bytes : List ℕ) → Remain n (installs n x p bytes) IsNothing

@@ -21,12 +21,13 @@ use Rattle.ivy_order.specs.Rows.{IsKept}
 use Rattle.ivy_order.proofs.Opening.{IsFirst}
 use Rattle.ivy_requests.specs.Managing.{IsManaged}
 use Rattle.ivy_requests.specs.Hinting.{IsHinted}
-use Rattle.ivy_requests.proofs.Embedded.{Embeds, AreWithin, embedded-kept}
+use Rattle.ivy_order.proofs.Embedded.{Embeds, AreWithin, embedded-kept}
 use Rattle.ivy_routes.proofs.FirstManaged.{managed_opening}
 use Rattle.ivy_routes.proofs.FirstHinted.{first_hinted}
-use Rattle.ivy_routes.proofs.Kept.{quiet-kept}
-use Rattle.ivy_routes.proofs.HintedKept.{hinted-kept}
-use Rattle.ivy_routes.proofs.QuietWorlds.{IsQuiet, quiet_no_breach}
+use Rattle.ivy_routes.proofs.Kept.{managed-routed}
+use Rattle.ivy_routes.proofs.HintedKept.{hinted-routed}
+use Rattle.ivy_routes.proofs.QuietWorlds.{quiet_no_breach}
+use Rattle.ivy_requests.proofs.Quiet.{IsQuiet, quiet-kept}
 
 fixed_within : Embeds fixed_ops managed_ops Fixed
 fixed_within = record {
@@ -58,12 +59,12 @@ module _ (c : Config) (limits : IsConfig c) where
       embedded-kept Fixed fixed_within c (IsQuiet (IsManaged c) c) (IsQuiet (RoutedBy kind.Fixed c) c)
       (λ m n f q. (q.1.0, q.1.1, (q.0, q.1.2, q.2)))
       (λ s m n f within q. (q.0, (s, within, q.1), q.2))
-      (quiet-kept c limits)
+      (quiet-kept limits (managed-routed c limits))
   either-kept kind.Dynamic =
       embedded-kept Dynamic hints_within c (IsQuiet (IsHinted c) c) (IsQuiet (RoutedBy kind.Dynamic c) c)
       (λ m n f q. (q.1.0, q.1.1, (q.0, q.1.2, q.2)))
       (λ s m n f within q. (q.0, (s, within, q.1), q.2))
-      (hinted-kept c limits)
+      (quiet-kept limits (hinted-routed c limits))
 
   -- and it is so at first
   pub either-first : (k : Kind) (m : ℕ → Managed) (n : Net) → IsFirst n → ((p : ℕ) → p < c.pages → n.entry 0 p ≡ owned)

@@ -1,8 +1,7 @@
 -- Each row of the table of coherence events keeps the heights under hints, and under these no message is ever a breach.
-use Rattle.std.proofs.Common.{◌≡◌, ◌≢◌, ◌<◌, ℕ, true, false, List, [], ◌∷◌, map, slice_get, Some, refl, sym, ap, ◌∙◌, subst, inl, inr, arith}
+use Rattle.std.proofs.Common.{◌≡◌, ◌<◌, ℕ, true, false, List, [], ◌∷◌, map, slice_get, Some, refl, sym, ap, ◌∙◌, subst, inl, inr, arith}
 use Rattle.std.proofs.lemmas.Bool.{cases_lt}
 use Rattle.std.proofs.lemmas.Option.{none-some}
-use Rattle.std.specs.FinSet as set
 use Rattle.ivy_model.specs.declared.Config.{Config}
 use Rattle.ivy_model.specs.Config.{IsConfig}
 use Rattle.ivy_wire.specs.declared.Content.TheVariants as content
@@ -12,24 +11,22 @@ use Rattle.ivy_pagetable.specs.declared.Entry.TheVariants as entry
 use Rattle.ivy_pagetable.specs.declared.PutOff.{PutOff}
 use Rattle.ivy_pagetable.specs.declared.Request.{Request}
 use Rattle.ivy_pagetable.specs.declared.Request.TheVariants as request
-use Rattle.ivy_pagetable.specs.declared.Word.{Word}
-use Rattle.ivy_pagetable.specs.NodeSets.{Nodes, bits_of, nodes_with}
-use Rattle.ivy_pagetable.specs.States.{IdleState, WaitingState}
+use Rattle.ivy_pagetable.specs.NodeSets.{Nodes, nodes_with}
 use Rattle.ivy_pagetable.specs.Accesses.{reads}
-use Rattle.ivy_pagetable.specs.Entries.{put_offs, is_owner, can_put_off, with_put_off, without, copying, owning, sharing}
+use Rattle.ivy_pagetable.specs.Entries.{put_offs, is_owner, with_put_off, copying, owning, sharing}
 use Rattle.ivy_serving.specs.Serving.{parcel_to, invalidations}
 use Rattle.ivy_coherence.specs.Faults.{waiting_from}
 use Rattle.ivy_coherence.proofs.Keeping.{owner_put}
 use Rattle.ivy_dynamic.specs.Dynamic.{Hints, hint_of, hinted, dynamic_ops}
 use Rattle.ivy_order.specs.Letters.{Letter, Net, Place, Loose, content_of, letter_of, goes_on, installs}
 use Rattle.ivy_order.specs.Orderly.{IsExpectedAs, IsOrderly}
-use Rattle.ivy_order.specs.Rows.{letter, told, IsKept}
+use Rattle.ivy_order.specs.Rows.{Served, Comes, Begins, PutsOff, Notice, Row, IsOf, noticed, letter, told}
 use Rattle.ivy_order.proofs.Needs.{page_of, collects_owner}
 use Rattle.ivy_order.proofs.Places.{served, freed}
 use Rattle.ivy_order.proofs.Sole.{fits_as}
 use Rattle.ivy_order.proofs.Steps.{IsStep}
 use Rattle.ivy_order.proofs.Parcels.{IsThe, IsNone, IsOrder, answer_step, ask_step, orders_step, free_step, stay_step}
-use Rattle.ivy_order.proofs.Kept.{orderly-kept}
+use Rattle.ivy_requests.proofs.Quiet.{IsRoutedBy}
 use Rattle.ivy_requests.specs.Descending.{IsAsked, Descends}
 use Rattle.ivy_requests.specs.Managing.{claims}
 use Rattle.ivy_requests.specs.Sending.{HasPage, owns, comes}
@@ -37,7 +34,7 @@ use Rattle.ivy_requests.specs.Hinting.{LeadDown, IsHinted}
 use Rattle.ivy_requests.proofs.Asked.{reader_inside, writer_inside}
 use Rattle.ivy_requests.proofs.Moves.{both}
 use Rattle.ivy_requests.proofs.Claims.{put_claims}
-use Rattle.ivy_requests.proofs.Old.{alike_letters, installs_letters, taken_letters, put_off_step}
+use Rattle.ivy_requests.proofs.Old.{installs_letters, taken_letters, put_off_step}
 use Rattle.ivy_requests.proofs.NoBreach.{no_breach}
 use Rattle.ivy_requests.proofs.Managers.{IsTold, none_told, told_itself}
 use Rattle.ivy_routes.proofs.HintedManagers.{told_hint, hint_now}
@@ -128,74 +125,93 @@ module _ (c : Config) (m m' : ℕ → Hints) (n n' : Net) (hints : IsHinted c m 
       body : (l : Letter) {a : Place} → IsThe at new a l → new.message.content ≡ l.message.content
       body l it = ap (λ (v : Letter). v.message.content) (sym it.1)
 
-module _ (c : Config) (m : ℕ → Hints) (n : Net) (order : IsOrderly c n) (hints : IsHinted c m n) (x p : ℕ) (here : x < c.nodes) (page : p < c.pages) where
-  -- the node is told of another one
-  hints_at : (o : ℕ) (g : ℕ → ℕ) → g o < g x → g (hint_of (told m x (hinted (m x) p o) x) p) < g x
-  hints_at o g lt = subst (λ v. g v < g x) (sym (hint_now m x p o (subst (λ k. p < k) (sym (hints.size x here)) page))) lt
+-- the node is told of another one
+hints_at : (c : Config) (m : ℕ → Hints) (n : Net) → IsHinted c m n → (x p : ℕ) → x < c.nodes → p < c.pages
+    → (o : ℕ) (g : ℕ → ℕ) → g o < g x → g (hint_of (told m x (hinted (m x) p o) x) p) < g x
+hints_at c m n hints x p here page o g lt =
+    subst (λ v. g v < g x) (sym (hint_now m x p o (subst (λ k. p < k) (sym (hints.size x here)) page))) lt
 
-  -- a request is the first loose letter
-  asked_first : (from o call : ℕ) (body : Content) (rest : List Letter) → n.loose ≡ letter from x o call body ∷ rest → IsAsked n body o x
-  asked_first from o call body rest loose =
-      record { at = Loose 0; letter = letter from x o call body; there = ap (λ v. slice_get v 0) loose; dest = refl; asker = refl; asks = refl }
+-- a request is the first loose letter
+asked_first : {c : Config} {n : Net} {T : Type 0} {at : T → Entry} {ask : ℕ → Content} (r : Served c n at ask) → IsAsked n (ask r.page) r.origin r.node
+asked_first {ask = ask} r = record {
+  at = Loose 0;
+  letter = letter r.from r.node r.origin r.call (ask r.page);
+  there = ap (λ v. slice_get v 0) r.loose;
+  dest = refl;
+  asker = refl;
+  asks = refl;
+}
 
-  -- who orders a copy to be given up has the page
-  orderer_has : (o call : ℕ) (rest : List Letter) → n.loose ≡ letter o x o call (content.Inval p) ∷ rest → HasPage n o p
-  orderer_has o call rest loose =
-      let fit : IsExpectedAs c n (letter o x o call (content.Inval p)) (content.Inval p)
-      = fits_as c n order (Loose 0) (letter o x o call (content.Inval p)) (content.Inval p) (ap (λ v. slice_get v 0) loose) refl in
-      owns (collects_owner (n.entry o p) call x fit.2)
+-- who orders a copy to be given up has the page
+orderer_has : {c : Config} {n : Net} {T : Type 0} {at : T → Entry} → IsOrderly c n → (r : Served c n at content.Inval) → HasPage n r.origin r.page
+orderer_has {c} {n} order r =
+    let l : Letter = letter r.from r.node r.origin r.call (content.Inval r.page) in
+    let fit : IsExpectedAs c n l (content.Inval r.page) = fits_as c n order (Loose 0) l (content.Inval r.page) (ap (λ v. slice_get v 0) r.loose) refl in
+    owns (collects_owner (n.entry r.origin r.page) r.call r.node fit.2)
 
-  -- at an idle entry: a copy is given
-  shared_hinted : (from o call : ℕ) (s : IdleState) (nodes : Nodes) (bytes : List ℕ) (rest : List Letter) → n.loose ≡ letter from x o call (content.ReadReq p) ∷ rest
-      → n.entry x p ≡ entry.Idle s → s.owner ≡ true → IsHinted c m (goes_on n x p (entry.Idle (sharing nodes)) rest (parcel_to x o o call (content.ReadRep p bytes) ∷ []))
-  shared_hinted from o call s nodes bytes rest loose is owner = one_hinted c m m n _ hints x p (entry.Idle s) (entry.Idle (sharing nodes)) served _ _
-      (answer_step n x p (entry.Idle s) (entry.Idle (sharing nodes)) _ rest o o call (content.ReadRep p bytes) is loose (λ k q h. h)) (none_told dynamic_ops m m x p (λ i. refl))
-      refl (λ b v h. cc) (λ g was h. (let f : content.ReadRep p bytes ≡ content.ReadReq p = h in cc)) (λ g was h. (let f : content.ReadRep p bytes ≡ content.WriteReq p = h in cc))
-      (λ g was v h. was.requests.reads o x (asked_first from o call (content.ReadReq p) rest loose)) (λ h. owns (ap is_owner is ∙ owner)) (λ g was h. no_more (sym h))
+module _ (c : Config) (m : ℕ → Hints) (n : Net) (order : IsOrderly c n) (hints : IsHinted c m n) where
+  -- at an idle entry: a copy is given, or a request to read is sent on
+  module _ (r : Served c n entry.Idle content.ReadReq) where
+    open r use {node as x, page as p, from, origin as o, call, state as s, rest, here, loose, is}
 
-  -- a request to read is sent on
-  read_sent_hinted : (from o call : ℕ) (s : IdleState) (rest : List Letter) → n.loose ≡ letter from x o call (content.ReadReq p) ∷ rest
-      → n.entry x p ≡ entry.Idle s → s.owner ≡ false
-      → IsHinted c (told m x (m x)) (goes_on n x p (entry.Idle s) rest (parcel_to x (hint_of (m x) p) o call (content.ReadReq p) ∷ []))
-  read_sent_hinted from o call s rest loose is plain = one_hinted c m (told m x (m x)) n _ hints x p (entry.Idle s) (entry.Idle s) served _ _
-      (answer_step n x p (entry.Idle s) (entry.Idle s) _ rest (hint_of (m x) p) o call (content.ReadReq p) is loose (λ k q h. h)) (none_told dynamic_ops m (told m x (m x)) x p (told_itself m x))
-      refl (λ b v h. cc)
-      (λ g was h. (
-      let lower : g (hint_of (m x) p) < g x = was.hints x here (ap claims is ∙ plain) in
-      let low : g x < g o = was.requests.reads o x (asked_first from o call (content.ReadReq p) rest loose) in
-      omega (arith, lower, low)
-      ))
-      (λ g was h. (let f : content.ReadReq p ≡ content.WriteReq p = h in cc)) (λ g was v h. (let f : content.ReadReq p ≡ content.ReadRep p v = h in cc))
-      (λ h. owns (ap is_owner is ∙ h)) (λ g was h. subst (λ v. g (hint_of v p) < g x) (sym (told_itself m x x)) (was.hints x here (ap claims is ∙ plain)))
+    shared_hinted : (nodes : Nodes) (bytes : List ℕ) → s.owner ≡ true
+        → IsHinted c m (goes_on n x p (entry.Idle (sharing nodes)) rest (parcel_to x o o call (content.ReadRep p bytes) ∷ []))
+    shared_hinted nodes bytes owner = one_hinted c m m n _ hints x p (entry.Idle s) (entry.Idle (sharing nodes)) served _ _
+        (answer_step n x p (entry.Idle s) (entry.Idle (sharing nodes)) _ rest o o call (content.ReadRep p bytes) is loose (λ k q h. h)) (none_told dynamic_ops m m x p (λ i. refl))
+        refl (λ b v h. cc) (λ g was h. (let f : content.ReadRep p bytes ≡ content.ReadReq p = h in cc)) (λ g was h. (let f : content.ReadRep p bytes ≡ content.WriteReq p = h in cc))
+        (λ g was v h. was.requests.reads o x (asked_first r)) (λ h. owns (ap is_owner is ∙ owner)) (λ g was h. no_more (sym h))
+
+    read_sent_hinted : s.owner ≡ false
+        → IsHinted c (told m x (m x)) (goes_on n x p (entry.Idle s) rest (parcel_to x (hint_of (m x) p) o call (content.ReadReq p) ∷ []))
+    read_sent_hinted plain = one_hinted c m (told m x (m x)) n _ hints x p (entry.Idle s) (entry.Idle s) served _ _
+        (answer_step n x p (entry.Idle s) (entry.Idle s) _ rest (hint_of (m x) p) o call (content.ReadReq p) is loose (λ k q h. h)) (none_told dynamic_ops m (told m x (m x)) x p (told_itself m x))
+        refl (λ b v h. cc)
+        (λ g was h. (
+        let lower : g (hint_of (m x) p) < g x = was.hints x here (ap claims is ∙ plain) in
+        let low : g x < g o = was.requests.reads o x (asked_first r) in
+        omega (arith, lower, low)
+        ))
+        (λ g was h. (let f : content.ReadReq p ≡ content.WriteReq p = h in cc)) (λ g was v h. (let f : content.ReadReq p ≡ content.ReadRep p v = h in cc))
+        (λ h. owns (ap is_owner is ∙ h)) (λ g was h. subst (λ v. g (hint_of v p) < g x) (sym (told_itself m x x)) (was.hints x here (ap claims is ∙ plain)))
 
   -- a copy is given up
-  ended_hinted : (o call : ℕ) (e z : Entry) (rest : List Letter) → n.loose ≡ letter o x o call (content.Inval p) ∷ rest → o ≢ x → n.entry x p ≡ e
-      → ((k : ℕ) (q : PutOff) → slice_get (put_offs z) k ≡ Some q → slice_get (put_offs e) k ≡ Some q) → is_owner z ≡ false
-      → IsHinted c (told m x (hinted (m x) p o)) (goes_on n x p z rest (parcel_to x o o call (content.InvalAck p) ∷ []))
-  ended_hinted o call e z rest loose foreign is still unowned = quiet_hinted c m (told m x (hinted (m x) p o)) n _ hints x p e z served (IsThe _ _)
-      (answer_step n x p e z _ rest o o call (content.InvalAck p) is loose still) (told_hint m x p o)
+  ended_hinted : {T : Type 0} {at : T → Entry} (r : Served c n at content.Inval) (z : Entry)
+      → ((k : ℕ) (q : PutOff) → slice_get (put_offs z) k ≡ Some q → slice_get (put_offs (at r.state)) k ≡ Some q) → is_owner z ≡ false
+      → IsHinted c (told m r.node (hinted (m r.node) r.page r.origin)) (goes_on n r.node r.page z r.rest (parcel_to r.node r.origin r.origin r.call (content.InvalAck r.page) ∷ []))
+  ended_hinted {at = at} r z still unowned = quiet_hinted c m (told m x (hinted (m x) p o)) n _ hints x p (at s) z served (IsThe _ _)
+      (answer_step n x p (at s) z _ rest o o call (content.InvalAck p) is loose still) (told_hint m x p o)
       (λ a l it. ap (λ (v : Letter). page_of v.message.content) it.1) (λ a l it on. subst (λ (v : Letter). LeadsOn v.message.content) it.1 on)
-      (λ h. absurd (both (is_owner z) h unowned)) (λ g was h. hints_at o g (was.lowest o x (orderer_has o call rest loose) (λ same. foreign (sym same))))
+      (λ h. absurd (both (is_owner z) h unowned)) (λ g was h. hints_at c m n hints x p here inside o g (was.lowest o x (orderer_has order r) (λ same. foreign (sym same))))
+    where
+      open r use {node as x, page as p, from, origin as o, call, state as s, rest, here, inside, loose, foreign, is}
 
   -- a message is put off
-  put_hinted : (from : ℕ) (q : PutOff) (e : Entry) (rest : List Letter) → n.loose ≡ letter from x q.origin q.call (content_of q.kind p) ∷ rest
-      → n.entry x p ≡ e → can_put_off e ≡ true → IsHinted c m (goes_on n x p (with_put_off e q) rest [])
-  put_hinted from q e rest loose is room = one_hinted c m m n _ hints x p e (with_put_off e q) served _ (letter_of x p q)
-      (put_off_step n x p from q e rest loose is room) (none_told dynamic_ops m m x p (λ i. refl)) (put_about q.kind p) (put_no_page q.kind p)
-      (λ g was h. was.requests.reads q.origin x (subst (λ b. IsAsked n b q.origin x) h first)) (λ g was h. was.requests.writes q.origin x (subst (λ b. IsAsked n b q.origin x) h first))
-      (λ g was bytes h. absurd (put_no_copy q.kind p bytes h)) (λ h. owns (ap is_owner is ∙ sym (owner_put e q) ∙ h))
-      (λ g was h. was.hints x here (ap claims is ∙ sym (put_claims e q) ∙ h))
-    where
-      first : IsAsked n (content_of q.kind p) q.origin x
-      first = asked_first from q.origin q.call (content_of q.kind p) rest loose
+  module _ (put : PutsOff c n) where
+    open put use {node as x, page as p, from, later as q, before as e, rest, here, loose, is, room}
+
+    put_hinted : IsHinted c m (goes_on n x p (with_put_off e q) rest [])
+    put_hinted = one_hinted c m m n _ hints x p e (with_put_off e q) served _ (letter_of x p q)
+        (put_off_step n x p from q e rest loose is room) (none_told dynamic_ops m m x p (λ i. refl)) (put_about q.kind p) (put_no_page q.kind p)
+        (λ g was h. was.requests.reads q.origin x (subst (λ b. IsAsked n b q.origin x) h first)) (λ g was h. was.requests.writes q.origin x (subst (λ b. IsAsked n b q.origin x) h first))
+        (λ g was bytes h. absurd (put_no_copy q.kind p bytes h)) (λ h. owns (ap is_owner is ∙ sym (owner_put e q) ∙ h))
+        (λ g was h. was.hints x here (ap claims is ∙ sym (put_claims e q) ∙ h))
+      where
+        first : IsAsked n (content_of q.kind p) q.origin x
+        first = record {
+          at = Loose 0;
+          letter = letter from x q.origin q.call (content_of q.kind p);
+          there = ap (λ v. slice_get v 0) loose;
+          dest = refl;
+          asker = refl;
+          asks = refl;
+        }
 
   -- a copy comes
-  copied_hinted : (from call : ℕ) (w : WaitingState) (bytes : List ℕ) (rest : List Letter) → n.loose ≡ letter from x x call (content.ReadRep p bytes) ∷ rest
-      → n.entry x p ≡ entry.AwaitRead w
-      → IsHinted c (told m x (hinted (m x) p from)) (goes_on n x p (entry.Idle copying) (map (letter_of x p) w.put_off) [])
-  copied_hinted from call w bytes rest loose is = quiet_hinted c m (told m x (hinted (m x) p from)) n _ hints x p (entry.AwaitRead w) (entry.Idle copying) (freed x p) IsNone
+  copied_hinted : (bytes : List ℕ) (r : Comes c n entry.AwaitRead (λ q. content.ReadRep q bytes))
+      → IsHinted c (told m r.node (hinted (m r.node) r.page r.from)) (goes_on n r.node r.page (entry.Idle copying) (map (letter_of r.node r.page) r.state.put_off) [])
+  copied_hinted bytes r = quiet_hinted c m (told m x (hinted (m x) p from)) n _ hints x p (entry.AwaitRead w) (entry.Idle copying) (freed x p) IsNone
       (free_step n x p (entry.AwaitRead w) (entry.Idle copying) w.put_off is refl refl) (told_hint m x p from) (λ a l none. absurd none) (λ a l none on. none)
-      (λ h. no_more h) (λ g was h. hints_at from g (was.copies from x (record {
+      (λ h. no_more h) (λ g was h. hints_at c m n hints x p here inside from g (was.copies from x (record {
         at = Loose 0;
         letter = letter from x x call (content.ReadRep p bytes);
         bytes = bytes;
@@ -204,33 +220,39 @@ module _ (c : Config) (m : ℕ → Hints) (n : Net) (order : IsOrderly c n) (hin
         dest = refl;
         brings = refl;
       })))
+    where
+      open r use {node as x, page as p, from, call, state as w, here, inside, loose, is}
 
   -- the page comes
-  page_there : (from call copies : ℕ) (bytes : List ℕ) (rest : List Letter) → n.loose ≡ letter from x x call (content.WriteRep p copies bytes) ∷ rest → HasPage n x p
-  page_there from call copies bytes rest loose = comes (Loose 0) (letter from x x call (content.WriteRep p copies bytes)) copies bytes (ap (λ v. slice_get v 0) loose) refl refl
+  page_there : (copies : ℕ) (bytes : List ℕ) (r : Comes c n entry.AwaitWrite (λ q. content.WriteRep q copies bytes)) → HasPage n r.node r.page
+  page_there copies bytes r = comes (Loose 0) (letter r.from r.node r.node r.call (content.WriteRep r.page copies bytes)) copies bytes (ap (λ v. slice_get v 0) r.loose) refl refl
 
-  -- what was put off is loose, at the page's owner
-  freed_hinted : (m' : ℕ → Hints) (e : Entry) (put_off : List PutOff) → IsTold dynamic_ops m m' x p → n.entry x p ≡ e → put_offs e ≡ put_off → HasPage n x p
-      → IsHinted c m' (goes_on n x p (entry.Idle owning) (map (letter_of x p) put_off) [])
-  freed_hinted m' e put_off t is waiting has = quiet_hinted c m m' n _ hints x p e (entry.Idle owning) (freed x p) IsNone
-      (free_step n x p e (entry.Idle owning) put_off is waiting refl) t (λ a l none. absurd none) (λ a l none on. none) (λ h. has) (λ g was h. no_more (sym h))
+  module _ {T : Type 0} {at : T → Entry} {bring : ℕ → Content} (r : Comes c n at bring) (m' : ℕ → Hints) (t : IsTold dynamic_ops m m' r.node r.page) (has : HasPage n r.node r.page) where
+    open r use {node as x, page as p, state as s, is}
+
+    -- what was put off is loose, at the page's owner
+    freed_hinted : IsHinted c m' (goes_on n x p (entry.Idle owning) (map (letter_of x p) (put_offs (at s))) [])
+    freed_hinted = quiet_hinted c m m' n _ hints x p (at s) (entry.Idle owning) (freed x p) IsNone
+        (free_step n x p (at s) (entry.Idle owning) (put_offs (at s)) is refl refl) t (λ a l none. absurd none) (λ a l none on. none) (λ h. has) (λ g was h. no_more (sym h))
+
+    -- an acknowledgement comes
+    stays_hinted : (z : Entry) → ((k : ℕ) (q : PutOff) → slice_get (put_offs z) k ≡ Some q → slice_get (put_offs (at s)) k ≡ Some q)
+        → claims z ≡ true → IsHinted c m' (goes_on n x p z [] [])
+    stays_hinted z still claiming = quiet_hinted c m m' n _ hints x p (at s) z served IsNone (stay_step n x p (at s) z is still) t
+        (λ a l none. absurd none) (λ a l none on. none) (λ h. has) (λ g was h. absurd (both (claims z) claiming h))
 
   -- orders to give copies up go out from the page's owner
-  ordered_hinted : (m' : ℕ → Hints) (e z : Entry) (call : ℕ) (nodes : Nodes) → IsTold dynamic_ops m m' x p → n.entry x p ≡ e
+  ordered_hinted : (x p : ℕ) (m' : ℕ → Hints) (e z : Entry) (call : ℕ) (nodes : Nodes) → IsTold dynamic_ops m m' x p → n.entry x p ≡ e
       → ((k : ℕ) (q : PutOff) → slice_get (put_offs z) k ≡ Some q → slice_get (put_offs e) k ≡ Some q) → claims z ≡ true → HasPage n x p
       → IsHinted c m' (goes_on n x p z [] (invalidations x p call nodes))
-  ordered_hinted m' e z call nodes t is still claiming has = quiet_hinted c m m' n _ hints x p e z served (IsOrder n x p call nodes)
+  ordered_hinted x p m' e z call nodes t is still claiming has = quiet_hinted c m m' n _ hints x p e z served (IsOrder n x p call nodes)
       (orders_step n x p e z call nodes is still) t (λ a l new. ap (λ (v : Letter). page_of v.message.content) new.3)
       (λ a l new on. subst (λ (v : Letter). LeadsOn v.message.content) new.3 on) (λ h. has) (λ g was h. absurd (both (claims z) claiming h))
 
-  -- an acknowledgement comes
-  stays_hinted : (e z : Entry) → n.entry x p ≡ e → ((k : ℕ) (q : PutOff) → slice_get (put_offs z) k ≡ Some q → slice_get (put_offs e) k ≡ Some q)
-      → claims z ≡ true → HasPage n x p → IsHinted c m (goes_on n x p z [] [])
-  stays_hinted e z is still claiming has = quiet_hinted c m m n _ hints x p e z served IsNone (stay_step n x p e z is still) (none_told dynamic_ops m m x p (λ i. refl))
-      (λ a l none. absurd none) (λ a l none on. none) (λ h. has) (λ g was h. absurd (both (claims z) claiming h))
-
   -- a word begins to wait
-  module _ (s : IdleState) (is : n.entry x p ≡ entry.Idle s) (plain : s.owner ≡ false) (call : ℕ) (w : Word) (loose : n.loose ≡ []) where
+  module _ (r : Begins c n) (plain : r.state.owner ≡ false) where
+    open r use {node as x, page as p, call, state as s, word as w, here, loose, is}
+
     lower : (g : ℕ → ℕ) → LeadDown c m n p g → g (hint_of (m x) p) < g x
     lower g was = was.hints x here (ap claims is ∙ plain)
 
@@ -247,103 +269,36 @@ module _ (c : Config) (m : ℕ → Hints) (n : Net) (order : IsOrderly c n) (hin
         (λ k q h. absurd (none-some q h))) (none_told dynamic_ops m m x p (λ i. refl)) refl (λ b v h. cc) (λ g was h. (let f : content.WriteReq p ≡ content.ReadReq p = h in cc))
         (λ g was h. lower g was) (λ g was v h. (let f : content.WriteReq p ≡ content.ReadRep p v = h in cc)) (λ h. no_more h) (λ g was h. no_more (sym h))
 
-pub hinted-kept : (c : Config) → IsConfig c → IsKept dynamic_ops c (λ m n f. IsOrderly c n × IsHinted c m n × ((i : ℕ) → n.breaches i ≡ 0))
-hinted-kept c config = let kept = orderly-kept dynamic_ops c config in record {
-  alike = λ m m' n n' f same q. (
-    kept.alike m m' n n' f same q.0,
-    part_hinted c m m' n n' (record { letters = alike_letters m m' n n' same; entries = same.entries }) same.managers q.1,
-    λ i. same.breaches i ∙ q.2 i,
-  );
-  carries = λ m n f x p s w here inside word is suffices q. (
-    kept.carries m n f x p s w here inside word is suffices q.0,
-    installed_hinted c m n x p _ q.1,
-    q.2,
-  );
-  takes = λ m n f i j message none first q. (
-    kept.takes m n f i j message none first q.0,
-    part_hinted c m m n _ (record { letters = taken_letters n i j message first; entries = λ i q. refl }) (λ i. refl) q.1,
-    q.2,
-  );
-  drops = λ m n f x l rest here loose dest mis q. absurd (no_breach n (hinted_descends c m n q.0 q.1) c config q.0 x l rest here loose dest mis);
-  shares = λ m n f x p from o call s rest serves foreign is owner low q. (
-    kept.shares m n f x p from o call s rest serves foreign is owner low q.0,
-    shared_hinted c m n q.0 q.1 x p serves.here serves.page from o call s (set.insert s.copies o) (n.page x p) rest serves.loose is owner,
-    q.2,
-  );
-  gives = λ m n f x p from o call s rest serves foreign is owner low q. (
-    kept.gives m n f x p from o call s rest serves foreign is owner low q.0,
-    given_hinted c m n q.0 q.1 x p serves.here serves.page s is from o call rest serves.loose foreign owner (bits_of (set.remove s.copies o)) (n.page x p),
-    q.2,
-  );
-  sends_on_read = λ m n f x p from o call s rest serves foreign is plain hop q. (
-    kept.sends_on_read m n f x p from o call s rest serves foreign is plain hop q.0,
-    read_sent_hinted c m n q.0 q.1 x p serves.here serves.page from o call s rest serves.loose is plain,
-    q.2,
-  );
-  sends_on_write = λ m n f x p from o call s rest serves foreign is plain hop q. (
-    kept.sends_on_write m n f x p from o call s rest serves foreign is plain hop q.0,
-    sent_hinted c m n q.0 q.1 x p serves.here serves.page s is from o call rest serves.loose foreign plain,
-    q.2,
-  );
-  ends_copy = λ m n f x p o call s rest serves foreign is plain q. (
-    kept.ends_copy m n f x p o call s rest serves foreign is plain q.0,
-    ended_hinted c m n q.0 q.1 x p serves.here serves.page o call (entry.Idle s) (entry.Idle without) rest serves.loose foreign is (λ k q h. h) refl,
-    q.2,
-  );
-  gives_up = λ m n f x p o call s rest serves foreign is q. (
-    kept.gives_up m n f x p o call s rest serves foreign is q.0,
-    ended_hinted c m n q.0 q.1 x p serves.here serves.page o call (entry.AwaitWrite s) (entry.AwaitWrite (record { had_copy = false; waiting = s.waiting })) rest serves.loose
-        foreign is (λ k q h. h) refl,
-    q.2,
-  );
-  puts_off = λ m n f x p from r e rest serves foreign orders is room q. (
-    kept.puts_off m n f x p from r e rest serves foreign orders is room q.0,
-    put_hinted c m n q.0 q.1 x p serves.here serves.page from r e rest serves.loose is room,
-    q.2,
-  );
-  copy_comes = λ m n f x p from call w bytes serves foreign is same q. (
-    kept.copy_comes m n f x p from call w bytes serves foreign is same q.0,
-    installed_hinted c _ _ x p bytes (copied_hinted c m n q.0 q.1 x p serves.here serves.page from call w bytes [] serves.loose is),
-    q.2,
-  );
-  page_comes = λ m n f x p from call copies s bytes serves foreign is same none q. (
-    kept.page_comes m n f x p from call copies s bytes serves foreign is same none q.0,
-    installed_hinted c _ _ x p bytes (freed_hinted c m n q.0 q.1 x p serves.here serves.page (told m x (hinted (m x) p (m x).me)) (entry.AwaitWrite s) s.waiting.put_off
-        (told_hint m x p (m x).me) is refl (page_there c m n q.0 q.1 x p serves.here serves.page from call copies bytes [] serves.loose)),
-    q.2,
-  );
-  page_comes_shared = λ m n f x p from call copies s bytes serves foreign is same some out low q. (
-    kept.page_comes_shared m n f x p from call copies s bytes serves foreign is same some out low q.0,
-    installed_hinted c _ _ x p bytes (ordered_hinted c m n q.0 q.1 x p serves.here serves.page (told m x (hinted (m x) p (m x).me)) (entry.AwaitWrite s)
-        (entry.AwaitAcks (record { left = nodes_with copies; waiting = s.waiting })) call (nodes_with copies) (told_hint m x p (m x).me) is (λ k q h. h) refl
-        (page_there c m n q.0 q.1 x p serves.here serves.page from call copies bytes [] serves.loose)),
-    q.2,
-  );
-  acknowledges = λ m n f x p from call s serves foreign is same left more q. (
-    kept.acknowledges m n f x p from call s serves foreign is same left more q.0,
-    stays_hinted c m n q.0 q.1 x p serves.here serves.page (entry.AwaitAcks s) (entry.AwaitAcks (record { left = set.remove s.left from; waiting = s.waiting })) is (λ k q h. h) refl
-        (owns (ap is_owner is)),
-    q.2,
-  );
-  acknowledges_last = λ m n f x p from call s serves foreign is same left last q. (
-    kept.acknowledges_last m n f x p from call s serves foreign is same left last q.0,
-    freed_hinted c m n q.0 q.1 x p serves.here serves.page m (entry.AwaitAcks s) s.waiting.put_off (none_told dynamic_ops m m x p (λ i. refl)) is refl (owns (ap is_owner is)),
-    q.2,
-  );
-  asks_copy = λ m n f x p call s w begins is plain unread hop q. (
-    kept.asks_copy m n f x p call s w begins is plain unread hop q.0,
-    copy_asked c m n q.0 q.1 x p begins.here begins.page s is plain call w begins.loose,
-    q.2,
-  );
-  asks_page = λ m n f x p call s w begins is plain hop q. (
-    kept.asks_page m n f x p call s w begins is plain hop q.0,
-    page_asked c m n q.0 q.1 x p begins.here begins.page s is plain call w begins.loose (reads s.access),
-    q.2,
-  );
-  ends_copies = λ m n f x p call s w begins is owner reader low out q. (
-    kept.ends_copies m n f x p call s w begins is owner reader low out q.0,
-    ordered_hinted c m n q.0 q.1 x p begins.here begins.page m (entry.Idle s) (entry.AwaitAcks (record { left = s.copies; waiting = waiting_from w call })) call s.copies
-        (none_told dynamic_ops m m x p (λ i. refl)) is (λ k q h. absurd (none-some q h)) refl (owns (ap is_owner is ∙ owner)),
-    q.2,
-  );
-}
+module _ (c : Config) (config : IsConfig c) where
+  hinted_by : {m : ℕ → Hints} {n : Net} {f : ℕ → List ℕ} {notice : Notice} {n' : Net} {f' : ℕ → List ℕ} → Row c n f notice n' f'
+      → IsOf dynamic_ops c m notice → IsOrderly c n → IsHinted c m n → IsHinted c (noticed dynamic_ops m notice) n'
+  hinted_by (Row.carries r) of o h = installed_hinted c _ _ r.node r.page _ h
+  hinted_by {n = n} (Row.takes r) of o h =
+      part_hinted c _ _ n _ (record { letters = taken_letters n r.source r.dest r.message r.first; entries = λ i q. refl }) (λ i. refl) h
+  hinted_by {m = m} (Row.drops r) of o h =
+      absurd (no_breach _ (hinted_descends c m _ o h) c config o r.node r.old r.rest r.here r.loose r.dest r.misfits)
+  hinted_by (Row.shares r owner low) of o h = shared_hinted c _ _ o h r _ _ owner
+  hinted_by (Row.gives r owner low) of o h = given_hinted c _ _ o h r owner _ _
+  hinted_by (Row.sends_on_read r hop plain away) of o h = rw of.1 (read_sent_hinted c _ _ o h r plain)
+  hinted_by (Row.sends_on_write r hop plain away) of o h = rw of.1 (sent_hinted c _ _ o h r plain)
+  hinted_by (Row.ends_copy r sender plain) of o h = ended_hinted c _ _ o h r _ (λ k q h. h) refl
+  hinted_by (Row.gives_up r sender) of o h = ended_hinted c _ _ o h r _ (λ k q h. h) refl
+  hinted_by (Row.puts_off r) of o h = put_hinted c _ _ o h r
+  hinted_by (Row.copy_comes bytes r same) of o h = installed_hinted c _ _ r.node r.page bytes (copied_hinted c _ _ o h bytes r)
+  hinted_by {m = m} (Row.page_comes copies bytes r same none) of o h = installed_hinted c _ _ r.node r.page bytes
+      (freed_hinted c m _ o h r _ (told_hint m r.node r.page (m r.node).me) (page_there c m _ o h copies bytes r))
+  hinted_by {m = m} (Row.page_comes_shared copies bytes r same some out low) of o h = installed_hinted c _ _ r.node r.page bytes
+      (ordered_hinted c m _ o h r.node r.page _ (entry.AwaitWrite r.state) _ r.call (nodes_with copies) (told_hint m r.node r.page (m r.node).me) r.is (λ k q h. h) refl
+      (page_there c m _ o h copies bytes r))
+  hinted_by {m = m} (Row.acknowledges r same left more) of o h =
+      stays_hinted c m _ o h r m (none_told dynamic_ops m m r.node r.page (λ i. refl)) (owns (ap is_owner r.is)) _ (λ k q h. h) refl
+  hinted_by {m = m} (Row.acknowledges_last r same left last) of o h =
+      freed_hinted c m _ o h r m (none_told dynamic_ops m m r.node r.page (λ i. refl)) (owns (ap is_owner r.is))
+  hinted_by (Row.asks_copy r hop plain unread away) of o h = rw of.1 (copy_asked c _ _ o h r plain)
+  hinted_by (Row.asks_page r hop plain away) of o h = rw of.1 (page_asked c _ _ o h r plain (reads r.state.access))
+  hinted_by {m = m} (Row.ends_copies r owner reader low out) of o h =
+      ordered_hinted c m _ o h r.node r.page m (entry.Idle r.state) _ r.call r.state.copies (none_told dynamic_ops m m r.node r.page (λ i. refl)) r.is
+      (λ k q h. absurd (none-some q h)) refl (owns (ap is_owner r.is ∙ owner))
+
+  pub hinted-routed : IsRoutedBy dynamic_ops c (IsHinted c)
+  hinted-routed = record { descends = hinted_descends c; by = hinted_by }

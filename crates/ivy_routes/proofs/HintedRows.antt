@@ -6,13 +6,12 @@ use Rattle.ivy_wire.specs.declared.Content.TheVariants as content
 use Rattle.ivy_wire.specs.Data.{Content}
 use Rattle.ivy_pagetable.specs.declared.Entry.{Entry}
 use Rattle.ivy_pagetable.specs.declared.Entry.TheVariants as entry
-use Rattle.ivy_pagetable.specs.States.{IdleState}
 use Rattle.ivy_pagetable.specs.Entries.{is_owner, without}
 use Rattle.ivy_serving.specs.Serving.{parcel_to}
 use Rattle.ivy_dynamic.specs.Dynamic.{Hints, hint_of, hinted, dynamic_ops}
 use Rattle.ivy_order.specs.Letters.{Letter, Net, Place, Underway, Loose, IsAt, goes_on}
 use Rattle.ivy_order.specs.Orderly.{AwaitsPage, Own, key_as, IsExpectedAs, IsOrderly}
-use Rattle.ivy_order.specs.Rows.{letter, told}
+use Rattle.ivy_order.specs.Rows.{Served, letter, told}
 use Rattle.ivy_order.proofs.Needs.{page_of}
 use Rattle.ivy_order.proofs.Places.{served}
 use Rattle.ivy_order.proofs.Sole.{fits_as, first_alone, no_other_owner, no_page_comes}
@@ -37,9 +36,9 @@ page_unowned (entry.AwaitRead s) k h = absurd h
 page_unowned (entry.AwaitWrite s) k h = refl
 page_unowned (entry.AwaitAcks s) k h = absurd h
 
-module _ (c : Config) (m : ℕ → Hints) (n : Net) (order : IsOrderly c n) (hints : IsHinted c m n) (x p : ℕ) (here : x < c.nodes) (page : p < c.pages)
-    (s : IdleState) (is : n.entry x p ≡ entry.Idle s) (from o call : ℕ) (rest : List Letter)
-    (loose : n.loose ≡ letter from x o call (content.WriteReq p) ∷ rest) (foreign : o ≢ x) where
+module _ (c : Config) (m : ℕ → Hints) (n : Net) (order : IsOrderly c n) (hints : IsHinted c m n) (r : Served c n entry.Idle content.WriteReq) where
+  open r use {node as x, page as p, from, origin as o, call, state as s, rest, here, inside as page, loose, foreign, is}
+
   abbrev now_told : ℕ → Hints
   now_told = told m x (hinted (m x) p o)
 

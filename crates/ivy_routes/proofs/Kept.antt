@@ -1,6 +1,5 @@
--- Each row of the table of coherence events keeps the requests of the managing nodes managed, and under these no message
--- is ever a breach.
-use Rattle.std.proofs.Common.{◌≡◌, ◌%◌, ℕ, false, List, [], slice_get, Some, refl, sym, ap, ◌∙◌, subst, inl, inr, ◌∷◌, map, true}
+-- Each row of the table of coherence events keeps the requests of the managing nodes managed.
+use Rattle.std.proofs.Common.{◌≡◌, ◌%◌, ℕ, List, [], slice_get, Some, refl, sym, ap, ◌∙◌, subst, inl, inr, ◌∷◌, map}
 use Rattle.std.proofs.lemmas.Bool.{cases_eq}
 use Rattle.std.proofs.lemmas.Option.{none-some}
 use Rattle.std.specs.FinSet as set
@@ -10,32 +9,31 @@ use Rattle.ivy_wire.specs.declared.Content.TheVariants as content
 use Rattle.ivy_pagetable.specs.declared.Entry.{Entry}
 use Rattle.ivy_pagetable.specs.declared.Entry.TheVariants as entry
 use Rattle.ivy_pagetable.specs.declared.PutOff.{PutOff}
-use Rattle.ivy_pagetable.specs.NodeSets.{Nodes, bits_of, nodes_with}
-use Rattle.ivy_pagetable.specs.Entries.{put_offs, without, copying, owning, sharing, can_put_off, with_put_off}
+use Rattle.ivy_pagetable.specs.NodeSets.{Nodes, nodes_with}
+use Rattle.ivy_pagetable.specs.Entries.{put_offs, copying, owning, with_put_off}
 use Rattle.ivy_serving.specs.Serving.{invalidations, parcel_to}
-use Rattle.ivy_pagetable.specs.States.{AwaitWriteState, AwaitAcksState}
-use Rattle.ivy_coherence.specs.Faults.{waiting_from}
+use Rattle.ivy_pagetable.specs.States.{AwaitWriteState}
 use Rattle.ivy_fixed.specs.Fixed.{Owners, owner_kept, hop_of, fixed_ops}
 use Rattle.ivy_fixed.specs.FixedLaws.{fixed_laws}
 use Rattle.ivy_order.specs.Letters.{Letter, Net, goes_on, installs, Loose, content_of, letter_of}
 use Rattle.ivy_order.specs.Orderly.{IsOrderly}
-use Rattle.ivy_order.specs.Rows.{told, IsKept, letter}
+use Rattle.ivy_order.specs.Rows.{Served, Comes, PutsOff, Takes, Notice, Row, IsOf, noticed, told, taken, letter}
 use Rattle.ivy_order.proofs.Places.{served, freed}
 use Rattle.ivy_order.proofs.Parcels.{IsNone, IsOrder, answer_step, orders_step, free_step, stay_step}
 use Rattle.ivy_order.proofs.Fitting.{IsRequest}
-use Rattle.ivy_order.proofs.Kept.{orderly-kept}
+use Rattle.ivy_requests.proofs.Quiet.{IsRoutedBy}
 use Rattle.ivy_requests.specs.Managing.{claims, IsManaged}
 use Rattle.ivy_requests.proofs.Managers.{none_told, one_told, told_else, told_itself}
 use Rattle.ivy_requests.proofs.Claims.{IsCalmed, then_calmed, put_claims, written_claims, step_calmed, answer_calmed}
-use Rattle.ivy_requests.proofs.Old.{alike_old, installs_old, taken_old, put_off_old, alike_letters, installs_letters, taken_letters, put_off_stays, put_off_there, put_off_readers}
+use Rattle.ivy_requests.proofs.Old.{installs_old, taken_old, put_off_old, installs_letters, taken_letters, put_off_stays, put_off_there, put_off_readers}
 use Rattle.ivy_routes.proofs.Descent.{descends}
 use Rattle.ivy_requests.proofs.NoBreach.{no_breach}
 use Rattle.ivy_routes.proofs.Managed.{calm_managed}
-use Rattle.ivy_routes.proofs.Sent.{sent_on_read, sent_on_write, given, began_to_read, began_to_write}
-use Rattle.ivy_wire.specs.Data.{Content}
+use Rattle.ivy_routes.proofs.Sent.{serving, beginning, sent_on_read, sent_on_write, given, began_to_read, began_to_write}
+use Rattle.ivy_wire.specs.Data.{Content, Parcel}
 use Rattle.ivy_requests.specs.Descending.{IsAsked}
 use Rattle.ivy_requests.proofs.Asked.{AreStill, asked_remains, only_still, none_gone, part_readers}
-use Rattle.ivy_requests.proofs.Remaining.{IsThere, IsOnly, StaysPutOff, still_counted, served_remain, begun_remain, freed_remain, alike_counted, alike_remain, installed_remain, taken_counted, taken_remain}
+use Rattle.ivy_requests.proofs.Remaining.{IsThere, IsOnly, StaysPutOff, still_counted, served_remain, begun_remain, freed_remain, installed_remain, taken_counted, taken_remain}
 
 module _ (c : Config) (m : ℕ → Owners) (n : Net) (order : IsOrderly c n) (managed : IsManaged c m n) where
   -- nobody is told of anything; the node itself is, of what changes nothing
@@ -78,24 +76,37 @@ orders_calmed n x p e z call nodes is same still claiming = step_calmed n _ x p 
     (still_counted n x p z [] (invalidations x p call nodes)) still claiming
 
 -- a letter that is no request to write is served: an answer goes out
-answered_calmed : (n : Net) (x p : ℕ) (e z : Entry) (old : Letter) (rest : List Letter) (dest origin call : ℕ) (body : Content) → n.entry x p ≡ e → n.loose ≡ old ∷ rest
-    → ((k : ℕ) (q : PutOff) → slice_get (put_offs z) k ≡ Some q → slice_get (put_offs e) k ≡ Some q) → StaysPutOff e z
-    → ((q : ℕ) → old.message.content ≡ content.WriteReq q → ⊥) → (IsRequest body → ⊥) → ((q : ℕ) (bytes : List ℕ) → body ≡ content.ReadRep q bytes → IsAsked n (content.ReadReq q) dest x)
-    → claims z ≡ claims e → IsCalmed n (goes_on n x p z rest (parcel_to x dest origin call body ∷ []))
-answered_calmed n x p e z old rest dest origin call body is loose same still unwritten none copied claiming = answer_calmed n _ x p e z served _ _
-    (answer_step n x p e z old rest dest origin call body is loose same) none copied (still_counted n x p z rest (parcel_to x dest origin call body ∷ []))
-    (only_still n _ old (served_remain n x p e z rest (parcel_to x dest origin call body ∷ []) is old loose still) unwritten) claiming
+answered_calmed : {c : Config} {T : Type 0} {at : T → Entry} {ask : ℕ → Content} (n : Net) (r : Served c n at ask) (z : Entry) (dest : ℕ) (body : Content)
+    → ((k : ℕ) (q : PutOff) → slice_get (put_offs z) k ≡ Some q → slice_get (put_offs (at r.state)) k ≡ Some q) → StaysPutOff (at r.state) z
+    → ((q : ℕ) → ask r.page ≡ content.WriteReq q → ⊥) → (IsRequest body → ⊥)
+    → ((q : ℕ) (bytes : List ℕ) → body ≡ content.ReadRep q bytes → IsAsked n (content.ReadReq q) dest r.node)
+    → claims z ≡ claims (at r.state) → IsCalmed n (goes_on n r.node r.page z r.rest (parcel_to r.node dest r.origin r.call body ∷ []))
+answered_calmed {at = at} {ask = ask} n r z dest body same still unwritten none copied claiming = answer_calmed n _ x p (at s) z served _ _
+    (answer_step n x p (at s) z old rest dest origin call body is loose same) none copied (still_counted n x p z rest posts)
+    (only_still n _ old (served_remain n x p (at s) z rest posts is old loose still) unwritten) claiming
+  where
+    open r use {node as x, page as p, from, origin, call, state as s, rest, loose, is}
+
+    old : Letter
+    old = letter from x origin call (ask p)
+
+    posts : List Parcel
+    posts = parcel_to x dest origin call body ∷ []
 
 -- what was put off is loose
-freed_calmed : (n : Net) (x p : ℕ) (e z : Entry) (old : Letter) → n.entry x p ≡ e → n.loose ≡ old ∷ [] → put_offs z ≡ []
-    → ((q : ℕ) → old.message.content ≡ content.WriteReq q → ⊥) → claims z ≡ claims e → IsCalmed n (goes_on n x p z (map (letter_of x p) (put_offs e)) [])
-freed_calmed n x p e z old is loose none unwritten claiming = step_calmed n _ x p e z (freed x p) IsNone (free_step n x p e z (put_offs e) is refl none)
-    (λ a l new request. new) (λ a l q bytes new is. new) (still_counted n x p z (map (letter_of x p) (put_offs e)) [])
-    (only_still n _ old (freed_remain n x p e z (map (letter_of x p) (put_offs e)) [] is old loose refl) unwritten) claiming
+freed_calmed : {c : Config} {T : Type 0} {at : T → Entry} {bring : ℕ → Content} (n : Net) (r : Comes c n at bring) (z : Entry) → put_offs z ≡ []
+    → ((q : ℕ) → bring r.page ≡ content.WriteReq q → ⊥) → claims z ≡ claims (at r.state)
+    → IsCalmed n (goes_on n r.node r.page z (map (letter_of r.node r.page) (put_offs (at r.state))) [])
+freed_calmed {at = at} {bring = bring} n r z none unwritten claiming = step_calmed n _ x p (at s) z (freed x p) IsNone (free_step n x p (at s) z (put_offs (at s)) is refl none)
+    (λ a l new request. new) (λ a l q bytes new is. new) (still_counted n x p z (map (letter_of x p) (put_offs (at s))) [])
+    (only_still n _ (letter from x x call (bring p)) (freed_remain n x p (at s) z (map (letter_of x p) (put_offs (at s))) [] is (letter from x x call (bring p)) loose refl) unwritten) claiming
+  where
+    open r use {node as x, page as p, from, call, state as s, loose, is}
 
 -- a message is put off: a request to write stays at its node
-module _ (n : Net) (x p from : ℕ) (r : PutOff) (e : Entry) (rest : List Letter) (loose : n.loose ≡ letter from x r.origin r.call (content_of r.kind p) ∷ rest)
-    (is : n.entry x p ≡ e) (room : can_put_off e ≡ true) where
+module _ {c : Config} (n : Net) (put : PutsOff c n) where
+  open put use {node as x, page as p, from, later as r, before as e, rest, loose, is, room}
+
   abbrev putting : Net
   putting = goes_on n x p (with_put_off e r) rest []
 
@@ -125,133 +136,83 @@ module _ (n : Net) (x p from : ℕ) (r : PutOff) (e : Entry) (rest : List Letter
     still = put_still;
   }
 
--- an entry collects acknowledgements
-module _ (n : Net) (x p : ℕ) (e : Entry) (is : n.entry x p ≡ e) where
-  ack_calmed : (s : AwaitAcksState) (from : ℕ) (old : Letter) → e ≡ entry.AwaitAcks s → n.loose ≡ old ∷ [] → ((q : ℕ) → old.message.content ≡ content.WriteReq q → ⊥)
-      → IsCalmed n (goes_on n x p (entry.AwaitAcks (record { left = set.remove s.left from; waiting = s.waiting })) [] [])
-  ack_calmed s from old same loose unwritten = step_calmed n _ x p (entry.AwaitAcks s) fewer served IsNone (stay_step n x p (entry.AwaitAcks s) fewer (is ∙ same) (λ k q h. h))
-      (λ a l new request. new) (λ a l q bytes new is. new) (still_counted n x p fewer [] [])
-      (only_still n _ old (served_remain n x p (entry.AwaitAcks s) fewer [] [] (is ∙ same) old loose (λ j r h. h)) unwritten) refl
-    where
-      fewer : Entry
-      fewer = entry.AwaitAcks (record { left = set.remove s.left from; waiting = s.waiting })
+-- an acknowledgement comes, and others are missing
+ack_calmed : {c : Config} (n : Net) (r : Comes c n entry.AwaitAcks content.InvalAck)
+    → IsCalmed n (goes_on n r.node r.page (entry.AwaitAcks (record { left = set.remove r.state.left r.from; waiting = r.state.waiting })) [] [])
+ack_calmed n r = step_calmed n _ x p (entry.AwaitAcks s) fewer served IsNone (stay_step n x p (entry.AwaitAcks s) fewer is (λ k q h. h))
+    (λ a l new request. new) (λ a l q bytes new is. new) (still_counted n x p fewer [] [])
+    (only_still n _ (letter from x x call (content.InvalAck p)) (served_remain n x p (entry.AwaitAcks s) fewer [] [] is (letter from x x call (content.InvalAck p)) loose (λ j r h. h)) (λ q h. cc)) refl
+  where
+    open r use {node as x, page as p, from, call, state as s, loose, is}
+
+    fewer : Entry
+    fewer = entry.AwaitAcks (record { left = set.remove s.left from; waiting = s.waiting })
 
 same_copy : (p q : ℕ) (bytes bytes' : List ℕ) → content.ReadRep p bytes ≡ content.ReadRep q bytes' → p ≡ q
 same_copy p q bytes bytes' h = cc
 
-pub quiet-kept : (c : Config) → IsConfig c → IsKept fixed_ops c (λ m n f. IsOrderly c n × IsManaged c m n × ((i : ℕ) → n.breaches i ≡ 0))
-quiet-kept c config = let kept = orderly-kept fixed_ops c config in record {
-  alike = λ m m' n n' f same q. (
-    kept.alike m m' n n' f same q.0,
-    calm_managed c m m' n n' 0 0 (none_told fixed_ops m m' 0 0 same.managers) q.0 (record {
-      claiming = λ i p. ap claims (same.entries i p);
-      counted = alike_counted m m' n n' same;
-      old = alike_old m m' n n' same;
-      readers = part_readers n n' (alike_letters m m' n n' same);
-      still = none_gone n n' (alike_remain m m' n n' same);
-    }) (inl (ap (λ v. hop_of v 0) (same.managers (0 % c.nodes)))) q.1,
-    λ i. same.breaches i ∙ q.2 i,
-  );
-  carries = λ m n f x p s w here inside word is suffices q. (
-    kept.carries m n f x p s w here inside word is suffices q.0,
-    still_managed c m n q.0 q.1 _ (bytes_calmed n x p _),
-    q.2,
-  );
-  takes = λ m n f i j message none first q. (
-    kept.takes m n f i j message none first q.0,
-    still_managed c m n q.0 q.1 _ (record {
-      claiming = λ y q. refl;
-      counted = taken_counted n i j message first none;
-      old = taken_old n i j message first;
-      readers = part_readers n _ (taken_letters n i j message first);
-      still = none_gone n _ (taken_remain n i j message first none);
-    }),
-    q.2,
-  );
-  drops = λ m n f x l rest here loose dest mis q. absurd (no_breach n (descends c m n q.0 q.1) c config q.0 x l rest here loose dest mis);
-  shares = λ m n f x p from o call s rest serves foreign is owner low q. (
-    kept.shares m n f x p from o call s rest serves foreign is owner low q.0,
-    still_managed c m n q.0 q.1 _ (answered_calmed n x p (entry.Idle s) (entry.Idle (sharing (set.insert s.copies o))) _ rest o o call (content.ReadRep p (n.page x p)) is serves.loose (λ k q h. h) (λ k q h. h) (λ q h. cc) (λ h. h)
-        (λ q bytes h. subst (λ v. IsAsked n (content.ReadReq v) o x) (same_copy p q (n.page x p) bytes h)
-        (record { at = Loose 0; letter = letter from x o call (content.ReadReq p); there = ap (λ v. slice_get v 0) serves.loose; dest = refl; asker = refl; asks = refl })) (sym owner)),
-    q.2,
-  );
-  gives = λ m n f x p from o call s rest serves foreign is owner low q. (
-    kept.gives m n f x p from o call s rest serves foreign is owner low q.0,
-    given c m n q.0 q.1 x p serves.here serves.page s is from o call rest serves.loose owner (bits_of (set.remove s.copies o)) (n.page x p),
-    q.2,
-  );
-  sends_on_read = λ m n f x p from o call s rest serves foreign is plain hop q. (
-    kept.sends_on_read m n f x p from o call s rest serves foreign is plain hop q.0,
-    sent_on_read c m n q.0 q.1 x p serves.here serves.page s is plain from o call rest serves.loose,
-    q.2,
-  );
-  sends_on_write = λ m n f x p from o call s rest serves foreign is plain hop q. (
-    kept.sends_on_write m n f x p from o call s rest serves foreign is plain hop q.0,
-    sent_on_write c m n q.0 q.1 x p serves.here serves.page s is from o call rest serves.loose plain,
-    q.2,
-  );
-  ends_copy = λ m n f x p o call s rest serves foreign is plain q. (
-    kept.ends_copy m n f x p o call s rest serves foreign is plain q.0,
-    told_managed c m n q.0 q.1 x _ (answered_calmed n x p (entry.Idle s) (entry.Idle without) _ rest o o call (content.InvalAck p) is serves.loose (λ k q h. h) (λ k q h. h) (λ q h. cc) (λ h. h)
-        (λ q bytes h. absurd (let f : content.InvalAck p ≡ content.ReadRep q bytes = h in cc)) (sym plain)),
-    q.2,
-  );
-  gives_up = λ m n f x p o call s rest serves foreign is q. (
-    kept.gives_up m n f x p o call s rest serves foreign is q.0,
-    told_managed c m n q.0 q.1 x _ (answered_calmed n x p (entry.AwaitWrite s) (entry.AwaitWrite (record { had_copy = false; waiting = s.waiting })) _ rest o o call (content.InvalAck p) is serves.loose (λ k q h. h) (λ k q h. h)
-        (λ q h. cc) (λ h. h) (λ q bytes h. absurd (let f : content.InvalAck p ≡ content.ReadRep q bytes = h in cc)) refl),
-    q.2,
-  );
-  puts_off = λ m n f x p from r e rest serves foreign orders is room q. (
-    kept.puts_off m n f x p from r e rest serves foreign orders is room q.0,
-    still_managed c m n q.0 q.1 _ (put_calmed n x p from r e rest serves.loose is room),
-    q.2,
-  );
-  copy_comes = λ m n f x p from call w bytes serves foreign is same q. (
-    kept.copy_comes m n f x p from call w bytes serves foreign is same q.0,
-    told_managed c m n q.0 q.1 x _ (installed_calmed n _ x p bytes (freed_calmed n x p (entry.AwaitRead w) (entry.Idle copying) _ is serves.loose refl (λ q h. cc) refl)),
-    q.2,
-  );
-  page_comes = λ m n f x p from call copies s bytes serves foreign is same none q. (
-    kept.page_comes m n f x p from call copies s bytes serves foreign is same none q.0,
-    came_managed c m n q.0 q.1 x p s _ is (installed_calmed n _ x p bytes (freed_calmed n x p (entry.AwaitWrite s) (entry.Idle owning) _ is serves.loose refl (λ q h. cc) refl)),
-    q.2,
-  );
-  page_comes_shared = λ m n f x p from call copies s bytes serves foreign is same some out low q. (
-    kept.page_comes_shared m n f x p from call copies s bytes serves foreign is same some out low q.0,
-    came_managed c m n q.0 q.1 x p s _ is (installed_calmed n _ x p bytes (orders_calmed n x p (entry.AwaitWrite s) (entry.AwaitAcks (record { left = nodes_with copies; waiting = s.waiting })) call (nodes_with copies)
-        is (λ k q h. h)
-        (only_still n _ _ (served_remain n x p (entry.AwaitWrite s) (entry.AwaitAcks (record { left = nodes_with copies; waiting = s.waiting })) [] (invalidations x p call (nodes_with copies)) is _ serves.loose (λ j r h. h))
-        (λ q h. cc)) refl)),
-    q.2,
-  );
-  acknowledges = λ m n f x p from call s serves foreign is same left more q. (
-    kept.acknowledges m n f x p from call s serves foreign is same left more q.0,
-    still_managed c m n q.0 q.1 _ (ack_calmed n x p (entry.AwaitAcks s) is s from _ refl serves.loose (λ q h. cc)),
-    q.2,
-  );
-  acknowledges_last = λ m n f x p from call s serves foreign is same left last q. (
-    kept.acknowledges_last m n f x p from call s serves foreign is same left last q.0,
-    still_managed c m n q.0 q.1 _ (freed_calmed n x p (entry.AwaitAcks s) (entry.Idle owning) _ is serves.loose refl (λ q h. cc) refl),
-    q.2,
-  );
-  asks_copy = λ m n f x p call s w begins is plain unread hop q. (
-    kept.asks_copy m n f x p call s w begins is plain unread hop q.0,
-    began_to_read c m n q.0 q.1 x p begins.here begins.page s is plain call w begins.loose,
-    q.2,
-  );
-  asks_page = λ m n f x p call s w begins is plain hop q. (
-    kept.asks_page m n f x p call s w begins is plain hop q.0,
-    began_to_write c m n q.0 q.1 x p begins.here begins.page s is plain call w begins.loose,
-    q.2,
-  );
-  ends_copies = λ m n f x p call s w begins is owner reader low out q. (
-    kept.ends_copies m n f x p call s w begins is owner reader low out q.0,
-    still_managed c m n q.0 q.1 _ (orders_calmed n x p (entry.Idle s) (entry.AwaitAcks (record { left = s.copies; waiting = waiting_from w call })) call s.copies
-        is (λ k q h. absurd (none-some q h))
-        (none_gone n _ (begun_remain n x p (entry.Idle s) (entry.AwaitAcks (record { left = s.copies; waiting = waiting_from w call })) [] (invalidations x p call s.copies) is begins.loose (λ j r h. absurd (none-some r h))))
-        (sym owner)),
-    q.2,
-  );
+no_reply : (p q : ℕ) (bytes : List ℕ) → content.InvalAck p ≡ content.ReadRep q bytes → ⊥
+no_reply p q bytes h = cc
+
+-- a letter is taken
+taken_calmed : (n : Net) (r : Takes n) → IsCalmed n (taken n r.source r.dest r.message)
+taken_calmed n r = record {
+  claiming = λ y q. refl;
+  counted = taken_counted n r.source r.dest r.message r.first r.none;
+  old = taken_old n r.source r.dest r.message r.first;
+  readers = part_readers n _ (taken_letters n r.source r.dest r.message r.first);
+  still = none_gone n _ (taken_remain n r.source r.dest r.message r.first r.none);
 }
+
+-- the reader of a request to read that is served is about to have its copy
+copied_reader : {c : Config} (n : Net) (r : Served c n entry.Idle content.ReadReq) (bytes : List ℕ) (q : ℕ) (bytes' : List ℕ)
+    → content.ReadRep r.page bytes ≡ content.ReadRep q bytes' → IsAsked n (content.ReadReq q) r.origin r.node
+copied_reader n r bytes q bytes' h = subst (λ v. IsAsked n (content.ReadReq v) r.origin r.node) (same_copy r.page q bytes bytes' h) (record {
+  at = Loose 0;
+  letter = letter r.from r.node r.origin r.call (content.ReadReq r.page);
+  there = ap (λ v. slice_get v 0) r.loose;
+  dest = refl;
+  asker = refl;
+  asks = refl;
+})
+
+module _ (c : Config) (config : IsConfig c) where
+  managed_by : {m : ℕ → Owners} {n : Net} {f : ℕ → List ℕ} {notice : Notice} {n' : Net} {f' : ℕ → List ℕ} → Row c n f notice n' f'
+      → IsOf fixed_ops c m notice → IsOrderly c n → IsManaged c m n → IsManaged c (noticed fixed_ops m notice) n'
+  managed_by (Row.carries r) of o h = still_managed c _ _ o h _ (bytes_calmed _ r.node r.page _)
+  managed_by (Row.takes r) of o h = still_managed c _ _ o h _ (taken_calmed _ r)
+  managed_by {m = m} (Row.drops r) of o h =
+      absurd (no_breach _ (descends c m _ o h) c config o r.node r.old r.rest r.here r.loose r.dest r.misfits)
+  managed_by (Row.shares r owner low) of o h = still_managed c _ _ o h _
+      (answered_calmed _ r _ _ _ (λ k q h. h) (λ k q h. h) (λ q h. cc) (λ h. h) (copied_reader _ r _) (sym owner))
+  managed_by (Row.gives r owner low) of o h =
+      given c _ _ o h (serving r) r.from r.origin r.call r.rest r.loose owner _ _
+  managed_by (Row.sends_on_read r hop plain away) of o h = rw of.1
+      (sent_on_read c _ _ o h (serving r) plain r.from r.origin r.call r.rest r.loose)
+  managed_by (Row.sends_on_write r hop plain away) of o h = rw of.1
+      (sent_on_write c _ _ o h (serving r) r.from r.origin r.call r.rest r.loose plain)
+  managed_by (Row.ends_copy r sender plain) of o h = told_managed c _ _ o h r.node _
+      (answered_calmed _ r _ _ _ (λ k q h. h) (λ k q h. h) (λ q h. cc) (λ h. h) (λ q bytes h. absurd (no_reply r.page q bytes h)) (sym plain))
+  managed_by (Row.gives_up r sender) of o h = told_managed c _ _ o h r.node _
+      (answered_calmed _ r _ _ _ (λ k q h. h) (λ k q h. h) (λ q h. cc) (λ h. h) (λ q bytes h. absurd (no_reply r.page q bytes h)) refl)
+  managed_by (Row.puts_off r) of o h = still_managed c _ _ o h _ (put_calmed _ r)
+  managed_by (Row.copy_comes bytes r same) of o h = told_managed c _ _ o h r.node _
+      (installed_calmed _ _ r.node r.page bytes (freed_calmed _ r (entry.Idle copying) refl (λ q h. cc) refl))
+  managed_by (Row.page_comes copies bytes r same none) of o h = came_managed c _ _ o h r.node r.page r.state _ r.is
+      (installed_calmed _ _ r.node r.page bytes (freed_calmed _ r (entry.Idle owning) refl (λ q h. cc) refl))
+  managed_by {n = n} (Row.page_comes_shared copies bytes r same some out low) of o h = came_managed c _ _ o h r.node r.page r.state _ r.is
+      (installed_calmed _ _ r.node r.page bytes (orders_calmed n r.node r.page (entry.AwaitWrite r.state) _ r.call (nodes_with copies) r.is (λ k q h. h)
+      (only_still n _ _ (served_remain n r.node r.page (entry.AwaitWrite r.state) _ [] (invalidations r.node r.page r.call (nodes_with copies)) r.is _ r.loose (λ j r h. h)) (λ q h. cc)) refl))
+  managed_by (Row.acknowledges r same left more) of o h = still_managed c _ _ o h _ (ack_calmed _ r)
+  managed_by (Row.acknowledges_last r same left last) of o h = still_managed c _ _ o h _ (freed_calmed _ r (entry.Idle owning) refl (λ q h. cc) refl)
+  managed_by (Row.asks_copy r hop plain unread away) of o h = rw of.1
+      (began_to_read c _ _ o h (beginning r) plain r.call r.word r.loose)
+  managed_by (Row.asks_page r hop plain away) of o h = rw of.1
+      (began_to_write c _ _ o h (beginning r) plain r.call r.word r.loose)
+  managed_by {n = n} (Row.ends_copies r owner reader low out) of o h = still_managed c _ _ o h _
+      (orders_calmed n r.node r.page (entry.Idle r.state) _ r.call r.state.copies r.is (λ k q h. absurd (none-some q h))
+      (none_gone n _ (begun_remain n r.node r.page (entry.Idle r.state) _ [] (invalidations r.node r.page r.call r.state.copies) r.is r.loose (λ j r h. absurd (none-some r h))))
+      (sym owner))
+
+  pub managed-routed : IsRoutedBy fixed_ops c (IsManaged c)
+  managed-routed = record { descends = descends c; by = managed_by }

@@ -22,7 +22,8 @@ use Rattle.ivy_requests.proofs.Awaited.{awaited, first_owed}
 use Rattle.ivy_requests.proofs.Found.{IsInside}
 use Rattle.ivy_requests.proofs.Owed.{IsOwed}
 use Rattle.ivy_requests.proofs.OwedKept.{owed-kept}
-use Rattle.ivy_routes.proofs.QuietWorlds.{IsQuiet, BeginsSo, quiet_first}
+use Rattle.ivy_requests.proofs.Quiet.{IsQuiet}
+use Rattle.ivy_routes.proofs.QuietWorlds.{BeginsSo, quiet_first}
 
 module _ {S : Type 0} {ops : Ops S} (laws : Laws ops) (c : Config) (limits : IsConfig c) (Routed : (ℕ → S) → Net → Type 0) (kept : IsKept ops c (IsQuiet Routed c))
     (begins : BeginsSo ops c Routed) (descends : (m : ℕ → S) (n : Net) → IsOrderly c n → Routed m n → Descends n)

@@ -5,6 +5,7 @@ use Rattle.std.proofs.lemmas.Option.{none-some}
 use Rattle.ivy_model.specs.declared.Config.{Config}
 use Rattle.ivy_wire.specs.declared.Content.TheVariants as content
 use Rattle.ivy_pagetable.specs.declared.Entry.{Entry}
+use Rattle.ivy_wire.specs.Data.{Content}
 use Rattle.ivy_pagetable.specs.declared.Entry.TheVariants as entry
 use Rattle.ivy_pagetable.specs.declared.Word.{Word}
 use Rattle.ivy_pagetable.specs.States.{IdleState}
@@ -16,7 +17,7 @@ use Rattle.ivy_fixed.specs.Fixed.{Owners, owner_kept, hop_of, fixed_ops}
 use Rattle.ivy_fixed.specs.FixedLaws.{fixed_laws}
 use Rattle.ivy_order.specs.Letters.{Letter, Net, Place, Underway, Loose, goes_on}
 use Rattle.ivy_order.specs.Orderly.{IsOrderly}
-use Rattle.ivy_order.specs.Rows.{letter, told}
+use Rattle.ivy_order.specs.Rows.{Served, Begins, letter, told}
 use Rattle.ivy_order.proofs.Places.{served}
 use Rattle.ivy_order.proofs.Steps.{IsStep}
 use Rattle.ivy_order.proofs.Parcels.{IsThe, answer_step, ask_step}
@@ -29,9 +30,24 @@ use Rattle.ivy_requests.proofs.Claims.{reader_unclaimed, writer_claims, claims_e
 use Rattle.ivy_routes.proofs.Managed.{MoveAt, page_managed}
 use Rattle.ivy_requests.proofs.Remaining.{IsThere, Remain, IsOnly, IsCounted, still_counted, served_remain, begun_remain, letter_there}
 
--- at an idle entry of another node than the owner
-module _ (c : Config) (m : ℕ → Owners) (n : Net) (order : IsOrderly c n) (managed : IsManaged c m n) (x p : ℕ) (here : x < c.nodes) (page : p < c.pages)
-    (s : IdleState) (is : n.entry x p ≡ entry.Idle s) where
+-- a node with an idle entry: it serves a letter there, or a word of its own begins to wait
+pub record IsIdle (c : Config) (n : Net) : Type 0 where
+  pub node : ℕ
+  pub page : ℕ
+  pub state : IdleState
+  pub here : node < c.nodes
+  pub inside : page < c.pages
+  pub is : n.entry node page ≡ entry.Idle state
+
+abbrev pub serving : {c : Config} {n : Net} {ask : ℕ → Content} → Served c n entry.Idle ask → IsIdle c n
+serving r = record { node = r.node; page = r.page; state = r.state; here = r.here; inside = r.inside; is = r.is }
+
+abbrev pub beginning : {c : Config} {n : Net} → Begins c n → IsIdle c n
+beginning r = record { node = r.node; page = r.page; state = r.state; here = r.here; inside = r.inside; is = r.is }
+
+module _ (c : Config) (m : ℕ → Owners) (n : Net) (order : IsOrderly c n) (managed : IsManaged c m n) (idle : IsIdle c n) where
+  open idle use {node as x, page as p, state as s, here, inside as page, is}
+
   abbrev manager : ℕ
   manager = p % c.nodes
 

@@ -19,6 +19,7 @@ use Rattle.ivy_coherence.specs.Coherent.{Coherent}
 use Rattle.ivy_coherence.specs.Faults.{suffices}
 use Rattle.ivy_order.specs.Letters.{Letter, Net, written}
 use Rattle.ivy_order.specs.Rows.{with_page, IsKept}
+use Rattle.ivy_order.proofs.Alike.{alike_holds}
 use Rattle.ivy_worlds.proofs.LiftedNets.{Stands, written-here, written-page, written-node}
 
 -- node x of the net is this coherence
@@ -102,7 +103,7 @@ module _ {S : Type 0} {ops : Ops S} {P : (ℕ → S) → Net → (ℕ → List �
   -- before the event
   pub stands-first : (f : ℕ → List ℕ) (rest : List Letter) → n.loose ≡ rest → P m n f → Stands P m n x p f (entry_at k.table p) (page_at k.table p) k.manager k.breaches [] rest
   stands-first f rest loose h = record {
-    holds = kept.alike _ _ _ _ f (record {
+    holds = alike_holds _ _ _ _ (record {
       managers = λ i. sym (one_node m m x k.manager node.manager (λ j ne. refl) i);
       entries = λ i q. sym (one_page n.entry n.entry x p (entry_at k.table p) (node.entries p) (λ r ne. refl) (λ j r ne. refl) i q);
       pages = λ i q. sym (one_page n.page n.page x p (page_at k.table p) (node.pages p) (λ r ne. refl) (λ j r ne. refl) i q);
@@ -110,12 +111,12 @@ module _ {S : Type 0} {ops : Ops S} {P : (ℕ → S) → Net → (ℕ → List �
       posted = λ i j. append-nil (n.posted i j);
       delivered = λ i j. refl;
       loose = sym loose;
-    }) h;
+    }) P f h;
   }
 
   -- after it
   pub ended-leads : (k' : Coherent S) (ps : List Parcel) (flat : ℕ → List ℕ) (m' : ℕ → S) (n' : Net) → Ended P m n x p k k' ps flat → ComesTo m n x k' ps m' n' → P m' n' flat
-  ended-leads k' ps flat m' n' e l = kept.alike _ _ _ _ flat (record {
+  ended-leads k' ps flat m' n' e l = alike_holds _ _ _ _ (record {
     managers = one_node m' m x k'.manager l.node.manager l.managers;
     entries = one_page n'.entry n.entry x p (entry_at k'.table p) (l.node.entries p) (λ q ne. l.node.entries q ∙ e.entries q ne ∙ sym (node.entries q)) l.entries;
     pages = one_page n'.page n.page x p (page_at k'.table p) (l.node.pages p) (λ q ne. l.node.pages q ∙ e.pages q ne ∙ sym (node.pages q)) l.pages;
@@ -123,4 +124,4 @@ module _ {S : Type 0} {ops : Ops S} {P : (ℕ → S) → Net → (ℕ → List �
     posted = l.posted;
     delivered = l.delivered;
     loose = l.loose;
-  }) e.stands.holds
+  }) P flat e.stands.holds

@@ -35,9 +35,9 @@ use Rattle.ivy_coherence.proofs.Changing.{entry_with, page_with, place}
 use Rattle.ivy_coherence.proofs.Keeping.{entry_is, idle-start, copy-start, page-start, last-start}
 use Rattle.ivy_order.specs.Letters.{Letter, Net, content_of, letter_of}
 use Rattle.ivy_order.specs.Orderly.{AwaitsCopy, AwaitsPage, Collects}
-use Rattle.ivy_order.specs.Rows.{letter, told, with_page as with_flat, IsFull, Misfits, IsKept}
-use Rattle.ivy_worlds.proofs.LiftedNets.{reached, Stands, written-here}
-use Rattle.ivy_worlds.proofs.LiftedRows.{carries-at, drops-at, gives_up-at, puts_off-at, copy_comes-at, page_comes-at, page_comes_shared-at, acknowledges-at, acknowledges_last-at}
+use Rattle.ivy_order.specs.Rows.{letter, told, with_page as with_flat, IsFull, Misfits, Comes, Row, IsKept}
+use Rattle.ivy_worlds.proofs.LiftedNets.{told-again, reached, Stands, written-here}
+use Rattle.ivy_worlds.proofs.LiftedRows.{goes, goes_quietly, comes, comes_quietly, carried_at, dropped_at}
 use Rattle.ivy_worlds.proofs.LiftedServing.{served-at, all_served-at}
 use Rattle.ivy_worlds.proofs.LiftedEvents.{IsNode, ComesTo, WaitsAt, Tells, quiet, answers, Ended, stands-first, ended-leads}
 
@@ -106,6 +106,22 @@ module _ {S : Type 0} {ops : Ops S} {P : (ℕ → S) → Net → (ℕ → List �
   here_is : (e : Entry) → Here e ≡ e
   here_is e = written-here n.entry k.me p e
 
+  -- the letter is what the node's own word waits for
+  abbrev coming : {T : Type 0} (at : T → Entry) (state : T) (bring : ℕ → Content) (call : ℕ)
+      → Comes k.config (reached n k.me p (at state) (page_at k.table p) k.breaches [] (letter from k.me k.me call (bring p) ∷ [])) at bring
+  coming at state bring call = record {
+    node = k.me;
+    page = p;
+    from = from;
+    call = call;
+    state = state;
+    here = sound.here;
+    inside = inside;
+    loose = refl;
+    foreign = foreign;
+    is = here_is (at state);
+  }
+
   either-goes : (b : Bool) (g h : Effect S) → (b ≡ true → Goes g) → (b ≡ false → Goes h) → Goes (if b then g else h)
   either-goes true g h so other = so refl
   either-goes false g h so other = other refl
@@ -116,7 +132,7 @@ module _ {S : Type 0} {ops : Ops S} {P : (ℕ → S) → Net → (ℕ → List �
     f,
     record {
       stands = subst (λ z. Stands P m n k.me p f z (page_at k.table p) k.manager (served.counted k.breaches) [] []) (sym is)
-          (drops-at k.config kept m n k.me p sound.here inside f (page_at k.table p) k.manager k.breaches [] e l [] h dest why);
+          (dropped_at kept h sound.here dest why);
       entries = λ q ne. refl;
       pages = λ q ne. refl;
     },
@@ -138,7 +154,21 @@ module _ {S : Type 0} {ops : Ops S} {P : (ℕ → S) → Net → (ℕ → List �
       (λ room. (
         f,
         entry_ended m n k sound p inside (with_put_off e q) k.manager k.locked k.done k.breaches [] f
-            (puts_off-at k.config kept m n k.me p sound.here inside f (page_at k.table p) k.manager k.breaches [] from q e [] h other order room),
+            (goes_quietly kept h tt k.manager (λ j. refl) _ [] (Row.puts_off (record {
+              node = k.me;
+              page = p;
+              from = from;
+              later = q;
+              before = e;
+              rest = [];
+              here = sound.here;
+              inside = inside;
+              loose = refl;
+              foreign = other;
+              orders = order;
+              is = here_is e;
+              room = room;
+            }))),
         quiet refl refl refl (waits_still k sound p inside (with_put_off e q) (λ word c w. subst (λ z. WaitsAt z word c) (sym is) (waits_put e q word c w))),
       ))
       (λ full. breach-goes e _ is h refl (full-misfits e (letter from k.me o call (content_of kind p) ∷ []) kind o call (lock, full)))
@@ -151,8 +181,21 @@ module _ {S : Type 0} {ops : Ops S} {P : (ℕ → S) → Net → (ℕ → List �
       let z : Entry = entry.AwaitWrite (record { had_copy = false; waiting = a.waiting }) in (
         f,
         entry_ended m n k sound p inside z (ops.on_invalidated k.manager p o) k.locked k.done k.breaches _ f
-            (gives_up-at k.config kept m n k.me p sound.here inside f (page_at k.table p) k.manager k.breaches [] o call a []
-            (subst (λ s. First (entry.AwaitWrite a) (letter s k.me o call (content.Inval p))) (sender refl) h) other),
+            (goes kept h sound.here _ (told-again m k.me k.manager (λ z. ops.on_invalidated z p o)) z _ []
+            (Row.gives_up (record {
+              node = k.me;
+              page = p;
+              from = from;
+              origin = o;
+              call = call;
+              state = a;
+              rest = [];
+              here = sound.here;
+              inside = inside;
+              loose = refl;
+              foreign = other;
+              is = here_is (entry.AwaitWrite a);
+            }) (sender refl))),
         quiet refl refl refl (waits_still k sound p inside z (λ word c w. subst (λ z. WaitsAt z word c) (sym is) w)),
       )
 
@@ -189,7 +232,7 @@ module _ {S : Type 0} {ops : Ops S} {P : (ℕ → S) → Net → (ℕ → List �
       let s : S = served.told ops from p k.manager reply in
       let v : Serving S = settled ops k.me from p now i k.manager k.breaches reply w.put_off in
       let flat : ℕ → List ℕ = with_flat f p (carried_out w.word (f p)).bytes in
-      let after = carries-at k.config kept m n k.me p sound.here inside f bytes s k.breaches [] i w.word (map (letter_of k.me p) w.put_off) h word enough in (
+      let after = carried_at kept h sound.here inside w.word word enough in (
         flat,
         page_ended m n k sound p inside (entry.Idle v.idle) now v.manager None (Some (carried_out w.word bytes).out) v.breaches v.posted flat
             (all_served-at laws k.config kept m n k.me p sound.here inside flat now k.manager (place k p now sound inside long) (serving i s k.breaches []) w.put_off start can after),
@@ -220,7 +263,8 @@ module _ {S : Type 0} {ops : Ops S} {P : (ℕ → S) → Net → (ℕ → List �
       let word = good.reading w refl in
       either-goes (w.call == call) _ _
       (λ same. unlocked-goes copying (Some false) bytes w
-      (copy_comes-at k.config kept m n k.me p sound.here inside f (page_at k.table p) k.manager k.breaches [] from call w bytes h foreign (eqb-true w.call call same))
+      (comes_quietly kept h sound.here _ (told-again m k.me k.manager (λ z. ops.on_replied z p false from)) _ _ bytes
+      (Row.copy_comes bytes (coming entry.AwaitRead w (λ q. content.ReadRep q bytes) call) (eqb-true w.call call same)))
       (copy-start laws k p from sound inside (ap is_owner is) below foreign) word.0 sized (ap (λ b. if b then false else true) word.1) good.put_off (ap is_locked is)
       (subst (λ z. WaitsAt z w.word w.call) (sym is) (refl, refl)))
       (λ other. bad_copy call bytes (entry.AwaitRead w) is h (λ a. absurd (let g : true ≡ false = sym (eq-eqb w.call call a) ∙ other in cc)))
@@ -245,14 +289,16 @@ module _ {S : Type 0} {ops : Ops S} {P : (ℕ → S) → Net → (ℕ → List �
       let z : Entry = entry.AwaitAcks (record { left = nodes_with copies; waiting = a.waiting }) in
       either-goes (is_none (nodes_with copies)) _ _
       (λ none. unlocked-goes owning (Some true) bytes a.waiting
-      (page_comes-at k.config kept m n k.me p sound.here inside f (page_at k.table p) k.manager k.breaches [] from call copies a bytes h foreign same (none_left (nodes_with copies) none))
+      (comes_quietly kept h sound.here _ (told-again m k.me k.manager (λ z. ops.on_replied z p true from)) _ _ bytes
+      (Row.page_comes copies bytes (coming entry.AwaitWrite a (λ q. content.WriteRep q copies bytes) call) same (none_left (nodes_with copies) none)))
       (page-start laws k p from sound inside below) word.0 sized (ap (λ b. if b then true else true) word.1) good.put_off (ap is_locked is)
       (subst (λ e. WaitsAt e a.waiting.word a.waiting.call) (sym is) (refl, refl)))
       (λ some. (
         f,
         page_ended m n k sound p inside z bytes (ops.on_replied k.manager p true from) k.locked k.done k.breaches _ f
-            (page_comes_shared-at k.config kept m n k.me p sound.here inside f (page_at k.table p) k.manager k.breaches [] from call copies a bytes h foreign same (some_left (nodes_with copies) some) apart
-            (with_below k.config.nodes copies small)),
+            (comes kept h sound.here _ (told-again m k.me k.manager (λ z. ops.on_replied z p true from)) z _ [] bytes
+            (Row.page_comes_shared copies bytes (coming entry.AwaitWrite a (λ q. content.WriteRep q copies bytes) call) same (some_left (nodes_with copies) some) apart
+            (with_below k.config.nodes copies small))),
         quiet refl refl refl (waits_still k sound p inside z (λ word c w. subst (λ e. WaitsAt e word c) (sym is) w)),
       ))
 
@@ -284,13 +330,15 @@ module _ {S : Type 0} {ops : Ops S} {P : (ℕ → S) → Net → (ℕ → List �
       let z : Entry = entry.AwaitAcks (record { left = set.remove a.left from; waiting = a.waiting }) in
       either-goes (is_none (set.remove a.left from)) _ _
       (λ none. unlocked-goes owning None (page_at k.table p) a.waiting
-      (acknowledges_last-at k.config kept m n k.me p sound.here inside f (page_at k.table p) k.manager k.breaches [] from call a h foreign same missing (none_left (set.remove a.left from) none))
+      (goes_quietly kept h tt k.manager (λ j. refl) _ _
+      (Row.acknowledges_last (coming entry.AwaitAcks a content.InvalAck call) same missing (none_left (set.remove a.left from) none)))
       (last-start laws k p from sound inside) word.0 (sound.sized p inside) (ap (λ b. if b then true else true) word.1) good.put_off (ap is_locked is)
       (subst (λ e. WaitsAt e a.waiting.word a.waiting.call) (sym is) (refl, refl)))
       (λ some. (
         f,
         entry_ended m n k sound p inside z k.manager k.locked k.done k.breaches [] f
-            (acknowledges-at k.config kept m n k.me p sound.here inside f (page_at k.table p) k.manager k.breaches [] from call a h foreign same missing (some_left (set.remove a.left from) some)),
+            (goes_quietly kept h tt k.manager (λ j. refl) z []
+            (Row.acknowledges (coming entry.AwaitAcks a content.InvalAck call) same missing (some_left (set.remove a.left from) some))),
         quiet refl refl refl (waits_still k sound p inside z (λ word c w. subst (λ e. WaitsAt e word c) (sym is) w)),
       ))
 

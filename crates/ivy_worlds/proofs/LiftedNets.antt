@@ -8,7 +8,8 @@ use Rattle.ivy_link.specs.Paired.{posted, extended}
 use Rattle.ivy_pagetable.specs.declared.Entry.{Entry}
 use Rattle.ivy_serving.specs.Serving.{counted}
 use Rattle.ivy_order.specs.Letters.{Letter, Net, written, goes_on, installs}
-use Rattle.ivy_order.specs.Rows.{told, dropped, AreAlike}
+use Rattle.ivy_order.specs.Rows.{told, dropped}
+use Rattle.ivy_order.proofs.Alike.{AreAlike}
 
 -- the node's count is written, and so on
 abbrev pub reached : Net → ℕ → ℕ → Entry → List ℕ → ℕ → List Parcel → List Letter → Net

@@ -23,7 +23,8 @@ use Rattle.ivy_memory.specs.Memories.{by_coherence}
 use Rattle.ivy_host.proofs.Pages.{page_serving}
 use Rattle.ivy_host.specs.Sound.{IsSoundHost}
 use Rattle.ivy_order.specs.Letters.{Letter, Net}
-use Rattle.ivy_order.specs.Rows.{taken, IsKept}
+use Rattle.ivy_order.specs.Rows.{taken, Row, IsKept}
+use Rattle.ivy_order.proofs.Alike.{alike_holds}
 use Rattle.ivy_worlds.proofs.LiftedEvents.{IsNode, ComesTo, Tells, Starts}
 use Rattle.ivy_worlds.proofs.LiftedMessages.{kept-handled}
 use Rattle.ivy_worlds.proofs.LiftedTurns.{kept-begun, kept-quiet}
@@ -51,8 +52,8 @@ module _ {S : Type 0} {ops : Ops S} {P : (ℕ → S) → Net → (ℕ → List �
       let mid : Net = net_with o (one_more o.delivered source x) letters in
       let node : IsNode (managers_of spare o) mid x k = node_of spare o (one_more o.delivered source x) letters x t.core t.there good.me in
       let taken_first : P (managers_of spare o) mid f
-      = kept.alike (managers_of spare o) (managers_of spare o) (taken (net_of o) source x t.message) mid f (letter_taken o source x t.message t.first about spare)
-      (kept.takes (managers_of spare o) (net_of o) f source x t.message refl (letter_first o source x t.message t.first about) h) in
+      = alike_holds (managers_of spare o) (managers_of spare o) (taken (net_of o) source x t.message) mid (letter_taken o source x t.message t.first about spare) P f
+      (kept.by (Row.takes (record { source = source; dest = x; message = t.message; none = refl; first = letter_first o source x t.message t.first about })) tt h) in
       let all = kept-handled laws c x (managers_of spare o) mid f k source t.message good.config good.me kept good.memory.coherent node sent.below sent.apart sent.fits refl taken_first in (
         all.0,
         all.1 (managers_of spare o') (net_of o')
@@ -83,7 +84,7 @@ module _ {S : Type 0} {ops : Ops S} {P : (ℕ → S) → Net → (ℕ → List �
       let e : Outcome (Host S) = serving ops t.core source t.message in
       let same : e.after.memory.coherence ≡ k = coherence_kept source x t.core t.message fits in
       let mid : Net = net_with o (one_more o.delivered source x) [] in
-      let start : P (managers_of spare o) mid f = kept.alike (managers_of spare o) (managers_of spare o) (net_of o) mid f (heap_taken o source x t.message t.first heap spare) h in
+      let start : P (managers_of spare o) mid f = alike_holds (managers_of spare o) (managers_of spare o) (net_of o) mid (heap_taken o source x t.message t.first heap spare) P f h in
       kept-quiet c kept x (managers_of spare o) (managers_of spare o') mid (net_of o') f k e.after.memory.coherence (node_of spare o (one_more o.delivered source x) [] x t.core t.there good.me) refl start
       (ap (λ (z : Coherent S). z.manager) same) (ap (λ (z : Coherent S). z.table) same) (ap (λ (z : Coherent S). z.breaches) same)
       (subst (λ ps. ComesTo (managers_of spare o) mid x e.after.memory.coherence ps (managers_of spare o') (net_of o')) (no_letters source x t.core t.message fits)

@@ -21,9 +21,9 @@ use Rattle.ivy_coherence.specs.Sound.{IsSound}
 use Rattle.ivy_coherence.proofs.Changing.{entry_with, page_with}
 use Rattle.ivy_coherence.proofs.Keeping.{entry_is}
 use Rattle.ivy_order.specs.Letters.{Net, written}
-use Rattle.ivy_order.specs.Rows.{told, with_page as with_flat, IsHop, IsKept}
+use Rattle.ivy_order.specs.Rows.{told, with_page as with_flat, IsHop, Begins, Row, IsKept}
 use Rattle.ivy_worlds.proofs.LiftedNets.{reached, Stands, written-here, written-page}
-use Rattle.ivy_worlds.proofs.LiftedRows.{carries-at, asks_copy-at, asks_page-at, ends_copies-at}
+use Rattle.ivy_worlds.proofs.LiftedRows.{goes, carried_at, hop_here}
 use Rattle.ivy_worlds.proofs.LiftedEvents.{IsNode, ComesTo, WaitsAt, Starts, busy as is_busy, hits, waits, Ended, stands-first, ended-leads}
 use Rattle.ivy_worlds.proofs.LiftedMessages.{entry_ended}
 
@@ -48,7 +48,7 @@ module _ {S : Type 0} {ops : Ops S} {P : (ℕ → S) → Net → (ℕ → List �
       let now : List ℕ = (carried_out w old).bytes in
       let long : p < length k.table.pages = (let e = sound.pages in omega (arith, inside, e)) in
       let flat : ℕ → List ℕ = with_flat f p (carried_out w (f p)).bytes in
-      let after = carries-at k.config kept m n k.me p sound.here inside f old k.manager k.breaches [] i w [] (first i is) is_word enough in (
+      let after = carried_at kept (first i is) sound.here inside w is_word enough in (
         flat,
         record {
           stands = subst (λ e. Stands P m n k.me p flat e (page_at (with_page k.table p now) p) k.manager k.breaches [] []) (sym is)
@@ -79,6 +79,21 @@ module _ {S : Type 0} {ops : Ops S} {P : (ℕ → S) → Net → (ℕ → List �
     | inr ne ↦ ap is_locked (written-page n.entry k.me p (entry.Idle i) q ne ∙ node.entries q) ∙ false_unless (is_locked (entry_at k.table q)) (λ l. none-some q (sym none ∙ sound.others q l))
   ]
 
+  abbrev begins : (i : IdleState) → k.locked ≡ None → Begins k.config (reached n k.me p (entry.Idle i) (page_at k.table p) k.breaches [] [])
+  begins i none = record {
+    node = k.me;
+    page = p;
+    call = call;
+    word = w;
+    state = i;
+    here = sound.here;
+    inside = inside;
+    numbered = numbered;
+    loose = refl;
+    free = free i none;
+    is = written-here n.entry k.me p (entry.Idle i);
+  }
+
   hop : (i : IdleState) → entry_at k.table p ≡ entry.Idle i → i.owner ≡ false → IsHop k.config k.me (ops.next_hop k.manager p)
   hop i is own = record { below = sound.hop p inside; away = sound.away p inside (ap is_owner is ∙ own) }
 
@@ -97,16 +112,19 @@ module _ {S : Type 0} {ops : Ops S} {P : (ℕ → S) → Net → (ℕ → List �
   faulted-at i true true is none write own short =
       let good : IsSoundIdle k.config k.me i = (entry_is k p (entry.Idle i) sound is).idle i refl in
       rw (write, own) (waiting _ _
-      (ends_copies-at k.config kept m n k.me p sound.here inside f (page_at k.table p) k.manager k.breaches [] call i w (first i is) numbered (free i none) own (good.owned own) good.copies.below good.copies.apart) (refl, refl))
+      (goes kept (first i is) tt k.manager (λ j. refl) _ _ []
+      (Row.ends_copies (begins i none) own (good.owned own) good.copies.below good.copies.apart)) (refl, refl))
   faulted-at i true false is none write own short =
       rw (write, own) (waiting _ _
-      (asks_page-at k.config kept m n k.me p sound.here inside f (page_at k.table p) k.manager k.breaches [] call i w (first i is) numbered (free i none) own (hop i is own)) (refl, refl))
+      (goes kept (first i is) (sound.here, hop_here ops m k.me k.manager p) k.manager (λ j. refl) _ _ []
+      (Row.asks_page (begins i none) _ own (hop i is own))) (refl, refl))
   faulted-at i false own is none write owns short =
       let good : IsSoundIdle k.config k.me i = (entry_is k p (entry.Idle i) sound is).idle i refl in
       let unread : reads i.access ≡ false = rw write at short in
       let plain : i.owner ≡ false = false_unless i.owner (λ own. absurd (let g : true ≡ false = sym (good.owned own) ∙ unread in cc)) in
       rw write (waiting _ _
-      (asks_copy-at k.config kept m n k.me p sound.here inside f (page_at k.table p) k.manager k.breaches [] call i w (first i is) numbered (free i none) plain unread (hop i is plain)) (refl, refl))
+      (goes kept (first i is) (sound.here, hop_here ops m k.me k.manager p) k.manager (λ j. refl) _ _ []
+      (Row.asks_copy (begins i none) _ plain unread (hop i is plain))) (refl, refl))
 
   either-goes : (b : Bool) (x y : Begun S) → (b ≡ true → Goes x) → (b ≡ false → Goes y) → Goes (if b then x else y)
   either-goes true x y so other = so refl

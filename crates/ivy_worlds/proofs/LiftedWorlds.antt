@@ -16,7 +16,8 @@ use Rattle.ivy_host.specs.Hosts.{Host, host_rules}
 use Rattle.ivy_host.specs.Sound.{IsSoundHost}
 use Rattle.ivy_memory.proofs.Pages.{is_of_pages, IsOfPages}
 use Rattle.ivy_order.specs.Letters.{Letter}
-use Rattle.ivy_order.specs.Rows.{taken, AreAlike}
+use Rattle.ivy_order.specs.Rows.{taken}
+use Rattle.ivy_order.proofs.Alike.{AreAlike}
 use Rattle.ivy_worlds.specs.Errands.{AreErrands}
 use Rattle.ivy_worlds.specs.Nets.{about_pages}
 pub use Rattle.ivy_worlds.specs.Nets.{entry_of, page_of, breaches_of, manager_of, net_with, net_of, managers_of}
