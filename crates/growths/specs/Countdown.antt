@@ -1,4 +1,5 @@
--- A countdown to the growth that is refused. It loses 1 at each growth that is asked for, and wraps at 2^64.
+-- A countdown to the growth that is refused. It loses 1 at each growth that is asked for, and wraps
+-- at 2^64.
 use Rattle.std.specs.Prelude.{◌≡◌, ℕ, ◌+◌, ◌%◌, ◌^◌}
 
 -- What it was set to, where it stands at `left` after `asked` growths.

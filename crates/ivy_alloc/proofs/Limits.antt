@@ -17,14 +17,16 @@ pub heap_small : (c : Config) → IsConfig c → heap_end c < 2 ^ 32
 heap_small c h =
     let words = page_has_words c.page_size h.page_size in
     let most = words.most in
-    let top : c.pages * c.page_size ≤ 256 * 4096 = mul-le c.pages c.page_size 256 4096 h.pages_to most in
+    let top : c.pages * c.page_size ≤ 256 * 4096 =
+    mul-le c.pages c.page_size 256 4096 h.pages_to most in
     omega arith
 
 heap_not_empty : (c : Config) → IsConfig c → c.page_size < heap_end c
 heap_not_empty c h =
     let words = page_has_words c.page_size h.page_size in
     let least = words.least in
-    let two : 2 * c.page_size ≤ c.pages * c.page_size = mul-le 2 c.page_size c.pages c.page_size h.pages_from (omega arith) in
+    let two : 2 * c.page_size ≤ c.pages * c.page_size =
+    mul-le 2 c.page_size c.pages c.page_size h.pages_from (omega arith) in
     omega arith
 
 -- the extent that is all of the heap
@@ -40,15 +42,27 @@ tied_first c h =
     let multiple = words.words in
     let some = heap_not_empty c h in
     let small = heap_small c h in
-    let sound : IsExtent (whole c) = record { aligned = omega arith; not_empty = omega arith; small = omega arith } in
+    let sound : IsExtent (whole c) =
+    record { aligned = omega arith; not_empty = omega arith; small = omega arith } in
     record {
       limits = h;
-      sound = record { each = λ k d lt. let here : 0 ≡ k = omega arith in subst (λ i. IsExtent (get_or (whole c ∷ []) i d)) here sound; apart = λ i j d lt t. absurd (omega arith) };
-      apart = record { each = λ s l e. absurd (none-some l (sym (get-empty nat_cmp s) ∙ e)); apart = λ s m t n e f lt. absurd (none-some m (sym (get-empty nat_cmp s) ∙ e)) };
-      above = λ a free. let within = free.within in let here : free.place ≡ 0 = omega arith in (subst (λ i. IsIn c a i) here (free.has (whole c))).0;
-      below = λ a free. let within = free.within in let here : free.place ≡ 0 = omega arith in let has = subst (λ i. IsIn c a i) here (free.has (whole c)) in omega (arith, has.1);
-      not_taken = λ a free taken. none-some taken.len (sym (get-empty nat_cmp taken.start) ∙ taken.live);
-      free = λ a above below none. record { place = 0; within = omega arith; has = λ d. (above, omega arith) };
+      sound = record {
+        each = λ k d lt. let here : 0 ≡ k = omega arith in
+            subst (λ i. IsExtent (get_or (whole c ∷ []) i d)) here sound;
+        apart = λ i j d lt t. absurd (omega arith);
+      };
+      apart = record {
+        each = λ s l e. absurd (none-some l (sym (get-empty nat_cmp s) ∙ e));
+        apart = λ s m t n e f lt. absurd (none-some m (sym (get-empty nat_cmp s) ∙ e));
+      };
+      above = λ a free. let within = free.within in let here : free.place ≡ 0 = omega arith in
+          (subst (λ i. IsIn c a i) here (free.has (whole c))).0;
+      below = λ a free. let within = free.within in let here : free.place ≡ 0 = omega arith in
+          let has = subst (λ i. IsIn c a i) here (free.has (whole c)) in omega (arith, has.1);
+      not_taken =
+          λ a free taken. none-some taken.len (sym (get-empty nat_cmp taken.start) ∙ taken.live);
+      free = λ a above below none.
+          record { place = 0; within = omega arith; has = λ d. (above, omega arith) };
     }
 
 pub rounded_some : (size : ℕ) → (size ≡ 0 → ⊥) → 0 < rounded size

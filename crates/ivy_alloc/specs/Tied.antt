@@ -16,15 +16,15 @@ pub record IsTaken (blocks : Blocks) (a : ℕ) : Type 0 where
   pub to : a < start + len
 
 -- a block has bytes of the heap, and starts at a whole word of 8 of them
-pub record IsBlock (c : Config) (start len : ℕ) : Type 0 where
+pub record IsHeapBlock (c : Config) (start len : ℕ) : Type 0 where
   pub aligned : start % 8 ≡ 0
   pub not_empty : 0 < len
   pub above : c.page_size ≤ start
   pub below : start + len ≤ heap_end c
 
 -- blocks of the heap, no two of which meet
-pub record AreBlocks (c : Config) (blocks : Blocks) : Type 0 where
-  pub each : (start len : ℕ) → map.get blocks start ≡ Some len → IsBlock c start len
+pub record AreHeapBlocks (c : Config) (blocks : Blocks) : Type 0 where
+  pub each : (start len : ℕ) → map.get blocks start ≡ Some len → IsHeapBlock c start len
   pub apart : (s m t n : ℕ) → map.get blocks s ≡ Some m → map.get blocks t ≡ Some n → s < t
       → s + m ≤ t
 
@@ -32,7 +32,7 @@ pub record AreBlocks (c : Config) (blocks : Blocks) : Type 0 where
 pub record IsTied (c : Config) (extents : List Extent) (blocks : Blocks) : Type 0 where
   pub limits : IsConfig c
   pub sound : AreExtents extents
-  pub apart : AreBlocks c blocks
+  pub apart : AreHeapBlocks c blocks
   pub above : (a : ℕ) → IsFree extents a → c.page_size ≤ a
   pub below : (a : ℕ) → IsFree extents a → a < heap_end c
   pub not_taken : (a : ℕ) → IsFree extents a → IsTaken blocks a → ⊥

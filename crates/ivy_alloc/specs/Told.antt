@@ -13,11 +13,11 @@ use Rattle.ivy_model.specs.Numbers.{fault_number}
 use Rattle.ivy_model.specs.Serves.{rounded}
 
 -- what a call is answered, and the live blocks after it
-pub record Told : Type 0 where
+pub record BlocksTold : Type 0 where
   pub reply : Reply
   pub blocks : Blocks
 
-abbrev pub gives : Reply → Blocks → Told
+abbrev pub gives : Reply → Blocks → BlocksTold
 gives reply blocks = record { reply = reply; blocks = blocks }
 
 -- whether this live block misses one of so many bytes at the address
@@ -35,21 +35,21 @@ unfoldable pub least_room : Config → Blocks → ℕ → Option ℕ
 least_room c blocks size = find (is_room c blocks size) (range_with_len 0 (heap_end c))
 
 -- the block lies there from now on
-abbrev pub placed : Blocks → ℕ → Option ℕ → Told
+abbrev pub placed : Blocks → ℕ → Option ℕ → BlocksTold
 placed blocks size None = gives (Refused (fault_number NoRoom)) blocks
 placed blocks size (Some addr) = gives (Value addr) (map.insert blocks addr size)
 
-unfoldable pub alloc_told : Config → Blocks → ℕ → Told
+unfoldable pub alloc_told : Config → Blocks → ℕ → BlocksTold
 alloc_told c blocks size =
     if size == 0 then gives (Refused (fault_number ZeroSize)) blocks
     else placed blocks (rounded size) (least_room c blocks (rounded size))
 
 -- the block is no longer live, if one starts there
-abbrev pub ended : Blocks → ℕ → Bool → Told
+abbrev pub ended : Blocks → ℕ → Bool → BlocksTold
 ended blocks addr true = gives Done (map.remove blocks addr)
 ended blocks addr false = gives (Refused (fault_number NotABlock)) blocks
 
-unfoldable pub free_told : Blocks → ℕ → Told
+unfoldable pub free_told : Blocks → ℕ → BlocksTold
 free_told blocks addr = ended blocks addr (map.contains_key blocks addr)
 
 -- the reply that a result of the heap is to its caller

@@ -8,24 +8,37 @@ use Rattle.ivy_pagetable.specs.declared.Out.{Out}
 use Rattle.ivy_pagetable.specs.Entries.{nothing, is_owner, is_locked}
 use Rattle.ivy_pagetable.specs.TableState.{Table}
 use Rattle.ivy_pagetable.specs.Tables.{entry_at, page_at, with_entry, with_page}
-use Rattle.ivy_pagetable.specs.Manager.{Ops, Keeps}
+use Rattle.ivy_pagetable.specs.Manager.{Ops, KeepsElsewhere}
 use Rattle.ivy_coherence.specs.Coherent.{Coherent}
 use Rattle.ivy_coherence.specs.Sound.{IsSoundEntry, IsSound}
 use Rattle.ivy_serving.proofs.NextHop.{IsManaged}
 use Rattle.ivy_serving.proofs.IdleServing.{IsPlace}
 
 -- an entry that is written, and any other
-pub entry_with : (t : Table) (page : ℕ) (e : Entry) (p : ℕ) → page < length t.entries → ((p ≡ page) × (entry_at (with_entry t page e) p ≡ e)) ⊎ ((p ≢ page) × (entry_at (with_entry t page e) p ≡ entry_at t p))
+pub entry_with : (t : Table) (page : ℕ) (e : Entry) (p : ℕ) → page < length t.entries
+    → ((p ≡ page) × (entry_at (with_entry t page e) p ≡ e))
+    ⊎ ((p ≢ page) × (entry_at (with_entry t page e) p ≡ entry_at t p))
 entry_with t page e p within =
     elim (eqb_tells p page) [
-      | inl y ↦ inl (y.1, ap (λ q. get_or (set t.entries page e) q nothing) y.1 ∙ get_or-set_same t.entries page e nothing within)
+      | inl y ↦
+          inl (
+            y.1,
+            ap (λ q. get_or (set t.entries page e) q nothing) y.1
+                ∙ get_or-set_same t.entries page e nothing within,
+          )
       | inr y ↦ inr (y.1, get_or-set_other t.entries page p e nothing y.1)
     ]
 
-pub page_with : (t : Table) (page : ℕ) (b : List ℕ) (p : ℕ) → page < length t.pages → ((p ≡ page) × (page_at (with_page t page b) p ≡ b)) ⊎ ((p ≢ page) × (page_at (with_page t page b) p ≡ page_at t p))
+pub page_with : (t : Table) (page : ℕ) (b : List ℕ) (p : ℕ) → page < length t.pages
+    → ((p ≡ page) × (page_at (with_page t page b) p ≡ b))
+    ⊎ ((p ≢ page) × (page_at (with_page t page b) p ≡ page_at t p))
 page_with t page b p within =
     elim (eqb_tells p page) [
-      | inl y ↦ inl (y.1, ap (λ q. get_or (set t.pages page b) q []) y.1 ∙ get_or-set_same t.pages page b [] within)
+      | inl y ↦
+          inl (
+            y.1,
+            ap (λ q. get_or (set t.pages page b) q []) y.1 ∙ get_or-set_same t.pages page b [] within,
+          )
       | inr y ↦ inr (y.1, get_or-set_other t.pages page p b [] y.1)
     ]
 
@@ -41,20 +54,26 @@ pub record AreLocks (page : ℕ) (locked : Bool) (old new : Option ℕ) : Type 0
   pub others : (p : ℕ) → p ≢ page → old ≡ Some p → new ≡ Some p
 
 -- the entry of a page, the pages, the manager and the lock after a change at the page
-pub record IsChange {S : Type 0} (ops : Ops S) (c : Coherent S) (page : ℕ) (e : Entry) (pages : List (List ℕ)) (m : S) (lock : Option ℕ) : Type 0 where
+pub record IsChange {S : Type 0} (ops : Ops S) (c : Coherent S) (page : ℕ) (e : Entry)
+    (pages : List (List ℕ)) (m : S) (lock : Option ℕ) : Type 0 where
   pub inside : page < c.config.pages
   pub entry : IsSoundEntry c.config c.me e
   pub sized : ArePages c.config pages
-  pub keeps : Keeps ops c.manager page m
+  pub keeps : KeepsElsewhere ops c.manager page m
   pub hop : ops.next_hop m page < c.config.nodes
   pub away : is_owner e ≡ false → ops.next_hop m page ≢ c.me
   pub locks : AreLocks page (is_locked e) c.locked lock
 
-abbrev pub changed_to : {S : Type 0} → Coherent S → ℕ → Entry → List (List ℕ) → S → Option ℕ → Option Out → ℕ → Coherent S
+abbrev pub changed_to : {S : Type 0} → Coherent S → ℕ → Entry → List (List ℕ) → S → Option ℕ
+    → Option Out → ℕ → Coherent S
 changed_to c page e pages m lock done breaches = record {
   config = c.config;
   me = c.me;
-  table = record { page_size = c.table.page_size; entries = set c.table.entries page e; pages = pages };
+  table = record {
+    page_size = c.table.page_size;
+    entries = set c.table.entries page e;
+    pages = pages;
+  };
   manager = m;
   locked = lock;
   done = done;
@@ -62,7 +81,8 @@ changed_to c page e pages m lock done breaches = record {
 }
 
 -- the entry is locked, where none was
-pub locks : {S : Type 0} (c : Coherent S) (page : ℕ) → c.locked ≡ None → AreLocks page true c.locked (Some page)
+pub locks : {S : Type 0} (c : Coherent S) (page : ℕ) → c.locked ≡ None
+    → AreLocks page true c.locked (Some page)
 locks c page none = record {
   here = λ h. refl;
   only = λ p h. inl (let f : Some page ≡ Some p = h in cc, refl);
@@ -70,11 +90,15 @@ locks c page none = record {
 }
 
 module _ {S : Type 0} {ops : Ops S} where
-  pub change-sound : (c : Coherent S) (page : ℕ) (e : Entry) (pages : List (List ℕ)) (m : S) (lock : Option ℕ) (done : Option Out) (breaches : ℕ)
-      → IsSound ops c → IsChange ops c page e pages m lock → IsSound ops (changed_to c page e pages m lock done breaches)
+  pub change-sound : (c : Coherent S) (page : ℕ) (e : Entry) (pages : List (List ℕ)) (m : S)
+      (lock : Option ℕ) (done : Option Out) (breaches : ℕ)
+      → IsSound ops c → IsChange ops c page e pages m lock
+      → IsSound ops (changed_to c page e pages m lock done breaches)
   change-sound c page e pages m lock answer breaches s h =
-      let within : page < length c.table.entries = (let k = s.entries in let i = h.inside in omega (arith, i, k)) in
-      let hops : (p : ℕ) → p ≢ page → ops.next_hop m p ≡ ops.next_hop c.manager p = h.keeps.others in
+      let within : page < length c.table.entries =
+      (let k = s.entries in let i = h.inside in omega (arith, i, k)) in
+      let hops : (p : ℕ) → p ≢ page → ops.next_hop m p ≡ ops.next_hop c.manager p =
+      h.keeps.others in
       record {
         limits = s.limits;
         here = s.here;
@@ -94,12 +118,17 @@ module _ {S : Type 0} {ops : Ops S} where
           | inr y ↦ subst (λ n. n < c.config.nodes) (sym (hops p y.1)) (s.hop p lt)
         ];
         away = λ p lt free. elim (entry_with c.table page e p within) [
-          | inl x ↦ subst (λ q. ops.next_hop m q ≢ c.me) (sym x.0) (h.away (ap is_owner (sym x.1) ∙ free))
-          | inr x ↦ subst (λ n. n ≢ c.me) (sym (hops p x.0)) (s.away p lt (ap is_owner (sym x.1) ∙ free))
+          | inl x ↦
+              subst (λ q. ops.next_hop m q ≢ c.me) (sym x.0) (h.away (ap is_owner (sym x.1) ∙ free))
+          | inr x ↦
+              subst (λ n. n ≢ c.me) (sym (hops p x.0)) (s.away p lt (ap is_owner (sym x.1) ∙ free))
         ];
         locked = λ p is. elim (entry_with c.table page e p within) [
-          | inl x ↦ ap is_locked x.1 ∙ elim (h.locks.only p is) [ inl y ↦ y.1 | inr y ↦ absurd (y.0 x.0) ]
-          | inr x ↦ ap is_locked x.1 ∙ elim (h.locks.only p is) [ inl y ↦ absurd (x.0 y.0) | inr y ↦ s.locked p y.1 ]
+          | inl x ↦
+              ap is_locked x.1 ∙ elim (h.locks.only p is) [ inl y ↦ y.1 | inr y ↦ absurd (y.0 x.0) ]
+          | inr x ↦
+              ap is_locked x.1
+              ∙ elim (h.locks.only p is) [ inl y ↦ absurd (x.0 y.0) | inr y ↦ s.locked p y.1 ]
         ];
         others = λ p is. elim (entry_with c.table page e p within) [
           | inl x ↦ h.locks.here (ap is_locked (sym x.1) ∙ is) ∙ ap Some (sym x.0)
@@ -111,7 +140,8 @@ module _ {S : Type 0} {ops : Ops S} where
   pub same_pages : (c : Coherent S) → IsSound ops c → ArePages c.config c.table.pages
   same_pages c s = record { count = s.pages; sized = s.sized }
 
-  pub other_page : (c : Coherent S) (page : ℕ) (b : List ℕ) → IsSound ops c → page < c.config.pages → length b ≡ c.config.page_size → ArePages c.config (set c.table.pages page b)
+  pub other_page : (c : Coherent S) (page : ℕ) (b : List ℕ) → IsSound ops c → page < c.config.pages
+      → length b ≡ c.config.page_size → ArePages c.config (set c.table.pages page b)
   other_page c page b s inside sized =
       let within : page < length c.table.pages = (let k = s.pages in omega (arith, inside, k)) in
       record {
@@ -123,7 +153,8 @@ module _ {S : Type 0} {ops : Ops S} where
       }
 
   -- the entry is locked as it was; it is unlocked
-  pub same_locks : (c : Coherent S) (page : ℕ) (locked : Bool) → IsSound ops c → locked ≡ is_locked (entry_at c.table page) → AreLocks page locked c.locked c.locked
+  pub same_locks : (c : Coherent S) (page : ℕ) (locked : Bool) → IsSound ops c
+      → locked ≡ is_locked (entry_at c.table page) → AreLocks page locked c.locked c.locked
   same_locks c page locked s is = record {
     here = λ h. s.others page (sym is ∙ h);
     only = λ p h. elim (eqb_tells p page) [
@@ -133,14 +164,17 @@ module _ {S : Type 0} {ops : Ops S} where
     others = λ p apart h. h;
   }
 
-  pub unlocks : (c : Coherent S) (page : ℕ) → IsSound ops c → is_locked (entry_at c.table page) ≡ true → AreLocks page false c.locked None
+  pub unlocks : (c : Coherent S) (page : ℕ) → IsSound ops c
+      → is_locked (entry_at c.table page) ≡ true → AreLocks page false c.locked None
   unlocks c page s is = record {
     here = λ h. absurd cc;
     only = λ p h. absurd cc;
-    others = λ p apart h. absurd (apart (let f : Some p ≡ Some page = sym h ∙ s.others page is in cc));
+    others =
+        λ p apart h. absurd (apart (let f : Some p ≡ Some page = sym h ∙ s.others page is in cc));
   }
 
-  pub place : (c : Coherent S) (page : ℕ) (bytes : List ℕ) → IsSound ops c → page < c.config.pages → length bytes ≡ c.config.page_size → IsPlace ops c.config c.me page bytes c.manager
+  pub place : (c : Coherent S) (page : ℕ) (bytes : List ℕ) → IsSound ops c → page < c.config.pages
+      → length bytes ≡ c.config.page_size → IsPlace ops c.config c.me page bytes c.manager
   place c page bytes s inside sized = record {
     limits = s.limits;
     here = s.here;
@@ -151,7 +185,8 @@ module _ {S : Type 0} {ops : Ops S} where
     nodes = s.nodes;
   }
 
-  pub managed : (c : Coherent S) (page : ℕ) → IsSound ops c → page < c.config.pages → IsManaged ops c.config c.me page c.manager
+  pub managed : (c : Coherent S) (page : ℕ) → IsSound ops c → page < c.config.pages
+      → IsManaged ops c.config c.me page c.manager
   managed c page s inside = record {
     here = s.here;
     mine = s.mine;

@@ -1,5 +1,8 @@
--- The same for a value whose fields the code works on: `v` is what the fields are seen as, `n` the value.
-use Rattle.std.proofs.Common.{◌≡◌, ◌≢◌, ℕ, ◌<◌, ◌≤◌, ◌^◌, Bool, true, false, List, [], ◌∷◌, length, Option, Some, None, is_some, Result, Ok, Err, OnErr, refl, sym, ap, ◌∙◌, subst, arith, set-set, eq-eqb, inl, inr}
+-- The same for a value whose fields the code works on: `v` is what the fields are seen as, `n` the
+-- value.
+use Rattle.std.proofs.Common.{◌≡◌, ◌≢◌, ℕ, ◌<◌, ◌≤◌, ◌^◌, Bool, true, false, List, [], ◌∷◌, length}
+use Rattle.std.proofs.Common.{Option, Some, None, is_some, Result, Ok, Err, OnErr, refl, sym, ap}
+use Rattle.std.proofs.Common.{◌∙◌, subst, arith, set-set, eq-eqb, inl, inr}
 use Rattle.std.specs.Prelude.{All, if◌then◌else◌, IsTrue}
 use Rattle.std.specs.FinSet as set
 use Rattle.std.specs.Ordering.{nat_cmp}
@@ -32,7 +35,11 @@ use Rattle.ivy_pagetable.specs.Entries.{can_put_off, with_put_off, owning}
 use Rattle.ivy_serving.proofs.IdleServing.{fewer_others}
 use Rattle.ivy_coherence.proofs.Changing.{change-sound}
 use Rattle.ivy_serving.proofs.Few.{nodes-few}
-use Rattle.ivy_coherence.proofs.Keeping.{entry_is, entry-sound, put_entry-sound, owner_put, locked_put, idle_asked-keeps, hit-keeps, fault-keeps, invalidations-fit, waiting_word, collecting_word, unlocking-keeps, last-keeps, giving-keeps, collecting-keeps, left-keeps}
+use Rattle.ivy_coherence.proofs.Keeping.{entry_is, entry-sound, put_entry-sound, owner_put}
+use Rattle.ivy_coherence.proofs.Keeping.{locked_put, idle_asked-keeps, hit-keeps, fault-keeps}
+use Rattle.ivy_coherence.proofs.Keeping.{invalidations-fit, waiting_word, collecting_word}
+use Rattle.ivy_coherence.proofs.Keeping.{unlocking-keeps, last-keeps, giving-keeps}
+use Rattle.ivy_coherence.proofs.Keeping.{collecting-keeps, left-keeps}
 
 pub none_of : (o : Option ℕ) → is_some o ≡ false → o ≡ None
 none_of None h = refl
@@ -40,58 +47,79 @@ none_of (Some x) h = absurd cc
 
 -- what fits this node fits the post
 module _ {S : Type 0} (n v : Coherent S) (same : v ≡ n) where
-  fits_at : (k : Config) (node : ℕ) → k ≡ n.config → node ≡ n.me → (ps : List Parcel) → All (FitsParcel v.config v.me) ps → All (FitsParcel k node) ps
+  fits_at : (k : Config) (node : ℕ) → k ≡ n.config → node ≡ n.me → (ps : List Parcel)
+      → All (FitsParcel v.config v.me) ps → All (FitsParcel k node) ps
   fits_at k node config me ps fits =
       let k_is : v.config ≡ k = ap (λ (x : Coherent S). x.config) same ∙ sym config in
       let me_is : v.me ≡ node = ap (λ (x : Coherent S). x.me) same ∙ sym me in
       subst (λ x. All (FitsParcel k x) ps) me_is (subst (λ x. All (FitsParcel x v.me) ps) k_is fits)
 
 -- a set without a node is the empty set
-pub none_is : (nodes : Nodes) (b : Bool) → (IsTrue b → nodes ≡ set.empty) → (nodes ≡ set.empty → IsTrue b) → b ≡ is_none nodes
-none_is nodes true one two = sym (eq-eqb (set.len nodes) 0 (ap set.len (one refl) ∙ set.len-empty nat_cmp))
+pub none_is : (nodes : Nodes) (b : Bool) → (IsTrue b → nodes ≡ set.empty)
+    → (nodes ≡ set.empty → IsTrue b) → b ≡ is_none nodes
+none_is nodes true one two =
+    sym (eq-eqb (set.len nodes) 0 (ap set.len (one refl) ∙ set.len-empty nat_cmp))
 none_is nodes false one two =
     elim (eqb_tells (set.len nodes) 0) [
       | inl x ↦ absurd (let f : false ≡ true = two (set.empty_of_len nodes x.1) in cc)
       | inr x ↦ sym x.0
     ]
 
-pub some_is : (nodes : Nodes) (b : Bool) → (nodes ≡ set.empty → IsTrue b) → b ≡ false → nodes ≢ set.empty
+pub some_is : (nodes : Nodes) (b : Bool) → (nodes ≡ set.empty → IsTrue b) → b ≡ false
+    → nodes ≢ set.empty
 some_is nodes b two h e = absurd (let f : false ≡ true = sym h ∙ two e in cc)
 
 -- the bytes of a page that was written
-pub page_then : (t0 t1 : Table) (page : ℕ) (b : List ℕ) → t1 ≡ with_page t0 page b → page < length t0.pages → page_at t1 page ≡ b
-page_then t0 t1 page b is inside = ap (λ t. page_at t page) is ∙ get_or-set_same t0.pages page b [] inside
+pub page_then : (t0 t1 : Table) (page : ℕ) (b : List ℕ) → t1 ≡ with_page t0 page b
+    → page < length t0.pages → page_at t1 page ≡ b
+page_then t0 t1 page b is inside =
+    ap (λ t. page_at t page) is ∙ get_or-set_same t0.pages page b [] inside
 
 -- a word that was carried out is taken back
-pub restored : (t0 t1 t2 : Table) (page number : ℕ) (w : Word) → IsWord (length (page_at t0 page)) w → All (λ b. b < 256) (page_at t0 page) → page < length t0.pages → number ≡ number_at (width_of w) (offset_of w) (page_at t0 page)
-    → t1 ≡ with_page t0 page (carried_out w (page_at t0 page)).bytes → t2 ≡ with_page t1 page (carried_out (Store (width_of w) (offset_of w) number) (page_at t1 page)).bytes → t2 ≡ t0
+pub restored : (t0 t1 t2 : Table) (page number : ℕ) (w : Word) → IsWord (length (page_at t0 page)) w
+    → All (λ b. b < 256) (page_at t0 page) → page < length t0.pages
+    → number ≡ number_at (width_of w) (offset_of w) (page_at t0 page)
+    → t1 ≡ with_page t0 page (carried_out w (page_at t0 page)).bytes
+    → t2 ≡ with_page t1 page
+    (carried_out (Store (width_of w) (offset_of w) number) (page_at t1 page)).bytes → t2 ≡ t0
 restored t0 t1 t2 page number w word all inside is one two =
     let old : List ℕ = page_at t0 page in
     let now : List ℕ = (carried_out w old).bytes in
-    let at : page_at (with_page t0 page now) page ≡ now = get_or-set_same t0.pages page now [] inside in
-    let bytes : (carried_out (Store (width_of w) (offset_of w) number) (page_at t1 page)).bytes ≡ old =
+    let at : page_at (with_page t0 page now) page ≡ now =
+    get_or-set_same t0.pages page now [] inside in
+    let bytes : (carried_out (Store (width_of w) (offset_of w) number) (page_at t1 page)).bytes
+    ≡ old =
     ap (λ t. (carried_out (Store (width_of w) (offset_of w) number) (page_at t page)).bytes) one
     ∙ ap (λ b. (carried_out (Store (width_of w) (offset_of w) number) b).bytes) at
     ∙ ap (λ k. (carried_out (Store (width_of w) (offset_of w) k) now).bytes) is
     ∙ taken_back w old word all in
     two ∙ ap (λ b. with_page t1 page b) bytes ∙ ap (λ t. with_page t page old) one
-    ∙ ap (λ ps. record { page_size = t0.page_size; entries = t0.entries; pages = ps }) (set-set t0.pages page now old ∙ set-get_or t0.pages page [])
+    ∙ ap (λ ps. record { page_size = t0.page_size; entries = t0.entries; pages = ps })
+    (set-set t0.pages page now old ∙ set-get_or t0.pages page [])
 
 -- a word that is refused had to be asked for
-pub asks : {S : Type 0} {A E : Type 0} (n v : Coherent S) → v ≡ n → (page : ℕ) (w : Word) (i : IdleState) (r : Result A E)
-    → v.locked ≡ None → IsIdleAt v.table page i → suffices i.access w ≡ false → OnErr r (HasToAsk n page w)
+pub asks : {S : Type 0} {A E : Type 0} (n v : Coherent S) → v ≡ n
+    → (page : ℕ) (w : Word) (i : IdleState) (r : Result A E)
+    → v.locked ≡ None → IsIdleAt v.table page i → suffices i.access w ≡ false
+    → OnErr r (HasToAsk n page w)
 asks n v same page w i (Ok a) free is short = tt
 asks n v same page w i (Err e) free is short =
-    subst (λ (x : Coherent _). HasToAsk x page w) same (record { free = free; idle = i; is = is; short = short })
+    subst (λ (x : Coherent _). HasToAsk x page w) same
+    (record { free = free; idle = i; is = is; short = short })
 
 -- bytes of a page fit the spare one
-pub fits_spare : {S : Type 0} (n v : Coherent S) → v ≡ n → (bytes spare : List ℕ) → length bytes ≡ n.config.page_size
+pub fits_spare : {S : Type 0} (n v : Coherent S) → v ≡ n → (bytes spare : List ℕ)
+    → length bytes ≡ n.config.page_size
     → length spare ≡ v.config.page_size → length bytes ≡ length spare
-fits_spare n v same bytes spare sized spare_sized = sized ∙ sym (spare_sized ∙ ap (λ (x : Coherent _). x.config.page_size) same)
+fits_spare n v same bytes spare sized spare_sized =
+    sized ∙ sym (spare_sized ∙ ap (λ (x : Coherent _). x.config.page_size) same)
 
 -- and what has their length keeps the spare one's
-pub spare_then : {S : Type 0} (n v : Coherent S) → v ≡ n → (bytes spare : List ℕ) → length bytes ≡ n.config.page_size → length spare ≡ length bytes → length spare ≡ v.config.page_size
-spare_then n v same bytes spare sized long = long ∙ sized ∙ sym (ap (λ (x : Coherent _). x.config.page_size) same)
+pub spare_then : {S : Type 0} (n v : Coherent S) → v ≡ n → (bytes spare : List ℕ)
+    → length bytes ≡ n.config.page_size → length spare ≡ length bytes
+    → length spare ≡ v.config.page_size
+spare_then n v same bytes spare sized long =
+    long ∙ sized ∙ sym (ap (λ (x : Coherent _). x.config.page_size) same)
 
 -- what is asked of bytes that come
 pub record Comes {S : Type 0} (n : Coherent S) (source page : ℕ) (bytes : List ℕ) : Type 0 where
@@ -106,149 +134,304 @@ module _ {S : Type 0} {ops : Ops S} (n v : Coherent S) (same : v ≡ n) (s : IsS
 
   -- the nodes that an idle entry counts
   idle_there : (page : ℕ) (i : IdleState) → IsIdleAt n.table page i → IsSoundIdle v.config v.me i
-  idle_there page i is = (entry_is v page (entry.Idle i) s (here (λ x. entry_at x.table page ≡ entry.Idle i) is)).idle i refl
+  idle_there page i is =
+      (entry_is v page (entry.Idle i) s (here (λ x. entry_at x.table page ≡ entry.Idle i) is)).idle
+      i refl
 
-  pub told_few : (page : ℕ) (i : IdleState) → IsIdleAt n.table page i → length (nodes_of i.copies) ≤ most_posted
-  told_few page i is = let k = nodes-few v.config.nodes i.copies (idle_there page i is).copies.below in let most = s.limits.nodes_to in omega (arith, k, most)
+  pub told_few : (page : ℕ) (i : IdleState) → IsIdleAt n.table page i
+      → length (nodes_of i.copies) ≤ most_posted
+  told_few page i is =
+      let k = nodes-few v.config.nodes i.copies (idle_there page i is).copies.below in
+      let most = s.limits.nodes_to in omega (arith, k, most)
 
-  pub told_fit : (page call : ℕ) (i : IdleState) (k : Config) (node : ℕ) → IsIdleAt n.table page i → page < n.config.pages → 1 ≤ call → call < 2 ^ 64 → k ≡ n.config → node ≡ n.me → All (FitsParcel k node) (invalidations v.me page call i.copies)
+  pub told_fit : (page call : ℕ) (i : IdleState) (k : Config) (node : ℕ) → IsIdleAt n.table page i
+      → page < n.config.pages → 1 ≤ call → call < 2 ^ 64 → k ≡ n.config → node ≡ n.me
+      → All (FitsParcel k node) (invalidations v.me page call i.copies)
   told_fit page call i k node is inside least most config me =
-      fits_at n v same k node config me _ (invalidations-fit v.config v.me page call i.copies s.here (here (λ x. page < x.config.pages) inside) least most (idle_there page i is).copies)
+      fits_at n v same k node config me _
+      (invalidations-fit v.config v.me page call i.copies s.here
+      (here (λ x. page < x.config.pages) inside) least most (idle_there page i is).copies)
 
-  pub others_few : (copies : Nodes) → IsBelow n.config.nodes copies → length (nodes_of copies) ≤ most_posted
-  others_few copies below = let k = nodes-few v.config.nodes copies (here (λ x. IsBelow x.config.nodes copies) below) in let most = s.limits.nodes_to in omega (arith, k, most)
+  pub others_few : (copies : Nodes) → IsBelow n.config.nodes copies
+      → length (nodes_of copies) ≤ most_posted
+  others_few copies below =
+      let k = nodes-few v.config.nodes copies (here (λ x. IsBelow x.config.nodes copies) below) in
+      let most = s.limits.nodes_to in omega (arith, k, most)
 
-  are_others : (copies : Nodes) → IsBelow n.config.nodes copies → set.contains copies n.me ≡ false → AreOthers v.config v.me copies
-  are_others copies below apart = record { below = here (λ x. IsBelow x.config.nodes copies) below; apart = here (λ x. set.contains copies x.me ≡ false) apart }
+  are_others : (copies : Nodes) → IsBelow n.config.nodes copies → set.contains copies n.me ≡ false
+      → AreOthers v.config v.me copies
+  are_others copies below apart =
+      record {
+        below = here (λ x. IsBelow x.config.nodes copies) below;
+        apart = here (λ x. set.contains copies x.me ≡ false) apart;
+      }
 
-  pub others_fit : (page call : ℕ) (copies : Nodes) (k : Config) (node : ℕ) → page < n.config.pages → 1 ≤ call → call < 2 ^ 64 → IsBelow n.config.nodes copies → set.contains copies n.me ≡ false → k ≡ n.config → node ≡ n.me
+  pub others_fit : (page call : ℕ) (copies : Nodes) (k : Config) (node : ℕ) → page < n.config.pages
+      → 1 ≤ call → call < 2 ^ 64 → IsBelow n.config.nodes copies → set.contains copies n.me ≡ false
+      → k ≡ n.config → node ≡ n.me
       → All (FitsParcel k node) (invalidations v.me page call copies)
   others_fit page call copies k node inside least most below apart config me =
-      fits_at n v same k node config me _ (invalidations-fit v.config v.me page call copies s.here (here (λ x. page < x.config.pages) inside) least most (are_others copies below apart))
+      fits_at n v same k node config me _
+      (invalidations-fit v.config v.me page call copies s.here
+      (here (λ x. page < x.config.pages) inside) least most (are_others copies below apart))
 
   pub pages_inside : (page : ℕ) → page < n.config.pages → page < length v.table.pages
-  pages_inside page inside = let k = s.pages in let h = here (λ x. page < x.config.pages) inside in omega (arith, k, h)
+  pages_inside page inside =
+      let k = s.pages in let h = here (λ x. page < x.config.pages) inside in omega (arith, k, h)
 
   -- one more message is put off
-  pub put_off_sound : (page : ℕ) (q : PutOff) (t : Table) → page < n.config.pages → CanBeServed n.config n.me q → can_put_off (entry_at v.table page) ≡ true
-      → t ≡ (if can_put_off (entry_at v.table page) then with_entry v.table page (with_put_off (entry_at v.table page) q) else v.table) → IsSound ops (record v { table = t })
+  pub put_off_sound : (page : ℕ) (q : PutOff) (t : Table) → page < n.config.pages
+      → CanBeServed n.config n.me q → can_put_off (entry_at v.table page) ≡ true
+      → t ≡ (if can_put_off (entry_at v.table page)
+      then with_entry v.table page (with_put_off (entry_at v.table page) q) else v.table)
+      → IsSound ops (record v { table = t })
   put_off_sound page q t inside can room is =
       let e : Entry = entry_at v.table page in
-      let now : t ≡ with_entry v.table page (with_put_off e q) = is ∙ ap (λ b. if b then with_entry v.table page (with_put_off e q) else v.table) room in
+      let now : t ≡ with_entry v.table page (with_put_off e q) =
+      is ∙ ap (λ b. if b then with_entry v.table page (with_put_off e q) else v.table) room in
       subst (λ x. IsSound ops (record v { table = x })) (sym now)
       (change-sound v page (with_put_off e q) v.table.pages v.manager v.locked v.done v.breaches s
-      (entry-sound v page e (with_put_off e q) s (here (λ x. page < x.config.pages) inside) refl (put_entry-sound v.config v.me e q (s.each page) (here (λ x. CanBeServed x.config x.me q) can) room) (owner_put e q) (locked_put e q)))
+      (entry-sound v page e (with_put_off e q) s (here (λ x. page < x.config.pages) inside) refl
+      (put_entry-sound v.config v.me e q (s.each page)
+      (here (λ x. CanBeServed x.config x.me q) can) room) (owner_put e q) (locked_put e q)))
 
-  pub waits_here : (page : ℕ) (write : Bool) (w : WaitingState) → IsWaiting (entry_at n.table page) write w → IsWaiting (entry_at v.table page) write w
+  pub waits_here : (page : ℕ) (write : Bool) (w : WaitingState)
+      → IsWaiting (entry_at n.table page) write w → IsWaiting (entry_at v.table page) write w
   waits_here page write w waits = here (λ x. IsWaiting (entry_at x.table page) write w) waits
 
-module _ {S : Type 0} {ops : Ops S} (laws : Laws ops) (n v : Coherent S) (same : v ≡ n) (s : IsSound ops v) where
+module _ {S : Type 0} {ops : Ops S} (laws : Laws ops) (n v : Coherent S) (same : v ≡ n)
+    (s : IsSound ops v) where
   came : (from page : ℕ) (bytes : List ℕ) → Comes n from page bytes → Comes v from page bytes
   came from page bytes h = subst (λ (x : Coherent S). Comes x from page bytes) (sym same) h
 
-  waits_there : (page : ℕ) (write : Bool) (w : WaitingState) → IsWaiting (entry_at n.table page) write w → IsWaiting (entry_at v.table page) write w
-  waits_there page write w waits = subst (λ (x : Coherent S). IsWaiting (entry_at x.table page) write w) (sym same) waits
+  waits_there : (page : ℕ) (write : Bool) (w : WaitingState)
+      → IsWaiting (entry_at n.table page) write w → IsWaiting (entry_at v.table page) write w
+  waits_there page write w waits =
+      subst (λ (x : Coherent S). IsWaiting (entry_at x.table page) write w) (sym same) waits
 
-  collects_there : (page : ℕ) (w : WaitingState) → IsCollecting (entry_at n.table page) w → IsCollecting (entry_at v.table page) w
-  collects_there page w waits = subst (λ (x : Coherent S). IsCollecting (entry_at x.table page) w) (sym same) waits
+  collects_there : (page : ℕ) (w : WaitingState) → IsCollecting (entry_at n.table page) w
+      → IsCollecting (entry_at v.table page) w
+  collects_there page w waits =
+      subst (λ (x : Coherent S). IsCollecting (entry_at x.table page) w) (sym same) waits
 
   -- bytes come for the word that waits
-  pub unlock_word : (page : ℕ) (write : Bool) (bytes : List ℕ) (w : WaitingState) → IsWaiting (entry_at n.table page) write w → length bytes ≡ n.config.page_size → IsWord (length bytes) w.word
+  pub unlock_word : (page : ℕ) (write : Bool) (bytes : List ℕ) (w : WaitingState)
+      → IsWaiting (entry_at n.table page) write w → length bytes ≡ n.config.page_size
+      → IsWord (length bytes) w.word
   unlock_word page write bytes w waits sized =
-      subst (λ z. IsWord z w.word) (ap (λ (x : Coherent S). x.config.page_size) same ∙ sym sized) (waiting_word laws v page write w s (waits_there page write w waits))
+      subst (λ z. IsWord z w.word) (ap (λ (x : Coherent S). x.config.page_size) same ∙ sym sized)
+      (waiting_word laws v page write w s (waits_there page write w waits))
 
-  pub unlock_fits : (from page : ℕ) (write : Bool) (bytes : List ℕ) (w : WaitingState) (i : IdleState) (qs : List PutOff) (k : Config) (node : ℕ) → Comes n from page bytes → IsWaiting (entry_at n.table page) write w
-      → i ≡ unlocked_as write → qs ≡ w.put_off → k ≡ n.config → node ≡ n.me → All (FitsParcel k node) (settled ops v.me from page bytes i v.manager v.breaches (Some write) qs).posted
+  pub unlock_fits : (from page : ℕ) (write : Bool) (bytes : List ℕ) (w : WaitingState)
+      (i : IdleState) (qs : List PutOff) (k : Config) (node : ℕ) → Comes n from page bytes
+      → IsWaiting (entry_at n.table page) write w
+      → i ≡ unlocked_as write → qs ≡ w.put_off → k ≡ n.config → node ≡ n.me
+      → All (FitsParcel k node)
+      (settled ops v.me from page bytes i v.manager v.breaches (Some write) qs).posted
   unlock_fits from page write bytes w i qs k node comes waits idle list config me =
       let at : Comes v from page bytes = came from page bytes comes in
-      let keeps = unlocking-keeps laws v from page write bytes bytes None w s at.below at.foreign at.inside at.sized at.sized (waits_there page write w waits) in
+      let keeps =
+      unlocking-keeps laws v from page write bytes bytes None w s at.below at.foreign at.inside
+      at.sized at.sized (waits_there page write w waits) in
       rw (idle, list) (fits_at n v same k node config me _ keeps.1)
 
-  pub unlock_sound : (from page : ℕ) (write : Bool) (bytes now : List ℕ) (w : WaitingState) (i after : IdleState) (qs : List PutOff) (t : Table) (m : S) (o : Option Out) (b : ℕ) → Comes n from page bytes → length now ≡ n.config.page_size → IsWaiting (entry_at n.table page) write w
-      → i ≡ unlocked_as write → qs ≡ w.put_off → after ≡ (settled ops v.me from page bytes i v.manager v.breaches (Some write) qs).idle
-      → t ≡ with_page (with_entry v.table page (entry.Idle after)) page now → m ≡ (settled ops v.me from page bytes i v.manager v.breaches (Some write) qs).manager
+  pub unlock_sound : (from page : ℕ) (write : Bool) (bytes now : List ℕ) (w : WaitingState)
+      (i after : IdleState) (qs : List PutOff) (t : Table) (m : S) (o : Option Out) (b : ℕ)
+      → Comes n from page bytes → length now ≡ n.config.page_size
+      → IsWaiting (entry_at n.table page) write w
+      → i ≡ unlocked_as write → qs ≡ w.put_off
+      → after ≡ (settled ops v.me from page bytes i v.manager v.breaches (Some write) qs).idle
+      → t ≡ with_page (with_entry v.table page (entry.Idle after)) page now
+      → m ≡ (settled ops v.me from page bytes i v.manager v.breaches (Some write) qs).manager
       → b ≡ (settled ops v.me from page bytes i v.manager v.breaches (Some write) qs).breaches
-      → IsSound ops (record { config = v.config; me = v.me; table = t; manager = m; locked = None; done = o; breaches = b })
-  unlock_sound from page write bytes now w i after qs t m o b comes long waits idle list idle_is table manager breaches =
+      → IsSound ops
+      (record {
+        config = v.config;
+        me = v.me;
+        table = t;
+        manager = m;
+        locked = None;
+        done = o;
+        breaches = b;
+      })
+  unlock_sound from page write bytes now w i after qs t m o b comes long waits idle list idle_is
+      table manager breaches =
       let at : Comes v from page bytes = came from page bytes comes in
-      let sized : length now ≡ v.config.page_size = (came from page now (record { below = comes.below; foreign = comes.foreign; inside = comes.inside; sized = long })).sized in
-      let keeps = unlocking-keeps laws v from page write bytes now o w s at.below at.foreign at.inside at.sized sized (waits_there page write w waits) in
+      let sized : length now ≡ v.config.page_size =
+      (came from page now
+      (record {
+        below = comes.below;
+        foreign = comes.foreign;
+        inside = comes.inside;
+        sized = long;
+      })).sized in
+      let keeps =
+      unlocking-keeps laws v from page write bytes now o w s at.below at.foreign at.inside
+      at.sized sized (waits_there page write w waits) in
       rw (table, manager, breaches, idle_is, idle, list) keeps.0
 
   -- the last acknowledgement comes
-  pub last_word : (page : ℕ) (w : WaitingState) → IsCollecting (entry_at n.table page) w → IsWord v.config.page_size w.word
+  pub last_word : (page : ℕ) (w : WaitingState) → IsCollecting (entry_at n.table page) w
+      → IsWord v.config.page_size w.word
   last_word page w waits = collecting_word laws v page w s (collects_there page w waits)
 
-  pub last_fits : (from page : ℕ) (now : List ℕ) (w : WaitingState) (i : IdleState) (qs : List PutOff) (k : Config) (node : ℕ) → page < n.config.pages → IsCollecting (entry_at n.table page) w
-      → now ≡ (carried_out w.word (page_at v.table page)).bytes → i ≡ owning → qs ≡ w.put_off → k ≡ n.config → node ≡ n.me → All (FitsParcel k node) (settled ops v.me from page now i v.manager v.breaches None qs).posted
+  pub last_fits : (from page : ℕ) (now : List ℕ) (w : WaitingState) (i : IdleState)
+      (qs : List PutOff) (k : Config) (node : ℕ) → page < n.config.pages
+      → IsCollecting (entry_at n.table page) w
+      → now ≡ (carried_out w.word (page_at v.table page)).bytes → i ≡ owning → qs ≡ w.put_off
+      → k ≡ n.config → node ≡ n.me
+      → All (FitsParcel k node)
+      (settled ops v.me from page now i v.manager v.breaches None qs).posted
   last_fits from page now w i qs k node inside waits bytes_are idle list config me =
-      let keeps = last-keeps laws v from page w s (subst (λ (x : Coherent S). page < x.config.pages) (sym same) inside) (collects_there page w waits) in
+      let keeps =
+      last-keeps laws v from page w s
+      (subst (λ (x : Coherent S). page < x.config.pages) (sym same) inside)
+      (collects_there page w waits) in
       rw (bytes_are, idle, list) (fits_at n v same k node config me _ keeps.1)
 
-  pub last_sound : (from page : ℕ) (now : List ℕ) (w : WaitingState) (i after : IdleState) (qs : List PutOff) (t : Table) (m : S) (o : Out) (b : ℕ) → page < n.config.pages → IsCollecting (entry_at n.table page) w
-      → now ≡ (carried_out w.word (page_at v.table page)).bytes → i ≡ owning → qs ≡ w.put_off → after ≡ (settled ops v.me from page now i v.manager v.breaches None qs).idle
-      → t ≡ with_entry (with_page v.table page now) page (entry.Idle after) → m ≡ (settled ops v.me from page now i v.manager v.breaches None qs).manager → o ≡ (carried_out w.word (page_at v.table page)).out
+  pub last_sound : (from page : ℕ) (now : List ℕ) (w : WaitingState) (i after : IdleState)
+      (qs : List PutOff) (t : Table) (m : S) (o : Out) (b : ℕ) → page < n.config.pages
+      → IsCollecting (entry_at n.table page) w
+      → now ≡ (carried_out w.word (page_at v.table page)).bytes → i ≡ owning → qs ≡ w.put_off
+      → after ≡ (settled ops v.me from page now i v.manager v.breaches None qs).idle
+      → t ≡ with_entry (with_page v.table page now) page (entry.Idle after)
+      → m ≡ (settled ops v.me from page now i v.manager v.breaches None qs).manager
+      → o ≡ (carried_out w.word (page_at v.table page)).out
       → b ≡ (settled ops v.me from page now i v.manager v.breaches None qs).breaches
-      → IsSound ops (record { config = v.config; me = v.me; table = t; manager = m; locked = None; done = Some o; breaches = b })
-  last_sound from page now w i after qs t m o b inside waits bytes_are idle list idle_is table manager out breaches =
-      let keeps = last-keeps laws v from page w s (subst (λ (x : Coherent S). page < x.config.pages) (sym same) inside) (collects_there page w waits) in
+      → IsSound ops
+      (record {
+        config = v.config;
+        me = v.me;
+        table = t;
+        manager = m;
+        locked = None;
+        done = Some o;
+        breaches = b;
+      })
+  last_sound from page now w i after qs t m o b inside waits bytes_are idle list idle_is table
+      manager out breaches =
+      let keeps =
+      last-keeps laws v from page w s
+      (subst (λ (x : Coherent S). page < x.config.pages) (sym same) inside)
+      (collects_there page w waits) in
       rw (table, manager, out, breaches, idle_is, bytes_are, idle, list) keeps.0
 
   -- a node that waits to write gives its copy up
-  pub giving_sound : (page : ℕ) (w : WaitingState) (q : PutOff) (t : Table) (m : S) → page < n.config.pages → IsWaiting (entry_at n.table page) true w → CanBeServed n.config n.me q
-      → t ≡ with_entry v.table page (entry.AwaitWrite (record { had_copy = false; waiting = w })) → m ≡ ops.on_invalidated v.manager page q.origin → IsSound ops (record v { table = t; manager = m })
+  pub giving_sound : (page : ℕ) (w : WaitingState) (q : PutOff) (t : Table) (m : S)
+      → page < n.config.pages → IsWaiting (entry_at n.table page) true w
+      → CanBeServed n.config n.me q
+      → t ≡ with_entry v.table page (entry.AwaitWrite (record { had_copy = false; waiting = w }))
+      → m ≡ ops.on_invalidated v.manager page q.origin
+      → IsSound ops (record v { table = t; manager = m })
   giving_sound page w q t m inside waits can table manager =
-      rw (table, manager) (giving-keeps laws v page w q s (subst (λ (x : Coherent S). page < x.config.pages) (sym same) inside) (waits_there page true w waits) (subst (λ (x : Coherent S). CanBeServed x.config x.me q) (sym same) can)).0
+      rw (table, manager)
+      (giving-keeps laws v page w q s
+      (subst (λ (x : Coherent S). page < x.config.pages) (sym same) inside)
+      (waits_there page true w waits)
+      (subst (λ (x : Coherent S). CanBeServed x.config x.me q) (sym same) can)).0
 
-  pub last_word_at : (page : ℕ) (w : WaitingState) → page < n.config.pages → IsCollecting (entry_at n.table page) w → IsWord (length (page_at v.table page)) w.word
-  last_word_at page w inside waits = subst (λ z. IsWord z w.word) (sym (s.sized page (subst (λ (x : Coherent S). page < x.config.pages) (sym same) inside))) (last_word page w waits)
+  pub last_word_at : (page : ℕ) (w : WaitingState) → page < n.config.pages
+      → IsCollecting (entry_at n.table page) w → IsWord (length (page_at v.table page)) w.word
+  last_word_at page w inside waits =
+      subst (λ z. IsWord z w.word)
+      (sym (s.sized page (subst (λ (x : Coherent S). page < x.config.pages) (sym same) inside)))
+      (last_word page w waits)
 
   -- a message comes to an entry that no word waits at
-  pub asked_fits : (page : ℕ) (q : PutOff) (i j : IdleState) (bytes : List ℕ) (k : Config) (node : ℕ) → page < n.config.pages → entry_at v.table page ≡ entry.Idle i → CanBeServed n.config n.me q → bytes ≡ page_at v.table page → j ≡ i
-      → k ≡ n.config → node ≡ n.me → All (FitsParcel k node) (settled ops v.me q.origin page bytes j v.manager v.breaches None (q ∷ [])).posted
+  pub asked_fits : (page : ℕ) (q : PutOff) (i j : IdleState) (bytes : List ℕ) (k : Config)
+      (node : ℕ) → page < n.config.pages → entry_at v.table page ≡ entry.Idle i
+      → CanBeServed n.config n.me q → bytes ≡ page_at v.table page → j ≡ i
+      → k ≡ n.config → node ≡ n.me
+      → All (FitsParcel k node)
+      (settled ops v.me q.origin page bytes j v.manager v.breaches None (q ∷ [])).posted
   asked_fits page q i j bytes k node inside is can bytes_are copied config me =
-      let keeps = idle_asked-keeps laws v page q i s (subst (λ (x : Coherent S). page < x.config.pages) (sym same) inside) is (subst (λ (x : Coherent S). CanBeServed x.config x.me q) (sym same) can) in
+      let keeps =
+      idle_asked-keeps laws v page q i s
+      (subst (λ (x : Coherent S). page < x.config.pages) (sym same) inside) is
+      (subst (λ (x : Coherent S). CanBeServed x.config x.me q) (sym same) can) in
       rw (bytes_are, copied) (fits_at n v same k node config me _ keeps.1)
 
-  pub asked_sound : (page : ℕ) (q : PutOff) (i j after : IdleState) (bytes : List ℕ) (t : Table) (m : S) (b : ℕ) → page < n.config.pages → entry_at v.table page ≡ entry.Idle i → CanBeServed n.config n.me q → bytes ≡ page_at v.table page → j ≡ i
-      → after ≡ (settled ops v.me q.origin page bytes j v.manager v.breaches None (q ∷ [])).idle → t ≡ with_entry v.table page (entry.Idle after)
-      → m ≡ (settled ops v.me q.origin page bytes j v.manager v.breaches None (q ∷ [])).manager → b ≡ (settled ops v.me q.origin page bytes j v.manager v.breaches None (q ∷ [])).breaches
+  pub asked_sound : (page : ℕ) (q : PutOff) (i j after : IdleState) (bytes : List ℕ) (t : Table)
+      (m : S) (b : ℕ) → page < n.config.pages → entry_at v.table page ≡ entry.Idle i
+      → CanBeServed n.config n.me q → bytes ≡ page_at v.table page → j ≡ i
+      → after ≡ (settled ops v.me q.origin page bytes j v.manager v.breaches None (q ∷ [])).idle
+      → t ≡ with_entry v.table page (entry.Idle after)
+      → m ≡ (settled ops v.me q.origin page bytes j v.manager v.breaches None (q ∷ [])).manager
+      → b ≡ (settled ops v.me q.origin page bytes j v.manager v.breaches None (q ∷ [])).breaches
       → IsSound ops (record v { table = t; manager = m; breaches = b })
-  asked_sound page q i j after bytes t m b inside is can bytes_are copied idle_is table manager breaches =
-      let keeps = idle_asked-keeps laws v page q i s (subst (λ (x : Coherent S). page < x.config.pages) (sym same) inside) is (subst (λ (x : Coherent S). CanBeServed x.config x.me q) (sym same) can) in
+  asked_sound page q i j after bytes t m b inside is can bytes_are copied idle_is table manager
+      breaches =
+      let keeps =
+      idle_asked-keeps laws v page q i s
+      (subst (λ (x : Coherent S). page < x.config.pages) (sym same) inside) is
+      (subst (λ (x : Coherent S). CanBeServed x.config x.me q) (sym same) can) in
       rw (table, manager, breaches, idle_is, bytes_are, copied) keeps.0
 
-  pub asked_then : (page : ℕ) (q : PutOff) (i j after : IdleState) (bytes : List ℕ) (t : Table) (m : S) (b : ℕ) → entry_at v.table page ≡ entry.Idle i → bytes ≡ page_at v.table page → j ≡ i
-      → after ≡ (settled ops v.me q.origin page bytes j v.manager v.breaches None (q ∷ [])).idle → t ≡ with_entry v.table page (entry.Idle after)
-      → m ≡ (settled ops v.me q.origin page bytes j v.manager v.breaches None (q ∷ [])).manager → b ≡ (settled ops v.me q.origin page bytes j v.manager v.breaches None (q ∷ [])).breaches
+  pub asked_then : (page : ℕ) (q : PutOff) (i j after : IdleState) (bytes : List ℕ) (t : Table)
+      (m : S) (b : ℕ) → entry_at v.table page ≡ entry.Idle i → bytes ≡ page_at v.table page → j ≡ i
+      → after ≡ (settled ops v.me q.origin page bytes j v.manager v.breaches None (q ∷ [])).idle
+      → t ≡ with_entry v.table page (entry.Idle after)
+      → m ≡ (settled ops v.me q.origin page bytes j v.manager v.breaches None (q ∷ [])).manager
+      → b ≡ (settled ops v.me q.origin page bytes j v.manager v.breaches None (q ∷ [])).breaches
       → record v { table = t; manager = m; breaches = b } ≡ (asked_at ops n page q).after
   asked_then page q i j after bytes t m b is bytes_are copied idle_is table manager breaches =
-      subst (λ (x : Coherent S). record v { table = t; manager = m; breaches = b } ≡ (asked_at ops x page q).after) same
-      (rw (table, manager, breaches, idle_is, bytes_are, copied) (ap (λ e. (asked ops v page q e).after) (sym is)))
+      subst (λ (x : Coherent S). record v { table = t; manager = m; breaches = b }
+      ≡ (asked_at ops x page q).after) same
+      (rw (table, manager, breaches, idle_is, bytes_are, copied)
+      (ap (λ e. (asked ops v page q e).after) (sym is)))
 
   -- an access of this node's program
-  pub hit_sound : (page : ℕ) (w : Word) (t : Table) → page < n.config.pages → IsWord n.config.page_size w → t ≡ with_page v.table page (carried_out w (page_at v.table page)).bytes → IsSound ops (record v { table = t })
+  pub hit_sound : (page : ℕ) (w : Word) (t : Table) → page < n.config.pages
+      → IsWord n.config.page_size w
+      → t ≡ with_page v.table page (carried_out w (page_at v.table page)).bytes
+      → IsSound ops (record v { table = t })
   hit_sound page w t inside word table =
-      rw table (hit-keeps laws v page w s (subst (λ (x : Coherent S). page < x.config.pages) (sym same) inside) (subst (λ (x : Coherent S). IsWord x.config.page_size w) (sym same) word)).0
+      rw table
+      (hit-keeps laws v page w s
+      (subst (λ (x : Coherent S). page < x.config.pages) (sym same) inside)
+      (subst (λ (x : Coherent S). IsWord x.config.page_size w) (sym same) word)).0
 
-  pub fault_sound : (page : ℕ) (w : Word) (call : ℕ) (i : IdleState) (e : Entry) (t : Table) → page < n.config.pages → IsWord n.config.page_size w → 1 ≤ call → call < 2 ^ 64 → entry_at v.table page ≡ entry.Idle i → suffices i.access w ≡ false → v.locked ≡ None
-      → e ≡ fault_entry w call i → t ≡ with_entry v.table page e → IsSound ops (record v { table = t; locked = Some page })
+  pub fault_sound : (page : ℕ) (w : Word) (call : ℕ) (i : IdleState) (e : Entry) (t : Table)
+      → page < n.config.pages → IsWord n.config.page_size w → 1 ≤ call → call < 2 ^ 64
+      → entry_at v.table page ≡ entry.Idle i → suffices i.access w ≡ false → v.locked ≡ None
+      → e ≡ fault_entry w call i → t ≡ with_entry v.table page e
+      → IsSound ops (record v { table = t; locked = Some page })
   fault_sound page w call i e t inside word least most is short none entry_is table =
-      rw (table, entry_is) (fault-keeps laws v page w call i s (subst (λ (x : Coherent S). page < x.config.pages) (sym same) inside) (subst (λ (x : Coherent S). IsWord x.config.page_size w) (sym same) word) least most is none short).0
+      rw (table, entry_is)
+      (fault-keeps laws v page w call i s
+      (subst (λ (x : Coherent S). page < x.config.pages) (sym same) inside)
+      (subst (λ (x : Coherent S). IsWord x.config.page_size w) (sym same) word) least most is
+      none short).0
 
   -- the page came, and others have a copy; an acknowledgement came, and others are missing
-  pub collect_sound : (from page : ℕ) (copies : Nodes) (bytes : List ℕ) (w : WaitingState) (t : Table) (m : S) → Comes n from page bytes → IsWaiting (entry_at n.table page) true w → IsBelow n.config.nodes copies → set.contains copies n.me ≡ false
-      → t ≡ with_page (with_entry v.table page (entry.AwaitAcks (record { left = copies; waiting = w }))) page bytes → m ≡ ops.on_replied v.manager page true from → IsSound ops (record v { table = t; manager = m })
+  pub collect_sound : (from page : ℕ) (copies : Nodes) (bytes : List ℕ) (w : WaitingState)
+      (t : Table) (m : S) → Comes n from page bytes → IsWaiting (entry_at n.table page) true w
+      → IsBelow n.config.nodes copies → set.contains copies n.me ≡ false
+      → t ≡ with_page
+      (with_entry v.table page (entry.AwaitAcks (record { left = copies; waiting = w }))) page
+      bytes → m ≡ ops.on_replied v.manager page true from
+      → IsSound ops (record v { table = t; manager = m })
   collect_sound from page copies bytes w t m comes waits below apart table manager =
       let at : Comes v from page bytes = came from page bytes comes in
-      rw (table, manager) (collecting-keeps laws v from page copies bytes w s at.below at.inside at.sized (waits_there page true w waits) (are_others n v same s copies below apart))
+      rw (table, manager)
+      (collecting-keeps laws v from page copies bytes w s at.below at.inside at.sized
+      (waits_there page true w waits) (are_others n v same s copies below apart))
 
-  pub left_sound : (page : ℕ) (left : Nodes) (w : WaitingState) (t : Table) → page < n.config.pages → IsCollecting (entry_at n.table page) w → AreOthers n.config n.me left
-      → t ≡ with_entry v.table page (entry.AwaitAcks (record { left = left; waiting = w })) → IsSound ops (record v { table = t })
+  pub left_sound : (page : ℕ) (left : Nodes) (w : WaitingState) (t : Table) → page < n.config.pages
+      → IsCollecting (entry_at n.table page) w → AreOthers n.config n.me left
+      → t ≡ with_entry v.table page (entry.AwaitAcks (record { left = left; waiting = w }))
+      → IsSound ops (record v { table = t })
   left_sound page left w t inside waits others table =
-      rw table (left-keeps laws v page left w s (subst (λ (x : Coherent S). page < x.config.pages) (sym same) inside) (collects_there page w waits) (subst (λ (x : Coherent S). AreOthers x.config x.me left) (sym same) others))
+      rw table
+      (left-keeps laws v page left w s
+      (subst (λ (x : Coherent S). page < x.config.pages) (sym same) inside)
+      (collects_there page w waits)
+      (subst (λ (x : Coherent S). AreOthers x.config x.me left) (sym same) others))
 
   -- one of those that were missing is not any more
-  pub fewer_missing : (page : ℕ) (a : AwaitAcksState) (node : ℕ) → entry_at v.table page ≡ entry.AwaitAcks a → AreOthers n.config n.me (set.remove a.left node)
+  pub fewer_missing : (page : ℕ) (a : AwaitAcksState) (node : ℕ)
+      → entry_at v.table page ≡ entry.AwaitAcks a → AreOthers n.config n.me (set.remove a.left node)
   fewer_missing page a node is =
-      subst (λ (x : Coherent S). AreOthers x.config x.me (set.remove a.left node)) same (fewer_others v.config v.me node a.left ((entry_is v page (entry.AwaitAcks a) s is).collecting a refl).1)
+      subst (λ (x : Coherent S). AreOthers x.config x.me (set.remove a.left node)) same
+      (fewer_others v.config v.me node a.left
+      ((entry_is v page (entry.AwaitAcks a) s is).collecting a refl).1)

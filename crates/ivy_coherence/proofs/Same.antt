@@ -14,7 +14,8 @@ pub record IsSame {S : Type 0} (old new : Coherent S) : Type 0 where
   pub me : new.me ≡ old.me
 
 module _ {S : Type 0} (ops : Ops S) where
-  message-rows : (c : Coherent S) (from origin call : ℕ) → Rows ops c from origin call (λ m e. IsSame c e.after)
+  message-rows : (c : Coherent S) (from origin call : ℕ)
+      → Rows ops c from origin call (λ m e. IsSame c e.after)
   message-rows c from origin call = record {
     breach = λ m why. record { config = refl; me = refl };
     served = λ kind page i may is order. record { config = refl; me = refl };
@@ -27,7 +28,8 @@ module _ {S : Type 0} (ops : Ops S) where
     last = λ page s mine is this missing none. record { config = refl; me = refl };
   }
 
-  access-rows : (c : Coherent S) (page : ℕ) (w : Word) (call : ℕ) → AccessRows ops c page w call (λ b. IsSame c b.after)
+  access-rows : (c : Coherent S) (page : ℕ) (w : Word) (call : ℕ)
+      → AccessRows ops c page w call (λ b. IsSame c b.after)
   access-rows c page w call = record {
     busy = record { config = refl; me = refl };
     hit = λ i none is enough. record { config = refl; me = refl };
@@ -37,9 +39,11 @@ module _ {S : Type 0} (ops : Ops S) where
   }
 
   -- a message that comes
-  pub handled-same : (c : Coherent S) (from : ℕ) (m : Message) → IsSame c (handled ops c from m).after
+  pub handled-same : (c : Coherent S) (from : ℕ) (m : Message)
+      → IsSame c (handled ops c from m).after
   handled-same c from m = handled-by_rows m (message-rows c from m.origin m.call)
 
   -- an access of this node's program
-  pub begun-same : (c : Coherent S) (page : ℕ) (w : Word) (call : ℕ) → IsSame c (begun ops c page w call).after
+  pub begun-same : (c : Coherent S) (page : ℕ) (w : Word) (call : ℕ)
+      → IsSame c (begun ops c page w call).after
   begun-same c page w call = begun-by_rows (access-rows c page w call)

@@ -1,4 +1,5 @@
--- What an access of this node's program comes to (Li and Hudak 1989): what the program is told, the state after, and
+-- What an access of this node's program comes to (Li and Hudak 1989): what the program is told, the
+-- state after, and
 -- what is posted, in order.
 use Rattle.std.specs.Prelude.{◌≡◌, ℕ, Bool, false, List, [], ◌∷◌, Option, Some, None, if◌then◌else◌}
 use Rattle.ivy_wire.specs.declared.Content.TheVariants as content
@@ -30,7 +31,8 @@ suffices access word = if needs_write word then writes access else reads access
 abbrev pub IsIdleAt : Table → ℕ → IdleState → Type 0
 IsIdleAt t page s = entry_at t page ≡ entry.Idle s
 
--- the word has to be asked for: no word waits at this node, and the access to the page does not suffice
+-- the word has to be asked for: no word waits at this node, and the access to the page does not
+-- suffice
 pub record HasToAsk {S : Type 0} (c : Coherent S) (page : ℕ) (word : Word) : Type 0 where
   pub free : c.locked ≡ None
   pub idle : IdleState
@@ -58,9 +60,14 @@ module _ {S : Type 0} (ops : Ops S) where
   abbrev pub hit : Coherent S → ℕ → Word → Begun S
   hit c page word =
       let carried = carried_out word (page_at c.table page) in
-      record { need = Have carried.out; after = record c { table = with_page c.table page carried.bytes }; posted = [] }
+      record {
+        need = Have carried.out;
+        after = record c { table = with_page c.table page carried.bytes };
+        posted = [];
+      }
 
-  -- A read fault: a copy is asked for where the owner is believed to be. A write fault: the owner tells those that
+  -- A read fault: a copy is asked for where the owner is believed to be. A write fault: the owner
+  -- tells those that
   -- have a copy to give it up, another node asks for the page.
   abbrev pub fault_posted : Coherent S → ℕ → Word → ℕ → IdleState → List Parcel
   fault_posted c page word call s =

@@ -1,17 +1,20 @@
--- What a step of a node comes to: it did all that its definition says, or nothing changed but that the post was
--- asked once. `takes`, `after`, `refuses` and `after_refusal` are words of the post, which was `post` and is `then`.
+-- What a step of a node comes to: it did all that its definition says, or nothing changed but that
+-- the post was
+-- asked once. `takes`, `after`, `refuses` and `after_refusal` are words of the post, which was
+-- `post` and is `then`.
 use Rattle.std.specs.Prelude.{◌≡◌, List, Result, OnOk, OnErr, IfErr}
 use Rattle.ivy_model.specs.declared.Fault.{Fault}
 use Rattle.ivy_model.specs.Wants.{IsWant}
 use Rattle.ivy_wire.specs.Data.{Parcel}
 use Rattle.ivy_serving.specs.Outcomes.{HasRefused}
 use Rattle.ivy_coherence.specs.Coherent.{Coherent}
-use Rattle.ivy_coherence.specs.Steps.{Effect}
+use Rattle.ivy_coherence.specs.Steps.{CoherenceEffect}
 
 -- the node was `old` and is `new`
 pub record IsStep {P A S : Type 0} (takes : P → List Parcel → Type 0) (after : P → List Parcel → P)
     (refuses : P → List Parcel → Fault → Type 0) (after_refusal : P → List Parcel → Fault → P)
-    (post then : P) (r : Result A Fault) (old new : Coherent S) (effect : Effect S) : Type 0 where
+    (post then : P) (r : Result A Fault) (old new : Coherent S) (effect : CoherenceEffect S) : Type
+    0 where
   pub ok : OnOk r (new ≡ effect.after)
   pub posted : OnOk r (then ≡ after post effect.posted)
   pub took : OnOk r (takes post effect.posted)

@@ -1,4 +1,5 @@
--- What a message of another node does at one node (Li and Hudak 1989): the state after it and what is posted, in order.
+-- What a message of another node does at one node (Li and Hudak 1989): the state after it and what
+-- is posted, in order.
 use Rattle.std.specs.Prelude.{◌≡◌, ℕ, Bool, true, false, not, ◌&&◌, List, [], ◌∷◌, Option, Some, None, if◌then◌else◌, ◌==◌}
 use Rattle.std.specs.FinSet as set
 use Rattle.ivy_wire.specs.declared.Content.TheVariants as content
@@ -17,7 +18,7 @@ use Rattle.ivy_pagetable.specs.Manager.{Ops}
 use Rattle.ivy_coherence.specs.Coherent.{Coherent}
 use Rattle.ivy_serving.specs.Serving.{Serving, counted, parcel_to, settled, invalidations}
 
-pub record Effect (S : Type 0) : Type 0 where
+pub record CoherenceEffect (S : Type 0) : Type 0 where
   pub after : Coherent S
   pub posted : List Parcel
 
@@ -47,10 +48,10 @@ is_order kind = false
 
 module _ {S : Type 0} (ops : Ops S) where
   -- a message that fits no rule is counted, and changes nothing else
-  abbrev pub breach : Coherent S → Effect S
+  abbrev pub breach : Coherent S → CoherenceEffect S
   breach c = record { after = record c { breaches = counted c.breaches }; posted = [] }
 
-  abbrev pub after_serving : Coherent S → ℕ → Serving S → Effect S
+  abbrev pub after_serving : Coherent S → ℕ → Serving S → CoherenceEffect S
   after_serving c page v = record {
     after = record c {
       table = with_entry c.table page
@@ -61,40 +62,43 @@ module _ {S : Type 0} (ops : Ops S) where
     posted = v.posted;
   }
 
-  -- the word that waited is carried out on these bytes; then what was put off is served, in order of arrival
+  -- the word that waited is carried out on these bytes; then what was put off is served, in order
+  -- of arrival
   abbrev pub unlocked : Coherent S → ℕ → ℕ → IdleState → Option Bool → List ℕ → WaitingState
-      → Effect S
+      → CoherenceEffect S
   unlocked c from page idle reply bytes s =
       let now = carried_out s.word bytes in
       after_serving
-      (record c { table = with_page c.table page now.bytes; locked = None; done = Some now.out }) page
+      (record c { table = with_page c.table page now.bytes; locked = None; done = Some now.out })
+      page
       (settled ops c.me from page now.bytes idle c.manager c.breaches reply s.put_off)
 
   -- with the copy, or the page, that was asked for
-  abbrev pub unlocked_by_reply : Coherent S → ℕ → ℕ → Bool → List ℕ → WaitingState → Effect S
+  abbrev pub unlocked_by_reply : Coherent S → ℕ → ℕ → Bool → List ℕ → WaitingState
+      → CoherenceEffect S
   unlocked_by_reply c from page write bytes s =
       unlocked c from page (unlocked_as write) (Some write) bytes s
 
   -- with the last acknowledgement, on the page that is here already
-  abbrev pub unlocked_by_last : Coherent S → ℕ → ℕ → WaitingState → Effect S
+  abbrev pub unlocked_by_last : Coherent S → ℕ → ℕ → WaitingState → CoherenceEffect S
   unlocked_by_last c from page s =
       unlocked c from page owning None (page_at c.table page) s
 
   -- at a locked entry a message waits until it is unlocked
-  abbrev pub put_by : Coherent S → ℕ → Entry → PutOff → Effect S
+  abbrev pub put_by : Coherent S → ℕ → Entry → PutOff → CoherenceEffect S
   put_by c page e q = record {
     after = record c { table = with_entry c.table page (with_put_off e q) };
     posted = [];
   }
 
-  abbrev pub put_aside : Coherent S → ℕ → Entry → PutOff → Effect S
+  abbrev pub put_aside : Coherent S → ℕ → Entry → PutOff → CoherenceEffect S
   put_aside c page e q = if can_put_off e then put_by c page e q else breach c
 
-  abbrev pub put_aside_at : Coherent S → ℕ → PutOff → Effect S
+  abbrev pub put_aside_at : Coherent S → ℕ → PutOff → CoherenceEffect S
   put_aside_at c page q = put_aside c page (entry_at c.table page) q
 
   -- a node that waits to write gives up at once the copy that it had
-  abbrev pub given_up : Coherent S → ℕ → WaitingState → PutOff → Effect S
+  abbrev pub given_up : Coherent S → ℕ → WaitingState → PutOff → CoherenceEffect S
   given_up c page s q = record {
     after = record c {
       table = with_entry c.table page (entry.AwaitWrite (record { had_copy = false; waiting = s }));
@@ -104,7 +108,7 @@ module _ {S : Type 0} (ops : Ops S) where
   }
 
   -- a request for a copy or for the page, or the order to give a copy up
-  abbrev pub asked : Coherent S → ℕ → PutOff → Entry → Effect S
+  abbrev pub asked : Coherent S → ℕ → PutOff → Entry → CoherenceEffect S
   asked c page q (entry.Idle s) = after_serving c page
       (settled ops c.me q.origin page (page_at c.table page) s c.manager c.breaches None (q ∷ []))
   asked c page q (entry.AwaitWrite s) = if is_order q.kind then given_up c page s.waiting q
@@ -113,16 +117,16 @@ module _ {S : Type 0} (ops : Ops S) where
       if is_order q.kind then breach c else put_aside c page (entry.AwaitAcks s) q
   asked c page q e = put_aside c page e q
 
-  abbrev pub asked_at : Coherent S → ℕ → PutOff → Effect S
+  abbrev pub asked_at : Coherent S → ℕ → PutOff → CoherenceEffect S
   asked_at c page q = asked c page q (entry_at c.table page)
 
   -- a copy comes for the word that waits to read
-  abbrev pub copy_came : Coherent S → ℕ → ℕ → ℕ → List ℕ → Entry → Effect S
+  abbrev pub copy_came : Coherent S → ℕ → ℕ → ℕ → List ℕ → Entry → CoherenceEffect S
   copy_came c from call page bytes (entry.AwaitRead s) =
       if s.call == call then unlocked c from page copying (Some false) bytes s else breach c
   copy_came c from call page bytes e = breach c
 
-  abbrev pub copy_came_at : Coherent S → ℕ → ℕ → ℕ → List ℕ → Effect S
+  abbrev pub copy_came_at : Coherent S → ℕ → ℕ → ℕ → List ℕ → CoherenceEffect S
   copy_came_at c from call page bytes = copy_came c from call page bytes (entry_at c.table page)
 
   -- the page came, and these other nodes have a copy of it: the word waits until they gave it up
@@ -134,8 +138,9 @@ module _ {S : Type 0} (ops : Ops S) where
     manager = ops.on_replied c.manager page true from;
   }
 
-  -- the page itself comes with the nodes that have a copy: they give it up before the word is carried out
-  abbrev pub owned_with : Coherent S → ℕ → ℕ → ℕ → Nodes → List ℕ → WaitingState → Effect S
+  -- the page itself comes with the nodes that have a copy: they give it up before the word is
+  -- carried out
+  abbrev pub owned_with : Coherent S → ℕ → ℕ → ℕ → Nodes → List ℕ → WaitingState → CoherenceEffect S
   owned_with c from call page copies bytes s =
       if is_none copies
       then unlocked c from page owning (Some true) bytes s
@@ -144,13 +149,13 @@ module _ {S : Type 0} (ops : Ops S) where
         posted = invalidations c.me page call copies;
       }
 
-  abbrev pub page_came : Coherent S → ℕ → ℕ → ℕ → Nodes → List ℕ → Entry → Effect S
+  abbrev pub page_came : Coherent S → ℕ → ℕ → ℕ → Nodes → List ℕ → Entry → CoherenceEffect S
   page_came c from call page copies bytes (entry.AwaitWrite s) =
       if s.waiting.call == call && not (set.contains copies c.me)
       then owned_with c from call page copies bytes s.waiting else breach c
   page_came c from call page copies bytes e = breach c
 
-  abbrev pub page_came_at : Coherent S → ℕ → ℕ → ℕ → Nodes → List ℕ → Effect S
+  abbrev pub page_came_at : Coherent S → ℕ → ℕ → ℕ → Nodes → List ℕ → CoherenceEffect S
   page_came_at c from call page copies bytes =
       page_came c from call page copies bytes (entry_at c.table page)
 
@@ -163,24 +168,25 @@ module _ {S : Type 0} (ops : Ops S) where
       }
 
   -- a copy was given up: with the last one the word that waits to write is carried out
-  abbrev pub left_with : Coherent S → ℕ → ℕ → Nodes → WaitingState → Effect S
+  abbrev pub left_with : Coherent S → ℕ → ℕ → Nodes → WaitingState → CoherenceEffect S
   left_with c from page left s =
       if is_none left
       then unlocked c from page owning None (page_at c.table page) s
       else record { after = still_collecting c page left s; posted = [] }
 
-  abbrev pub acknowledged : Coherent S → ℕ → ℕ → ℕ → Entry → Effect S
+  abbrev pub acknowledged : Coherent S → ℕ → ℕ → ℕ → Entry → CoherenceEffect S
   acknowledged c from call page (entry.AwaitAcks s) =
       if s.waiting.call == call && set.contains s.left from
       then left_with c from page (set.remove s.left from) s.waiting else breach c
   acknowledged c from call page e = breach c
 
-  abbrev pub acknowledged_at : Coherent S → ℕ → ℕ → ℕ → Effect S
+  abbrev pub acknowledged_at : Coherent S → ℕ → ℕ → ℕ → CoherenceEffect S
   acknowledged_at c from call page = acknowledged c from call page (entry_at c.table page)
 
-  -- What a message is about. No node asks itself; an order to give a copy up comes from the node that is to write; a
+  -- What a message is about. No node asks itself; an order to give a copy up comes from the node
+  -- that is to write; a
   -- reply comes to the node that asked. A message of the heap fits none of these rules.
-  abbrev pub handled_as : Coherent S → ℕ → ℕ → ℕ → Content → Effect S
+  abbrev pub handled_as : Coherent S → ℕ → ℕ → ℕ → Content → CoherenceEffect S
   handled_as c from origin call (content.ReadReq page) =
       if origin == c.me then breach c
       else asked_at c page (record { kind = request.Read; origin = origin; call = call })
@@ -200,5 +206,5 @@ module _ {S : Type 0} (ops : Ops S) where
       if origin == c.me then acknowledged_at c from call page else breach c
   handled_as c from origin call m = breach c
 
-  unfoldable pub handled : Coherent S → ℕ → Message → Effect S
+  unfoldable pub handled : Coherent S → ℕ → Message → CoherenceEffect S
   handled c from m = handled_as c from m.origin m.call m.content

@@ -7,7 +7,10 @@ use Rattle.ivy_model.specs.Legal.{Legal}
 use Rattle.ivy_texts.specs.Lines.{verdict_line}
 use Rattle.ivy_commands.specs.Commands.{PrintsVerdict}
 
-pub verdict-printed : {F : Type 0} (c : Config) (records : List Record) (old new : Option (List ℕ)) (r : Result Bool F) → IfOk r (λ yes. IsTrue yes ↔ Legal c records) → MatchResult r (λ yes. Appends old new (verdict_line yes)) (λ _. Unit {0}) → MatchResult r (λ yes. PrintsVerdict yes old new) (λ _. Unit {0})
+pub verdict-printed : {F : Type 0} (c : Config) (records : List Record) (old new : Option (List ℕ))
+    (r : Result Bool F) → IfOk r (λ yes. IsTrue yes ↔ Legal c records)
+    → MatchResult r (λ yes. Appends old new (verdict_line yes)) (λ _. Unit {0})
+    → MatchResult r (λ yes. PrintsVerdict yes old new) (λ _. Unit {0})
 verdict-printed c records old new (Ok is) legal printed =
     record { config = c; records = records; legal = legal; printed = printed }
 verdict-printed c records old new (Err f) legal printed = tt

@@ -50,13 +50,15 @@ module _ (c : Config) (programs : List (List Instruction)) (old new : Option (Li
     pub is : IsReport c programs report
     pub printed : Appends old new (outputs_text (map (λ (n : NodeReport). n.output) report))
 
-  -- the moves led from the opening of these programs to a world, and after some trace its text was printed
+  -- the moves led from the opening of these programs to a world, and after some trace its text was
+  -- printed
   pub record PrintsMoves (moves : List Move) : Type 0 where
     pub end : World (Host Managed)
     pub led : IsLedTo c (opening managed_ops c programs) moves end
     pub printed : AddsLast old new (world_text end)
 
-  -- so many moves that the seed draws led from the opening of these programs to a world, and its text was printed
+  -- so many moves that the seed draws led from the opening of these programs to a world, and its
+  -- text was printed
   pub record PrintsDrawn (seed moves : ℕ) : Type 0 where
     pub end : World (Host Managed)
     pub drawn : DrawnTo c (seeded seed) moves (opening managed_ops c programs) end
@@ -82,15 +84,16 @@ abbrev pub IsCarriedOut : Request → ℕ → Option (List ℕ) → Option (List
 IsCarriedOut (request.Run file turns capacity pulse settings) status old new = (status ≡ 0)
     × SomeSpelled (λ ps. PrintsSession (config_of settings (length ps)) ps old new)
 IsCarriedOut (request.Step file schedule settings) status old new = (status ≡ 0)
-    × SomeSpelled (λ ps. (moves : List Move) × PrintsMoves (config_of settings (length ps)) ps old new moves)
+    × SomeSpelled
+    (λ ps. (moves : List Move) × PrintsMoves (config_of settings (length ps)) ps old new moves)
 IsCarriedOut (request.Sim file seed moves settings) status old new = (status ≡ 0)
     × SomeSpelled (λ ps. PrintsDrawn (config_of settings (length ps)) ps old new seed moves)
 IsCarriedOut (request.Check order) status old new =
     (yes : Bool) × (status ≡ (if yes then 0 else 3)) × PrintsVerdict yes old new
 
 -- some request was
-abbrev pub IsDone : ℕ → Option (List ℕ) → Option (List ℕ) → Type 0
-IsDone status old new = (request : Request) × IsCarriedOut request status old new
+abbrev pub IsRequestDone : ℕ → Option (List ℕ) → Option (List ℕ) → Type 0
+IsRequestDone status old new = (request : Request) × IsCarriedOut request status old new
 
 abbrev pub fault_status : Fault → ℕ
 fault_status BadConfig = 2
@@ -109,7 +112,8 @@ IsSessionFailure Unwritten = Unit {0}
 IsSessionFailure (Refused fault) = IsSessionFault fault
 IsSessionFailure _ = ⊥
 
--- a failure has its status, whether standard output took all or not; where it did not, nothing is done
+-- a failure has its status, whether standard output took all or not; where it did not, nothing is
+-- done
 abbrev pub final_status : {E : Type 0} → Result ℕ Failure → Result (Unit {0}) E → ℕ
 final_status (Err failure) flushed = failure_status failure
 final_status (Ok status) (Ok took) = status

@@ -6,16 +6,16 @@ use Rattle.ivy_host.specs.Hosts.{Host}
 use Rattle.ivy_texts.specs.Lines.{value_line, end_line}
 
 -- the text of each item, numbered from this number on, one after another
-abbrev pub numbered : {X : Type 0} → (ℕ → X → List ℕ) → ℕ → List X → List ℕ
-numbered text from [] = []
-numbered text from (x ∷ xs) = text from x ++ numbered text (from + 1) xs
+abbrev pub numbered_texts : {X : Type 0} → (ℕ → X → List ℕ) → ℕ → List X → List ℕ
+numbered_texts text from [] = []
+numbered_texts text from (x ∷ xs) = text from x ++ numbered_texts text (from + 1) xs
 
 abbrev pub output_text : ℕ → List ℕ → List ℕ
 output_text node values = flat_map (value_line node) values
 
 -- of the outputs of all nodes
 abbrev pub outputs_text : List (List ℕ) → List ℕ
-outputs_text outputs = numbered output_text 0 outputs
+outputs_text outputs = numbered_texts output_text 0 outputs
 
 abbrev pub outputs_of : {S : Type 0} → List (Node (Host S)) → List (List ℕ)
 outputs_of nodes = map (λ n. n.core.process.state.output) nodes
@@ -32,4 +32,4 @@ abbrev pub end_text : {S : Type 0} → ℕ → Node (Host S) → List ℕ
 end_text node n = end_line node (has_ended n.core.process)
 
 abbrev pub ends_text : {S : Type 0} → List (Node (Host S)) → List ℕ
-ends_text nodes = numbered end_text 0 nodes
+ends_text nodes = numbered_texts end_text 0 nodes

@@ -8,7 +8,8 @@ use Rattle.ivy_host.specs.Managers.{Managed}
 use Rattle.ivy_node.specs.Runs.{IsLedTo}
 use Rattle.ivy_texts.specs.Drawn.{drawn}
 
--- so many moves lead from one world to another, each drawn over the strings that were sent before it
+-- so many moves lead from one world to another, each drawn over the strings that were sent before
+-- it
 abbrev pub DrawnTo : Config → Lcg → ℕ → World (Host Managed) → World (Host Managed) → Type 0
 DrawnTo c g zero w end = end ≡ w
 DrawnTo c g (suc more) w end =

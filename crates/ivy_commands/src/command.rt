@@ -4,7 +4,7 @@ ghost use Rattle.std.specs.Io.KnownBytes.{Appends};
 ghost use Rattle.ivy_model.specs.Config.{IsConfig};
 ghost use Rattle.ivy_model.specs.Legal.{Legal};
 ghost use Rattle.ivy_texts.specs.Lines.{verdict_line};
-ghost use Rattle.ivy_commands.specs.Commands.{config_of, final_status, AreSpelled, IsCarriedOut, IsDone, IsSessionFailure, PrintsDrawn, PrintsMoves, PrintsSession, PrintsVerdict};
+ghost use Rattle.ivy_commands.specs.Commands.{config_of, final_status, AreSpelled, IsCarriedOut, IsRequestDone, IsSessionFailure, PrintsDrawn, PrintsMoves, PrintsSession, PrintsVerdict};
 
 use crate::failure::Failure;
 use crate::print::{print_outputs, print_world};
@@ -210,7 +210,7 @@ fn obey<'a, R: Threads + Wait + Sync, T: Texts, W: Write>(
     files: &T,
     out: &mut W,
 ) -> Result<u8, Failure<'a>>
-    ensures { MatchResult result (λ status. IsDone status (W.contents out.old) (W.contents out.new)) (λ _. Unit {0}) }
+    ensures { MatchResult result (λ status. IsRequestDone status (W.contents out.old) (W.contents out.new)) (λ _. Unit {0}) }
 {
     let request = Request::read(alloc, words)?;
     carry_out(rt, alloc, request, files, out)
@@ -247,7 +247,7 @@ pub fn perform<R: Threads + Wait + Sync, T: Texts, O: Write, E: Write>(
     err: &mut E,
 ) -> u8
     ensures known { result ≤ 3 }
-    ensures done { (result ≡ 0) ⊎ (result ≡ 3) → IsDone result (O.contents out.old) (O.contents out.new) }
+    ensures done { (result ≡ 0) ⊎ (result ≡ 3) → IsRequestDone result (O.contents out.old) (O.contents out.new) }
 {
     let done = obey(rt, alloc, words, files, out);
     let flushed = out.flush();

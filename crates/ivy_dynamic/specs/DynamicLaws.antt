@@ -4,11 +4,11 @@ use Rattle.std.proofs.Common.{ap, sym, subst, ◌∙◌, set, inl, inr, arith, s
 use Rattle.std.proofs.lemmas.List.{set-get_or, length-set, get_or-replicate, length-replicate}
 use Rattle.std.proofs.lemmas.Bool.Decides.{eqb_tells}
 use Rattle.ivy_model.specs.declared.Config.{Config}
-use Rattle.ivy_pagetable.specs.Manager.{Laws, Keeps, IsRouted, Change, Forward, Given, Replied, Invalidated, all_changed, brought_back}
+use Rattle.ivy_pagetable.specs.Manager.{Laws, KeepsElsewhere, IsRouted, Change, Forward, Given, Replied, Invalidated, all_changed, brought_back}
 use Rattle.ivy_dynamic.specs.Dynamic.{Hints, first_hints, hinted, hint_of, dynamic_ops}
 
 -- a change at page p
-keeps : (s : Hints) (p o : ℕ) → Keeps dynamic_ops s p (hinted s p o)
+keeps : (s : Hints) (p o : ℕ) → KeepsElsewhere dynamic_ops s p (hinted s p o)
 keeps s p o = record {
   me = refl;
   size = length-set s.hints p o;
@@ -17,7 +17,7 @@ keeps s p o = record {
 }
 
 keeps_if : (write : Bool) (s : Hints) (p o : ℕ)
-    → Keeps dynamic_ops s p (if write then hinted s p o else s)
+    → KeepsElsewhere dynamic_ops s p (if write then hinted s p o else s)
 keeps_if true s p o = keeps s p o
 keeps_if false s p o = record { me = refl; size = refl; nodes = refl; others = λ q n. refl }
 

@@ -1,5 +1,8 @@
 -- Each step keeps the rule.
-use Rattle.std.proofs.Common.{◌≡◌, ◌≢◌, ◌⊎◌, inl, inr, ⊎_elim, ℕ, zero, suc, ◌+◌, ◌<◌, ◌==◌, Bool, true, false, true≢false, Option, Some, None, List, [], ◌∷◌, ◌++◌, length, set, Contains, refl, sym, ap, ◌∙◌, subst, arith, if◌then◌else◌, eq-eqb}
+use Rattle.std.proofs.Common.{◌≡◌, ◌≢◌, ◌⊎◌, inl, inr, ⊎_elim, ℕ, zero, suc, ◌+◌, ◌<◌, ◌==◌, Bool}
+use Rattle.std.proofs.Common.{true, false, true≢false, Option, Some, None, List, [], ◌∷◌, ◌++◌}
+use Rattle.std.proofs.Common.{length, set, Contains, refl, sym, ap, ◌∙◌, subst, arith}
+use Rattle.std.proofs.Common.{if◌then◌else◌, eq-eqb}
 use mathlib.Core.Option.{some, some-injective, some-ne-none}
 use lib.ListN.{get_elem?}
 use Rattle.std.proofs.lemmas.Bool.{cases_eq, ne_eqb}
@@ -67,7 +70,8 @@ reported_set views p v w j l at stays r = elim (cases_eq r.pass p) [
   }
 ]
 
-contains_next : (x : Item) (items : List Item) (y : Item) → Contains items y → Contains (x ∷ items) y
+contains_next : (x : Item) (items : List Item) (y : Item) → Contains items y
+    → Contains (x ∷ items) y
 contains_next x items y c = Contains-append_right (x ∷ []) items y c
 
 contains_first : {X : Type 0} (x : X) (items : List X) → Contains (x ∷ items) x
@@ -132,7 +136,8 @@ module _ {C : Type 0} (rules : Core C) (c : Config) (opening : World C) where
     own = λ s sends. law.1.sent i s
         (subst (λ l. Sends rules c opening i l s) (sym (list_here parts i i es refl)) sends);
     seats = seats_;
-    fresh = λ j none. list_else parts i j es (apart_from j none) ∙ k.fresh j (sym (seats_ j) ∙ none);
+    fresh = λ j none. list_else parts i j es (apart_from j none)
+        ∙ k.fresh j (sym (seats_ j) ∙ none);
     stays = stays_;
     fits = fits_set (λ q u. Fits rules c opening starter issued parts_ law.0 views' q u) views p w
         (λ q u n e. let f = k.fits q u e in record {
@@ -187,7 +192,8 @@ module _ {C : Type 0} (rules : Core C) (c : Config) (opening : World C) where
       each : (j : ℕ) → GoesOn rules c opening j (parts j) end.sent (parts_ j) ⊎ (parts_ j ≡ parts j)
       each j = elim (cases_eq i j) [
         | inl same ↦ inl (subst (λ x. GoesOn rules c opening x (parts x) end.sent (parts_ x)) same
-            (subst (λ l. GoesOn rules c opening i (parts i) end.sent l) (sym (list_here parts i i es refl)) goes))
+            (subst (λ l. GoesOn rules c opening i (parts i) end.sent l)
+            (sym (list_here parts i i es refl)) goes))
         | inr apart ↦ inr (list_else parts i j es apart)
       ]
 
@@ -247,7 +253,8 @@ module _ {C : Type 0} (rules : Core C) (c : Config) (opening : World C) where
             fresh = a.fresh;
             fits = a.fits;
             holds = λ x contained. elim (Contains-push_cases items (Frame b) x contained) [
-              | inl was ↦ item_stays k.3 a.end views (set views p w) a.more a.stays x (kept.holds x was)
+              | inl was ↦
+                  item_stays k.3 a.end views (set views p w) a.more a.stays x (kept.holds x was)
               | inr is ↦ subst (FitsItem rules c opening a.end (set views p w)) is there
             ];
           },
@@ -255,7 +262,8 @@ module _ {C : Type 0} (rules : Core C) (c : Config) (opening : World C) where
         refl,
       )
 
-  string_sent : (end : World C) (views : List View) (x : Item) → FitsItem rules c opening end views x
+  string_sent : (end : World C) (views : List View) (x : Item)
+      → FitsItem rules c opening end views x
       → (s : List ℕ) → Contains (strings_in x) s → Contains end.sent s
   string_sent end views (Seat i) h s contained = absurd (none-in s contained)
   string_sent end views (Frame b) h s contained = elim (Contains-push_cases [] b s contained) [
@@ -271,7 +279,8 @@ module _ {C : Type 0} (rules : Core C) (c : Config) (opening : World C) where
       let kept = k.4 in
       let mine = kept.fits p v at in
       let first = kept.holds x (contains_first x items) in
-      let a = advance (x ∷ items) views k.0 k.1 k.2 k.3 p v es (v.took ++ strings_in x) v.reported kept at may
+      let a = advance (x ∷ items) views k.0 k.1 k.2 k.3 p v es (v.took ++ strings_in x) v.reported
+      kept at may
       (λ s contained. elim (Contains-append_cases v.took (strings_in x) s contained) [
         | inl was ↦ mine.took s was
         | inr new ↦ string_sent k.3 views x first s new
@@ -297,8 +306,10 @@ module _ {C : Type 0} (rules : Core C) (c : Config) (opening : World C) where
       )
 
   -- a report joins
-  pub reports : (n p : ℕ) (v : View) (i : ℕ) (es : Listed) (may : MayGive rules c opening v es.marks)
-      → i ≡ may.node → Pushes (Kept rules c opening) n p v (Report i es) (λ w. w ≡ with_report v es.marks)
+  pub reports : (n p : ℕ) (v : View) (i : ℕ) (es : Listed)
+      (may : MayGive rules c opening v es.marks)
+      → i ≡ may.node
+      → Pushes (Kept rules c opening) n p v (Report i es) (λ w. w ≡ with_report v es.marks)
   reports n p v i es may is items views room k at =
       let kept = k.4 in
       let mine = kept.fits p v at in
@@ -326,7 +337,8 @@ module _ {C : Type 0} (rules : Core C) (c : Config) (opening : World C) where
             fresh = a.fresh;
             fits = a.fits;
             holds = λ x contained. elim (Contains-push_cases items (Report i es) x contained) [
-              | inl was ↦ item_stays k.3 a.end views (set views p w) a.more a.stays x (kept.holds x was)
+              | inl was ↦
+                  item_stays k.3 a.end views (set views p w) a.more a.stays x (kept.holds x was)
               | inr same ↦ subst (FitsItem rules c opening a.end (set views p w)) same told
             ];
           },
@@ -336,7 +348,8 @@ module _ {C : Type 0} (rules : Core C) (c : Config) (opening : World C) where
 
   -- a seat is issued
   pub issues : (n p : ℕ) (v : View) (i : ℕ) → v.starts ≡ true → i < length opening.nodes
-      → times i v.issued ≡ 0 → Pushes (Kept rules c opening) n p v (Seat i) (λ w. w ≡ with_issued v i)
+      → times i v.issued ≡ 0
+      → Pushes (Kept rules c opening) n p v (Seat i) (λ w. w ≡ with_issued v i)
   issues n p v i starts within new items views room k at =
       let kept = k.4 in
       let mine = kept.fits p v at in
@@ -360,7 +373,8 @@ module _ {C : Type 0} (rules : Core C) (c : Config) (opening : World C) where
           record {
             run = kept.run;
             seats = λ j. let x = same j in let y = kept.seats j in
-                let z = total-append (seat_in j) items (Seat i ∷ []) in let g = grows j in omega arith;
+                let z = total-append (seat_in j) items (Seat i ∷ []) in let g = grows j in
+                omega arith;
             once = λ j. let g = grows j in let o = kept.once j in elim (cases_eq i j) [
               | inl e ↦
                   let z : times j k.1 ≡ 0 = ap (λ x. times x k.1) (sym e) ∙ none in
@@ -415,7 +429,8 @@ module _ {C : Type 0} (rules : Core C) (c : Config) (opening : World C) where
   pub seats : (p : ℕ) (v : View) → v.node ≡ None
       → Pops (Kept rules c opening) p v (λ x w. w ≡ after_seat v x)
   seats p v none (Frame b) items views k at = (v, leaves p v (Frame b) items views k at, refl)
-  seats p v none (Report i es) items views k at = (v, leaves p v (Report i es) items views k at, refl)
+  seats p v none (Report i es) items views k at =
+      (v, leaves p v (Report i es) items views k at, refl)
   seats p v none (Seat i) items views k at =
       let kept = k.4 in
       let mine = kept.fits p v at in
@@ -514,7 +529,8 @@ module _ {C : Type 0} (rules : Core C) (c : Config) (opening : World C) where
       )
 
   -- what the starter's reports tell
-  pub learns : (p : ℕ) (v : View) → Learns (Kept rules c opening) p v (λ items. Told rules c opening v)
+  pub learns : (p : ℕ) (v : View)
+      → Learns (Kept rules c opening) p v (λ items. Told rules c opening v)
   learns p v items views k at =
       let kept = k.4 in
       let mine = kept.fits p v at in
@@ -574,7 +590,8 @@ module _ {C : Type 0} (rules : Core C) (c : Config) (opening : World C) where
             | inr is ↦ subst (λ (x : View). Fits rules c opening k.0 k.1 k.2 k.3 views' q x) is
                 (fits_newcomer k.0 k.1 k.2 k.3 views' q)
           ];
-          holds = λ x contained. item_stays k.3 k.3 views views' (λ s h. h) stays x (kept.holds x contained);
+          holds = λ x contained. item_stays k.3 k.3 views views' (λ s h. h) stays x
+              (kept.holds x contained);
         },
       )
 

@@ -1,4 +1,5 @@
--- Event lists of nodes that go on, and the law that threads rest on: lists that go on from the parts of a run are the
+-- Event lists of nodes that go on, and the law that threads rest on: lists that go on from the
+-- parts of a run are the
 -- parts of a run again.
 use Rattle.std.specs.Prelude.{◌≡◌, ◌⊎◌, ℕ, ◌<◌, List, [], ◌++◌, length, slice_get, Contains, Some}
 use Rattle.ivy_model.specs.declared.Config.{Config}
@@ -22,16 +23,19 @@ module _ {C : Type 0} (rules : Core C) (c : Config) (opening : World C) where
     pub list : IsListOf i es effect
     pub sent : Contains effect.sent bytes
 
-  -- node i's list goes on, from the old one to the new; what it delivers meanwhile is among these strings, and its
+  -- node i's list goes on, from the old one to the new; what it delivers meanwhile is among these
+  -- strings, and its
   -- pulses go to other nodes
-  pub record GoesOn (i : ℕ) (old : List Mark) (strings : List (List ℕ)) (new : List Mark) : Type 0 where
-    pub more : List Mark
-    pub is : new ≡ old ++ more
-    pub effect : Effect C
-    pub list : IsListOf i new effect
-    pub can : AllCanBeMade strings (length opening.nodes) i more
+  pub record GoesOn (i : ℕ) (old : List Mark) (strings : List (List ℕ)) (new : List Mark) : Type 0
+    where
+      pub more : List Mark
+      pub is : new ≡ old ++ more
+      pub effect : Effect C
+      pub list : IsListOf i new effect
+      pub can : AllCanBeMade strings (length opening.nodes) i more
 
-  -- the lists are the parts of a run, in which all was sent that was sent before, and all that they send
+  -- the lists are the parts of a run, in which all was sent that was sent before, and all that they
+  -- send
   pub record AreFurther (end : World C) (lists : ℕ → List Mark) (further : World C) : Type 0 where
     pub run : AreParts rules c opening lists further
     pub before : (bytes : List ℕ) → Contains end.sent bytes → Contains further.sent bytes

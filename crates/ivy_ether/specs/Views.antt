@@ -7,7 +7,8 @@ pub record View : Type 0 where
   pub starts : Bool
   pub issued : List ℕ
   pub reports : List (ℕ × List Mark)
-  -- of a site's pass: the node whose seat it took, that node's event list, the strings that the pass took, and
+  -- of a site's pass: the node whose seat it took, that node's event list, the strings that the
+  -- pass took, and
   -- whether it has reported
   pub node : Option ℕ
   pub events : List Mark

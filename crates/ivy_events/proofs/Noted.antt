@@ -7,7 +7,9 @@ use Rattle.ivy_events.specs.Marks.{Turn, turns, marks_of, marks}
 
 marks-append : (a b : List Event) → marks (a ++ b) ≡ marks a ++ marks b
 marks-append [] b = refl
-marks-append (e ∷ a) b = ap (λ l. marks_of e ++ l) (marks-append a b) ∙ sym (append_assoc (marks_of e) (marks a) (marks b))
+marks-append (e ∷ a) b =
+    ap (λ l. marks_of e ++ l) (marks-append a b)
+    ∙ sym (append_assoc (marks_of e) (marks a) (marks b))
 
 -- one entry more
 pub marks_push : (a : List Event) (e : Event) → marks (a ++ e ∷ []) ≡ marks a ++ marks_of e
@@ -18,14 +20,22 @@ turns-more zero = refl
 turns-more (suc n) = ap (λ l. Turn ∷ l) (turns-more n)
 
 -- one more turn on the last entry
-marks-turn : (a : List Event) (n m : ℕ) → m ≡ suc n → marks (a ++ Turns m ∷ []) ≡ marks (a ++ Turns n ∷ []) ++ Turn ∷ []
-marks-turn a n m e = marks_push a (Turns m) ∙ ap (λ k. marks a ++ turns k) e ∙ ap (λ l. marks a ++ l) (turns-more n) ∙ sym (append_assoc (marks a) (turns n) (Turn ∷ [])) ∙ ap (λ l. l ++ Turn ∷ []) (sym (marks_push a (Turns n)))
+marks-turn : (a : List Event) (n m : ℕ) → m ≡ suc n
+    → marks (a ++ Turns m ∷ []) ≡ marks (a ++ Turns n ∷ []) ++ Turn ∷ []
+marks-turn a n m e =
+    marks_push a (Turns m) ∙ ap (λ k. marks a ++ turns k) e ∙ ap (λ l. marks a ++ l) (turns-more n)
+    ∙ sym (append_assoc (marks a) (turns n) (Turn ∷ []))
+    ∙ ap (λ l. l ++ Turn ∷ []) (sym (marks_push a (Turns n)))
 
-pub noted_again : (a old new : List Event) (n m : ℕ) → m ≡ suc n → old ≡ a ++ Turns n ∷ [] → new ≡ a ++ Turns m ∷ [] → marks new ≡ marks old ++ Turn ∷ []
-noted_again a old new n m e was is = ap marks is ∙ marks-turn a n m e ∙ ap (λ l. marks l ++ Turn ∷ []) (sym was)
+pub noted_again : (a old new : List Event) (n m : ℕ) → m ≡ suc n → old ≡ a ++ Turns n ∷ []
+    → new ≡ a ++ Turns m ∷ [] → marks new ≡ marks old ++ Turn ∷ []
+noted_again a old new n m e was is =
+    ap marks is ∙ marks-turn a n m e ∙ ap (λ l. marks l ++ Turn ∷ []) (sym was)
 
-pub noted_new : (old mid new : List Event) → mid ≡ old → new ≡ mid ++ Turns 1 ∷ [] → marks new ≡ marks old ++ Turn ∷ []
-noted_new old mid new was is = ap marks is ∙ marks_push mid (Turns 1) ∙ ap (λ l. marks l ++ Turn ∷ []) was
+pub noted_new : (old mid new : List Event) → mid ≡ old → new ≡ mid ++ Turns 1 ∷ []
+    → marks new ≡ marks old ++ Turn ∷ []
+noted_new old mid new was is =
+    ap marks is ∙ marks_push mid (Turns 1) ∙ ap (λ l. marks l ++ Turn ∷ []) was
 
 -- two lists, entry by entry
 marks-take : (xs : List Event) (i : ℕ) (x : Event) → i < length xs → x ≡ get_or xs i x

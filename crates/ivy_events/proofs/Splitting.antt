@@ -1,4 +1,5 @@
--- A list of events splits at any place, its effect is one, and what a part of a run sends was sent in the run.
+-- A list of events splits at any place, its effect is one, and what a part of a run sends was sent
+-- in the run.
 use Rattle.std.proofs.Common.{◌≡◌, ℕ, Bool, true, false, List, [], ◌∷◌, ◌++◌, slice_get, Contains, Some, if◌then◌else◌, ◌==◌, refl, sym, ap, subst, ◌∙◌, inl, inr, arith, append_assoc}
 use Rattle.std.proofs.lemmas.Option.{same_Some}
 use Rattle.std.proofs.lemmas.List.Elements.{Contains-append_left, Contains-append_right, Contains-append_cases}
@@ -60,7 +61,8 @@ module _ {C : Type 0} (rules : Core C) (c : Config) where
 
   pub all-split : (n : Node C) (ms ms' : List Mark) (e : Effect C)
       → AllHappen rules c n (ms ++ ms') e → IsSplit n ms ms' e
-  all-split n [] ms' e h = record { first = stays n; happen = refl; rest = e; go_on = h; whole = refl }
+  all-split n [] ms' e h =
+      record { first = stays n; happen = refl; rest = e; go_on = h; whole = refl }
   all-split n (m ∷ ms) ms' e h =
       let s = all-split h.0.after ms ms' h.2.0 h.2.1 in
       record {

@@ -1,5 +1,7 @@
--- What a node is but for its link, as rules: the program, the memory and the history of the node lie in it.
--- Everything that is said of strings, links and worlds is said over any core, so it knows nothing of pages.
+-- What a node is but for its link, as rules: the program, the memory and the history of the node
+-- lie in it.
+-- Everything that is said of strings, links and worlds is said over any core, so it knows nothing
+-- of pages.
 use Rattle.std.specs.Prelude.{ℕ, List, Option}
 use Rattle.ivy_wire.specs.Data.{Message, Parcel}
 
@@ -9,7 +11,8 @@ pub record Outcome (C : Type 0) : Type 0 where
   pub posted : List Parcel
 
 pub record Core (C : Type 0) : Type 0 where
-  -- one turn of the program; none where no instruction is carried out, no call begins and no reply is recorded
+  -- one turn of the program; none where no instruction is carried out, no call begins and no reply
+  -- is recorded
   pub turn : C → Option (Outcome C)
   -- a message that comes from a node
   pub serve : C → ℕ → Message → Outcome C

@@ -1,4 +1,5 @@
--- One order of all records that explains what the nodes were answered, at every moment, and that only grows.
+-- One order of all records that explains what the nodes were answered, at every moment, and that
+-- only grows.
 use Rattle.std.specs.Prelude.{List, [], ◌∷◌, ◌++◌, map}
 use Rattle.ivy_model.specs.declared.Config.{Config}
 use Rattle.ivy_model.specs.declared.Record.{Record}

@@ -22,7 +22,8 @@ module _ {C : Type 0} where
     delivered = λ i j. (peer_at (link_at (links_of w) j) i).delivered;
   }
 
--- What is asked of a core: whatever it is told, it posts messages of its own node to others, which have a
+-- What is asked of a core: whatever it is told, it posts messages of its own node to others, which
+-- have a
 -- spelling. `Sound i` is what holds of node i's core.
 pub record IsTame {C : Type 0} (rules : Core C) (c : Config) (Sound : ℕ → C → Type 0) : Type 0 where
   pub turn : (i : ℕ) (core : C) (o : Outcome C) → Sound i core → rules.turn core ≡ Some o
@@ -37,7 +38,8 @@ abbrev pub IsString : Config → (ℕ → ℕ → List Message) → List ℕ →
 IsString c posted bytes = (f : Frame) × Spells c f bytes × IsMade c.nodes posted f
 
 module _ {C : Type 0} (c : Config) (Sound : ℕ → C → Type 0) where
-  -- the links belong together and have not run out of numbers, each string ever sent spells a frame that one of the
+  -- the links belong together and have not run out of numbers, each string ever sent spells a frame
+  -- that one of the
   -- links made, and the cores are sound
   pub record Follows (w : World C) (posted : ℕ → ℕ → List Message) : Type 0 where
     pub nodes : length w.nodes ≡ c.nodes
@@ -57,8 +59,9 @@ module _ {C : Type 0} (c : Config) (Sound : ℕ → C → Type 0) where
     pub early : (i : ℕ) → early_of w i ≡ []
 
 -- the world follows the ordered world from the messages posted so far on, by one move of it or none
-abbrev pub StepsTo : {C : Type 0} (rules : Core C) (c : Config) (Sound : ℕ → C → Type 0) → World C
+abbrev pub FollowsStep : {C : Type 0} (rules : Core C) (c : Config) (Sound : ℕ → C → Type 0)
+    → World C
     → (ℕ → ℕ → List Message) → World C → Type 0
-StepsTo rules c Sound w posted w' =
+FollowsStep rules c Sound w posted w' =
     (posted' : ℕ → ℕ → List Message) × Follows c Sound w' posted'
     × Steps rules (ordered_of w posted) (ordered_of w' posted')

@@ -1,5 +1,6 @@
 -- The events of a node over its core and its link: a turn, a string delivered, a pulse.
--- Each gives the node after it and the strings that it sends, in order; none where a message number above
+-- Each gives the node after it and the strings that it sends, in order; none where a message number
+-- above
 -- the greatest one would be needed, or the string is no frame: then nothing happens.
 use Rattle.std.specs.Prelude.{ℕ, List, [], map, Option, Some, None, Result, Ok, Err, if◌then◌else◌}
 use Rattle.ivy_model.specs.declared.Config.{Config}
@@ -56,15 +57,15 @@ module _ {C : Type 0} (rules : Core C) where
   turned n = turned_to n (rules.turn n.core)
 
   -- the message of a frame that is the next one
-  abbrev pub served : Node C → Frame → Option Message → Option (Effect C)
-  served n f None = accepting f (Some (stays n))
-  served n f (Some m) =
+  abbrev pub served_next : Node C → Frame → Option Message → Option (Effect C)
+  served_next n f None = accepting f (Some (stays n))
+  served_next n f (Some m) =
       accepting f
       (posting n (rules.serve n.core f.source m).after (rules.serve n.core f.source m).posted)
 
   abbrev pub received_as : Verdict → Node C → Frame → Option (Effect C)
   received_as verdict.NotMine n f = Some (stays n)
-  received_as verdict.Next n f = served n f f.body
+  received_as verdict.Next n f = served_next n f f.body
   received_as verdict.Repeat n f = accepting f (Some (stays n))
   received_as verdict.Ahead n f = accepting f (Some (stays n))
 

@@ -1,5 +1,7 @@
--- The parts of a run: the events of each node, in order, that its moves give. What a node's own events make of it, and
--- the laws that threads rest on: each node of a run is what its part makes of it, and parts that go on by further
+-- The parts of a run: the events of each node, in order, that its moves give. What a node's own
+-- events make of it, and
+-- the laws that threads rest on: each node of a run is what its part makes of it, and parts that go
+-- on by further
 -- events are parts of a run again.
 use Rattle.std.specs.Prelude.{◌≡◌, ◌≢◌, ℕ, ◌<◌, ◌≤◌, ◌==◌, List, [], ◌∷◌, ◌++◌, length, slice_get, All, Contains, Option, Some, None, if◌then◌else◌}
 use Rattle.ivy_model.specs.declared.Config.{Config}
@@ -16,7 +18,8 @@ use Rattle.ivy_events.specs.Worlds.{World, Moves, GoesOnWith, MayGoOn, Leads}
 abbrev pub followed_by : {C : Type 0} → Effect C → Effect C → Effect C
 followed_by first rest = record { after = rest.after; sent = first.sent ++ rest.sent }
 
--- the events that something gives: a frame for another node gives none, nor does a pulse without a frame
+-- the events that something gives: a frame for another node gives none, nor does a pulse without a
+-- frame
 abbrev pub delivery_marks : Verdict → List ℕ → List Mark
 delivery_marks verdict.NotMine bytes = []
 delivery_marks verdict.Next bytes = Delivery bytes ∷ []
@@ -40,7 +43,8 @@ sent_from j (i ∷ is) [] = []
 sent_from j (i ∷ is) (s ∷ strings) =
     if i == j then s ∷ sent_from j is strings else sent_from j is strings
 
--- what an event of node j needs: that the string that it delivers is one of these, and that its pulse goes to another
+-- what an event of node j needs: that the string that it delivers is one of these, and that its
+-- pulse goes to another
 -- of so many nodes
 abbrev pub CanBeMade : List (List ℕ) → ℕ → ℕ → Mark → Type 0
 CanBeMade strings nodes j Turn = Unit {0}
@@ -53,7 +57,8 @@ AllCanBeMade strings nodes j (m ∷ ms) =
     CanBeMade strings nodes j m × AllCanBeMade strings nodes j ms
 
 module _ {C : Type 0} (rules : Core C) (c : Config) where
-  -- the event happens at the node, with this effect: the turn has an outcome, the frame is for this node, the pulse
+  -- the event happens at the node, with this effect: the turn has an outcome, the frame is for this
+  -- node, the pulse
   -- gives a frame
   abbrev pub Happens : Node C → Mark → Effect C → Type 0
   Happens n Turn e =
@@ -62,7 +67,8 @@ module _ {C : Type 0} (rules : Core C) (c : Config) where
       (verdict_of c n bytes ≢ verdict.NotMine) × (delivered rules c n bytes ≡ Some e)
   Happens n (Pulse to) e = (e ≡ pulsing n to) × (e.sent ≢ [])
 
-  -- the events happen one after another, with this effect together: so a node's state, and what it sends, depend on its
+  -- the events happen one after another, with this effect together: so a node's state, and what it
+  -- sends, depend on its
   -- own events alone
   abbrev pub AllHappen : Node C → List Mark → Effect C → Type 0
   AllHappen n [] e = e ≡ stays n
@@ -106,11 +112,13 @@ module _ {C : Type 0} (rules : Core C) (c : Config) where
   given_after w (move.Deliver index to) more end on = given_further w to more end on
   given_after w (move.Pulse from to) more end on = []
 
-  abbrev pub given_at : (w : World C) (m : Move) (end : World C) → Moves rules c w m end → ℕ → List Mark
+  abbrev pub given_at : (w : World C) (m : Move) (end : World C) → Moves rules c w m end → ℕ
+      → List Mark
   given_at w m end moves j = if node_of m == j
       then given_by w m ++ given_after moves.mid m moves.more end moves.goes_on else []
 
-  abbrev pub parts_of : (moves : List Move) (w end : World C) → Leads rules c w moves end → ℕ → List Mark
+  abbrev pub parts_of : (moves : List Move) (w end : World C) → Leads rules c w moves end → ℕ
+      → List Mark
   parts_of [] w end lead j = []
   parts_of (m ∷ moves) w end lead j =
       given_at w m lead.0 lead.1 j ++ parts_of moves lead.0 end lead.2 j
@@ -127,7 +135,8 @@ module _ {C : Type 0} (rules : Core C) (c : Config) where
       → (e : Effect C) × AllHappen n (parts j) e × (slice_get end.nodes j ≡ Some e.after)
       × (strings ≡ e.sent)
 
-  -- each node is what its part makes of it, and the strings sent are those that the parts send: each string has a
+  -- each node is what its part makes of it, and the strings sent are those that the parts send:
+  -- each string has a
   -- sender, and the strings of a sender, in the order sent, are those of its part
   pub record AreMadeByParts (w : World C) (parts : ℕ → List Mark) (end : World C) : Type 0 where
     pub strings : List (List ℕ)
@@ -145,13 +154,15 @@ module _ {C : Type 0} (rules : Core C) (c : Config) where
     pub can : (j : ℕ) → AllCanBeMade w.sent (length w.nodes) j (more j)
     pub none : (j : ℕ) → length w.nodes ≤ j → more j ≡ []
 
-  -- the run went on by these further events: the lists with them are the parts of a run, each string that was sent
+  -- the run went on by these further events: the lists with them are the parts of a run, each
+  -- string that was sent
   -- before was sent in it too, and so was what the further events send
-  pub record WentOn (w end : World C) (parts more : ℕ → List Mark) (further : World C) : Type 0 where
-    pub run : AreParts w (λ j. parts j ++ more j) further
-    pub before : (s : List ℕ) → Contains end.sent s → Contains further.sent s
-    pub sent : (j : ℕ) (n : Node C) → slice_get end.nodes j ≡ Some n → (e : Effect C)
-        → AllHappen n (more j) e → (s : List ℕ) → Contains e.sent s → Contains further.sent s
+  pub record WentOn (w end : World C) (parts more : ℕ → List Mark) (further : World C) : Type 0
+    where
+      pub run : AreParts w (λ j. parts j ++ more j) further
+      pub before : (s : List ℕ) → Contains end.sent s → Contains further.sent s
+      pub sent : (j : ℕ) (n : Node C) → slice_get end.nodes j ≡ Some n → (e : Effect C)
+          → AllHappen n (more j) e → (s : List ℕ) → Contains e.sent s → Contains further.sent s
 
   -- the two laws
   abbrev pub RunsAreTheirParts : Type 0

@@ -1,7 +1,10 @@
 -- Worlds of nodes, over any core: their moves, and what a list of moves leads to.
--- Any string ever sent may be delivered to any node, in any order and however often: a wire that loses,
--- repeats and reorders. A loss is a string that is never delivered. After a delivery the node may go on, in the same
--- move, with strings that came to it too early before: so a move is a relation of worlds, and no function.
+-- Any string ever sent may be delivered to any node, in any order and however often: a wire that
+-- loses,
+-- repeats and reorders. A loss is a string that is never delivered. After a delivery the node may
+-- go on, in the same
+-- move, with strings that came to it too early before: so a move is a relation of worlds, and no
+-- function.
 use Rattle.std.specs.Prelude.{◌≡◌, ℕ, ◌==◌, ◌&&◌, not, nat_lt, Bool, List, [], ◌∷◌, ◌++◌, length, slice_get, slice_index_or, slice_set, Contains, Option, Some, None, if◌then◌else◌}
 use Rattle.ivy_model.specs.declared.Config.{Config}
 use Rattle.ivy_events.specs.declared.moves.Move.{Move}
@@ -11,7 +14,8 @@ use Rattle.ivy_link.specs.declared.Verdict.TheVariants as verdict
 use Rattle.ivy_events.specs.Cores.{Core}
 use Rattle.ivy_events.specs.Nodes.{Node, Effect, turned, verdict_of, delivered, pulsing}
 
--- the nodes by number, all strings ever sent, in the order sent, and of each node those that came to it too early
+-- the nodes by number, all strings ever sent, in the order sent, and of each node those that came
+-- to it too early
 pub record World (C : Type 0) : Type 0 where
   pub nodes : List (Node C)
   pub sent : List (List ℕ)
@@ -69,12 +73,14 @@ module _ {C : Type 0} (rules : Core C) (c : Config) where
   made_by w (Deliver index to) = delivery_of w to (slice_get w.nodes to) (slice_get w.sent index)
   made_by w (Pulse from to) = pulse_of w from to (slice_get w.nodes from)
 
-  -- the world after a move whose node does not go on; none where it can't be named, or where a number above the
+  -- the world after a move whose node does not go on; none where it can't be named, or where a
+  -- number above the
   -- greatest one is needed: then there is no world after the move at all
   unfoldable pub moved : World C → Move → Option (World C)
   moved w move = if is_named w move then made_by w move else None
 
-  -- the node goes on with these strings, each of which came to it too early, by the whole rule of a delivery
+  -- the node goes on with these strings, each of which came to it too early, by the whole rule of a
+  -- delivery
   abbrev pub GoesOnWith : World C → ℕ → List (List ℕ) → World C → Type 0
   GoesOnWith w i [] end = end ≡ w
   GoesOnWith w i (s ∷ ss) end = Contains (early_of w i) s

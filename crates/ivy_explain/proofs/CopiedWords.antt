@@ -1,4 +1,5 @@
--- A word that writes is carried out: no other node has a copy then, and none is on its way, so all copies are those of
+-- A word that writes is carried out: no other node has a copy then, and none is on its way, so all
+-- copies are those of
 -- the flat memory after it.
 use Rattle.std.proofs.Common.{◌≡◌, ◌≢◌, ◌⊎◌, ◌<◌, ℕ, Bool, true, false, List, length, refl, sym, ap, ◌∙◌, subst, inl, inr, if◌then◌else◌}
 use Rattle.std.proofs.lemmas.Bool.{cases_eq, eq-eqb, ne_eqb}
@@ -27,7 +28,8 @@ use Rattle.ivy_explain.specs.Copied.{HasBytes, Carries, IsCopied}
 use Rattle.ivy_explain.proofs.CopiedSteps.{carries_on}
 
 -- who may write may read, and a word writes or leaves the bytes as they are
-enough_reads : (a : Access) (write : Bool) → (if write then can_write a else can_read a) ≡ true → can_read a ≡ true
+enough_reads : (a : Access) (write : Bool) → (if write then can_write a else can_read a) ≡ true
+    → can_read a ≡ true
 enough_reads Nil true h = h
 enough_reads Read true h = refl
 enough_reads Write true h = refl
@@ -36,23 +38,29 @@ enough_reads a false h = h
 pub suffices_reads : (a : Access) (w : Word) → suffices a w ≡ true → can_read a ≡ true
 suffices_reads a w h = enough_reads a (needs_write w) h
 
-suffices_writes : (a : Access) (w : Word) → suffices a w ≡ true → needs_write w ≡ true → can_write a ≡ true
-suffices_writes a w h write = ap (λ (b : Bool). if b then can_write a else can_read a) (sym write) ∙ h
+suffices_writes : (a : Access) (w : Word) → suffices a w ≡ true → needs_write w ≡ true
+    → can_write a ≡ true
+suffices_writes a w h write =
+    ap (λ (b : Bool). if b then can_write a else can_read a) (sym write) ∙ h
 
-pub writes_or_reads : (w : Word) (bytes : List ℕ) → ((carried_out w bytes).bytes ≡ bytes) ⊎ (needs_write w ≡ true)
+pub writes_or_reads : (w : Word) (bytes : List ℕ)
+    → ((carried_out w bytes).bytes ≡ bytes) ⊎ (needs_write w ≡ true)
 writes_or_reads (word.Load width offset) bytes = inl refl
 writes_or_reads (word.Store width offset value) bytes = inr refl
 writes_or_reads (word.Count offset) bytes = inl refl
 writes_or_reads (word.Advance offset) bytes = inr refl
 writes_or_reads (word.Await offset least) bytes = inl refl
 
-pub with_page-here : (f : ℕ → List ℕ) (p : ℕ) (bytes : List ℕ) (q : ℕ) → q ≡ p → with_page f p bytes q ≡ bytes
+pub with_page-here : (f : ℕ → List ℕ) (p : ℕ) (bytes : List ℕ) (q : ℕ) → q ≡ p
+    → with_page f p bytes q ≡ bytes
 with_page-here f p bytes q same = ap (λ (b : Bool). if b then bytes else f q) (eq-eqb q p same)
 
-pub with_page-other : (f : ℕ → List ℕ) (p : ℕ) (bytes : List ℕ) (q : ℕ) → q ≢ p → with_page f p bytes q ≡ f q
+pub with_page-other : (f : ℕ → List ℕ) (p : ℕ) (bytes : List ℕ) (q : ℕ) → q ≢ p
+    → with_page f p bytes q ≡ f q
 with_page-other f p bytes q ne = ap (λ (b : Bool). if b then bytes else f q) (ne_eqb q p ne)
 
-module _ (c : Config) (n : Net) (f : ℕ → List ℕ) (x p : ℕ) (s : IdleState) (w : Word) (is : n.entry x p ≡ entry.Idle s) (enough : suffices s.access w ≡ true) where
+module _ (c : Config) (n : Net) (f : ℕ → List ℕ) (x p : ℕ) (s : IdleState) (w : Word)
+    (is : n.entry x p ≡ entry.Idle s) (enough : suffices s.access w ≡ true) where
   -- the bytes that the node has are the flat memory's
   pub bytes_there : IsCopied c n f → n.page x p ≡ f p
   bytes_there h = h.had x p (inl (ap readable is ∙ suffices_reads s.access w enough))
@@ -63,8 +71,10 @@ module _ (c : Config) (n : Net) (f : ℕ → List ℕ) (x p : ℕ) (s : IdleStat
 
     no_copy : (i : ℕ) → i ≢ x → HasCopy n i p → ⊥
     no_copy i ne has = (
-        let counted : set.contains (copies_of (n.entry x p)) i ≡ true = o.counted p x i (copies_of (n.entry x p)) (At x) (refl, sole.0, refl) ne has in
-        let f : true ≡ false = sym counted ∙ ap (λ t. set.contains t i) sole.1 ∙ contains-empty nat_cmp i in
+        let counted : set.contains (copies_of (n.entry x p)) i ≡ true =
+        o.counted p x i (copies_of (n.entry x p)) (At x) (refl, sole.0, refl) ne has in
+        let f : true ≡ false =
+        sym counted ∙ ap (λ t. set.contains t i) sole.1 ∙ contains-empty nat_cmp i in
         cc
         )
 
@@ -72,16 +82,20 @@ module _ (c : Config) (n : Net) (f : ℕ → List ℕ) (x p : ℕ) (s : IdleStat
     nobody_else i ne (inl h) = no_copy i ne (reads h)
     nobody_else i ne (inr h) = no_other_owner c n o x p sole.0 i ne h
 
-    no_copy_comes : (a : Place) (l : Letter) (bytes : List ℕ) → IsAt n a l → l.message.content ≡ content.ReadRep p bytes → ⊥
+    no_copy_comes : (a : Place) (l : Letter) (bytes : List ℕ) → IsAt n a l
+        → l.message.content ≡ content.ReadRep p bytes → ⊥
     no_copy_comes a l bytes at body = elim (cases_eq l.dest x) [
       | inr ne ↦ no_copy l.dest ne (comes a l bytes at refl body)
       | inl same ↦ (
-          let fit : IsExpectedAs c n l (content.ReadRep p bytes) = fits_as c n o a l (content.ReadRep p bytes) at body in
-          subst (λ y. AwaitsCopy y l.message.call) (ap (λ i. n.entry i p) (sym fit.1 ∙ same) ∙ is) fit.2
+          let fit : IsExpectedAs c n l (content.ReadRep p bytes) =
+          fits_as c n o a l (content.ReadRep p bytes) at body in
+          subst (λ y. AwaitsCopy y l.message.call) (ap (λ i. n.entry i p) (sym fit.1 ∙ same) ∙ is)
+          fit.2
           )
     ]
 
-  module _ (o : IsOrderly c n) (h : IsCopied c n f) (here : x < c.nodes) (inside : p < c.pages) (lies : IsWord c.page_size w) where
+  module _ (o : IsOrderly c n) (h : IsCopied c n f) (here : x < c.nodes) (inside : p < c.pages)
+      (lies : IsWord c.page_size w) where
     abbrev now : List ℕ
     now = (carried_out w (n.page x p)).bytes
 
@@ -101,25 +115,37 @@ module _ (c : Config) (n : Net) (f : ℕ → List ℕ) (x p : ℕ) (s : IdleStat
       ]
     ]
 
-    only_here : (i q : ℕ) → (i ≢ x) ⊎ (q ≢ p) → HasBytes (n.entry i q) → q ≡ p → needs_write w ≡ true → ⊥
+    only_here : (i q : ℕ) → (i ≢ x) ⊎ (q ≢ p) → HasBytes (n.entry i q) → q ≡ p
+        → needs_write w ≡ true → ⊥
     only_here i q other has same write = elim other [
       | inl ne ↦ nobody_else o write i ne (subst (λ r. HasBytes (n.entry i r)) same has)
       | inr ne ↦ ne same
     ]
 
-    had : (i q : ℕ) → HasBytes (n.entry i q) → (installs n x p now).page i q ≡ with_page f p flat_now q
+    had : (i q : ℕ) → HasBytes (n.entry i q)
+        → (installs n x p now).page i q ≡ with_page f p flat_now q
     had i q has = elim (same_or_other i q x p) [
-      | inl same ↦ written-here n.page x p now i q same.0 same.1 ∙ same_now ∙ sym (with_page-here f p flat_now q same.1)
-      | inr other ↦ written-other n.page x p now i q other ∙ h.had i q has ∙ sym (flat_same q (only_here i q other has))
+      | inl same ↦
+          written-here n.page x p now i q same.0 same.1 ∙ same_now
+          ∙ sym (with_page-here f p flat_now q same.1)
+      | inr other ↦
+          written-other n.page x p now i q other ∙ h.had i q has
+          ∙ sym (flat_same q (only_here i q other has))
     ]
 
-    carried : (a : Place) (l : Letter) → IsAt n a l → Carries (with_page f p flat_now) l.message.content
+    carried : (a : Place) (l : Letter) → IsAt n a l
+        → Carries (with_page f p flat_now) l.message.content
     carried a l at = carries_on f (with_page f p flat_now) l.message.content
-        (λ q bytes body. flat_same q (λ same write. no_copy_comes o write a l bytes at (body ∙ ap (λ r. content.ReadRep r bytes) same)))
-        (λ q bits bytes body. flat_same q (λ same write. no_page_comes c n o x p (sole o write).0 a l bits bytes at (body ∙ ap (λ r. content.WriteRep r bits bytes) same)))
+        (λ q bytes body. flat_same q
+        (λ same write. no_copy_comes o write a l bytes at
+        (body ∙ ap (λ r. content.ReadRep r bytes) same)))
+        (λ q bits bytes body. flat_same q
+        (λ same write. no_page_comes c n o x p (sole o write).0 a l bits bytes at
+        (body ∙ ap (λ r. content.WriteRep r bits bytes) same)))
         (h.carried a l at)
 
-    letters : (a : Place) (l : Letter) → IsAt (installs n x p now) a l → Carries (with_page f p flat_now) l.message.content
+    letters : (a : Place) (l : Letter) → IsAt (installs n x p now) a l
+        → Carries (with_page f p flat_now) l.message.content
     letters (Underway i j k) l at = carried (Underway i j k) l at
     letters (Aside i q k) l at = carried (Aside i q k) l at
     letters (Loose k) l at = carried (Loose k) l at
@@ -138,7 +164,8 @@ module _ (c : Config) (n : Net) (f : ℕ → List ℕ) (x p : ℕ) (s : IdleStat
         | inr ne ↦ ap length (with_page-other f p flat_now q ne) ∙ h.flat_sized q within
       ];
       sized = λ i q low within. elim (same_or_other i q x p) [
-        | inl same ↦ ap length (written-here n.page x p now i q same.0 same.1 ∙ same_now) ∙ flat_long
+        | inl same ↦
+            ap length (written-here n.page x p now i q same.0 same.1 ∙ same_now) ∙ flat_long
         | inr other ↦ ap length (written-other n.page x p now i q other) ∙ h.sized i q low within
       ];
     }

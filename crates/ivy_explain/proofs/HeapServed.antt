@@ -22,7 +22,8 @@ abbrev pub memory_told : model.Memory → HeapState → HeapCall → model.Memor
 memory_told old h k = with_blocks old (told_of h k).blocks
 
 -- a word is no call of the heap
-not_word : (o : Option ℕ) (page : ℕ) (w : Word) (k : HeapCall) → word_unless o page w ≡ asked.Heap k → ⊥
+not_word : (o : Option ℕ) (page : ℕ) (w : Word) (k : HeapCall) → word_unless o page w ≡ asked.Heap k
+    → ⊥
 not_word None page w k is = absurd cc
 not_word (Some code) page w k is = absurd cc
 
@@ -30,22 +31,30 @@ not_count : (r : Result Word Fault) (k : HeapCall) → count_asked r ≡ asked.H
 not_count (Ok w) k is = absurd cc
 not_count (Err fault) k is = absurd cc
 
-module _ (c : Config) (old : model.Memory) (h : HeapState) (config : h.config ≡ c) (blocks : h.blocks ≡ old.blocks) where
+module _ (c : Config) (old : model.Memory) (h : HeapState) (config : h.config ≡ c)
+    (blocks : h.blocks ≡ old.blocks) where
   abbrev IsServedBy : Call → HeapCall → Type 0
   IsServedBy called k = Serves c old called (told_of h k).reply (memory_told old h k)
 
   alloc_by : (size : ℕ) → IsServedBy (call.Alloc size) (heap.Alloc size)
   alloc_by size =
-      subst (λ b. Serves c old (call.Alloc size) (alloc_told h.config b size).reply (with_blocks old (alloc_told h.config b size).blocks)) (sym blocks)
-      (subst (λ d. Serves c old (call.Alloc size) (alloc_told d old.blocks size).reply (with_blocks old (alloc_told d old.blocks size).blocks)) (sym config) (alloc_served c old size))
+      subst (λ b. Serves c old (call.Alloc size) (alloc_told h.config b size).reply
+      (with_blocks old (alloc_told h.config b size).blocks)) (sym blocks)
+      (subst (λ d. Serves c old (call.Alloc size) (alloc_told d old.blocks size).reply
+      (with_blocks old (alloc_told d old.blocks size).blocks)) (sym config)
+      (alloc_served c old size))
 
   free_by : (addr : ℕ) → IsServedBy (call.Free addr) (heap.Free addr)
   free_by addr =
-      subst (λ b. Serves c old (call.Free addr) (free_told b addr).reply (with_blocks old (free_told b addr).blocks)) (sym blocks) (free_served c old addr)
+      subst (λ b. Serves c old (call.Free addr) (free_told b addr).reply
+      (with_blocks old (free_told b addr).blocks)) (sym blocks) (free_served c old addr)
 
-  pub heap_served : (called : Call) (k : HeapCall) → asked_of c called ≡ asked.Heap k → IsServedBy called k
-  heap_served (call.Alloc size) k of = (let e : heap.Alloc size ≡ k = cc in subst (IsServedBy (call.Alloc size)) e (alloc_by size))
-  heap_served (call.Free addr) k of = (let e : heap.Free addr ≡ k = cc in subst (IsServedBy (call.Free addr)) e (free_by addr))
+  pub heap_served : (called : Call) (k : HeapCall) → asked_of c called ≡ asked.Heap k
+      → IsServedBy called k
+  heap_served (call.Alloc size) k of =
+      (let e : heap.Alloc size ≡ k = cc in subst (IsServedBy (call.Alloc size)) e (alloc_by size))
+  heap_served (call.Free addr) k of =
+      (let e : heap.Free addr ≡ k = cc in subst (IsServedBy (call.Free addr)) e (free_by addr))
   heap_served (call.Load width addr) k of = absurd (not_word _ _ _ k of)
   heap_served (call.Store width addr value) k of = absurd (not_word _ _ _ k of)
   heap_served (call.Count n) k of = absurd (not_count _ k of)

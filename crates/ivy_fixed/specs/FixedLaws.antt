@@ -4,7 +4,7 @@ use Rattle.std.proofs.Common.{ap, sym, subst, ◌∙◌, get_or, set, inl, inr, 
 use Rattle.std.proofs.lemmas.List.{set-get_or, length-set, get_or-replicate, length-replicate}
 use Rattle.std.proofs.lemmas.Bool.Decides.{eqb_tells}
 use Rattle.ivy_model.specs.declared.Config.{Config}
-use Rattle.ivy_pagetable.specs.Manager.{Laws, Keeps, Change, Forward, Given, Replied, Invalidated, all_changed, brought_back}
+use Rattle.ivy_pagetable.specs.Manager.{Laws, KeepsElsewhere, Change, Forward, Given, Replied, Invalidated, all_changed, brought_back}
 use Rattle.ivy_fixed.specs.Fixed.{Owners, first_owners, manages, owner_kept, kept_if, hop_of, fixed_ops}
 
 abbrev written : Bool → List ℕ → ℕ → ℕ → List ℕ
@@ -21,7 +21,7 @@ other true true xs p o q m n = get_or-set_other xs p q o 0 n
 other true false xs p o q m n = refl
 other false bp xs p o q m n = refl
 
-keeps : (s : Owners) (p o : ℕ) → Keeps fixed_ops s p (owner_kept s p o)
+keeps : (s : Owners) (p o : ℕ) → KeepsElsewhere fixed_ops s p (owner_kept s p o)
 keeps s p o = record {
   me = refl;
   size = size_written (manages s p) s.owners p o;
@@ -29,10 +29,11 @@ keeps s p o = record {
   others = λ q. other (manages s q) (manages s p) s.owners p o q (q % s.nodes);
 }
 
-stays : (s : Owners) (p : ℕ) → Keeps fixed_ops s p s
+stays : (s : Owners) (p : ℕ) → KeepsElsewhere fixed_ops s p s
 stays s p = record { me = refl; size = refl; nodes = refl; others = λ q n. refl }
 
-keeps_if : (write : Bool) (s : Owners) (p o : ℕ) → Keeps fixed_ops s p (kept_if write s p o)
+keeps_if : (write : Bool) (s : Owners) (p o : ℕ)
+    → KeepsElsewhere fixed_ops s p (kept_if write s p o)
 keeps_if true s p o = keeps s p o
 keeps_if false s p o = stays s p
 

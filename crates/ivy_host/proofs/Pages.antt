@@ -1,4 +1,5 @@
--- What a message does to a node: one about a page leaves the node's side of the heap as it is, and posts messages about
+-- What a message does to a node: one about a page leaves the node's side of the heap as it is, and
+-- posts messages about
 -- pages alone.
 use Rattle.std.proofs.Common.{◌≡◌, ℕ, true, sym, ap, subst}
 use Rattle.std.specs.Prelude.{All}
@@ -11,16 +12,27 @@ use Rattle.ivy_host.specs.Hosts.{Host, serving}
 
 module _ {S : Type 0} (ops : Ops S) where
   -- a message does to the node what it does to its memory
-  pub serving_by : (n : Host S) (from : ℕ) (m : Message) (e : MemoryEffect S) → memory_handled ops n.memory from m ≡ e
+  pub serving_by : (n : Host S) (from : ℕ) (m : Message) (e : MemoryEffect S)
+      → memory_handled ops n.memory from m ≡ e
       → serving ops n from m ≡ record { after = record n { memory = e.after }; posted = e.posted }
   unfolding serving
-  serving_by n from m e is = ap (λ (x : MemoryEffect S). record { after = record n { memory = x.after }; posted = x.posted }) is
+  serving_by n from m e is =
+      ap (λ (x : MemoryEffect S).
+      record { after = record n { memory = x.after }; posted = x.posted }) is
 
   -- one about a page
   pub page_serving : (n : Host S) (from : ℕ) (m : Message) → is_of_pages m.content ≡ true
-      → serving ops n from m ≡ record { after = record n { memory = (by_coherence ops n.memory from m).after }; posted = (by_coherence ops n.memory from m).posted }
-  page_serving n from m about = serving_by n from m (by_coherence ops n.memory from m) (page_handled ops n.memory from m about)
+      → serving ops n from m
+      ≡ record {
+        after = record n { memory = (by_coherence ops n.memory from m).after };
+        posted = (by_coherence ops n.memory from m).posted;
+      }
+  page_serving n from m about =
+      serving_by n from m (by_coherence ops n.memory from m)
+      (page_handled ops n.memory from m about)
 
-  pub serve-pages : (n : Host S) (from : ℕ) (m : Message) → is_of_pages m.content ≡ true → All IsOfPages (serving ops n from m).posted
+  pub serve-pages : (n : Host S) (from : ℕ) (m : Message) → is_of_pages m.content ≡ true
+      → All IsOfPages (serving ops n from m).posted
   serve-pages n from m about =
-      subst (λ (x : Outcome (Host S)). All IsOfPages x.posted) (sym (page_serving n from m about)) (handled-pages ops n.memory.coherence from m)
+      subst (λ (x : Outcome (Host S)). All IsOfPages x.posted) (sym (page_serving n from m about))
+      (handled-pages ops n.memory.coherence from m)

@@ -16,32 +16,44 @@ module _ {S : Type 0} (ops : Ops S) where
   abbrev IsSame : Host S → Outcome (Host S) → Type 0
   IsSame n o = SameNode n.memory.coherence o.after.memory.coherence
 
-  with-same : (n : Host S) (c : Call) (a : CallBegun S) (r : Answer) (o : Outcome (Host S)) → SameNode n.memory.coherence a.after.coherence → begins_with n c a r ≡ Some o → IsSame n o
-  with-same n c a (Given r) o same is = subst (IsSame n) (same_Some (record { after = recorded n a.after c r; posted = a.posted }) o is) same
-  with-same n c a Awaited o same is = subst (IsSame n) (same_Some (record { after = record n { memory = a.after }; posted = a.posted }) o is) same
+  with-same : (n : Host S) (c : Call) (a : CallBegun S) (r : Answer) (o : Outcome (Host S))
+      → SameNode n.memory.coherence a.after.coherence → begins_with n c a r ≡ Some o → IsSame n o
+  with-same n c a (Given r) o same is =
+      subst (IsSame n)
+      (same_Some (record { after = recorded n a.after c r; posted = a.posted }) o is) same
+  with-same n c a Awaited o same is =
+      subst (IsSame n)
+      (same_Some (record { after = record n { memory = a.after }; posted = a.posted }) o is) same
   with-same n c a Unserved o same is = absurd (none-some o is)
 
-  if-same : (n : Host S) (c : Call) (b : Bool) (o : Outcome (Host S)) → (if b then begins_as n c (call_begun ops n.memory c (length n.history + 1)) else None) ≡ Some o → IsSame n o
+  if-same : (n : Host S) (c : Call) (b : Bool) (o : Outcome (Host S))
+      → (if b then begins_as n c (call_begun ops n.memory c (length n.history + 1)) else None)
+      ≡ Some o → IsSame n o
   if-same n c false o is = absurd (none-some o is)
   if-same n c true o is =
       let a : CallBegun S = call_begun ops n.memory c (length n.history + 1) in
       with-same n c a a.answer o (call-same ops n.memory c (length n.history + 1)) is
 
-  begins-same : (n : Host S) (c : Call) (o : Outcome (Host S)) → begins ops n c ≡ Some o → SameNode n.memory.coherence o.after.memory.coherence
+  begins-same : (n : Host S) (c : Call) (o : Outcome (Host S)) → begins ops n c ≡ Some o
+      → SameNode n.memory.coherence o.after.memory.coherence
   begins-same n c o is = if-same n c (nat_lt (length n.history + 1) (2 ^ 64)) o is
 
   steps-same : (n : Host S) (t : Step) (o : Outcome (Host S)) → steps ops n t ≡ Some o → IsSame n o
-  steps-same n (Local t) o is = subst (IsSame n) (same_Some (quietly (record n { process = at_state n.process t })) o is) (record { config = refl; me = refl })
+  steps-same n (Local t) o is =
+      subst (IsSame n) (same_Some (quietly (record n { process = at_state n.process t })) o is)
+      (record { config = refl; me = refl })
   steps-same n (Asks c) o is = begins-same n c o is
   steps-same n Ends o is = absurd (none-some o is)
 
-  at-same : (n : Host S) (a : Option Call) (o : Outcome (Host S)) → turned_at ops n a ≡ Some o → IsSame n o
+  at-same : (n : Host S) (a : Option Call) (o : Outcome (Host S)) → turned_at ops n a ≡ Some o
+      → IsSame n o
   at-same n (Some c) o is =
       let a : CallBegun S = polled ops n.memory in
       with-same n c a a.answer o (polled-same ops n.memory) is
   at-same n None o is = steps-same n (step_of n.process) o is
 
   -- the node stays who it is
-  pub turn-same : (n : Host S) (o : Outcome (Host S)) → turn_of ops n ≡ Some o → SameNode n.memory.coherence o.after.memory.coherence
+  pub turn-same : (n : Host S) (o : Outcome (Host S)) → turn_of ops n ≡ Some o
+      → SameNode n.memory.coherence o.after.memory.coherence
   unfolding turn_of
   turn-same n o is = at-same n n.memory.asked o is

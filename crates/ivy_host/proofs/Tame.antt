@@ -1,5 +1,8 @@
--- Turns and messages keep what holds of a node, and post only what can be sent. For every manager that keeps the laws.
-use Rattle.std.proofs.Common.{◌≡◌, ◌≢◌, ℕ, zero, suc, ◌+◌, ◌^◌, ◌<◌, Bool, true, false, List, [], ◌∷◌, length, map, get_or, Option, Some, None, nat_lt, slice_get, refl, sym, ap, ◌∙◌, subst, arith, if◌then◌else◌}
+-- Turns and messages keep what holds of a node, and post only what can be sent. For every manager
+-- that keeps the laws.
+use Rattle.std.proofs.Common.{◌≡◌, ◌≢◌, ℕ, zero, suc, ◌+◌, ◌^◌, ◌<◌, Bool, true, false, List, []}
+use Rattle.std.proofs.Common.{◌∷◌, length, map, get_or, Option, Some, None, nat_lt, slice_get, refl}
+use Rattle.std.proofs.Common.{sym, ap, ◌∙◌, subst, arith, if◌then◌else◌}
 use Rattle.std.specs.Prelude.{All}
 use Rattle.std.proofs.lemmas.Bool.{ltb-true}
 use Rattle.std.proofs.lemmas.Option.{same_Some, none-some}
@@ -33,48 +36,65 @@ abbrev pub IsAskingHost : {S : Type 0} → Host S → Type 0
 IsAskingHost n = (k : Call) → n.memory.asked ≡ Some k → step_of n.process ≡ Asks k
 
 module _ {S : Type 0} where
-  pub begins_with-asking : {i : ℕ} (n : Host S) (k : Call) (a : CallBegun S) (r : Answer) (o : Outcome (Host S)) → step_of n.process ≡ Asks k → IsBegun k i a → a.answer ≡ r → begins_with n k a r ≡ Some o → IsAskingHost o.after
+  pub begins_with-asking : {i : ℕ} (n : Host S) (k : Call) (a : CallBegun S) (r : Answer)
+      (o : Outcome (Host S)) → step_of n.process ≡ Asks k → IsBegun k i a → a.answer ≡ r
+      → begins_with n k a r ≡ Some o → IsAskingHost o.after
   begins_with-asking n k a Awaited o asks begun is at =
-      subst (λ (x : Outcome (Host S)). IsAskingHost x.after) (same_Some (record { after = record n { memory = a.after }; posted = a.posted }) o at) (λ j h. asks ∙ ap Asks (begun.same j h))
+      subst (λ (x : Outcome (Host S)). IsAskingHost x.after)
+      (same_Some (record { after = record n { memory = a.after }; posted = a.posted }) o at)
+      (λ j h. asks ∙ ap Asks (begun.same j h))
   begins_with-asking n k a (Given r) o asks begun is at =
-      subst (λ (x : Outcome (Host S)). IsAskingHost x.after) (same_Some (record { after = recorded n a.after k r; posted = a.posted }) o at)
+      subst (λ (x : Outcome (Host S)). IsAskingHost x.after)
+      (same_Some (record { after = recorded n a.after k r; posted = a.posted }) o at)
       (λ j h. absurd (none-some j (sym (begun.over r is) ∙ h)))
   begins_with-asking n k a Unserved o asks begun is at = absurd (none-some o at)
 
 module _ {S : Type 0} (ops : Ops S) where
-  begins_if-asking : (n : Host S) (k : Call) (b : Bool) (o : Outcome (Host S)) → n.memory.asked ≡ None → step_of n.process ≡ Asks k
-      → (if b then begins_as n k (call_begun ops n.memory k (length n.history + 1)) else None) ≡ Some o → IsAskingHost o.after
+  begins_if-asking : (n : Host S) (k : Call) (b : Bool) (o : Outcome (Host S))
+      → n.memory.asked ≡ None → step_of n.process ≡ Asks k
+      → (if b then begins_as n k (call_begun ops n.memory k (length n.history + 1)) else None)
+      ≡ Some o → IsAskingHost o.after
   begins_if-asking n k false o idle asks is = absurd (none-some o is)
   begins_if-asking n k true o idle asks is =
       let a : CallBegun S = call_begun ops n.memory k (length n.history + 1) in
-      begins_with-asking n k a a.answer o asks (call-begun ops n.memory k (length n.history + 1) idle) refl is
+      begins_with-asking n k a a.answer o asks
+      (call-begun ops n.memory k (length n.history + 1) idle) refl is
 
-  pub begins-asking : (n : Host S) (k : Call) (o : Outcome (Host S)) → n.memory.asked ≡ None → step_of n.process ≡ Asks k → begins ops n k ≡ Some o → IsAskingHost o.after
-  begins-asking n k o idle asks is = begins_if-asking n k (nat_lt (length n.history + 1) (2 ^ 64)) o idle asks is
+  pub begins-asking : (n : Host S) (k : Call) (o : Outcome (Host S)) → n.memory.asked ≡ None
+      → step_of n.process ≡ Asks k → begins ops n k ≡ Some o → IsAskingHost o.after
+  begins-asking n k o idle asks is =
+      begins_if-asking n k (nat_lt (length n.history + 1) (2 ^ 64)) o idle asks is
 
-  steps-asking : (n : Host S) (t : Step) (o : Outcome (Host S)) → n.memory.asked ≡ None → step_of n.process ≡ t → steps ops n t ≡ Some o → IsAskingHost o.after
+  steps-asking : (n : Host S) (t : Step) (o : Outcome (Host S)) → n.memory.asked ≡ None
+      → step_of n.process ≡ t → steps ops n t ≡ Some o → IsAskingHost o.after
   steps-asking n (Local t) o idle at is =
-      subst (λ (x : Outcome (Host S)). IsAskingHost x.after) (same_Some (quietly (record n { process = at_state n.process t })) o is) (λ j h. absurd (none-some j (sym idle ∙ h)))
+      subst (λ (x : Outcome (Host S)). IsAskingHost x.after)
+      (same_Some (quietly (record n { process = at_state n.process t })) o is)
+      (λ j h. absurd (none-some j (sym idle ∙ h)))
   steps-asking n (Asks k) o idle at is = begins-asking n k o idle at is
   steps-asking n Ends o idle at is = absurd (none-some o is)
 
-  at-asking : (n : Host S) (a : Option Call) (o : Outcome (Host S)) → IsAskingHost n → n.memory.asked ≡ a → turned_at ops n a ≡ Some o → IsAskingHost o.after
+  at-asking : (n : Host S) (a : Option Call) (o : Outcome (Host S)) → IsAskingHost n
+      → n.memory.asked ≡ a → turned_at ops n a ≡ Some o → IsAskingHost o.after
   at-asking n (Some k) o asking at is =
       let a : CallBegun S = polled ops n.memory in
       begins_with-asking n k a a.answer o (asking k at) (polled-begun ops n.memory k at) refl is
   at-asking n None o asking at is = steps-asking n (step_of n.process) o at refl is
 
   -- after a turn, a call in progress is the one that the program makes, if it was so before
-  pub turn-asking : (n : Host S) (o : Outcome (Host S)) → IsAskingHost n → turn_of ops n ≡ Some o → IsAskingHost o.after
+  pub turn-asking : (n : Host S) (o : Outcome (Host S)) → IsAskingHost n → turn_of ops n ≡ Some o
+      → IsAskingHost o.after
   unfolding turn_of
   turn-asking n o asking is = at-asking n n.memory.asked o asking refl is
 
   -- and so after a message, if it was so before
-  pub serve-asking : (n : Host S) (from : ℕ) (m : Message) → IsAskingHost n → IsAskingHost (serving ops n from m).after
+  pub serve-asking : (n : Host S) (from : ℕ) (m : Message) → IsAskingHost n
+      → IsAskingHost (serving ops n from m).after
   unfolding serving
   serve-asking n from m h k asked = h k (sym (told-asked ops n.memory from m) ∙ asked)
 
-  pub first-asking : (c : Config) (me : ℕ) (p : List Instruction) → IsAskingHost (first_host ops c me p)
+  pub first-asking : (c : Config) (me : ℕ) (p : List Instruction)
+      → IsAskingHost (first_host ops c me p)
   first-asking c me p j h = absurd (none-some j h)
 
 module _ {S : Type 0} {ops : Ops S} (laws : Laws ops) where
@@ -82,60 +102,104 @@ module _ {S : Type 0} {ops : Ops S} (laws : Laws ops) where
   abbrev Tamed : Config → ℕ → Outcome (Host S) → Type 0
   Tamed c i o = IsSoundHost ops c i o.after × All (FitsParcel c i) o.posted
 
-  tamed : (c : Config) (i : ℕ) (n : Host S) (o : Outcome (Host S)) → IsSoundHost ops c i n → IsSoundMemory ops o.after.memory → SameNode n.memory.coherence o.after.memory.coherence
-      → All (FitsParcel n.memory.coherence.config n.memory.coherence.me) o.posted → ((k : Call) → o.after.memory.asked ≡ Some k → o.after.memory.number ≡ length o.after.history + 1) → IsAskingHost o.after → Tamed c i o
+  tamed : (c : Config) (i : ℕ) (n : Host S) (o : Outcome (Host S)) → IsSoundHost ops c i n
+      → IsSoundMemory ops o.after.memory → SameNode n.memory.coherence o.after.memory.coherence
+      → All (FitsParcel n.memory.coherence.config n.memory.coherence.me) o.posted
+      → ((k : Call) → o.after.memory.asked ≡ Some k
+      → o.after.memory.number ≡ length o.after.history + 1) → IsAskingHost o.after → Tamed c i o
   tamed c i n o s good same fits numbered asking = (
-    record { memory = good; config = same.config ∙ s.config; me = same.me ∙ s.me; asking = asking; numbered = numbered },
-    subst (λ k. All (FitsParcel k i) o.posted) s.config (subst (λ j. All (FitsParcel n.memory.coherence.config j) o.posted) s.me fits),
+    record {
+      memory = good;
+      config = same.config ∙ s.config;
+      me = same.me ∙ s.me;
+      asking = asking;
+      numbered = numbered;
+    },
+    subst (λ k. All (FitsParcel k i) o.posted) s.config
+        (subst (λ j. All (FitsParcel n.memory.coherence.config j) o.posted) s.me fits),
   )
 
-  begins_with-tame : (c : Config) (i : ℕ) (n : Host S) (k : Call) (a : CallBegun S) (r : Answer) (o : Outcome (Host S)) → IsSoundHost ops c i n → KeepsMemory ops n.memory a
-      → IsBegun k (length n.history + 1) a → a.answer ≡ r → IsAskingHost o.after → begins_with n k a r ≡ Some o → Tamed c i o
+  begins_with-tame : (c : Config) (i : ℕ) (n : Host S) (k : Call) (a : CallBegun S) (r : Answer)
+      (o : Outcome (Host S)) → IsSoundHost ops c i n → KeepsMemory ops n.memory a
+      → IsBegun k (length n.history + 1) a → a.answer ≡ r → IsAskingHost o.after
+      → begins_with n k a r ≡ Some o → Tamed c i o
   begins_with-tame c i n k a (Given r) o s h begun given asking is =
-      let same : record { after = recorded n a.after k r; posted = a.posted } ≡ o = same_Some _ o is in
+      let same : record { after = recorded n a.after k r; posted = a.posted } ≡ o =
+      same_Some _ o is in
       subst (Tamed c i) same
-      (tamed c i n (record { after = recorded n a.after k r; posted = a.posted }) s h.0 h.2 h.1 (λ j asked. absurd (none-some j (sym (begun.over r given) ∙ asked))) (subst (λ (x : Outcome (Host S)). IsAskingHost x.after) (sym same) asking))
+      (tamed c i n (record { after = recorded n a.after k r; posted = a.posted }) s h.0 h.2 h.1
+      (λ j asked. absurd (none-some j (sym (begun.over r given) ∙ asked)))
+      (subst (λ (x : Outcome (Host S)). IsAskingHost x.after) (sym same) asking))
   begins_with-tame c i n k a Awaited o s h begun given asking is =
-      let same : record { after = record n { memory = a.after }; posted = a.posted } ≡ o = same_Some _ o is in
-      subst (Tamed c i) same (tamed c i n (record { after = record n { memory = a.after }; posted = a.posted }) s h.0 h.2 h.1 begun.numbered (subst (λ (x : Outcome (Host S)). IsAskingHost x.after) (sym same) asking))
+      let same : record { after = record n { memory = a.after }; posted = a.posted } ≡ o =
+      same_Some _ o is in
+      subst (Tamed c i) same
+      (tamed c i n (record { after = record n { memory = a.after }; posted = a.posted }) s h.0
+      h.2 h.1 begun.numbered
+      (subst (λ (x : Outcome (Host S)). IsAskingHost x.after) (sym same) asking))
   begins_with-tame c i n k a Unserved o s h begun given asking is = absurd (none-some o is)
 
-  begins_if-tame : (c : Config) (i : ℕ) (n : Host S) (k : Call) (b : Bool) (o : Outcome (Host S)) → IsSoundHost ops c i n → n.memory.asked ≡ None → HasWidth k → nat_lt (length n.history + 1) (2 ^ 64) ≡ b → IsAskingHost o.after
-      → (if b then begins_as n k (call_begun ops n.memory k (length n.history + 1)) else None) ≡ Some o → Tamed c i o
+  begins_if-tame : (c : Config) (i : ℕ) (n : Host S) (k : Call) (b : Bool) (o : Outcome (Host S))
+      → IsSoundHost ops c i n → n.memory.asked ≡ None → HasWidth k
+      → nat_lt (length n.history + 1) (2 ^ 64) ≡ b → IsAskingHost o.after
+      → (if b then begins_as n k (call_begun ops n.memory k (length n.history + 1)) else None)
+      ≡ Some o → Tamed c i o
   begins_if-tame c i n k false o s idle w small asking is = absurd (none-some o is)
   begins_if-tame c i n k true o s idle w small asking is =
       let number : ℕ = length n.history + 1 in
       let a : CallBegun S = call_begun ops n.memory k number in
       let below : number < 2 ^ 64 = ltb-true number (2 ^ 64) small in
-      begins_with-tame c i n k a a.answer o s (call-sound laws n.memory k number s.memory idle w (omega arith) below) (call-begun ops n.memory k number idle) refl asking is
+      begins_with-tame c i n k a a.answer o s
+      (call-sound laws n.memory k number s.memory idle w (omega arith) below)
+      (call-begun ops n.memory k number idle) refl asking is
 
-  begins-tame : (c : Config) (i : ℕ) (n : Host S) (k : Call) (o : Outcome (Host S)) → IsSoundHost ops c i n → n.memory.asked ≡ None → step_of n.process ≡ Asks k → begins ops n k ≡ Some o → Tamed c i o
+  begins-tame : (c : Config) (i : ℕ) (n : Host S) (k : Call) (o : Outcome (Host S))
+      → IsSoundHost ops c i n → n.memory.asked ≡ None → step_of n.process ≡ Asks k
+      → begins ops n k ≡ Some o → Tamed c i o
   begins-tame c i n k o s idle asks is =
-      begins_if-tame c i n k (nat_lt (length n.history + 1) (2 ^ 64)) o s idle (asked_legal n.process.program n.process.state k asks) refl (begins-asking ops n k o idle asks is) is
+      begins_if-tame c i n k (nat_lt (length n.history + 1) (2 ^ 64)) o s idle
+      (asked_legal n.process.program n.process.state k asks) refl
+      (begins-asking ops n k o idle asks is) is
 
-  steps-tame : (c : Config) (i : ℕ) (n : Host S) (t : Step) (o : Outcome (Host S)) → IsSoundHost ops c i n → n.memory.asked ≡ None → step_of n.process ≡ t → steps ops n t ≡ Some o → Tamed c i o
+  steps-tame : (c : Config) (i : ℕ) (n : Host S) (t : Step) (o : Outcome (Host S))
+      → IsSoundHost ops c i n → n.memory.asked ≡ None → step_of n.process ≡ t
+      → steps ops n t ≡ Some o → Tamed c i o
   steps-tame c i n (Local t) o s idle at is =
       subst (Tamed c i) (same_Some _ o is)
-      (tamed c i n (quietly (record n { process = at_state n.process t })) s s.memory (record { config = refl; me = refl }) (all_none (FitsParcel n.memory.coherence.config n.memory.coherence.me))
+      (tamed c i n (quietly (record n { process = at_state n.process t })) s s.memory
+      (record { config = refl; me = refl })
+      (all_none (FitsParcel n.memory.coherence.config n.memory.coherence.me))
       (λ j h. absurd (none-some j (sym idle ∙ h))) (λ j h. absurd (none-some j (sym idle ∙ h))))
   steps-tame c i n (Asks k) o s idle at is = begins-tame c i n k o s idle at is
   steps-tame c i n Ends o s idle at is = absurd (none-some o is)
 
-  at-tame : (c : Config) (i : ℕ) (n : Host S) (a : Option Call) (o : Outcome (Host S)) → IsSoundHost ops c i n → n.memory.asked ≡ a → turned_at ops n a ≡ Some o → Tamed c i o
+  at-tame : (c : Config) (i : ℕ) (n : Host S) (a : Option Call) (o : Outcome (Host S))
+      → IsSoundHost ops c i n → n.memory.asked ≡ a → turned_at ops n a ≡ Some o → Tamed c i o
   at-tame c i n (Some k) o s at is =
       let a : CallBegun S = polled ops n.memory in
-      begins_with-tame c i n k a a.answer o s (polled-keeps laws n.memory k s.memory at) (subst (λ number. IsBegun k number a) (s.numbered k at) (polled-begun ops n.memory k at)) refl (at-asking ops n (Some k) o s.asking at is) is
+      begins_with-tame c i n k a a.answer o s (polled-keeps laws n.memory k s.memory at)
+      (subst (λ number. IsBegun k number a) (s.numbered k at) (polled-begun ops n.memory k at))
+      refl (at-asking ops n (Some k) o s.asking at is) is
   at-tame c i n None o s at is = steps-tame c i n _ o s at refl is
 
-  turn-tame : (c : Config) (i : ℕ) (n : Host S) (o : Outcome (Host S)) → IsSoundHost ops c i n → turn_of ops n ≡ Some o → Tamed c i o
+  turn-tame : (c : Config) (i : ℕ) (n : Host S) (o : Outcome (Host S)) → IsSoundHost ops c i n
+      → turn_of ops n ≡ Some o → Tamed c i o
   unfolding turn_of
   turn-tame c i n o s is = at-tame c i n _ o s refl is
 
-  serve-tame : (c : Config) (i source : ℕ) (n : Host S) (m : Message) → IsSoundHost ops c i n → source < c.nodes → source ≢ i → FitsMessage c m → Tamed c i (serving ops n source m)
+  serve-tame : (c : Config) (i source : ℕ) (n : Host S) (m : Message) → IsSoundHost ops c i n
+      → source < c.nodes → source ≢ i → FitsMessage c m → Tamed c i (serving ops n source m)
   unfolding serving
   serve-tame c i source n m s below foreign fits =
-      let told = told-sound laws n.memory source m s.memory (subst (λ k. source < k.nodes) (sym s.config) below) (subst (λ j. source ≢ j) (sym s.me) foreign) (subst (λ k. FitsMessage k m) (sym s.config) fits) in
-      tamed c i n _ s told.0 (told-same ops n.memory source m) told.1 (λ k asked. told-number ops n.memory source m ∙ s.numbered k (sym (told-asked ops n.memory source m) ∙ asked)) (λ k asked. s.asking k (sym (told-asked ops n.memory source m) ∙ asked))
+      let told =
+      told-sound laws n.memory source m s.memory
+      (subst (λ k. source < k.nodes) (sym s.config) below)
+      (subst (λ j. source ≢ j) (sym s.me) foreign)
+      (subst (λ k. FitsMessage k m) (sym s.config) fits) in
+      tamed c i n _ s told.0 (told-same ops n.memory source m) told.1
+      (λ k asked. told-number ops n.memory source m
+      ∙ s.numbered k (sym (told-asked ops n.memory source m) ∙ asked))
+      (λ k asked. s.asking k (sym (told-asked ops n.memory source m) ∙ asked))
 
   -- turns and messages keep what holds of a node, and post only what can be sent
   pub tame : (c : Config) → IsTame (host_rules ops) c (IsSoundHost ops c)
@@ -144,31 +208,46 @@ module _ {S : Type 0} {ops : Ops S} (laws : Laws ops) where
     serve = λ i source n m s below foreign fits. serve-tame c i source n m s below foreign fits;
   }
 
-pub first_length : {S : Type 0} (ops : Ops S) (c : Config) (me : ℕ) (ps : List (List Instruction)) → length (first_nodes ops c me ps) ≡ length ps
+pub first_length : {S : Type 0} (ops : Ops S) (c : Config) (me : ℕ) (ps : List (List Instruction))
+    → length (first_nodes ops c me ps) ≡ length ps
 first_length ops c me [] = refl
 first_length ops c me (p ∷ ps) = ap suc (first_length ops c (me + 1) ps)
 
-first_at : {S : Type 0} (ops : Ops S) (c : Config) (me k : ℕ) (ps : List (List Instruction)) (i : ℕ) (n : Node (Host S)) → me + i ≡ k → slice_get (first_nodes ops c me ps) i ≡ Some n
+first_at : {S : Type 0} (ops : Ops S) (c : Config) (me k : ℕ) (ps : List (List Instruction)) (i : ℕ)
+    (n : Node (Host S)) → me + i ≡ k → slice_get (first_nodes ops c me ps) i ≡ Some n
     → (p : List Instruction) × (n ≡ first_node ops c k p) × (i < length ps)
 first_at ops c me k [] i n at is = absurd (none-some n is)
-first_at ops c me k (p ∷ ps) zero n at is = (p, sym (same_Some _ n is) ∙ ap (λ j. first_node ops c j p) (omega (arith, at)), omega arith)
+first_at ops c me k (p ∷ ps) zero n at is =
+    (p, sym (same_Some _ n is) ∙ ap (λ j. first_node ops c j p) (omega (arith, at)), omega arith)
 first_at ops c me k (p ∷ ps) (suc i) n at is =
     let rest = first_at ops c (me + 1) k ps i n (omega (arith, at)) is in
     (rest.0, rest.1, (let below = rest.2 in omega (arith, below)))
 
-none_early : (programs : List (List Instruction)) (i : ℕ) → ◌≡◌ {A = List (List ℕ)} (get_or (map (λ (p : List Instruction). []) programs) i []) []
+none_early : (programs : List (List Instruction)) (i : ℕ)
+    → ◌≡◌ {A = List (List ℕ)} (get_or (map (λ (p : List Instruction). []) programs) i []) []
 none_early [] i = refl
 none_early (p ∷ ps) zero = refl
 none_early (p ∷ ps) (suc i) = none_early ps i
 
 -- the world as it begins
-pub opening_is : {S : Type 0} {ops : Ops S} → Laws ops → (c : Config) (programs : List (List Instruction)) → IsConfig c → length programs ≡ c.nodes → IsOpening c (IsSoundHost ops c) (opening ops c programs)
+pub opening_is : {S : Type 0} {ops : Ops S} → Laws ops
+    → (c : Config) (programs : List (List Instruction)) → IsConfig c → length programs ≡ c.nodes
+    → IsOpening c (IsSoundHost ops c) (opening ops c programs)
 opening_is {S} {ops} laws c programs limits many = record {
   nodes = first_length ops c 0 programs ∙ many;
   sound = λ i n is. (let x = first_at ops c 0 i programs i n (omega arith) is in
       subst (λ (m : Node (Host S)). IsSoundHost ops c i m.core) (sym x.1)
-      (record { memory = first_sound-memory laws c i limits (let below = x.2 in omega (arith, below, many)); config = refl; me = refl; asking = λ k asked. absurd (none-some k asked); numbered = λ k asked. absurd (none-some k asked) }));
-  links = λ i n is. (let x = first_at ops c 0 i programs i n (omega arith) is in ap (λ (m : Node (Host S)). m.link) x.1);
+      (record {
+        memory =
+            first_sound-memory laws c i limits (let below = x.2 in omega (arith, below, many));
+        config = refl;
+        me = refl;
+        asking = λ k asked. absurd (none-some k asked);
+        numbered = λ k asked. absurd (none-some k asked);
+      }));
+  links = λ i n is.
+      (let x = first_at ops c 0 i programs i n (omega arith) is in
+      ap (λ (m : Node (Host S)). m.link) x.1);
   sent = refl;
   early = none_early programs;
 }

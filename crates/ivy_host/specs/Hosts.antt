@@ -1,4 +1,5 @@
--- What a node is but for its link: its memory, its program and the history of its calls; and what a turn and a
+-- What a node is but for its link: its memory, its program and the history of its calls; and what a
+-- turn and a
 -- message do to it.
 use Rattle.std.specs.Prelude.{ℕ, ◌+◌, ◌^◌, List, [], ◌∷◌, ◌++◌, length, nat_lt, Option, Some, None, if◌then◌else◌}
 use Rattle.ivy_model.specs.declared.Config.{Config}
@@ -14,10 +15,10 @@ use Rattle.ivy_program.specs.Steps.{Process, Step, Local, Asks, Ends, step_of, a
 use Rattle.ivy_events.specs.Cores.{Core, Outcome}
 use Rattle.ivy_memory.specs.declared.Answer.{Answer}
 use Rattle.ivy_memory.specs.declared.Answer.TheVariants.{Given, Awaited, Unserved}
-use Rattle.ivy_memory.specs.Memories.{Memory, CallBegun, first_memory, call_begun, polled, memory_handled, memory_told}
+use Rattle.ivy_memory.specs.Memories.{NodeMemory, CallBegun, first_memory, call_begun, polled, memory_handled, memory_told}
 
 pub record Host (S : Type 0) : Type 0 where
-  pub memory : Memory S
+  pub memory : NodeMemory S
   pub process : Process
   pub history : List Record
 
@@ -30,7 +31,7 @@ module _ {S : Type 0} where
   answered_by n = record { history = n.history; asked = n.memory.asked }
 
   -- a reply is recorded, and the program goes on with it
-  abbrev pub recorded : Host S → Memory S → Call → Reply → Host S
+  abbrev pub recorded : Host S → NodeMemory S → Call → Reply → Host S
   recorded n m c r = record {
     memory = m;
     process = answered_with n.process r;
@@ -40,7 +41,8 @@ module _ {S : Type 0} where
   abbrev pub quietly : Host S → Outcome (Host S)
   quietly n = record { after = n; posted = [] }
 
-  -- a call begins, or is asked for its reply: it is answered, or it waits from now on; none where nothing changes
+  -- a call begins, or is asked for its reply: it is answered, or it waits from now on; none where
+  -- nothing changes
   abbrev pub begins_with : Host S → Call → CallBegun S → Answer → Option (Outcome (Host S))
   begins_with n c a (Given r) = Some (record { after = recorded n a.after c r; posted = a.posted })
   begins_with n c a Awaited =
@@ -67,7 +69,8 @@ module _ {S : Type 0} (ops : Ops S) where
   turned_at n (Some c) = begins_as n c (polled ops n.memory)
   turned_at n None = steps n (step_of n.process)
 
-  -- one turn of the program; none where no instruction is carried out, no call begins and no reply is recorded
+  -- one turn of the program; none where no instruction is carried out, no call begins and no reply
+  -- is recorded
   unfoldable pub turn_of : Host S → Option (Outcome (Host S))
   turn_of n = turned_at n n.memory.asked
 

@@ -5,7 +5,7 @@ use Rattle.ivy_model.specs.declared.Config.{Config}
 use Rattle.ivy_model.specs.declared.Kind.{Kind}
 use Rattle.ivy_model.specs.declared.Kind.TheVariants as kind
 use Rattle.ivy_model.specs.Config.{IsConfig}
-use Rattle.ivy_pagetable.specs.Manager.{Laws, Keeps, IsRouted, Change, Forward, Given, Replied, Invalidated, all_changed, brought_back}
+use Rattle.ivy_pagetable.specs.Manager.{Laws, KeepsElsewhere, IsRouted, Change, Forward, Given, Replied, Invalidated, all_changed, brought_back}
 use Rattle.ivy_fixed.specs.Fixed.{Owners, fixed_ops}
 use Rattle.ivy_fixed.specs.FixedLaws.{fixed_laws}
 use Rattle.ivy_dynamic.specs.Dynamic.{Hints, dynamic_ops}
@@ -22,12 +22,12 @@ each_kind : (P : Kind → Type 0) → P kind.Fixed → P kind.Dynamic → (k : K
 each_kind P f g kind.Fixed = f
 each_kind P f g kind.Dynamic = g
 
-keeps_fixed : (s t : Owners) (p : ℕ) → Keeps fixed_ops s p t
-    → Keeps managed_ops (Fixed s) p (Fixed t)
+keeps_fixed : (s t : Owners) (p : ℕ) → KeepsElsewhere fixed_ops s p t
+    → KeepsElsewhere managed_ops (Fixed s) p (Fixed t)
 keeps_fixed s t p k = record { me = k.me; size = k.size; nodes = k.nodes; others = k.others }
 
-keeps_dynamic : (s t : Hints) (p : ℕ) → Keeps dynamic_ops s p t
-    → Keeps managed_ops (Dynamic s) p (Dynamic t)
+keeps_dynamic : (s t : Hints) (p : ℕ) → KeepsElsewhere dynamic_ops s p t
+    → KeepsElsewhere managed_ops (Dynamic s) p (Dynamic t)
 keeps_dynamic s t p k = record { me = k.me; size = k.size; nodes = k.nodes; others = k.others }
 
 routed_fixed : (s : Owners) (p : ℕ) → IsRouted managed_ops (Fixed s) p → IsRouted fixed_ops s p

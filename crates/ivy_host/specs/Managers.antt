@@ -1,4 +1,5 @@
--- The manager of a configuration: managing nodes or hints, as it says. What a node keeps of it, and its calls.
+-- The manager of a configuration: managing nodes or hints, as it says. What a node keeps of it, and
+-- its calls.
 use Rattle.std.specs.Prelude.{ℕ}
 use Rattle.ivy_model.specs.declared.Config.{Config}
 use Rattle.ivy_model.specs.declared.Kind.{Kind}

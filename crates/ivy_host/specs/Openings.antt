@@ -1,4 +1,5 @@
--- The world as it begins: node 0 owns all pages, each program stands at its first instruction, nothing was sent.
+-- The world as it begins: node 0 owns all pages, each program stands at its first instruction,
+-- nothing was sent.
 use Rattle.std.specs.Prelude.{ℕ, ◌+◌, List, [], ◌∷◌, map}
 use Rattle.ivy_model.specs.declared.Config.{Config}
 use Rattle.ivy_link.specs.Linked.{first_link}
@@ -19,4 +20,5 @@ module _ {S : Type 0} (ops : Ops S) where
   first_nodes c me (p ∷ ps) = first_node c me p ∷ first_nodes c (me + 1) ps
 
   abbrev pub opening : Config → List (List Instruction) → World (Host S)
-  opening c programs = record { nodes = first_nodes c 0 programs; sent = []; early = map (λ p. []) programs }
+  opening c programs =
+      record { nodes = first_nodes c 0 programs; sent = []; early = map (λ p. []) programs }

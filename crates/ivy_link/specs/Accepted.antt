@@ -20,13 +20,14 @@ still_kept p ack =
     if nat_le ack p.sent then drop (ack - (p.sent - length p.kept)) p.kept else p.kept
 
 -- how many messages are delivered then: one more for Next alone
-abbrev pub counted : Verdict → ℕ → ℕ
-counted Next delivered = delivered + 1
-counted Repeat delivered = delivered
-counted Ahead delivered = delivered
-counted NotMine delivered = delivered
+abbrev pub delivered_then : Verdict → ℕ → ℕ
+delivered_then Next delivered = delivered + 1
+delivered_then Repeat delivered = delivered
+delivered_then Ahead delivered = delivered
+delivered_then NotMine delivered = delivered
 
--- whether a frame of this number is to be acknowledged: an acknowledgement alone, of number 0, is not
+-- whether a frame of this number is to be acknowledged: an acknowledgement alone, of number 0, is
+-- not
 abbrev pub is_owing : Verdict → ℕ → Bool
 is_owing Next number = true
 is_owing Repeat number = nat_le 1 number
@@ -37,7 +38,7 @@ abbrev pub heard : Verdict → Peer → ℕ → ℕ → Peer
 heard v p number ack = record {
   sent = p.sent;
   kept = still_kept p ack;
-  delivered = counted v p.delivered;
+  delivered = delivered_then v p.delivered;
   owed = p.owed || is_owing v number;
 }
 

@@ -1,4 +1,5 @@
--- A link with the strings that it holds: what was said of a link, said of the two together, and what holding adds.
+-- A link with the strings that it holds: what was said of a link, said of the two together, and
+-- what holding adds.
 use Rattle.std.specs.Prelude.{ℕ, ◌==◌, ◌&&◌, Bool, List, [], replicate, slice_index_or, slice_set, Option, Some, None, if◌then◌else◌}
 use Rattle.ivy_wire.specs.Data.{Frame, Parcel}
 use Rattle.ivy_wire.specs.declared.frame.Frame as frame
@@ -33,43 +34,45 @@ abbrev pub with_window : Holding → ℕ → Window → Holding
 with_window h j w = holding (link_of h) (slice_set h.held j w)
 
 -- nothing was sent either way, and nothing is held
-abbrev pub first_link : ℕ → ℕ → Holding
-first_link me nodes = holding (linked.first_link me nodes) (replicate nodes first_window)
+abbrev pub first_holding : ℕ → ℕ → Holding
+first_holding me nodes = holding (linked.first_link me nodes) (replicate nodes first_window)
 
 -- sending holds nothing and ends nothing that is held
-abbrev pub AreWithin : Holding → List Parcel → Type 0
-AreWithin h ps = linked.AreWithin (link_of h) ps
+abbrev pub AreToPeers : Holding → List Parcel → Type 0
+AreToPeers h ps = linked.AreWithin (link_of h) ps
 
-abbrev pub has_numbers : Holding → List Parcel → Bool
-has_numbers h ps = linked.has_numbers (link_of h) ps
+abbrev pub has_numbers_for : Holding → List Parcel → Bool
+has_numbers_for h ps = linked.has_numbers (link_of h) ps
 
-abbrev pub frames_of : Holding → List Parcel → List Frame
-frames_of h ps = linked.frames_of (link_of h) ps
+abbrev pub frames_for : Holding → List Parcel → List Frame
+frames_for h ps = linked.frames_of (link_of h) ps
 
-abbrev pub after_sends : Holding → List Parcel → Holding
-after_sends h ps = holding (linked.after_sends (link_of h) ps) h.held
+abbrev pub after_sending : Holding → List Parcel → Holding
+after_sending h ps = holding (linked.after_sends (link_of h) ps) h.held
 
-abbrev pub frames_again : Holding → ℕ → List Frame
-frames_again h to = pulsing.frames_again (link_of h) to
+abbrev pub frames_repeated : Holding → ℕ → List Frame
+frames_repeated h to = pulsing.frames_again (link_of h) to
 
-abbrev pub after_pulse : Holding → ℕ → Holding
-after_pulse h to = holding (pulsing.after_pulse (link_of h) to) h.held
+abbrev pub after_pulsing : Holding → ℕ → Holding
+after_pulsing h to = holding (pulsing.after_pulse (link_of h) to) h.held
 
--- what is held is nothing to the verdict, and the string of a message that is delivered is held no more
-abbrev pub offered : {B : Type 0} → Holding → frame.Frame B → Verdict
-offered h f = accepting.offered (link_of h) f
+-- what is held is nothing to the verdict, and the string of a message that is delivered is held no
+-- more
+abbrev pub offered_at : {B : Type 0} → Holding → frame.Frame B → Verdict
+offered_at h f = accepting.offered (link_of h) f
 
 abbrev pub moved_at : Verdict → List Window → ℕ → List Window
 moved_at v held j = slice_set held j (moved_by v (window_of held j))
 
-abbrev pub accepted : {B : Type 0} → Holding → frame.Frame B → Holding
-accepted h f =
-    holding (accepting.accepted (link_of h) f) (moved_at (offered h f) h.held f.source)
+abbrev pub accepted_at : {B : Type 0} → Holding → frame.Frame B → Holding
+accepted_at h f =
+    holding (accepting.accepted (link_of h) f) (moved_at (offered_at h f) h.held f.source)
 
--- whether the string of a frame can be held: the frame is for this node and is the next one or ahead, by at most 32,
+-- whether the string of a frame can be held: the frame is for this node and is the next one or
+-- ahead, by at most 32,
 -- and no string of its number is held
-abbrev pub can_hold : {B : Type 0} → Holding → frame.Frame B → Bool
-can_hold h f = f.dest == h.me
+abbrev pub can_hold_frame : {B : Type 0} → Holding → frame.Frame B → Bool
+can_hold_frame h f = f.dest == h.me
     && windows.can_hold (peer_at (link_of h) f.source).delivered (window_at h f.source) f.number
 
 abbrev pub place_in : {B : Type 0} → Holding → frame.Frame B → ℕ
@@ -77,12 +80,12 @@ place_in h f = place_of (peer_at (link_of h) f.source).delivered f.number
 
 -- then it is held, and else given back
 abbrev pub after_hold : {B : Type 0} → Holding → frame.Frame B → List ℕ → Holding
-after_hold h f s = if can_hold h f
+after_hold h f s = if can_hold_frame h f
     then with_window h f.source (with_string (window_at h f.source) (place_in h f) s)
     else h
 
 abbrev pub given_back : {B : Type 0} → Holding → frame.Frame B → List ℕ → Option (List ℕ)
-given_back h f s = if can_hold h f then None else Some s
+given_back h f s = if can_hold_frame h f then None else Some s
 
 -- the string of the number that follows those delivered
 abbrev pub ready_of : Holding → ℕ → Option (List ℕ)

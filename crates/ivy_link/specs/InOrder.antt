@@ -1,4 +1,5 @@
--- In a network that loses, repeats and reorders frames, each node is given what another one sent it, in the order sent.
+-- In a network that loses, repeats and reorders frames, each node is given what another one sent
+-- it, in the order sent.
 use Rattle.std.specs.Prelude.{◌≡◌, ◌≢◌, ℕ, zero, suc, ◌<◌, List, [], ◌∷◌, ◌++◌, All, Contains, length, slice_set, true, ◌&&◌, ◌==◌, option_to_list, if◌then◌else◌}
 use Rattle.ivy_wire.specs.Data.{Message, Frame, Parcel}
 use Rattle.ivy_link.specs.declared.verdict.Verdict.{Verdict}
@@ -8,8 +9,9 @@ use Rattle.ivy_link.specs.Accepted.{offered, accepted}
 use Rattle.ivy_link.specs.Pulsed.{after_pulse, frames_again}
 use Rattle.ivy_link.specs.Paired.{link_at, extended, IsParcelOf, IsBeginning}
 
--- the links of all nodes, the frames ever made, and what was sent and delivered from each node to each other
-pub record Net : Type 0 where
+-- the links of all nodes, the frames ever made, and what was sent and delivered from each node to
+-- each other
+pub record LinkNet : Type 0 where
   pub links : List Linked
   pub made : List Frame
   pub sent : ℕ → ℕ → List Message
@@ -20,9 +22,10 @@ pub data Action : Type 0 where
   Accept : (node : ℕ) (frame : Frame) → Action
   Pulse : (node : ℕ) (to : ℕ) → Action
 
--- a node sends parcels of its own to others as long as it has numbers, any frame ever made may come to any node, at any
+-- a node sends parcels of its own to others as long as it has numbers, any frame ever made may come
+-- to any node, at any
 -- time and any number of times, and a node may send any other one again what it keeps
-abbrev pub MayDo : Net → Action → Type 0
+abbrev pub MayDo : LinkNet → Action → Type 0
 MayDo n (Send i ps) = (i < length n.links) × All (IsParcelOf (length n.links) i) ps
     × (has_numbers (link_at n.links i) ps ≡ true)
 MayDo n (Accept j f) = (j < length n.links) × Contains n.made f
@@ -36,7 +39,7 @@ handed Repeat delivered node f i j = delivered i j
 handed Ahead delivered node f i j = delivered i j
 handed NotMine delivered node f i j = delivered i j
 
-abbrev pub done : Net → Action → Net
+abbrev pub done : LinkNet → Action → LinkNet
 done n (Send i ps) = record {
   links = slice_set n.links i (after_sends (link_at n.links i) ps);
   made = n.made ++ frames_of (link_at n.links i) ps;
@@ -56,11 +59,11 @@ done n (Pulse i j) = record {
   delivered = n.delivered;
 }
 
-abbrev pub all_done : Net → List Action → Net
+abbrev pub all_done : LinkNet → List Action → LinkNet
 all_done n [] = n
 all_done n (a ∷ more) = all_done (done n a) more
 
-abbrev pub MayDoAll : Net → List Action → Type 0
+abbrev pub MayDoAll : LinkNet → List Action → Type 0
 MayDoAll n [] = Unit {0}
 MayDoAll n (a ∷ more) = MayDo n a × MayDoAll (done n a) more
 
@@ -69,7 +72,7 @@ abbrev pub links_from : ℕ → ℕ → ℕ → List Linked
 links_from nodes zero from = []
 links_from nodes (suc more) from = first_link from nodes ∷ links_from nodes more (suc from)
 
-abbrev pub first_net : ℕ → Net
+abbrev pub first_net : ℕ → LinkNet
 first_net nodes =
     record { links = links_from nodes nodes 0; made = []; sent = λ i j. []; delivered = λ i j. [] }
 

@@ -3,8 +3,10 @@ use Rattle.std.specs.Prelude.{All, ◌<◌, ℕ, ◌+◌, List, length, [], ◌�
 use Rattle.ivy_wire.specs.Data.{Message, Frame, Parcel}
 use Rattle.ivy_link.specs.Limits.{greatest_number}
 
--- what a node knows of another one: how many messages it sent there, the last of them, which are not acknowledged yet,
--- how many of the other's messages were delivered here, and whether it owes the other an acknowledgement
+-- what a node knows of another one: how many messages it sent there, the last of them, which are
+-- not acknowledged yet,
+-- how many of the other's messages were delivered here, and whether it owes the other an
+-- acknowledgement
 pub record Peer : Type 0 where
   pub sent : ℕ
   pub kept : List Message
@@ -30,7 +32,8 @@ peer_at l j = slice_index_or l.peers j fresh
 abbrev pub with_peer : Linked → ℕ → Peer → Linked
 with_peer l j p = record { me = l.me; peers = slice_set l.peers j p }
 
--- one more message sent: it is kept, and the frame that carries it acknowledges all that was delivered
+-- one more message sent: it is kept, and the frame that carries it acknowledges all that was
+-- delivered
 abbrev pub with_message : Peer → Message → Peer
 with_message p m =
     record { sent = p.sent + 1; kept = p.kept ++ m ∷ []; delivered = p.delivered; owed = false }

@@ -27,19 +27,19 @@ acknowledging me to p = if p.owed then ack_alone me to p.delivered ∷ [] else [
 abbrev pub repeated : ℕ → ℕ → Peer → List Frame
 repeated me to p = numbered me to p.delivered (p.sent - length p.kept + 1) (take most_again p.kept)
 
-abbrev pub pulse_of : List Message → ℕ → ℕ → Peer → List Frame
-pulse_of [] me to p = acknowledging me to p
-pulse_of (m ∷ ms) me to p = repeated me to p
+abbrev pub frames_of_pulse : List Message → ℕ → ℕ → Peer → List Frame
+frames_of_pulse [] me to p = acknowledging me to p
+frames_of_pulse (m ∷ ms) me to p = repeated me to p
 
 abbrev pub frames_again : Linked → ℕ → List Frame
-frames_again l to = pulse_of (peer_at l to).kept l.me to (peer_at l to)
+frames_again l to = frames_of_pulse (peer_at l to).kept l.me to (peer_at l to)
 
 -- nothing is owed any more: either a frame was made that acknowledges, or nothing was owed
-abbrev pub settled : Peer → Peer
-settled p = record { sent = p.sent; kept = p.kept; delivered = p.delivered; owed = false }
+abbrev pub owing_nothing : Peer → Peer
+owing_nothing p = record { sent = p.sent; kept = p.kept; delivered = p.delivered; owed = false }
 
 abbrev pub after_pulse : Linked → ℕ → Linked
-after_pulse l to = with_peer l to (settled (peer_at l to))
+after_pulse l to = with_peer l to (owing_nothing (peer_at l to))
 
 abbrev pub pulsed : Linked → ℕ → Sending
 pulsed l to = record { after = after_pulse l to; frames = frames_again l to }

@@ -1,4 +1,5 @@
--- The strings of one node that came before their turn. A receiver should hold such a string until those before it have
+-- The strings of one node that came before their turn. A receiver should hold such a string until
+-- those before it have
 -- come (RFC 9293, 3.10.7.4).
 use Rattle.std.specs.Prelude.{ℕ, ◌-◌, List, [], ◌∷◌, ◌++◌, drop, replicate, slice_index_or, slice_set, Bool, ◌&&◌, nat_lt, is_none, Option, Some, None, if◌then◌else◌}
 use Rattle.ivy_link.specs.declared.verdict.Verdict.{Verdict}
@@ -23,7 +24,8 @@ is_free w k = nat_lt k most_ahead && is_none (place_at w k)
 abbrev pub place_of : ℕ → ℕ → ℕ
 place_of delivered number = number - delivered - 1
 
--- whether the string of this number can be held: it is above those delivered by at most 32, and none is held of it
+-- whether the string of this number can be held: it is above those delivered by at most 32, and
+-- none is held of it
 abbrev pub can_hold : ℕ → Window → ℕ → Bool
 can_hold delivered w number = nat_lt delivered number && is_free w (place_of delivered number)
 
@@ -35,12 +37,12 @@ abbrev pub without_first : Window → Window
 without_first w = slice_set w 0 None
 
 -- one more was delivered: the first place goes, with what it holds, and there is a new last one
-abbrev pub moved_on : Window → Window
-moved_on w = drop 1 w ++ None ∷ []
+abbrev pub shifted : Window → Window
+shifted w = drop 1 w ++ None ∷ []
 
 -- what a frame that is accepted does to the window of its source
 abbrev pub moved_by : Verdict → Window → Window
-moved_by Next w = moved_on w
+moved_by Next w = shifted w
 moved_by Repeat w = w
 moved_by Ahead w = w
 moved_by NotMine w = w

@@ -5,7 +5,7 @@ ghost use Rattle.ivy_model.specs.declared.Fault.TheVariants.{Memory, NumbersSpen
 ghost use Rattle.ivy_wire.specs.Lent.{owned_message, owned_parcel, owned_frame};
 ghost use Rattle.ivy_link.specs.Linked.{peer_at};
 ghost use Rattle.ivy_link.specs.Pulsed.{repeated};
-ghost use Rattle.ivy_link.specs.Holding.{link_of, first_link, offered, accepted, after_sends, frames_of, has_numbers, AreWithin, frames_again, after_pulse, after_hold, given_back, ready_of, after_taking};
+ghost use Rattle.ivy_link.specs.Holding.{link_of, first_holding, offered_at, accepted_at, after_sending, frames_for, has_numbers_for, AreToPeers, frames_repeated, after_pulsing, after_hold, given_back, ready_of, after_taking};
 
 use crate::keeping::{count_to, keep_each, reserve};
 use crate::lent::{add, again, copied, copies};
@@ -42,7 +42,7 @@ impl<A: Allocator> Model for Link<A> {
 impl<A: Allocator + Copy> Link<A> {
     /// The link of node `me` among so many nodes: nothing was sent either way, and nothing is held [1].
     pub fn new(alloc: A, me: u8, nodes: u8) -> Result<Link<A>, Fault>
-        ensures ok { IfOk result (λ link. link ≡ first_link me nodes) }
+        ensures ok { IfOk result (λ link. link ≡ first_holding me nodes) }
         ensures want { IsOkUnless result Memory }
     {
         let mut sides = Vec::with_capacity(alloc, usize::from(nodes))?;
@@ -55,7 +55,7 @@ impl<A: Allocator + Copy> Link<A> {
     /// What a frame is to this node.
     pub fn offer<B>(&self, frame: &Frame<B>) -> Verdict
         requires source { frame.now.dest ≡ self.now.me → frame.now.source < length self.now.peers }
-        ensures { result ≡ offered self.now frame.now }
+        ensures { result ≡ offered_at self.now frame.now }
     {
         if frame.dest != self.me {
             return Verdict::NotMine;
@@ -67,7 +67,7 @@ impl<A: Allocator + Copy> Link<A> {
     /// string of its number is held any more. A frame for another node changes nothing. It takes no memory.
     pub fn accept<B>(&mut self, frame: &Frame<B>)
         requires source { frame.now.dest ≡ self.old.me → frame.now.source < length self.old.peers }
-        ensures after { self.new ≡ accepted self.old frame.now }
+        ensures after { self.new ≡ accepted_at self.old frame.now }
         ensures nodes { length self.new.peers ≡ length self.old.peers }
     {
         if frame.dest == self.me {
@@ -107,7 +107,7 @@ impl<A: Allocator + Copy> Link<A> {
     /// Ends what is owed to the node, as the frames of [`Link::pulse_frames`] do. It takes no memory.
     pub fn pulsed(&mut self, to: u8)
         requires to { to < length self.old.peers }
-        ensures after { self.new ≡ after_pulse self.old to }
+        ensures after { self.new ≡ after_pulsing self.old to }
         ensures nodes { length self.new.peers ≡ length self.old.peers }
     {
         self.sides[usize::from(to)].settle();
@@ -115,8 +115,8 @@ impl<A: Allocator + Copy> Link<A> {
 
     /// Whether a number is left for each of the parcels.
     pub fn has_numbers(&self, parcels: &[Parcel<&[u8]>]) -> bool
-        requires within { AreWithin self.now (map owned_parcel parcels.now) }
-        ensures { result ≡ has_numbers self.now (map owned_parcel parcels.now) }
+        requires within { AreToPeers self.now (map owned_parcel parcels.now) }
+        ensures { result ≡ has_numbers_for self.now (map owned_parcel parcels.now) }
     {
         for parcel in parcels {
             let side = &self.sides[usize::from(parcel.dest)];
@@ -129,10 +129,10 @@ impl<A: Allocator + Copy> Link<A> {
 
     /// The frame of the parcel at this index, one of those that [`Link::frames`] would give now.
     pub fn frame<'p>(&self, parcels: &[Parcel<&'p [u8]>], index: usize) -> Frame<&'p [u8]>
-        requires within { AreWithin self.now (map owned_parcel parcels.now) }
-        requires numbers { has_numbers self.now (map owned_parcel parcels.now) ≡ true }
+        requires within { AreToPeers self.now (map owned_parcel parcels.now) }
+        requires numbers { has_numbers_for self.now (map owned_parcel parcels.now) ≡ true }
         requires inside { index < length parcels.now }
-        ensures { slice_get (frames_of self.now (map owned_parcel parcels.now)) index ≡ Some (owned_frame result) }
+        ensures { slice_get (frames_for self.now (map owned_parcel parcels.now)) index ≡ Some (owned_frame result) }
     {
         let parcel = &parcels[index];
         let side = &self.sides[usize::from(parcel.dest)];
@@ -150,9 +150,9 @@ impl<A: Allocator + Copy> Link<A> {
         &self,
         parcels: &[Parcel<&'p [u8]>],
     ) -> Result<Vec<Frame<&'p [u8]>, A>, AllocError>
-        requires within { AreWithin self.now (map owned_parcel parcels.now) }
-        requires numbers { has_numbers self.now (map owned_parcel parcels.now) ≡ true }
-        ensures ok { IfOk result (λ frames. map owned_frame frames.items ≡ frames_of self.now (map owned_parcel parcels.now)) }
+        requires within { AreToPeers self.now (map owned_parcel parcels.now) }
+        requires numbers { has_numbers_for self.now (map owned_parcel parcels.now) ≡ true }
+        ensures ok { IfOk result (λ frames. map owned_frame frames.items ≡ frames_for self.now (map owned_parcel parcels.now)) }
         ensures sure { length parcels.now ≡ 0 → IsOk result }
     {
         let mut frames = Vec::with_capacity(self.alloc, parcels.len())?;
@@ -165,9 +165,9 @@ impl<A: Allocator + Copy> Link<A> {
     /// The frames that [`Link::send`] would give now [1, 17]. They number the messages that
     /// [`Link::keep`] keeps. Of no parcel there are none, and that takes no memory.
     pub fn frames<'p>(&self, parcels: &[Parcel<&'p [u8]>]) -> Result<Vec<Frame<&'p [u8]>, A>, Fault>
-        requires within { AreWithin self.now (map owned_parcel parcels.now) }
-        ensures ok { IfOk result (λ frames. map owned_frame frames.items ≡ frames_of self.now (map owned_parcel parcels.now)) }
-        ensures spent { IsErrOf result NumbersSpent ↔ (has_numbers self.now (map owned_parcel parcels.now) ≡ false) }
+        requires within { AreToPeers self.now (map owned_parcel parcels.now) }
+        ensures ok { IfOk result (λ frames. map owned_frame frames.items ≡ frames_for self.now (map owned_parcel parcels.now)) }
+        ensures spent { IsErrOf result NumbersSpent ↔ (has_numbers_for self.now (map owned_parcel parcels.now) ≡ false) }
         ensures sure { length parcels.now ≡ 0 → IsOk result }
         ensures want { IfErr result IsWant }
     {
@@ -186,11 +186,11 @@ impl<A: Allocator + Copy> Link<A> {
     /// spell their frames, takes these from [`Link::frame`] first, and calls this with the same parcels
     /// last.
     pub fn keep(&mut self, parcels: &[Parcel<&[u8]>]) -> Result<(), Fault>
-        requires within { AreWithin self.old (map owned_parcel parcels.now) }
-        ensures ok { OnOk result (self.new ≡ after_sends self.old (map owned_parcel parcels.now)) }
+        requires within { AreToPeers self.old (map owned_parcel parcels.now) }
+        ensures ok { OnOk result (self.new ≡ after_sending self.old (map owned_parcel parcels.now)) }
         ensures nodes { length self.new.peers ≡ length self.old.peers }
         ensures err { OnErr result (self.new ≡ self.old) }
-        ensures spent { IsErrOf result NumbersSpent ↔ (has_numbers self.old (map owned_parcel parcels.now) ≡ false) }
+        ensures spent { IsErrOf result NumbersSpent ↔ (has_numbers_for self.old (map owned_parcel parcels.now) ≡ false) }
         ensures sure { length parcels.now ≡ 0 → IsOk result }
         ensures want { IfErr result IsWant }
     {
@@ -209,12 +209,12 @@ impl<A: Allocator + Copy> Link<A> {
         &mut self,
         parcels: &[Parcel<&'p [u8]>],
     ) -> Result<Vec<Frame<&'p [u8]>, A>, Fault>
-        requires within { AreWithin self.old (map owned_parcel parcels.now) }
-        ensures ok { OnOk result (self.new ≡ after_sends self.old (map owned_parcel parcels.now)) }
+        requires within { AreToPeers self.old (map owned_parcel parcels.now) }
+        ensures ok { OnOk result (self.new ≡ after_sending self.old (map owned_parcel parcels.now)) }
         ensures nodes { length self.new.peers ≡ length self.old.peers }
-        ensures frames { IfOk result (λ frames. map owned_frame frames.items ≡ frames_of self.old (map owned_parcel parcels.now)) }
+        ensures frames { IfOk result (λ frames. map owned_frame frames.items ≡ frames_for self.old (map owned_parcel parcels.now)) }
         ensures err { OnErr result (self.new ≡ self.old) }
-        ensures spent { IsErrOf result NumbersSpent ↔ (has_numbers self.old (map owned_parcel parcels.now) ≡ false) }
+        ensures spent { IsErrOf result NumbersSpent ↔ (has_numbers_for self.old (map owned_parcel parcels.now) ≡ false) }
         ensures sure { length parcels.now ≡ 0 → IsOk result }
         ensures want { IfErr result IsWant }
     {
@@ -228,8 +228,8 @@ impl<A: Allocator + Copy> Link<A> {
     /// that takes no memory.
     pub fn pulse_frames(&self, to: u8) -> Result<Vec<Frame<&[u8]>, A>, Fault>
         requires to { to < length self.now.peers }
-        ensures ok { IfOk result (λ frames. map owned_frame frames.items ≡ frames_again self.now to) }
-        ensures sure { frames_again self.now to ≡ [] → IsOk result }
+        ensures ok { IfOk result (λ frames. map owned_frame frames.items ≡ frames_repeated self.now to) }
+        ensures sure { frames_repeated self.now to ≡ [] → IsOk result }
         ensures want { IsOkUnless result Memory }
     {
         let side = &self.sides[usize::from(to)];
@@ -253,11 +253,11 @@ impl<A: Allocator + Copy> Link<A> {
     /// [1]. A refused call leaves the link as it was, and one that gives no frame takes no memory.
     pub fn pulse(&mut self, to: u8) -> Result<Vec<Frame<Page<A>>, A>, Fault>
         requires to { to < length self.old.peers }
-        ensures ok { OnOk result (self.new ≡ after_pulse self.old to) }
+        ensures ok { OnOk result (self.new ≡ after_pulsing self.old to) }
         ensures nodes { length self.new.peers ≡ length self.old.peers }
-        ensures frames { IfOk result (λ frames. frames.items ≡ frames_again self.old to) }
+        ensures frames { IfOk result (λ frames. frames.items ≡ frames_repeated self.old to) }
         ensures err { OnErr result (self.new ≡ self.old) }
-        ensures sure { frames_again self.old to ≡ [] → IsOk result }
+        ensures sure { frames_repeated self.old to ≡ [] → IsOk result }
         ensures want { IsOkUnless result Memory }
     {
         let frames = copied(self.alloc, &self.pulse_frames(to)?)?;

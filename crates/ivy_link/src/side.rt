@@ -42,7 +42,7 @@ impl<A: Allocator> Model for Side<A> {
 impl<A: Allocator> Side<A> {
     ghost use Rattle.ivy_link.specs.Linked.{fresh};
     ghost use Rattle.ivy_link.specs.Accepted.{verdict_on, heard};
-    ghost use Rattle.ivy_link.specs.Pulsed.{settled};
+    ghost use Rattle.ivy_link.specs.Pulsed.{owing_nothing};
 
     pub(crate) fn new(alloc: A) -> Result<Side<A>, AllocError>
     where
@@ -148,7 +148,7 @@ impl<A: Allocator> Side<A> {
 
     /// A frame was made: nothing is owed any more.
     pub(crate) fn settle(&mut self)
-        ensures peer { self.new.peer ≡ settled self.old.peer }
+        ensures peer { self.new.peer ≡ owing_nothing self.old.peer }
         ensures held { self.new.held ≡ self.old.held }
     {
         self.owed = false;

@@ -1,7 +1,7 @@
 //! The strings of one node that came before their turn.
 ghost use Rattle.std.specs.Prelude.{◌≡◌, ◌<◌, Some, None, IfOk, IsTrue, if◌then◌else◌};
 ghost use Rattle.ivy_link.specs.Limits.{most_ahead};
-ghost use Rattle.ivy_link.specs.Windows.{first_window, place_at, is_free, with_string, without_first, moved_on};
+ghost use Rattle.ivy_link.specs.Windows.{first_window, place_at, is_free, with_string, without_first, shifted};
 
 use ivy_wire::Bytes;
 use std::alloc::{AllocError, Allocator};
@@ -71,7 +71,7 @@ impl<A: Allocator> Window<A> {
 
     /// One more was delivered: the first place goes, with what it holds, and there is a new last one.
     pub(crate) fn move_on(&mut self)
-        ensures { self.new ≡ moved_on self.old }
+        ensures { self.new ≡ shifted self.old }
     {
         let _ = self.places.pop_front();
         self.places.push_back_reserved(None);

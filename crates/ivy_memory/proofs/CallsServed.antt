@@ -1,4 +1,5 @@
--- A call by what it is to the memory of a node: its word, carried out on its page, is the call, and what is refused the
+-- A call by what it is to the memory of a node: its word, carried out on its page, is the call, and
+-- what is refused the
 -- flat memory refuses.
 use Rattle.std.proofs.Common.{◌≡◌, ◌≤◌, ◌<◌, ℕ, ◌*◌, ◌/◌, ◌%◌, Bool, true, false, get_or, Option, Some, None, Ok, Err, nat_lt, refl, ap, subst, arith, if◌then◌else◌, slice_get}
 use Rattle.std.proofs.lemmas.Bool.{ltb-true, ltb-false}
@@ -22,20 +23,26 @@ use Rattle.ivy_memory.specs.Flat.{IsServed, WordsAreFlat, RefusalsAreFlat}
 use Rattle.ivy_memory.proofs.WordsServed.{load_served, store_served, load_refused, store_refused, count_served, advance_served, await_served, count_refused, advance_refused, await_refused}
 
 -- what a word that is not refused is, and the code of one that is
-is_word : (o : Option ℕ) (p q : ℕ) (v w : Word) → word_unless o p v ≡ asked.Word q w → (o ≡ None) × (p ≡ q) × (v ≡ w)
+is_word : (o : Option ℕ) (p q : ℕ) (v w : Word) → word_unless o p v ≡ asked.Word q w
+    → (o ≡ None) × (p ≡ q) × (v ≡ w)
 is_word None p q v w h = (refl, (let e : p ≡ q = cc in e), (let e : v ≡ w = cc in e))
 is_word (Some code) p q v w h = absurd cc
 
-is_refused : (o : Option ℕ) (p code : ℕ) (v : Word) → word_unless o p v ≡ asked.Refused code → o ≡ Some code
+is_refused : (o : Option ℕ) (p code : ℕ) (v : Word) → word_unless o p v ≡ asked.Refused code
+    → o ≡ Some code
 is_refused None p code v h = absurd cc
 is_refused (Some n) p code v h = (let e : n ≡ code = cc in ap Some e)
 
 -- a count that is a word is there, and one that is refused is past the last
-count_there : (b : Bool) (q : ℕ) (v w : Word) → count_asked (if b then Ok v else Err NoSuchCount) ≡ asked.Word q w → (b ≡ true) × (0 ≡ q) × (v ≡ w)
+count_there : (b : Bool) (q : ℕ) (v w : Word)
+    → count_asked (if b then Ok v else Err NoSuchCount) ≡ asked.Word q w
+    → (b ≡ true) × (0 ≡ q) × (v ≡ w)
 count_there true q v w h = (refl, (let e : 0 ≡ q = cc in e), (let e : v ≡ w = cc in e))
 count_there false q v w h = absurd cc
 
-count_gone : (b : Bool) (code : ℕ) (v : Word) → count_asked (if b then Ok v else Err NoSuchCount) ≡ asked.Refused code → (b ≡ false) × (6 ≡ code)
+count_gone : (b : Bool) (code : ℕ) (v : Word)
+    → count_asked (if b then Ok v else Err NoSuchCount) ≡ asked.Refused code
+    → (b ≡ false) × (6 ≡ code)
 count_gone true code v h = absurd cc
 count_gone false code v h = (refl, (let e : 6 ≡ code = cc in e))
 
@@ -57,47 +64,73 @@ module _ (c : Config) (mem : model.Memory) (sized : IsSized c mem) where
       slice_get_past mem.counts k (let long = sized.counts in omega (arith, past, long))
 
   -- the word is what stands here
-  this_word : (called : Call) (p q : ℕ) (v w : Word) → p ≡ q → v ≡ w → IsServed c mem called p (carried_out v (flat_page c mem p)) → IsServed c mem called q (carried_out w (flat_page c mem q))
+  this_word : (called : Call) (p q : ℕ) (v w : Word) → p ≡ q → v ≡ w
+      → IsServed c mem called p (carried_out v (flat_page c mem p))
+      → IsServed c mem called q (carried_out w (flat_page c mem q))
   this_word called p q v w a b served =
-      subst (λ r. IsServed c mem called r (carried_out w (flat_page c mem r))) a (subst (λ u. IsServed c mem called p (carried_out u (flat_page c mem p))) b served)
+      subst (λ r. IsServed c mem called r (carried_out w (flat_page c mem r))) a
+      (subst (λ u. IsServed c mem called p (carried_out u (flat_page c mem p))) b served)
 
-  pub word_served : IsConfig c → (called : Call) (page : ℕ) (w : Word) → HasWidth called → asked_of c called ≡ asked.Word page w → IsServed c mem called page (carried_out w (flat_page c mem page))
+  pub word_served : IsConfig c → (called : Call) (page : ℕ) (w : Word) → HasWidth called
+      → asked_of c called ≡ asked.Word page w
+      → IsServed c mem called page (carried_out w (flat_page c mem page))
   word_served config (call.Load width addr) page w legal of =
-      let is = is_word (access_refusal c width addr) (addr / c.page_size) page (word.Load width (addr % c.page_size)) w of in
-      this_word (call.Load width addr) (addr / c.page_size) page (word.Load width (addr % c.page_size)) w is.1 is.2 (load_served c mem config width addr legal is.0)
+      let is =
+      is_word (access_refusal c width addr) (addr / c.page_size) page
+      (word.Load width (addr % c.page_size)) w of in
+      this_word (call.Load width addr) (addr / c.page_size) page
+      (word.Load width (addr % c.page_size)) w is.1 is.2
+      (load_served c mem config width addr legal is.0)
   word_served config (call.Store width addr value) page w legal of =
-      let is = is_word (access_refusal c width addr) (addr / c.page_size) page (word.Store width (addr % c.page_size) value) w of in
-      this_word (call.Store width addr value) (addr / c.page_size) page (word.Store width (addr % c.page_size) value) w is.1 is.2 (store_served c mem config width addr legal is.0 sized value)
+      let is =
+      is_word (access_refusal c width addr) (addr / c.page_size) page
+      (word.Store width (addr % c.page_size) value) w of in
+      this_word (call.Store width addr value) (addr / c.page_size) page
+      (word.Store width (addr % c.page_size) value) w is.1 is.2
+      (store_served c mem config width addr legal is.0 sized value)
   word_served config (call.Count k) page w legal of =
       let is = count_there (nat_lt k (count_len c)) page (word.Count (8 * k)) w of in
-      this_word (call.Count k) 0 page (word.Count (8 * k)) w is.1 is.2 (count_served c mem sized k (count_at k) (counts_on k is.0))
+      this_word (call.Count k) 0 page (word.Count (8 * k)) w is.1 is.2
+      (count_served c mem sized k (count_at k) (counts_on k is.0))
   word_served config (call.Advance k) page w legal of =
       let is = count_there (nat_lt k (count_len c)) page (word.Advance (8 * k)) w of in
-      this_word (call.Advance k) 0 page (word.Advance (8 * k)) w is.1 is.2 (advance_served c mem sized k (count_at k) (counts_on k is.0))
+      this_word (call.Advance k) 0 page (word.Advance (8 * k)) w is.1 is.2
+      (advance_served c mem sized k (count_at k) (counts_on k is.0))
   word_served config (call.Await k least) page w legal of =
       let is = count_there (nat_lt k (count_len c)) page (word.Await (8 * k) least) w of in
-      this_word (call.Await k least) 0 page (word.Await (8 * k) least) w is.1 is.2 (await_served c mem sized k (count_at k) (counts_on k is.0) least)
+      this_word (call.Await k least) 0 page (word.Await (8 * k) least) w is.1 is.2
+      (await_served c mem sized k (count_at k) (counts_on k is.0) least)
   word_served config (call.Alloc size) page w legal of = absurd cc
   word_served config (call.Free addr) page w legal of = absurd cc
 
-  pub refusal_served : (called : Call) (code : ℕ) → asked_of c called ≡ asked.Refused code → Serves c mem called (reply.Refused code) mem
-  refusal_served (call.Load width addr) code is = load_refused c mem width addr code (is_refused (access_refusal c width addr) (addr / c.page_size) code (word.Load width (addr % c.page_size)) is)
+  pub refusal_served : (called : Call) (code : ℕ) → asked_of c called ≡ asked.Refused code
+      → Serves c mem called (reply.Refused code) mem
+  refusal_served (call.Load width addr) code is =
+      load_refused c mem width addr code
+      (is_refused (access_refusal c width addr) (addr / c.page_size) code
+      (word.Load width (addr % c.page_size)) is)
   refusal_served (call.Store width addr value) code is =
-      store_refused c mem width addr code (is_refused (access_refusal c width addr) (addr / c.page_size) code (word.Store width (addr % c.page_size) value) is) value
+      store_refused c mem width addr code
+      (is_refused (access_refusal c width addr) (addr / c.page_size) code
+      (word.Store width (addr % c.page_size) value) is) value
   refusal_served (call.Count k) code is =
       let gone = count_gone (nat_lt k (count_len c)) code (word.Count (8 * k)) is in
-      subst (λ n. Serves c mem (call.Count k) (reply.Refused n) mem) gone.1 (count_refused c mem k (no_count k gone.0))
+      subst (λ n. Serves c mem (call.Count k) (reply.Refused n) mem) gone.1
+      (count_refused c mem k (no_count k gone.0))
   refusal_served (call.Advance k) code is =
       let gone = count_gone (nat_lt k (count_len c)) code (word.Advance (8 * k)) is in
-      subst (λ n. Serves c mem (call.Advance k) (reply.Refused n) mem) gone.1 (advance_refused c mem k (no_count k gone.0))
+      subst (λ n. Serves c mem (call.Advance k) (reply.Refused n) mem) gone.1
+      (advance_refused c mem k (no_count k gone.0))
   refusal_served (call.Await k least) code is =
       let gone = count_gone (nat_lt k (count_len c)) code (word.Await (8 * k) least) is in
-      subst (λ n. Serves c mem (call.Await k least) (reply.Refused n) mem) gone.1 (await_refused c mem k (no_count k gone.0) least)
+      subst (λ n. Serves c mem (call.Await k least) (reply.Refused n) mem) gone.1
+      (await_refused c mem k (no_count k gone.0) least)
   refusal_served (call.Alloc size) code is = absurd cc
   refusal_served (call.Free addr) code is = absurd cc
 
 pub words_are_flat : WordsAreFlat
-words_are_flat c m called page w config sized legal of = word_served c m sized config called page w legal of
+words_are_flat c m called page w config sized legal of =
+    word_served c m sized config called page w legal of
 
 pub refusals_are_flat : RefusalsAreFlat
 refusals_are_flat c m called code sized is = refusal_served c m sized called code is

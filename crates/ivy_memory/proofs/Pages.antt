@@ -1,4 +1,5 @@
--- What an access and a message about a page post is about pages, and such a message is none of the heap.
+-- What an access and a message about a page post is about pages, and such a message is none of the
+-- heap.
 use Rattle.std.proofs.Common.{◌≡◌, ℕ, Bool, true, false, List, [], ◌∷◌, Option, Some, None, refl, ap, if◌then◌else◌}
 use Rattle.ivy_model.specs.declared.Config.{Config}
 use Rattle.ivy_model.specs.declared.Call.{Call}
@@ -28,7 +29,7 @@ use Rattle.ivy_memory.specs.declared.heap_side.Errand.TheVariants as errand
 use Rattle.ivy_memory.specs.Asking.{asked_of}
 pub use Rattle.ivy_memory.specs.HeapCalls.{is_of_pages}
 use Rattle.ivy_memory.specs.HeapCalls.{HeapSide, misfit, heap_told_as, heap_told}
-use Rattle.ivy_memory.specs.Memories.{Memory, by_coherence, memory_handled_as, memory_handled}
+use Rattle.ivy_memory.specs.Memories.{NodeMemory, by_coherence, memory_handled_as, memory_handled}
 use Rattle.ivy_memory.specs.Sound.{IsErrandOf}
 use Rattle.ivy_coherence.proofs.Rows.{Rows, AccessRows, handled-by_rows, begun-by_rows}
 
@@ -36,53 +37,74 @@ use Rattle.ivy_coherence.proofs.Rows.{Rows, AccessRows, handled-by_rows, begun-b
 abbrev pub IsOfPages : Parcel → Type 0
 IsOfPages p = is_of_pages p.message.content ≡ true
 
-either_pages : {S : Type 0} (b : Bool) (v w : Serving S) → All IsOfPages v.posted → All IsOfPages w.posted → All IsOfPages (if b then v else w).posted
+either_pages : {S : Type 0} (b : Bool) (v w : Serving S) → All IsOfPages v.posted
+    → All IsOfPages w.posted → All IsOfPages (if b then v else w).posted
 either_pages true v w one two = one
 either_pages false v w one two = two
 
 module _ {S : Type 0} (ops : Ops S) (me page : ℕ) (bytes : List ℕ) where
-  owner_pages : (v : Serving S) (origin call : ℕ) (kind : Request) → All IsOfPages v.posted → All IsOfPages (served_by_owner ops me page bytes v origin call kind).posted
+  owner_pages : (v : Serving S) (origin call : ℕ) (kind : Request) → All IsOfPages v.posted
+      → All IsOfPages (served_by_owner ops me page bytes v origin call kind).posted
   owner_pages v origin call request.Read all = All-push IsOfPages v.posted _ all refl
   owner_pages v origin call request.Write all = All-push IsOfPages v.posted _ all refl
   owner_pages v origin call request.Invalidate all = all
 
-  other_pages : (v : Serving S) (origin call : ℕ) (kind : Request) → All IsOfPages v.posted → All IsOfPages (served_by_other ops me page bytes v origin call kind).posted
+  other_pages : (v : Serving S) (origin call : ℕ) (kind : Request) → All IsOfPages v.posted
+      → All IsOfPages (served_by_other ops me page bytes v origin call kind).posted
   other_pages v origin call request.Read all = All-push IsOfPages v.posted _ all refl
   other_pages v origin call request.Write all = All-push IsOfPages v.posted _ all refl
   other_pages v origin call request.Invalidate all = All-push IsOfPages v.posted _ all refl
 
-  all_served-pages : (v : Serving S) (qs : List PutOff) → All IsOfPages v.posted → All IsOfPages (all_served ops me page bytes v qs).posted
+  all_served-pages : (v : Serving S) (qs : List PutOff) → All IsOfPages v.posted
+      → All IsOfPages (all_served ops me page bytes v qs).posted
   all_served-pages v [] all = all
   all_served-pages v (q ∷ qs) all =
       all_served-pages (served ops me page bytes v q) qs
-      (either_pages v.idle.owner _ _ (owner_pages v q.origin q.call q.kind all) (other_pages v q.origin q.call q.kind all))
+      (either_pages v.idle.owner _ _ (owner_pages v q.origin q.call q.kind all)
+      (other_pages v q.origin q.call q.kind all))
 
-  pub settled-pages : (from : ℕ) (idle : IdleState) (m : S) (breaches : ℕ) (reply : Option Bool) (qs : List PutOff)
+  pub settled-pages : (from : ℕ) (idle : IdleState) (m : S) (breaches : ℕ) (reply : Option Bool)
+      (qs : List PutOff)
       → All IsOfPages (settled ops me from page bytes idle m breaches reply qs).posted
-  settled-pages from idle m breaches reply qs = all_served-pages (serving idle (told ops from page m reply) breaches []) qs (all_none IsOfPages)
+  settled-pages from idle m breaches reply qs =
+      all_served-pages (serving idle (told ops from page m reply) breaches []) qs
+      (all_none IsOfPages)
 
-told-pages : (me page call : ℕ) (nodes : List ℕ) → All IsOfPages (map (λ node. parcel_to me node me call (content.Inval page)) nodes)
+told-pages : (me page call : ℕ) (nodes : List ℕ)
+    → All IsOfPages (map (λ node. parcel_to me node me call (content.Inval page)) nodes)
 told-pages me page call [] = all_none IsOfPages
 told-pages me page call (node ∷ nodes) = All-cons IsOfPages _ _ refl (told-pages me page call nodes)
 
-pub invalidations-pages : (me page call : ℕ) (s : Nodes) → All IsOfPages (invalidations me page call s)
+pub invalidations-pages : (me page call : ℕ) (s : Nodes)
+    → All IsOfPages (invalidations me page call s)
 invalidations-pages me page call s = told-pages me page call (nodes_of s)
 
 module _ {S : Type 0} (ops : Ops S) where
-  message-rows : (c : Coherent S) (from origin call : ℕ) → Rows ops c from origin call (λ m e. All IsOfPages e.posted)
+  message-rows : (c : Coherent S) (from origin call : ℕ)
+      → Rows ops c from origin call (λ m e. All IsOfPages e.posted)
   message-rows c from origin call = record {
     breach = λ m why. all_none IsOfPages;
-    served = λ kind page i may is order. settled-pages ops c.me page (page_at c.table page) origin i c.manager c.breaches None (record { kind = kind; origin = origin; call = call } ∷ []);
+    served =
+        λ kind page i may is order. settled-pages ops c.me page (page_at c.table page) origin i
+        c.manager c.breaches None (record { kind = kind; origin = origin; call = call } ∷ []);
     put_off = λ kind page e may is room at. all_none IsOfPages;
     given_up = λ page w by is. all_one IsOfPages _ refl;
-    copy = λ page bytes w mine is this. settled-pages ops c.me page (carried_out w.word bytes).bytes from copying c.manager c.breaches (Some _) w.put_off;
-    alone = λ page copies bytes w mine is this none. settled-pages ops c.me page (carried_out w.waiting.word bytes).bytes from owning c.manager c.breaches (Some _) w.waiting.put_off;
-    shared = λ page copies bytes w mine is this some apart. invalidations-pages c.me page call (nodes_with copies);
+    copy = λ page bytes w mine is this. settled-pages ops c.me page (carried_out w.word bytes).bytes
+        from copying c.manager c.breaches (Some _) w.put_off;
+    alone = λ page copies bytes w mine is this none. settled-pages ops c.me page
+        (carried_out w.waiting.word bytes).bytes from owning c.manager c.breaches (Some _)
+        w.waiting.put_off;
+    shared =
+        λ page copies bytes w mine is this some apart. invalidations-pages c.me page call
+        (nodes_with copies);
     acknowledged = λ page w mine is this missing others. all_none IsOfPages;
-    last = λ page w mine is this missing none. settled-pages ops c.me page (carried_out w.waiting.word (page_at c.table page)).bytes from owning c.manager c.breaches None w.waiting.put_off;
+    last = λ page w mine is this missing none. settled-pages ops c.me page
+        (carried_out w.waiting.word (page_at c.table page)).bytes from owning c.manager c.breaches
+        None w.waiting.put_off;
   }
 
-  access-rows : (c : Coherent S) (page : ℕ) (w : Word) (call : ℕ) → AccessRows ops c page w call (λ b. All IsOfPages b.posted)
+  access-rows : (c : Coherent S) (page : ℕ) (w : Word) (call : ℕ)
+      → AccessRows ops c page w call (λ b. All IsOfPages b.posted)
   access-rows c page w call = record {
     busy = all_none IsOfPages;
     hit = λ i none is enough. all_none IsOfPages;
@@ -92,15 +114,18 @@ module _ {S : Type 0} (ops : Ops S) where
   }
 
   -- a message that comes
-  pub handled-pages : (c : Coherent S) (from : ℕ) (m : Message) → All IsOfPages (handled ops c from m).posted
+  pub handled-pages : (c : Coherent S) (from : ℕ) (m : Message)
+      → All IsOfPages (handled ops c from m).posted
   handled-pages c from m = handled-by_rows m (message-rows c from m.origin m.call)
 
   -- an access of this node's program
-  pub begun-pages : (c : Coherent S) (page : ℕ) (w : Word) (call : ℕ) → All IsOfPages (begun ops c page w call).posted
+  pub begun-pages : (c : Coherent S) (page : ℕ) (w : Word) (call : ℕ)
+      → All IsOfPages (begun ops c page w call).posted
   begun-pages c page w call = begun-by_rows (access-rows c page w call)
 
 -- a message about a page is none of the heap
-page-as : (me : ℕ) (s : HeapSide) (from : ℕ) (m : Message) (body : Content) → is_of_pages body ≡ true → heap_told_as me s from m body ≡ misfit s
+page-as : (me : ℕ) (s : HeapSide) (from : ℕ) (m : Message) (body : Content)
+    → is_of_pages body ≡ true → heap_told_as me s from m body ≡ misfit s
 page-as me s from m (content.AllocReq size) h = absurd cc
 page-as me s from m (content.AllocRep code addr) h = absurd cc
 page-as me s from m (content.FreeReq addr) h = absurd cc
@@ -112,16 +137,22 @@ page-as me s from m (content.WriteRep page copies bytes) h = refl
 page-as me s from m (content.Inval page) h = refl
 page-as me s from m (content.InvalAck page) h = refl
 
-pub page_misfits : (me : ℕ) (s : HeapSide) (from : ℕ) (m : Message) → is_of_pages m.content ≡ true → heap_told me s from m ≡ misfit s
+pub page_misfits : (me : ℕ) (s : HeapSide) (from : ℕ) (m : Message) → is_of_pages m.content ≡ true
+    → heap_told me s from m ≡ misfit s
 unfolding heap_told
 page_misfits me s from m h = page-as me s from m m.content h
 
 -- it is for the coherence alone
-pub page_handled : {S : Type 0} (ops : Ops S) (m : Memory S) (from : ℕ) (message : Message) → is_of_pages message.content ≡ true → memory_handled ops m from message ≡ by_coherence ops m from message
-page_handled ops m from message h = ap (memory_handled_as ops m from message) (page_misfits m.coherence.me m.side from message h)
+pub page_handled : {S : Type 0} (ops : Ops S) (m : NodeMemory S) (from : ℕ) (message : Message)
+    → is_of_pages message.content ≡ true
+    → memory_handled ops m from message ≡ by_coherence ops m from message
+page_handled ops m from message h =
+    ap (memory_handled_as ops m from message) (page_misfits m.coherence.me m.side from message h)
 
 -- node 0 was asked for no call where the one in progress is none of the heap
-pub no_errand_of : (c : Config) (a : Option Call) (e : Option Errand) → ((k : Call) → a ≡ Some k → (h : HeapCall) → asked_of c k ≡ asked.Heap h → ⊥) → IsErrandOf c a e → e ≡ None
+pub no_errand_of : (c : Config) (a : Option Call) (e : Option Errand)
+    → ((k : Call) → a ≡ Some k → (h : HeapCall) → asked_of c k ≡ asked.Heap h → ⊥)
+    → IsErrandOf c a e → e ≡ None
 no_errand_of c a None words is = refl
 no_errand_of c a (Some (errand.Asked k number)) words is = absurd (words is.call is.asked k is.of)
 no_errand_of c a (Some (errand.Told r)) words is = absurd (words is.1.call is.1.asked is.0 is.1.of)

@@ -26,38 +26,48 @@ use Rattle.ivy_memory.specs.declared.asked.Asked.{Asked}
 use Rattle.ivy_memory.specs.declared.asked.Asked.TheVariants as asked
 use Rattle.ivy_memory.specs.Asking.{CanAsk, HasToAskFor, asked_of}
 use Rattle.ivy_memory.specs.HeapCalls.{HeapSide, closed}
-use Rattle.ivy_memory.specs.Memories.{Memory, CallBegun, HasToAskAgain, reply_of, reply_at, taken_out, answered, unserved, needed, again_unless, again, tried_as, polled_as, polled_at, polled}
+use Rattle.ivy_memory.specs.Memories.{NodeMemory, CallBegun, HasToAskAgain, reply_of, reply_at, taken_out, answered, unserved, needed, again_unless, again, tried_as, polled_as, polled_at, polled}
 use Rattle.ivy_memory.specs.Sound.{IsSoundMemory}
 use Rattle.ivy_memory.proofs.Asking.{can_ask}
 use Rattle.ivy_memory.proofs.Sides.{word_words}
 use Rattle.ivy_memory.proofs.Tame.{SameNode, Begins, begun-begins, taken-sound, with_done-sound, again-sound, KeepsMemory, IsBegun, again-begun, unserved-begun}
 
 -- the call in progress as the definitions have it
-pub polled_so : {S : Type 0} (ops : Ops S) (m : Memory S) (k : Call) → m.asked ≡ Some k → polled ops m ≡ polled_as ops m k (reply_at m)
+pub polled_so : {S : Type 0} (ops : Ops S) (m : NodeMemory S) (k : Call) → m.asked ≡ Some k
+    → polled ops m ≡ polled_as ops m k (reply_at m)
 unfolding polled
 polled_so ops m k is = ap (polled_at ops m) is
 
 module _ {S : Type 0} where
-  unless-posted : (m : Memory S) (k : Call) (number : ℕ) (b : Begun S) (r : Option Reply) → b.posted ≡ [] → (again_unless m (answered (taken_out m) k number b r) r).posted ≡ b.posted
+  unless-posted : (m : NodeMemory S) (k : Call) (number : ℕ) (b : Begun S) (r : Option Reply)
+      → b.posted ≡ [] → (again_unless m (answered (taken_out m) k number b r) r).posted ≡ b.posted
   unless-posted m k number b None none = sym none
   unless-posted m k number b (Some r) none = refl
 
   -- what is posted is what the access posts
-  pub again-posted : (m : Memory S) (k : Call) (number : ℕ) (b : Begun S) (n : Need) → Begins (taken_out m).coherence b → b.need ≡ n → (again m (needed (taken_out m) k number b n) n).posted ≡ b.posted
-  again-posted m k number b (need.Have o) bs is = unless-posted m k number b (reply_of o) (bs.had o is)
+  pub again-posted : (m : NodeMemory S) (k : Call) (number : ℕ) (b : Begun S) (n : Need)
+      → Begins (taken_out m).coherence b → b.need ≡ n
+      → (again m (needed (taken_out m) k number b n) n).posted ≡ b.posted
+  again-posted m k number b (need.Have o) bs is =
+      unless-posted m k number b (reply_of o) (bs.had o is)
   again-posted m k number b need.Started bs is = refl
   again-posted m k number b need.Busy bs is = sym (bs.none is)
 
-  unless-same : (m : Memory S) (k : Call) (number : ℕ) (b : Begun S) (r : Option Reply) → SameNode m.coherence b.after → SameNode m.coherence (again_unless m (answered (taken_out m) k number b r) r).after.coherence
+  unless-same : (m : NodeMemory S) (k : Call) (number : ℕ) (b : Begun S) (r : Option Reply)
+      → SameNode m.coherence b.after
+      → SameNode m.coherence
+      (again_unless m (answered (taken_out m) k number b r) r).after.coherence
   unless-same m k number b None same = record { config = refl; me = refl }
   unless-same m k number b (Some r) same = same
 
-  again-same : (m : Memory S) (k : Call) (number : ℕ) (b : Begun S) (n : Need) → SameNode m.coherence b.after → SameNode m.coherence (again m (needed (taken_out m) k number b n) n).after.coherence
+  again-same : (m : NodeMemory S) (k : Call) (number : ℕ) (b : Begun S) (n : Need)
+      → SameNode m.coherence b.after
+      → SameNode m.coherence (again m (needed (taken_out m) k number b n) n).after.coherence
   again-same m k number b (need.Have o) same = unless-same m k number b (reply_of o) same
   again-same m k number b need.Started same = same
   again-same m k number b need.Busy same = record { config = refl; me = refl }
 
-module _ {S : Type 0} (ops : Ops S) (m : Memory S) (k : Call) where
+module _ {S : Type 0} (ops : Ops S) (m : NodeMemory S) (k : Call) where
   -- the access that the call makes
   abbrev retry : ℕ → Word → Begun S
   retry page w = begun ops (taken_out m).coherence page w m.number
@@ -67,7 +77,9 @@ module _ {S : Type 0} (ops : Ops S) (m : Memory S) (k : Call) where
 
   tried-same : (x : Asked) → SameNode m.coherence (tried_as ops m k x).after.coherence
   tried-same (asked.Refused code) = record { config = refl; me = refl }
-  tried-same (asked.Word page w) = again-same m k m.number (retry page w) (retry page w).need (let s = (marks page w).same in record { config = s.config; me = s.me })
+  tried-same (asked.Word page w) =
+      again-same m k m.number (retry page w) (retry page w).need
+      (let s = (marks page w).same in record { config = s.config; me = s.me })
   tried-same (asked.Heap k) = record { config = refl; me = refl }
 
   as-same : (r : Option Reply) → SameNode m.coherence (polled_as ops m k r).after.coherence
@@ -81,17 +93,24 @@ module _ {S : Type 0} (ops : Ops S) (m : Memory S) (k : Call) where
 
   as-begun : m.asked ≡ Some k → (r : Option Reply) → IsBegun k m.number (polled_as ops m k r)
   as-begun is None = tried-begun is (asked_of m.coherence.config k)
-  as-begun is (Some r) = record { over = λ q h. refl; same = λ j h. absurd cc; numbered = λ j h. absurd cc }
+  as-begun is (Some r) =
+      record { over = λ q h. refl; same = λ j h. absurd cc; numbered = λ j h. absurd cc }
 
   pub polled-begun : m.asked ≡ Some k → IsBegun k m.number (polled ops m)
-  polled-begun is = subst (IsBegun k m.number) (sym (polled_so ops m k is)) (as-begun is (reply_at m))
+  polled-begun is =
+      subst (IsBegun k m.number) (sym (polled_so ops m k is)) (as-begun is (reply_at m))
 
   tried-few : IsSound ops m.coherence → (x : Asked) → length (tried_as ops m k x).posted ≤ 8
   tried-few s (asked.Refused code) = omega arith
   tried-few s (asked.Word page w) =
-      let few = begun-few ops (taken_out m).coherence page w m.number (with_done-sound m.coherence None s) in
-      let is : length (again m (needed (taken_out m) k m.number (retry page w) (retry page w).need) (retry page w).need).posted ≡ length (retry page w).posted
-      = ap length (again-posted m k m.number (retry page w) (retry page w).need (marks page w) refl) in
+      let few =
+      begun-few ops (taken_out m).coherence page w m.number
+      (with_done-sound m.coherence None s) in
+      let is : length
+      (again m (needed (taken_out m) k m.number (retry page w) (retry page w).need)
+      (retry page w).need).posted ≡ length (retry page w).posted
+      = ap length
+      (again-posted m k m.number (retry page w) (retry page w).need (marks page w) refl) in
       omega (arith, few, is)
   tried-few s (asked.Heap k) = omega arith
 
@@ -100,25 +119,31 @@ module _ {S : Type 0} (ops : Ops S) (m : Memory S) (k : Call) where
   as-few s (Some r) = omega arith
 
 module _ {S : Type 0} (ops : Ops S) where
-  at-same : (m : Memory S) (a : Option Call) → SameNode m.coherence (polled_at ops m a).after.coherence
+  at-same : (m : NodeMemory S) (a : Option Call)
+      → SameNode m.coherence (polled_at ops m a).after.coherence
   at-same m None = record { config = refl; me = refl }
   at-same m (Some k) = as-same ops m k (reply_at m)
 
   -- the node stays who it is
-  pub polled-same : (m : Memory S) → SameNode m.coherence (polled ops m).after.coherence
+  pub polled-same : (m : NodeMemory S) → SameNode m.coherence (polled ops m).after.coherence
   unfolding polled
   polled-same m = at-same m m.asked
 
-  at-few : (m : Memory S) → IsSound ops m.coherence → (a : Option Call) → length (polled_at ops m a).posted ≤ 8
+  at-few : (m : NodeMemory S) → IsSound ops m.coherence → (a : Option Call)
+      → length (polled_at ops m a).posted ≤ 8
   at-few m s None = omega arith
   at-few m s (Some k) = as-few ops m k s (reply_at m)
 
   -- it posts few messages
-  pub polled-few : (n v : Memory S) → v ≡ n → IsSoundMemory ops v → length (polled ops n).posted ≤ 8
+  pub polled-few : (n v : NodeMemory S) → v ≡ n → IsSoundMemory ops v
+      → length (polled ops n).posted ≤ 8
   unfolding polled
-  polled-few n v same s = subst (λ (x : Memory S). length (polled_at ops x x.asked).posted ≤ 8) same (at-few v s.coherent v.asked)
+  polled-few n v same s =
+      subst (λ (x : NodeMemory S). length (polled_at ops x x.asked).posted ≤ 8) same
+      (at-few v s.coherent v.asked)
 
-module _ {S : Type 0} {ops : Ops S} (laws : Laws ops) (m : Memory S) (k : Call) (s : IsSoundMemory ops m) (called : m.asked ≡ Some k) where
+module _ {S : Type 0} {ops : Ops S} (laws : Laws ops) (m : NodeMemory S) (k : Call)
+    (s : IsSoundMemory ops m) (called : m.asked ≡ Some k) where
   Keeps : CallBegun S → Type 0
   Keeps a = IsSoundMemory ops a.after × All (FitsParcel m.coherence.config m.coherence.me) a.posted
 
@@ -126,26 +151,38 @@ module _ {S : Type 0} {ops : Ops S} (laws : Laws ops) (m : Memory S) (k : Call) 
   quiet-keeps = (s, all_none (FitsParcel m.coherence.config m.coherence.me))
 
   tried-keeps : (x : Asked) → asked_of m.coherence.config k ≡ x → CanAsk m.coherence.config x
-      → IsSoundMemory ops (tried_as ops m k x).after × All (FitsParcel m.coherence.config m.coherence.me) (tried_as ops m k x).posted
+      → IsSoundMemory ops (tried_as ops m k x).after
+      × All (FitsParcel m.coherence.config m.coherence.me) (tried_as ops m k x).posted
   tried-keeps (asked.Refused code) of can = quiet-keeps
   tried-keeps (asked.Word page w) of can =
       let b : Begun S = retry ops m k page w in
       let bs : Begins (taken_out m).coherence b = marks ops m k page w in
-      let kept = begun-keeps laws (taken_out m).coherence page w m.number (with_done-sound m.coherence None s.coherent) can.0 can.1 (s.numbered k called) s.small in (
-        again-sound m k m.number b b.need (s.width k called) (s.numbered k called) s.small (word_words m.coherence.config k page w of) s bs kept.0 refl,
-        subst (All (FitsParcel m.coherence.config m.coherence.me)) (sym (again-posted m k m.number b b.need bs refl)) kept.1,
+      let kept =
+      begun-keeps laws (taken_out m).coherence page w m.number
+      (with_done-sound m.coherence None s.coherent) can.0 can.1 (s.numbered k called) s.small in (
+        again-sound m k m.number b b.need (s.width k called) (s.numbered k called) s.small
+            (word_words m.coherence.config k page w of) s bs kept.0 refl,
+        subst (All (FitsParcel m.coherence.config m.coherence.me))
+            (sym (again-posted m k m.number b b.need bs refl)) kept.1,
       )
   tried-keeps (asked.Heap k) of can = quiet-keeps
 
   as-keeps : (r : Option Reply) → reply_at m ≡ r
-      → IsSoundMemory ops (polled_as ops m k r).after × All (FitsParcel m.coherence.config m.coherence.me) (polled_as ops m k r).posted
-  as-keeps None is = tried-keeps (asked_of m.coherence.config k) refl (can_ask m.coherence.config k s.coherent.limits (s.width k called))
-  as-keeps (Some r) is = (taken-sound m r s is, all_none (FitsParcel m.coherence.config m.coherence.me))
+      → IsSoundMemory ops (polled_as ops m k r).after
+      × All (FitsParcel m.coherence.config m.coherence.me) (polled_as ops m k r).posted
+  as-keeps None is =
+      tried-keeps (asked_of m.coherence.config k) refl
+      (can_ask m.coherence.config k s.coherent.limits (s.width k called))
+  as-keeps (Some r) is =
+      (taken-sound m r s is, all_none (FitsParcel m.coherence.config m.coherence.me))
 
   -- what asking for the reply keeps
   pub polled-keeps : KeepsMemory ops m (polled ops m)
   polled-keeps =
-      let kept = subst (λ (a : CallBegun S). IsSoundMemory ops a.after × All (FitsParcel m.coherence.config m.coherence.me) a.posted) (sym (polled_so ops m k called)) (as-keeps (reply_at m) refl) in
+      let kept =
+      subst (λ (a : CallBegun S). IsSoundMemory ops a.after
+      × All (FitsParcel m.coherence.config m.coherence.me) a.posted)
+      (sym (polled_so ops m k called)) (as-keeps (reply_at m) refl) in
       (kept.0, kept.1, polled-same ops m)
 
 -- an access after which no answer stands there
@@ -153,27 +190,35 @@ abbrev cleared : {S : Type 0} → Begun S → Begun S
 cleared b = record { need = b.need; after = record b.after { done = None }; posted = b.posted }
 
 module _ {S : Type 0} (ops : Ops S) (c : Coherent S) (page : ℕ) (w : Word) (number : ℕ) where
-  if_cleared : (b : Bool) (x y x' y' : Begun S) → x ≡ cleared x' → y ≡ cleared y' → (if b then x else y) ≡ cleared (if b then x' else y')
+  if_cleared : (b : Bool) (x y x' y' : Begun S) → x ≡ cleared x' → y ≡ cleared y'
+      → (if b then x else y) ≡ cleared (if b then x' else y')
   if_cleared true x y x' y' h k = h
   if_cleared false x y x' y' h k = k
 
-  entry-cleared : (e : Entry) → accessed ops (record c { done = None }) page w number e ≡ cleared (accessed ops c page w number e)
+  entry-cleared : (e : Entry)
+      → accessed ops (record c { done = None }) page w number e
+      ≡ cleared (accessed ops c page w number e)
   entry-cleared (entry.Idle s) = if_cleared (suffices s.access w) _ _ _ _ refl refl
   entry-cleared (entry.AwaitRead s) = refl
   entry-cleared (entry.AwaitWrite s) = refl
   entry-cleared (entry.AwaitAcks s) = refl
 
-  at-cleared : (o : Option ℕ) → begun_at ops (record c { done = None }) page w number o ≡ cleared (begun_at ops c page w number o)
+  at-cleared : (o : Option ℕ)
+      → begun_at ops (record c { done = None }) page w number o
+      ≡ cleared (begun_at ops c page w number o)
   at-cleared None = entry-cleared (entry_at c.table page)
   at-cleared (Some locked) = refl
 
   -- an access does not look at the answer that stands there
-  begun-cleared : begun ops (record c { done = None }) page w number ≡ cleared (begun ops c page w number)
+  begun-cleared : begun ops (record c { done = None }) page w number
+      ≡ cleared (begun ops c page w number)
   unfolding begun
   begun-cleared = at-cleared c.locked
 
--- A call in progress whose word is tried again, as the code has it: `v` is what the fields are seen as, `n` the value.
-pub record IsRetry {S : Type 0} (ops : Ops S) (n v : Memory S) (k : Config) (c : Call) (page : ℕ) (w : Word) : Type 0 where
+-- A call in progress whose word is tried again, as the code has it: `v` is what the fields are seen
+-- as, `n` the value.
+pub record IsRetry {S : Type 0} (ops : Ops S) (n v : NodeMemory S) (k : Config) (c : Call)
+    (page : ℕ) (w : Word) : Type 0 where
   pub same : v ≡ n
   pub sound : IsSoundMemory ops v
   pub config : k ≡ v.coherence.config
@@ -181,7 +226,8 @@ pub record IsRetry {S : Type 0} (ops : Ops S) (n v : Memory S) (k : Config) (c :
   pub untold : reply_at n ≡ None
   pub asks : asked_of k c ≡ asked.Word page w
 
-module _ {S : Type 0} {ops : Ops S} (laws : Laws ops) (n v : Memory S) (k : Config) (c : Call) (page : ℕ) (w : Word) (l : IsRetry ops n v k c page w) where
+module _ {S : Type 0} {ops : Ops S} (laws : Laws ops) (n v : NodeMemory S) (k : Config) (c : Call)
+    (page : ℕ) (w : Word) (l : IsRetry ops n v k c page w) where
   abbrev access : Begun S
   access = begun ops v.coherence page w v.number
 
@@ -189,33 +235,45 @@ module _ {S : Type 0} {ops : Ops S} (laws : Laws ops) (n v : Memory S) (k : Conf
   asking = ap (λ x. asked_of x c) (sym l.config) ∙ l.asks
 
   pub retry_can : (page < v.coherence.config.pages) × IsWord v.coherence.config.page_size w
-  retry_can = subst (CanAsk v.coherence.config) asking (can_ask v.coherence.config c l.sound.coherent.limits (l.sound.width c l.called))
+  retry_can =
+      subst (CanAsk v.coherence.config) asking
+      (can_ask v.coherence.config c l.sound.coherent.limits (l.sound.width c l.called))
 
   untold : reply_at v ≡ None
-  untold = ap (λ (x : Memory S). reply_at x) l.same ∙ l.untold
+  untold = ap (λ (x : NodeMemory S). reply_at x) l.same ∙ l.untold
 
   access-begins : Begins v.coherence access
   access-begins = begun-begins ops v.coherence page w v.number
 
   -- what asking comes to, by what the access was told
-  polled_by : (told : Need) → told ≡ access.need → polled ops n ≡ again v (needed (taken_out v) c v.number (cleared access) told) told
+  polled_by : (told : Need) → told ≡ access.need
+      → polled ops n ≡ again v (needed (taken_out v) c v.number (cleared access) told) told
   polled_by told was =
       ap (λ x. polled ops x) (sym l.same)
       ∙ polled_so ops v c l.called
       ∙ ap (polled_as ops v c) untold
       ∙ ap (tried_as ops v c) asking
-      ∙ ap (λ b. again v (needed (taken_out v) c v.number b b.need) b.need) (begun-cleared ops v.coherence page w v.number)
+      ∙ ap (λ b. again v (needed (taken_out v) c v.number b b.need) b.need)
+      (begun-cleared ops v.coherence page w v.number)
       ∙ ap (λ t. again v (needed (taken_out v) c v.number (cleared access) t) t) (sym was)
 
   -- what the call comes to where the memory is this, and what the access posts is posted
   abbrev pub comes_to : Answer → Coherent S → Option Call → HeapSide → CallBegun S
-  comes_to answer new a side = record { answer = answer; after = record { coherence = new; asked = a; number = v.number; side = side }; posted = access.posted }
+  comes_to answer new a side =
+      record {
+        answer = answer;
+        after = record { coherence = new; asked = a; number = v.number; side = side };
+        posted = access.posted;
+      }
 
-  last_is : (new last : Coherent S) → new ≡ access.after → last ≡ record new { done = None } → record access.after { done = None } ≡ last
+  last_is : (new last : Coherent S) → new ≡ access.after → last ≡ record new { done = None }
+      → record access.after { done = None } ≡ last
   last_is new last is gone = ap (λ (z : Coherent S). record z { done = None }) (sym is) ∙ sym gone
 
   -- the word has an answer now
-  pub given_is : (new last : Coherent S) (told : Need) (o : Out) (r : Reply) (side : HeapSide) → side ≡ closed v.side → new ≡ access.after → last ≡ record new { done = None } → told ≡ access.need → told ≡ need.Have o → reply_of o ≡ Some r
+  pub given_is : (new last : Coherent S) (told : Need) (o : Out) (r : Reply) (side : HeapSide)
+      → side ≡ closed v.side → new ≡ access.after → last ≡ record new { done = None }
+      → told ≡ access.need → told ≡ need.Have o → reply_of o ≡ Some r
       → polled ops n ≡ comes_to (Given r) last None side
   given_is new last told o r side over is gone was had replies =
       polled_by told was
@@ -224,22 +282,37 @@ module _ {S : Type 0} {ops : Ops S} (laws : Laws ops) (n v : Memory S) (k : Conf
       ∙ ap (λ x. comes_to (Given r) x None (closed v.side)) (last_is new last is gone)
       ∙ ap (comes_to (Given r) last None) (sym over)
 
-  nothing_is : (new : Coherent S) → new ≡ v.coherence → access.posted ≡ [] → unserved v ≡ comes_to Unserved new v.asked v.side
+  nothing_is : (new : Coherent S) → new ≡ v.coherence → access.posted ≡ []
+      → unserved v ≡ comes_to Unserved new v.asked v.side
   nothing_is new is none =
-      ap (λ x. record { answer = Unserved; after = record { coherence = x; asked = v.asked; number = v.number; side = v.side }; posted = [] }) (sym is)
-      ∙ ap (λ ps. record { answer = Unserved; after = record { coherence = new; asked = v.asked; number = v.number; side = v.side }; posted = ps }) (sym none)
+      ap (λ x.
+      record {
+        answer = Unserved;
+        after = record { coherence = x; asked = v.asked; number = v.number; side = v.side };
+        posted = [];
+      }) (sym is)
+      ∙ ap (λ ps.
+      record {
+        answer = Unserved;
+        after = record { coherence = new; asked = v.asked; number = v.number; side = v.side };
+        posted = ps;
+      }) (sym none)
 
   -- it has none
-  pub quiet_is : (new : Coherent S) (told : Need) (o : Out) → new ≡ access.after → told ≡ access.need → told ≡ need.Have o → reply_of o ≡ None
+  pub quiet_is : (new : Coherent S) (told : Need) (o : Out) → new ≡ access.after
+      → told ≡ access.need → told ≡ need.Have o → reply_of o ≡ None
       → polled ops n ≡ comes_to Unserved new v.asked v.side
   quiet_is new told o is was had none =
       polled_by told was
       ∙ ap (λ t. again v (needed (taken_out v) c v.number (cleared access) t) t) had
       ∙ ap (λ x. again_unless v (answered (taken_out v) c v.number (cleared access) x) x) none
-      ∙ nothing_is new (is ∙ access-begins.quiet o (sym was ∙ had) none) (access-begins.had o (sym was ∙ had))
+      ∙ nothing_is new (is ∙ access-begins.quiet o (sym was ∙ had) none)
+      (access-begins.had o (sym was ∙ had))
 
   -- it has to be asked for
-  pub starts_is : (new last : Coherent S) (told : Need) (side : HeapSide) → side ≡ closed v.side → new ≡ access.after → last ≡ record new { done = None } → told ≡ access.need → told ≡ need.Started
+  pub starts_is : (new last : Coherent S) (told : Need) (side : HeapSide) → side ≡ closed v.side
+      → new ≡ access.after → last ≡ record new { done = None } → told ≡ access.need
+      → told ≡ need.Started
       → polled ops n ≡ comes_to Awaited last v.asked side
   starts_is new last told side over is gone was started =
       polled_by told was
@@ -249,15 +322,19 @@ module _ {S : Type 0} {ops : Ops S} (laws : Laws ops) (n v : Memory S) (k : Conf
       ∙ ap (comes_to Awaited last v.asked) (sym over)
 
   -- it waits
-  pub waits_is : (new : Coherent S) (told : Need) → new ≡ access.after → told ≡ access.need → told ≡ need.Busy
+  pub waits_is : (new : Coherent S) (told : Need) → new ≡ access.after → told ≡ access.need
+      → told ≡ need.Busy
       → polled ops n ≡ comes_to Unserved new v.asked v.side
   waits_is new told is was busy =
       polled_by told was
       ∙ ap (λ t. again v (needed (taken_out v) c v.number (cleared access) t) t) busy
-      ∙ nothing_is new (is ∙ access-begins.busy (sym was ∙ busy)) (access-begins.none (sym was ∙ busy))
+      ∙ nothing_is new (is ∙ access-begins.busy (sym was ∙ busy))
+      (access-begins.none (sym was ∙ busy))
 
   -- the memory after it is sound
-  pub poll_memory : (answer : Answer) (new : Coherent S) (a : Option Call) (side : HeapSide) → polled ops n ≡ comes_to answer new a side → IsSoundMemory ops (record { coherence = new; asked = a; number = v.number; side = side })
+  pub poll_memory : (answer : Answer) (new : Coherent S) (a : Option Call) (side : HeapSide)
+      → polled ops n ≡ comes_to answer new a side
+      → IsSoundMemory ops (record { coherence = new; asked = a; number = v.number; side = side })
   poll_memory answer new a side is =
       subst (λ (x : CallBegun S). IsSoundMemory ops x.after) (ap (λ x. polled ops x) l.same ∙ is)
       (polled-keeps laws v c l.sound l.called).0
@@ -266,12 +343,15 @@ module _ {S : Type 0} {ops : Ops S} (laws : Laws ops) (n v : Memory S) (k : Conf
   pub poll_posts : access.posted ≡ (polled ops n).posted
   poll_posts =
       sym (ap (λ (x : CallBegun S). x.posted) (polled_by access.need refl)
-      ∙ again-posted v c v.number (cleared access) access.need (subst (Begins (taken_out v).coherence) (begun-cleared ops v.coherence page w v.number) (begun-begins ops (taken_out v).coherence page w v.number)) refl)
+      ∙ again-posted v c v.number (cleared access) access.need
+      (subst (Begins (taken_out v).coherence) (begun-cleared ops v.coherence page w v.number)
+      (begun-begins ops (taken_out v).coherence page w v.number)) refl)
 
-  pub retry_asks : {A E : Type 0} (r : Result A E) → HasToAsk v.coherence page w → OnErr r (HasToAskAgain n)
+  pub retry_asks : {A E : Type 0} (r : Result A E) → HasToAsk v.coherence page w
+      → OnErr r (HasToAskAgain n)
   retry_asks (Ok a) asks = tt
   retry_asks (Err x) asks =
-      subst (λ (m : Memory S). HasToAskAgain m) l.same (record {
+      subst (λ (m : NodeMemory S). HasToAskAgain m) l.same (record {
         call = c;
         asked = l.called;
         untold = untold;

@@ -6,27 +6,36 @@ use Rattle.ivy_coherence.specs.Coherent.{Coherent}
 use Rattle.ivy_coherence.specs.Steps.{handled}
 use Rattle.ivy_coherence.proofs.Same as coherence
 use Rattle.ivy_memory.specs.HeapCalls.{HeapTold, heap_told}
-use Rattle.ivy_memory.specs.Memories.{Memory, MemoryEffect, by_side, by_coherence, memory_told}
+use Rattle.ivy_memory.specs.Memories.{NodeMemory, MemoryEffect, by_side, by_coherence, memory_told}
 use Rattle.ivy_memory.proofs.Sides.{either}
 use Rattle.ivy_memory.proofs.Tame.{SameNode}
 
 module _ {S : Type 0} (ops : Ops S) where
-  pub handled-same : (c : Coherent S) (from : ℕ) (m : Message) → SameNode c (handled ops c from m).after
-  handled-same c from m = let s = coherence.handled-same ops c from m in record { config = s.config; me = s.me }
+  pub handled-same : (c : Coherent S) (from : ℕ) (m : Message)
+      → SameNode c (handled ops c from m).after
+  handled-same c from m =
+      let s = coherence.handled-same ops c from m in record { config = s.config; me = s.me }
 
   -- whatever a message is about
-  pub told-same : (m : Memory S) (from : ℕ) (message : Message) → SameNode m.coherence (memory_told ops m from message).coherence
+  pub told-same : (m : NodeMemory S) (from : ℕ) (message : Message)
+      → SameNode m.coherence (memory_told ops m from message).coherence
   told-same m from message =
       let t : HeapTold = heap_told m.coherence.me m.side from message in
-      either (λ (e : MemoryEffect S). SameNode m.coherence e.after.coherence) t.fits (by_side m t) (by_coherence ops m from message) (record { config = refl; me = refl }) (handled-same m.coherence from message)
+      either (λ (e : MemoryEffect S). SameNode m.coherence e.after.coherence) t.fits (by_side m t)
+      (by_coherence ops m from message) (record { config = refl; me = refl })
+      (handled-same m.coherence from message)
 
   -- and the call in progress is in progress
-  pub told-asked : (m : Memory S) (from : ℕ) (message : Message) → (memory_told ops m from message).asked ≡ m.asked
+  pub told-asked : (m : NodeMemory S) (from : ℕ) (message : Message)
+      → (memory_told ops m from message).asked ≡ m.asked
   told-asked m from message =
       let t : HeapTold = heap_told m.coherence.me m.side from message in
-      either (λ (e : MemoryEffect S). e.after.asked ≡ m.asked) t.fits (by_side m t) (by_coherence ops m from message) refl refl
+      either (λ (e : MemoryEffect S). e.after.asked ≡ m.asked) t.fits (by_side m t)
+      (by_coherence ops m from message) refl refl
 
-  pub told-number : (m : Memory S) (from : ℕ) (message : Message) → (memory_told ops m from message).number ≡ m.number
+  pub told-number : (m : NodeMemory S) (from : ℕ) (message : Message)
+      → (memory_told ops m from message).number ≡ m.number
   told-number m from message =
       let t : HeapTold = heap_told m.coherence.me m.side from message in
-      either (λ (e : MemoryEffect S). e.after.number ≡ m.number) t.fits (by_side m t) (by_coherence ops m from message) refl refl
+      either (λ (e : MemoryEffect S). e.after.number ≡ m.number) t.fits (by_side m t)
+      (by_coherence ops m from message) refl refl

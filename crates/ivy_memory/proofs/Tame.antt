@@ -1,5 +1,8 @@
--- Accesses and messages keep what holds of a memory, and post only what can be sent. For every manager that keeps the laws.
-use Rattle.std.proofs.Common.{◌≡◌, ◌≢◌, ℕ, ◌-◌, ◌^◌, ◌<◌, ◌≤◌, ◌⊎◌, inl, inr, Bool, true, false, List, [], ◌∷◌, length, nat_lt, Option, Some, None, refl, sym, ap, ◌∙◌, subst, arith, if◌then◌else◌, ◌==◌}
+-- Accesses and messages keep what holds of a memory, and post only what can be sent. For every
+-- manager that keeps the laws.
+use Rattle.std.proofs.Common.{◌≡◌, ◌≢◌, ℕ, ◌-◌, ◌^◌, ◌<◌, ◌≤◌, ◌⊎◌, inl, inr, Bool, true, false}
+use Rattle.std.proofs.Common.{List, [], ◌∷◌, length, nat_lt, Option, Some, None, refl, sym, ap, ◌∙◌}
+use Rattle.std.proofs.Common.{subst, arith, if◌then◌else◌, ◌==◌}
 use Rattle.std.specs.Prelude.{All, slice_set}
 use Rattle.std.proofs.lemmas.List.{set-get_or}
 use Rattle.std.proofs.lemmas.Option.{same_Some, none-some}
@@ -42,8 +45,12 @@ use Rattle.ivy_memory.specs.declared.heap_side.HeapCall.{HeapCall}
 use Rattle.ivy_memory.specs.declared.heap_side.Errand.{Errand}
 use Rattle.ivy_memory.specs.declared.heap_side.Errand.TheVariants as errand
 use Rattle.ivy_memory.specs.Asking.{CanAsk, asked_of}
-use Rattle.ivy_memory.specs.HeapCalls.{HeapBegun, HeapTold, number_in, request, begun_at, heap_begun, heap_told, reply_told}
-use Rattle.ivy_memory.specs.Memories.{Memory, CallBegun, MemoryEffect, first_memory, reply_of, reply_there, first_reply, reply_at, taken_out, answered, unserved, needed, again_unless, again, asked_after, number_after, heap_answered, begun_as, call_begun, by_side, by_coherence, memory_handled, memory_told}
+use Rattle.ivy_memory.specs.HeapCalls.{HeapBegun, HeapTold, number_in, request, heap_begun_at, heap_begun, heap_told, reply_told}
+use Rattle.ivy_memory.specs.Memories.{NodeMemory, CallBegun, MemoryEffect, first_memory, reply_of}
+use Rattle.ivy_memory.specs.Memories.{reply_there, first_reply, reply_at, taken_out, answered}
+use Rattle.ivy_memory.specs.Memories.{unserved, needed, again_unless, again, asked_after}
+use Rattle.ivy_memory.specs.Memories.{number_after, heap_answered, begun_as, call_begun, by_side}
+use Rattle.ivy_memory.specs.Memories.{by_coherence, memory_handled, memory_told}
 use Rattle.ivy_memory.proofs.Asking.{can_ask}
 use Rattle.ivy_memory.specs.Sound.{IsInProgress, IsSoundMemory, IsSoundSide}
 use Rattle.ivy_memory.proofs.Sides.{KeepsSide, either, no_errand, same_side, quiet_side, idle_words, word_words, closed_side, kept_side, request_sent, told-keeps, first_sound-side, heap_begun-few}
@@ -55,9 +62,13 @@ pub record SameNode {S : Type 0} (old new : Coherent S) : Type 0 where
 
 -- a message leaves the word that waits as it is, or that word was carried out
 abbrev pub Told : {S : Type 0} → Coherent S → Coherent S → Type 0
-Told old new = SameNode old new × (((new.locked ≡ old.locked) × (new.done ≡ old.done)) ⊎ ((p : ℕ) × (old.locked ≡ Some p) × (new.locked ≡ None)))
+Told old new =
+    SameNode old new
+    × (((new.locked ≡ old.locked) × (new.done ≡ old.done))
+    ⊎ ((p : ℕ) × (old.locked ≡ Some p) × (new.locked ≡ None)))
 
--- an access carries out no word that waited, and one waits from now on only where the access is told so
+-- an access carries out no word that waited, and one waits from now on only where the access is
+-- told so
 pub record Begins {S : Type 0} (c : Coherent S) (b : Begun S) : Type 0 where
   pub same : SameNode c b.after
   pub done : b.after.done ≡ c.done
@@ -70,19 +81,24 @@ pub record Begins {S : Type 0} (c : Coherent S) (b : Begun S) : Type 0 where
   pub quiet : (o : Out) → b.need ≡ need.Have o → reply_of o ≡ None → b.after ≡ c
 
 -- bytes that stay as they are
-kept_page : (t : Table) (page : ℕ) (bytes : List ℕ) → bytes ≡ page_at t page → with_page t page bytes ≡ t
+kept_page : (t : Table) (page : ℕ) (bytes : List ℕ) → bytes ≡ page_at t page
+    → with_page t page bytes ≡ t
 kept_page t page bytes is =
-    ap (λ x. record { page_size = t.page_size; entries = t.entries; pages = x }) (ap (slice_set t.pages page) is ∙ set-get_or t.pages page [])
+    ap (λ x. record { page_size = t.page_size; entries = t.entries; pages = x })
+    (ap (slice_set t.pages page) is ∙ set-get_or t.pages page [])
 
 abbrev advance_by : Bool → List ℕ → List ℕ → Carried
-advance_by b bytes more = if b then record { out = out.Full; bytes = bytes } else record { out = out.Done; bytes = more }
+advance_by b bytes more =
+    if b then record { out = out.Full; bytes = bytes } else record { out = out.Done; bytes = more }
 
-quiet_advance : (b : Bool) (bytes more : List ℕ) → reply_of (advance_by b bytes more).out ≡ None → (advance_by b bytes more).bytes ≡ bytes
+quiet_advance : (b : Bool) (bytes more : List ℕ) → reply_of (advance_by b bytes more).out ≡ None
+    → (advance_by b bytes more).bytes ≡ bytes
 quiet_advance true bytes more h = refl
 quiet_advance false bytes more h = absurd cc
 
 -- a word that has no answer yet writes nothing
-quiet_bytes : (w : Word) (bytes : List ℕ) → reply_of (carried_out w bytes).out ≡ None → (carried_out w bytes).bytes ≡ bytes
+quiet_bytes : (w : Word) (bytes : List ℕ) → reply_of (carried_out w bytes).out ≡ None
+    → (carried_out w bytes).bytes ≡ bytes
 quiet_bytes (word.Load width offset) bytes h = refl
 quiet_bytes (word.Store width offset value) bytes h = absurd cc
 quiet_bytes (word.Count offset) bytes h = refl
@@ -95,62 +111,94 @@ reply_done None r h = absurd (none-some r h)
 reply_done (Some o) r h = (o, refl)
 
 module _ {S : Type 0} where
-  stays : {c : Coherent S} {new : Coherent S} → new.config ≡ c.config → new.me ≡ c.me → new.locked ≡ c.locked → new.done ≡ c.done → Told c new
+  stays : {c : Coherent S} {new : Coherent S} → new.config ≡ c.config → new.me ≡ c.me
+      → new.locked ≡ c.locked → new.done ≡ c.done → Told c new
   stays config me locked done = (record { config = config; me = me }, inl (locked, done))
 
-  answered-fits : (k : Config) (me : ℕ) (m : Memory S) (c : Call) (number : ℕ) (b : Begun S) (r : Option Reply) → All (FitsParcel k me) b.posted → All (FitsParcel k me) (answered m c number b r).posted
+  answered-fits : (k : Config) (me : ℕ) (m : NodeMemory S) (c : Call) (number : ℕ) (b : Begun S)
+      (r : Option Reply) → All (FitsParcel k me) b.posted
+      → All (FitsParcel k me) (answered m c number b r).posted
   answered-fits k me m c number b None fits = fits
   answered-fits k me m c number b (Some r) fits = fits
 
-  needed-fits : (k : Config) (me : ℕ) (m : Memory S) (c : Call) (number : ℕ) (b : Begun S) (n : Need) → All (FitsParcel k me) b.posted → All (FitsParcel k me) (needed m c number b n).posted
-  needed-fits k me m c number b (need.Have o) fits = answered-fits k me m c number b (reply_of o) fits
+  needed-fits : (k : Config) (me : ℕ) (m : NodeMemory S) (c : Call) (number : ℕ) (b : Begun S)
+      (n : Need) → All (FitsParcel k me) b.posted
+      → All (FitsParcel k me) (needed m c number b n).posted
+  needed-fits k me m c number b (need.Have o) fits =
+      answered-fits k me m c number b (reply_of o) fits
   needed-fits k me m c number b need.Started fits = fits
   needed-fits k me m c number b need.Busy fits = all_none (FitsParcel k me)
 
-  answered-same : (m : Memory S) (c : Call) (number : ℕ) (b : Begun S) (r : Option Reply) → SameNode m.coherence b.after → SameNode m.coherence (answered m c number b r).after.coherence
+  answered-same : (m : NodeMemory S) (c : Call) (number : ℕ) (b : Begun S) (r : Option Reply)
+      → SameNode m.coherence b.after
+      → SameNode m.coherence (answered m c number b r).after.coherence
   answered-same m c number b None same = same
   answered-same m c number b (Some r) same = same
 
-  pub needed-same : (m : Memory S) (c : Call) (number : ℕ) (b : Begun S) (n : Need) → SameNode m.coherence b.after → SameNode m.coherence (needed m c number b n).after.coherence
+  pub needed-same : (m : NodeMemory S) (c : Call) (number : ℕ) (b : Begun S) (n : Need)
+      → SameNode m.coherence b.after → SameNode m.coherence (needed m c number b n).after.coherence
   needed-same m c number b (need.Have o) same = answered-same m c number b (reply_of o) same
   needed-same m c number b need.Started same = same
   needed-same m c number b need.Busy same = record { config = refl; me = refl }
 
-  answered-posted : (m : Memory S) (c : Call) (number : ℕ) (b : Begun S) (r : Option Reply) → (answered m c number b r).posted ≡ b.posted
+  answered-posted : (m : NodeMemory S) (c : Call) (number : ℕ) (b : Begun S) (r : Option Reply)
+      → (answered m c number b r).posted ≡ b.posted
   answered-posted m c number b None = refl
   answered-posted m c number b (Some r) = refl
 
   -- what is posted is what the access posts
-  pub needed-posted : (m : Memory S) (c : Call) (number : ℕ) (b : Begun S) (n : Need) → Begins m.coherence b → b.need ≡ n → (needed m c number b n).posted ≡ b.posted
+  pub needed-posted : (m : NodeMemory S) (c : Call) (number : ℕ) (b : Begun S) (n : Need)
+      → Begins m.coherence b → b.need ≡ n → (needed m c number b n).posted ≡ b.posted
   needed-posted m c number b (need.Have o) bs is = answered-posted m c number b (reply_of o)
   needed-posted m c number b need.Started bs is = refl
   needed-posted m c number b need.Busy bs is = sym (bs.none is)
 
 module _ {S : Type 0} (ops : Ops S) where
   -- the word that waited was carried out
-  unlocked-told : (c : Coherent S) (from page : ℕ) (idle : IdleState) (reply : Option Bool) (bytes : List ℕ) (s : WaitingState) → c.locked ≡ Some page → Told c (unlocked ops c from page idle reply bytes s).after
-  unlocked-told c from page idle reply bytes s locked = (record { config = refl; me = refl }, inr (page, locked, refl))
+  unlocked-told : (c : Coherent S) (from page : ℕ) (idle : IdleState) (reply : Option Bool)
+      (bytes : List ℕ) (s : WaitingState) → c.locked ≡ Some page
+      → Told c (unlocked ops c from page idle reply bytes s).after
+  unlocked-told c from page idle reply bytes s locked =
+      (record { config = refl; me = refl }, inr (page, locked, refl))
 
-  told-rows : (c : Coherent S) (from origin call : ℕ) → IsSound ops c → Rows ops c from origin call (λ m e. Told c e.after)
+  told-rows : (c : Coherent S) (from origin call : ℕ) → IsSound ops c
+      → Rows ops c from origin call (λ m e. Told c e.after)
   told-rows c from origin call s = record {
     breach = λ m why. stays refl refl refl refl;
     served = λ kind page i may is order. stays refl refl refl refl;
     put_off = λ kind page e may is room at. stays refl refl refl refl;
     given_up = λ page w by is. stays refl refl refl refl;
-    copy = λ page bytes w mine is this. unlocked-told c from page copying (Some false) bytes w (s.others page (ap is_locked is));
-    alone = λ page copies bytes w mine is this none. unlocked-told c from page owning (Some true) bytes w.waiting (s.others page (ap is_locked is));
+    copy = λ page bytes w mine is this. unlocked-told c from page copying (Some false) bytes w
+        (s.others page (ap is_locked is));
+    alone = λ page copies bytes w mine is this none. unlocked-told c from page owning (Some true)
+        bytes w.waiting (s.others page (ap is_locked is));
     shared = λ page copies bytes w mine is this some apart. stays refl refl refl refl;
     acknowledged = λ page w mine is this missing others. stays refl refl refl refl;
-    last = λ page w mine is this missing none. unlocked-told c from page owning None (page_at c.table page) w.waiting (s.others page (ap is_locked is));
+    last = λ page w mine is this missing none. unlocked-told c from page owning None
+        (page_at c.table page) w.waiting (s.others page (ap is_locked is));
   }
 
-  pub handled-told : (c : Coherent S) (from : ℕ) (m : Message) → IsSound ops c → Told c (handled ops c from m).after
+  pub handled-told : (c : Coherent S) (from : ℕ) (m : Message) → IsSound ops c
+      → Told c (handled ops c from m).after
   handled-told c from m s = handled-by_rows m (told-rows c from m.origin m.call s)
 
-  started-begins : (c : Coherent S) (page : ℕ) → c.locked ≡ None → (e : Entry) (ps : List Parcel) → Begins c (started ops c page e ps)
-  started-begins c page free e ps = record { same = record { config = refl; me = refl }; done = refl; lock = λ o h. absurd cc; free = λ o h. absurd cc; start = λ h. free; busy = λ h. absurd cc; none = λ h. absurd cc; had = λ o h. absurd cc; quiet = λ o h n. absurd cc }
+  started-begins : (c : Coherent S) (page : ℕ) → c.locked ≡ None → (e : Entry) (ps : List Parcel)
+      → Begins c (started ops c page e ps)
+  started-begins c page free e ps =
+      record {
+        same = record { config = refl; me = refl };
+        done = refl;
+        lock = λ o h. absurd cc;
+        free = λ o h. absurd cc;
+        start = λ h. free;
+        busy = λ h. absurd cc;
+        none = λ h. absurd cc;
+        had = λ o h. absurd cc;
+        quiet = λ o h n. absurd cc;
+      }
 
-  hit-begins : (c : Coherent S) (page : ℕ) (w : Word) → c.locked ≡ None → Begins c (hit ops c page w)
+  hit-begins : (c : Coherent S) (page : ℕ) (w : Word) → c.locked ≡ None
+      → Begins c (hit ops c page w)
   hit-begins c page w free = record {
     same = record { config = refl; me = refl };
     done = refl;
@@ -162,10 +210,13 @@ module _ {S : Type 0} (ops : Ops S) where
     had = λ o h. refl;
     quiet = λ o h n.
         (let given : (carried_out w (page_at c.table page)).out ≡ o = cc in
-        ap (λ t. record c { table = t }) (kept_page c.table page _ (quiet_bytes w (page_at c.table page) (ap reply_of given ∙ n))));
+        ap (λ t. record c { table = t })
+        (kept_page c.table page _
+        (quiet_bytes w (page_at c.table page) (ap reply_of given ∙ n))));
   }
 
-  begins-rows : (c : Coherent S) (page : ℕ) (w : Word) (number : ℕ) → AccessRows ops c page w number (Begins c)
+  begins-rows : (c : Coherent S) (page : ℕ) (w : Word) (number : ℕ)
+      → AccessRows ops c page w number (Begins c)
   begins-rows c page w number = record {
     busy = record {
       same = record { config = refl; me = refl };
@@ -184,7 +235,8 @@ module _ {S : Type 0} (ops : Ops S) where
     owner = λ i none is short writes own. started-begins c page none _ _;
   }
 
-  pub begun-begins : (c : Coherent S) (page : ℕ) (w : Word) (number : ℕ) → Begins c (begun ops c page w number)
+  pub begun-begins : (c : Coherent S) (page : ℕ) (w : Word) (number : ℕ)
+      → Begins c (begun ops c page w number)
   begun-begins c page w number = begun-by_rows (begins-rows c page w number)
 
 pub one_wide : (c : Call) → HasWidth c → (j : Call) → Some c ≡ Some j → HasWidth j
@@ -192,17 +244,26 @@ one_wide c wide j h = subst HasWidth (same_Some c j h) wide
 
 module _ {S : Type 0} {ops : Ops S} where
   -- without a call in progress node 0 was asked for none
-  pub idle_side : (m : Memory S) → IsSoundMemory ops m → m.asked ≡ None → m.side.errand ≡ None
+  pub idle_side : (m : NodeMemory S) → IsSoundMemory ops m → m.asked ≡ None → m.side.errand ≡ None
   idle_side m s idle = no_errand m.coherence.config m.asked m.side.errand idle s.side.errand
 
-  started_side : (m : Memory S) (b : Begun S) (a : Option Call) → ((k : HeapCall) → IsInProgress m.coherence.config a k → ⊥) → IsSoundMemory ops m → m.asked ≡ None → Begins m.coherence b → IsSoundSide b.after.config b.after.me a m.side
+  started_side : (m : NodeMemory S) (b : Begun S) (a : Option Call)
+      → ((k : HeapCall) → IsInProgress m.coherence.config a k → ⊥) → IsSoundMemory ops m
+      → m.asked ≡ None → Begins m.coherence b → IsSoundSide b.after.config b.after.me a m.side
   started_side m b a words s idle bs =
-      quiet_side b.after.config b.after.me m.asked a m.side (idle_side m s idle) (subst (λ d. (k : HeapCall) → IsInProgress d a k → ⊥) (sym bs.same.config) words)
-      (same_side m.coherence.config b.after.config m.coherence.me b.after.me m.asked m.side bs.same.config bs.same.me s.side)
+      quiet_side b.after.config b.after.me m.asked a m.side (idle_side m s idle)
+      (subst (λ d. (k : HeapCall) → IsInProgress d a k → ⊥) (sym bs.same.config) words)
+      (same_side m.coherence.config b.after.config m.coherence.me b.after.me m.asked m.side
+      bs.same.config bs.same.me s.side)
 
   -- the memory after an access, by what it was told
-  pub had-sound : (m : Memory S) (b : Begun S) (o : Out) (a : Option Call) (number : ℕ) → ((j : Call) → a ≡ Some j → HasWidth j) → ((j : Call) → a ≡ Some j → 1 ≤ number) → number < 2 ^ 64 → ((k : HeapCall) → IsInProgress m.coherence.config a k → ⊥) → IsSoundMemory ops m → m.asked ≡ None → Begins m.coherence b → IsSound ops b.after → b.need ≡ need.Have o
-      → IsSoundMemory ops (record { coherence = b.after; asked = a; number = number; side = m.side })
+  pub had-sound : (m : NodeMemory S) (b : Begun S) (o : Out) (a : Option Call) (number : ℕ)
+      → ((j : Call) → a ≡ Some j → HasWidth j) → ((j : Call) → a ≡ Some j → 1 ≤ number)
+      → number < 2 ^ 64 → ((k : HeapCall) → IsInProgress m.coherence.config a k → ⊥)
+      → IsSoundMemory ops m → m.asked ≡ None → Begins m.coherence b → IsSound ops b.after
+      → b.need ≡ need.Have o
+      → IsSoundMemory ops
+      (record { coherence = b.after; asked = a; number = number; side = m.side })
   had-sound m b o a number wide least most words s idle bs good is = record {
     width = wide;
     numbered = least;
@@ -216,8 +277,12 @@ module _ {S : Type 0} {ops : Ops S} where
     apart = λ e h. absurd (none-some e (sym (idle_side m s idle) ∙ h));
   }
 
-  pub started-sound : (m : Memory S) (b : Begun S) (c : Call) (number : ℕ) → HasWidth c → 1 ≤ number → number < 2 ^ 64 → ((k : HeapCall) → IsInProgress m.coherence.config (Some c) k → ⊥) → IsSoundMemory ops m → m.asked ≡ None → Begins m.coherence b → IsSound ops b.after
-      → IsSoundMemory ops (record { coherence = b.after; asked = Some c; number = number; side = m.side })
+  pub started-sound : (m : NodeMemory S) (b : Begun S) (c : Call) (number : ℕ) → HasWidth c
+      → 1 ≤ number → number < 2 ^ 64
+      → ((k : HeapCall) → IsInProgress m.coherence.config (Some c) k → ⊥) → IsSoundMemory ops m
+      → m.asked ≡ None → Begins m.coherence b → IsSound ops b.after
+      → IsSoundMemory ops
+      (record { coherence = b.after; asked = Some c; number = number; side = m.side })
   started-sound m b c number wide least most words s idle bs good = record {
     width = one_wide c wide;
     numbered = λ j h. least;
@@ -231,18 +296,32 @@ module _ {S : Type 0} {ops : Ops S} where
     apart = λ e h. absurd (none-some e (sym (idle_side m s idle) ∙ h));
   }
 
-  answered-sound : (m : Memory S) (c : Call) (number : ℕ) (b : Begun S) (o : Out) (r : Option Reply) → HasWidth c → 1 ≤ number → number < 2 ^ 64 → ((k : HeapCall) → IsInProgress m.coherence.config (Some c) k → ⊥) → IsSoundMemory ops m → m.asked ≡ None → Begins m.coherence b → IsSound ops b.after → b.need ≡ need.Have o
+  answered-sound : (m : NodeMemory S) (c : Call) (number : ℕ) (b : Begun S) (o : Out)
+      (r : Option Reply) → HasWidth c → 1 ≤ number → number < 2 ^ 64
+      → ((k : HeapCall) → IsInProgress m.coherence.config (Some c) k → ⊥) → IsSoundMemory ops m
+      → m.asked ≡ None → Begins m.coherence b → IsSound ops b.after → b.need ≡ need.Have o
       → IsSoundMemory ops (answered m c number b r).after
-  answered-sound m c number b o None wide least most words s idle bs good is = had-sound m b o (Some c) number (one_wide c wide) (λ j h. least) most words s idle bs good is
-  answered-sound m c number b o (Some r) wide least most words s idle bs good is = had-sound m b o None m.number (λ j h. absurd (none-some j h)) (λ j h. absurd (none-some j h)) s.small (idle_words m.coherence.config) s idle bs good is
+  answered-sound m c number b o None wide least most words s idle bs good is =
+      had-sound m b o (Some c) number (one_wide c wide) (λ j h. least) most words s idle bs good is
+  answered-sound m c number b o (Some r) wide least most words s idle bs good is =
+      had-sound m b o None m.number (λ j h. absurd (none-some j h)) (λ j h. absurd (none-some j h))
+      s.small (idle_words m.coherence.config) s idle bs good is
 
-  needed-sound : (m : Memory S) (c : Call) (number : ℕ) (b : Begun S) (n : Need) → HasWidth c → 1 ≤ number → number < 2 ^ 64 → ((k : HeapCall) → IsInProgress m.coherence.config (Some c) k → ⊥) → IsSoundMemory ops m → m.asked ≡ None → Begins m.coherence b → IsSound ops b.after → b.need ≡ n
+  needed-sound : (m : NodeMemory S) (c : Call) (number : ℕ) (b : Begun S) (n : Need) → HasWidth c
+      → 1 ≤ number → number < 2 ^ 64
+      → ((k : HeapCall) → IsInProgress m.coherence.config (Some c) k → ⊥) → IsSoundMemory ops m
+      → m.asked ≡ None → Begins m.coherence b → IsSound ops b.after → b.need ≡ n
       → IsSoundMemory ops (needed m c number b n).after
-  needed-sound m c number b (need.Have o) wide least most words s idle bs good is = answered-sound m c number b o (reply_of o) wide least most words s idle bs good is
-  needed-sound m c number b need.Started wide least most words s idle bs good is = started-sound m b c number wide least most words s idle bs good
+  needed-sound m c number b (need.Have o) wide least most words s idle bs good is =
+      answered-sound m c number b o (reply_of o) wide least most words s idle bs good is
+  needed-sound m c number b need.Started wide least most words s idle bs good is =
+      started-sound m b c number wide least most words s idle bs good
   needed-sound m c number b need.Busy wide least most words s idle bs good is = s
 
-  pub told-memory : (m : Memory S) (new : Coherent S) → IsSoundMemory ops m → Told m.coherence new → IsSound ops new → IsSoundMemory ops (record { coherence = new; asked = m.asked; number = m.number; side = m.side })
+  pub told-memory : (m : NodeMemory S) (new : Coherent S) → IsSoundMemory ops m
+      → Told m.coherence new → IsSound ops new
+      → IsSoundMemory ops
+      (record { coherence = new; asked = m.asked; number = m.number; side = m.side })
   told-memory m new s told good =
       elim told.1 [
         | inl x ↦ record {
@@ -254,7 +333,8 @@ module _ {S : Type 0} {ops : Ops S} where
           numbered = s.numbered;
           small = s.small;
           under = s.under;
-          side = same_side m.coherence.config new.config m.coherence.me new.me m.asked m.side told.0.config told.0.me s.side;
+          side = same_side m.coherence.config new.config m.coherence.me new.me m.asked m.side
+              told.0.config told.0.me s.side;
           apart = λ e h. (x.0 ∙ (s.apart e h).0, x.1 ∙ (s.apart e h).1);
         }
         | inr x ↦ record {
@@ -266,13 +346,15 @@ module _ {S : Type 0} {ops : Ops S} where
           numbered = s.numbered;
           small = s.small;
           under = s.under;
-          side = same_side m.coherence.config new.config m.coherence.me new.me m.asked m.side told.0.config told.0.me s.side;
+          side = same_side m.coherence.config new.config m.coherence.me new.me m.asked m.side
+              told.0.config told.0.me s.side;
           apart = λ e h. absurd (none-some x.0 (sym (s.apart e h).0 ∙ x.1));
         }
       ]
 
   -- whatever stands there as the answer
-  pub with_done-sound : (c : Coherent S) (d : Option Out) → IsSound ops c → IsSound ops (record c { done = d })
+  pub with_done-sound : (c : Coherent S) (d : Option Out) → IsSound ops c
+      → IsSound ops (record c { done = d })
   with_done-sound c d s = record {
     limits = s.limits;
     here = s.here;
@@ -291,7 +373,8 @@ module _ {S : Type 0} {ops : Ops S} where
   }
 
   -- the memory without its call in progress, where no word waits
-  pub without-sound : (m : Memory S) → IsSoundMemory ops m → m.coherence.locked ≡ None → IsSoundMemory ops (taken_out m)
+  pub without-sound : (m : NodeMemory S) → IsSoundMemory ops m → m.coherence.locked ≡ None
+      → IsSoundMemory ops (taken_out m)
   without-sound m s free = record {
     coherent = with_done-sound m.coherence None s.coherent;
     done = λ h. refl;
@@ -306,30 +389,47 @@ module _ {S : Type 0} {ops : Ops S} where
   }
 
   -- no word waits where the reply is there
-  free_at : (m : Memory S) (r : Reply) → IsSoundMemory ops m → (e : Option Errand) → m.side.errand ≡ e → first_reply (reply_told e) (reply_there m.coherence.done) ≡ Some r → m.coherence.locked ≡ None
+  free_at : (m : NodeMemory S) (r : Reply) → IsSoundMemory ops m → (e : Option Errand)
+      → m.side.errand ≡ e → first_reply (reply_told e) (reply_there m.coherence.done) ≡ Some r
+      → m.coherence.locked ≡ None
   free_at m r s None is there = let d = reply_done m.coherence.done r there in s.answered d.0 d.1
   free_at m r s (Some e) is there = (s.apart e is).0
 
-  pub taken-sound : (m : Memory S) (r : Reply) → IsSoundMemory ops m → reply_at m ≡ Some r → IsSoundMemory ops (taken_out m)
+  pub taken-sound : (m : NodeMemory S) (r : Reply) → IsSoundMemory ops m → reply_at m ≡ Some r
+      → IsSoundMemory ops (taken_out m)
   taken-sound m r s there = without-sound m s (free_at m r s m.side.errand refl there)
 
-  again_unless-sound : (m : Memory S) (c : Call) (number : ℕ) (b : Begun S) (o : Out) (r : Option Reply) → HasWidth c → 1 ≤ number → number < 2 ^ 64 → ((k : HeapCall) → IsInProgress m.coherence.config (Some c) k → ⊥) → IsSoundMemory ops m → Begins (taken_out m).coherence b → IsSound ops b.after → b.need ≡ need.Have o
+  again_unless-sound : (m : NodeMemory S) (c : Call) (number : ℕ) (b : Begun S) (o : Out)
+      (r : Option Reply) → HasWidth c → 1 ≤ number → number < 2 ^ 64
+      → ((k : HeapCall) → IsInProgress m.coherence.config (Some c) k → ⊥) → IsSoundMemory ops m
+      → Begins (taken_out m).coherence b → IsSound ops b.after → b.need ≡ need.Have o
       → IsSoundMemory ops (again_unless m (answered (taken_out m) c number b r) r).after
   again_unless-sound m c number b o None wide least most words s bs good is = s
-  again_unless-sound m c number b o (Some r) wide least most words s bs good is = answered-sound (taken_out m) c number b o (Some r) wide least most words (without-sound m s (bs.free o is)) refl bs good is
+  again_unless-sound m c number b o (Some r) wide least most words s bs good is =
+      answered-sound (taken_out m) c number b o (Some r) wide least most words
+      (without-sound m s (bs.free o is)) refl bs good is
 
-  pub again-sound : (m : Memory S) (c : Call) (number : ℕ) (b : Begun S) (n : Need) → HasWidth c → 1 ≤ number → number < 2 ^ 64 → ((k : HeapCall) → IsInProgress m.coherence.config (Some c) k → ⊥) → IsSoundMemory ops m → Begins (taken_out m).coherence b → IsSound ops b.after → b.need ≡ n
+  pub again-sound : (m : NodeMemory S) (c : Call) (number : ℕ) (b : Begun S) (n : Need) → HasWidth c
+      → 1 ≤ number → number < 2 ^ 64
+      → ((k : HeapCall) → IsInProgress m.coherence.config (Some c) k → ⊥) → IsSoundMemory ops m
+      → Begins (taken_out m).coherence b → IsSound ops b.after → b.need ≡ n
       → IsSoundMemory ops (again m (needed (taken_out m) c number b n) n).after
-  again-sound m c number b (need.Have o) wide least most words s bs good is = again_unless-sound m c number b o (reply_of o) wide least most words s bs good is
-  again-sound m c number b need.Started wide least most words s bs good is = started-sound (taken_out m) b c number wide least most words (without-sound m s (bs.start is)) refl bs good
+  again-sound m c number b (need.Have o) wide least most words s bs good is =
+      again_unless-sound m c number b o (reply_of o) wide least most words s bs good is
+  again-sound m c number b need.Started wide least most words s bs good is =
+      started-sound (taken_out m) b c number wide least most words (without-sound m s (bs.start is))
+      refl bs good
   again-sound m c number b need.Busy wide least most words s bs good is = s
 
 -- what a call that begins keeps
-abbrev pub KeepsMemory : {S : Type 0} → Ops S → Memory S → CallBegun S → Type 0
-KeepsMemory ops m a = IsSoundMemory ops a.after × All (FitsParcel m.coherence.config m.coherence.me) a.posted × SameNode m.coherence a.after.coherence
+abbrev pub KeepsMemory : {S : Type 0} → Ops S → NodeMemory S → CallBegun S → Type 0
+KeepsMemory ops m a =
+    IsSoundMemory ops a.after × All (FitsParcel m.coherence.config m.coherence.me) a.posted
+    × SameNode m.coherence a.after.coherence
 
 module _ {S : Type 0} {ops : Ops S} (laws : Laws ops) where
-  pub first_sound-memory : (c : Config) (me : ℕ) → IsConfig c → me < c.nodes → IsSoundMemory ops (first_memory ops c me)
+  pub first_sound-memory : (c : Config) (me : ℕ) → IsConfig c → me < c.nodes
+      → IsSoundMemory ops (first_memory ops c me)
   first_sound-memory c me limits here = record {
     coherent = first-sound laws c me limits here;
     done = λ h. refl;
@@ -344,7 +444,9 @@ module _ {S : Type 0} {ops : Ops S} (laws : Laws ops) where
   }
 
   -- what the side was told leaves the rest as it is
-  side-sound : (m : Memory S) (t : HeapTold) → IsSoundMemory ops m → KeepsSide m.coherence.config m.coherence.me m.asked m.side t → IsSoundMemory ops (by_side m t).after
+  side-sound : (m : NodeMemory S) (t : HeapTold) → IsSoundMemory ops m
+      → KeepsSide m.coherence.config m.coherence.me m.asked m.side t
+      → IsSoundMemory ops (by_side m t).after
   side-sound m t s kept = record {
     coherent = s.coherent;
     done = s.done;
@@ -358,26 +460,55 @@ module _ {S : Type 0} {ops : Ops S} (laws : Laws ops) where
     apart = λ e h. (let d = kept.apart e h in s.apart d.0 d.1);
   }
 
-  pub told-sound : (m : Memory S) (from : ℕ) (message : Message) → IsSoundMemory ops m → from < m.coherence.config.nodes → from ≢ m.coherence.me → FitsMessage m.coherence.config message
-      → IsSoundMemory ops (memory_told ops m from message) × All (FitsParcel m.coherence.config m.coherence.me) (memory_handled ops m from message).posted
+  pub told-sound : (m : NodeMemory S) (from : ℕ) (message : Message) → IsSoundMemory ops m
+      → from < m.coherence.config.nodes → from ≢ m.coherence.me
+      → FitsMessage m.coherence.config message
+      → IsSoundMemory ops (memory_told ops m from message)
+      × All (FitsParcel m.coherence.config m.coherence.me)
+      (memory_handled ops m from message).posted
   told-sound m from message s below foreign fits =
       let kept = handled-keeps laws m.coherence from message s.coherent below foreign fits in
       let t : HeapTold = heap_told m.coherence.me m.side from message in
-      let side = told-keeps m.coherence.config m.coherence.me m.asked m.side s.side s.coherent.limits s.coherent.here from message below foreign fits in
-      either (λ (e : MemoryEffect S). IsSoundMemory ops e.after × All (FitsParcel m.coherence.config m.coherence.me) e.posted) t.fits (by_side m t) (by_coherence ops m from message)
+      let side =
+      told-keeps m.coherence.config m.coherence.me m.asked m.side s.side s.coherent.limits
+      s.coherent.here from message below foreign fits in
+      either (λ (e : MemoryEffect S). IsSoundMemory ops e.after
+      × All (FitsParcel m.coherence.config m.coherence.me) e.posted) t.fits (by_side m t)
+      (by_coherence ops m from message)
       (side-sound m t s side, side.fits)
       (told-memory m _ s (handled-told ops m.coherence from message s.coherent) kept.0, kept.1)
 
   -- a message has few answers
-  pub told-few : (m : Memory S) (from : ℕ) (message : Message) → IsSoundMemory ops m → from < m.coherence.config.nodes → from ≢ m.coherence.me → FitsMessage m.coherence.config message → length (memory_handled ops m from message).posted ≤ 8
+  pub told-few : (m : NodeMemory S) (from : ℕ) (message : Message) → IsSoundMemory ops m
+      → from < m.coherence.config.nodes → from ≢ m.coherence.me
+      → FitsMessage m.coherence.config message
+      → length (memory_handled ops m from message).posted ≤ 8
   told-few m from message s below foreign fits =
       let t : HeapTold = heap_told m.coherence.me m.side from message in
-      let few = (told-keeps m.coherence.config m.coherence.me m.asked m.side s.side s.coherent.limits s.coherent.here from message below foreign fits).few in
-      either (λ (e : MemoryEffect S). length e.posted ≤ 8) t.fits (by_side m t) (by_coherence ops m from message) (omega (arith, few)) (handled-few ops m.coherence from message s.coherent fits)
+      let few =
+      (told-keeps m.coherence.config m.coherence.me m.asked m.side s.side s.coherent.limits
+      s.coherent.here from message below foreign fits).few in
+      either (λ (e : MemoryEffect S). length e.posted ≤ 8) t.fits (by_side m t)
+      (by_coherence ops m from message) (omega (arith, few))
+      (handled-few ops m.coherence from message s.coherent fits)
 
-  module _ (m : Memory S) (k : Call) (number : ℕ) (s : IsSoundMemory ops m) (wide : HasWidth k) (idle : m.asked ≡ None) (h : HeapCall) (of : asked_of m.coherence.config k ≡ asked.Heap h) (least : 1 ≤ number) (most : number < 2 ^ 64) where
-    asked-heap : m.side.heap ≡ None → (b : Bool) → nat_lt (number_in h) (2 ^ 64) ≡ b → KeepsMemory ops m (heap_answered m k number (if b then record { answer = Awaited; after = record m.side { errand = Some (errand.Asked h number) }; posted = parcel_to m.coherence.me 0 m.coherence.me number (request h) ∷ [] } else record { answer = Unserved; after = m.side; posted = [] }))
-    asked-heap away false small = (s, all_none (FitsParcel m.coherence.config m.coherence.me), record { config = refl; me = refl })
+  module _ (m : NodeMemory S) (k : Call) (number : ℕ) (s : IsSoundMemory ops m) (wide : HasWidth k)
+      (idle : m.asked ≡ None) (h : HeapCall) (of : asked_of m.coherence.config k ≡ asked.Heap h)
+      (least : 1 ≤ number) (most : number < 2 ^ 64) where
+    asked-heap : m.side.heap ≡ None → (b : Bool) → nat_lt (number_in h) (2 ^ 64) ≡ b
+        → KeepsMemory ops m
+        (heap_answered m k number
+        (if b then record {
+          answer = Awaited;
+          after = record m.side { errand = Some (errand.Asked h number) };
+          posted = parcel_to m.coherence.me 0 m.coherence.me number (request h) ∷ [];
+        }
+        else record { answer = Unserved; after = m.side; posted = [] }))
+    asked-heap away false small = (
+      s,
+      all_none (FitsParcel m.coherence.config m.coherence.me),
+      record { config = refl; me = refl },
+    )
     asked-heap away true small = (
       record {
         coherent = s.coherent;
@@ -394,14 +525,20 @@ module _ {S : Type 0} {ops : Ops S} (laws : Laws ops) where
           owed = λ j in_progress. (errand.Asked h number, refl);
           none = λ zero. absurd (s.side.away away zero);
         };
-        under = λ j n x. (let e : errand.Asked h number ≡ errand.Asked j n = same_Some _ _ x in let i : n ≡ number = cc in i);
+        under = λ j n x.
+            (let e : errand.Asked h number ≡ errand.Asked j n = same_Some _ _ x in
+            let i : n ≡ number = cc in i);
         apart = λ e x. (s.locked idle, s.done idle);
       },
-      all_one (FitsParcel m.coherence.config m.coherence.me) _ (request_sent m.coherence.config m.coherence.me m.asked m.side s.side s.coherent.limits s.coherent.here h number away small least most),
+      all_one (FitsParcel m.coherence.config m.coherence.me) _
+          (request_sent m.coherence.config m.coherence.me m.asked m.side s.side s.coherent.limits
+          s.coherent.here h number away small least most),
       record { config = refl; me = refl },
     )
 
-    heap-at : (o : Option HeapState) → m.side.heap ≡ o → KeepsMemory ops m (heap_answered m k number (begun_at m.coherence.me m.side h number o))
+    heap-at : (o : Option HeapState) → m.side.heap ≡ o
+        → KeepsMemory ops m
+        (heap_answered m k number (heap_begun_at m.coherence.me m.side h number o))
     heap-at None there = asked-heap there (nat_lt (number_in h) (2 ^ 64)) refl
     heap-at (Some g) there = (
       record {
@@ -420,103 +557,153 @@ module _ {S : Type 0} {ops : Ops S} (laws : Laws ops) where
       record { config = refl; me = refl },
     )
 
-  as-sound : (m : Memory S) (k : Call) (number : ℕ) (x : Asked) → asked_of m.coherence.config k ≡ x → HasWidth k → IsSoundMemory ops m → m.asked ≡ None → CanAsk m.coherence.config x → 1 ≤ number → number < 2 ^ 64
+  as-sound : (m : NodeMemory S) (k : Call) (number : ℕ) (x : Asked)
+      → asked_of m.coherence.config k ≡ x → HasWidth k → IsSoundMemory ops m → m.asked ≡ None
+      → CanAsk m.coherence.config x → 1 ≤ number → number < 2 ^ 64
       → KeepsMemory ops m (begun_as ops m k number x)
-  as-sound m k number (asked.Refused code) of wide s idle can least most = (s, all_none (FitsParcel m.coherence.config m.coherence.me), record { config = refl; me = refl })
-  as-sound m k number (asked.Heap h) of wide s idle can least most = heap-at m k number s wide idle h of least most m.side.heap refl
+  as-sound m k number (asked.Refused code) of wide s idle can least most = (
+    s,
+    all_none (FitsParcel m.coherence.config m.coherence.me),
+    record { config = refl; me = refl },
+  )
+  as-sound m k number (asked.Heap h) of wide s idle can least most =
+      heap-at m k number s wide idle h of least most m.side.heap refl
   as-sound m k number (asked.Word page w) of wide s idle can least most =
       let b : Begun S = begun ops m.coherence page w number in
       let kept = begun-keeps laws m.coherence page w number s.coherent can.0 can.1 least most in
-      let marks : Begins m.coherence b = begun-begins ops m.coherence page w number in
-      (needed-sound m k number b b.need wide least most (word_words m.coherence.config k page w of) s idle marks kept.0 refl, needed-fits m.coherence.config m.coherence.me m k number b b.need kept.1, needed-same m k number b b.need marks.same)
+      let marks : Begins m.coherence b = begun-begins ops m.coherence page w number in (
+        needed-sound m k number b b.need wide least most (word_words m.coherence.config k page w of)
+            s idle marks kept.0 refl,
+        needed-fits m.coherence.config m.coherence.me m k number b b.need kept.1,
+        needed-same m k number b b.need marks.same,
+      )
 
   -- a call that begins
-  pub call-sound : (m : Memory S) (k : Call) (number : ℕ) → IsSoundMemory ops m → m.asked ≡ None → HasWidth k → 1 ≤ number → number < 2 ^ 64 → KeepsMemory ops m (call_begun ops m k number)
+  pub call-sound : (m : NodeMemory S) (k : Call) (number : ℕ) → IsSoundMemory ops m → m.asked ≡ None
+      → HasWidth k → 1 ≤ number → number < 2 ^ 64 → KeepsMemory ops m (call_begun ops m k number)
   unfolding call_begun
-  call-sound m k number s idle w least most = as-sound m k number (asked_of m.coherence.config k) refl w s idle (can_ask m.coherence.config k s.coherent.limits w) least most
+  call-sound m k number s idle w least most =
+      as-sound m k number (asked_of m.coherence.config k) refl w s idle
+      (can_ask m.coherence.config k s.coherent.limits w) least most
 
--- a call that has its reply is not in progress, and what is in progress is that call, under this number
+-- a call that has its reply is not in progress, and what is in progress is that call, under this
+-- number
 pub record IsBegun {S : Type 0} (k : Call) (number : ℕ) (a : CallBegun S) : Type 0 where
   pub over : (r : Reply) → a.answer ≡ Given r → a.after.asked ≡ None
   pub same : (j : Call) → a.after.asked ≡ Some j → k ≡ j
   pub numbered : (j : Call) → a.after.asked ≡ Some j → a.after.number ≡ number
 
-asked_so : (k j : Call) (old : Option Call) (r : Answer) → old ≡ None → asked_after old k r ≡ Some j → k ≡ j
+asked_so : (k j : Call) (old : Option Call) (r : Answer) → old ≡ None → asked_after old k r ≡ Some j
+    → k ≡ j
 asked_so k j old Awaited idle is = same_Some k j is
 asked_so k j old (Given r) idle is = absurd (none-some j (sym idle ∙ is))
 asked_so k j old Unserved idle is = absurd (none-some j (sym idle ∙ is))
 
-numbered_so : (k j : Call) (old : Option Call) (before number : ℕ) (r : Answer) → old ≡ None → asked_after old k r ≡ Some j → number_after before number r ≡ number
+numbered_so : (k j : Call) (old : Option Call) (before number : ℕ) (r : Answer) → old ≡ None
+    → asked_after old k r ≡ Some j → number_after before number r ≡ number
 numbered_so k j old before number Awaited idle is = refl
 numbered_so k j old before number (Given r) idle is = absurd (none-some j (sym idle ∙ is))
 numbered_so k j old before number Unserved idle is = absurd (none-some j (sym idle ∙ is))
 
 module _ {S : Type 0} where
   -- what changes nothing
-  idle-begun : (m : Memory S) (k : Call) (number : ℕ) → m.asked ≡ None → (r : Answer) (ps : List Parcel) → IsBegun k number (record { answer = r; after = m; posted = ps })
+  idle-begun : (m : NodeMemory S) (k : Call) (number : ℕ) → m.asked ≡ None
+      → (r : Answer) (ps : List Parcel)
+      → IsBegun k number (record { answer = r; after = m; posted = ps })
   idle-begun m k number idle r ps = record {
     over = λ q h. idle;
     same = λ j h. absurd (none-some j (sym idle ∙ h));
     numbered = λ j h. absurd (none-some j (sym idle ∙ h));
   }
 
-  pub unserved-begun : (m : Memory S) (k : Call) → m.asked ≡ Some k → IsBegun k m.number (unserved m)
-  unserved-begun m k asked = record { over = λ r h. absurd cc; same = λ j h. same_Some k j (sym asked ∙ h); numbered = λ j h. refl }
+  pub unserved-begun : (m : NodeMemory S) (k : Call) → m.asked ≡ Some k
+      → IsBegun k m.number (unserved m)
+  unserved-begun m k asked =
+      record {
+        over = λ r h. absurd cc;
+        same = λ j h. same_Some k j (sym asked ∙ h);
+        numbered = λ j h. refl;
+      }
 
-  answered-begun : (m : Memory S) (k : Call) (number : ℕ) (b : Begun S) (r : Option Reply) → IsBegun k number (answered m k number b r)
-  answered-begun m k number b None = record { over = λ r h. absurd cc; same = λ j h. same_Some k j h; numbered = λ j h. refl }
-  answered-begun m k number b (Some r) = record { over = λ q h. refl; same = λ j h. absurd (none-some j h); numbered = λ j h. absurd (none-some j h) }
+  answered-begun : (m : NodeMemory S) (k : Call) (number : ℕ) (b : Begun S) (r : Option Reply)
+      → IsBegun k number (answered m k number b r)
+  answered-begun m k number b None =
+      record { over = λ r h. absurd cc; same = λ j h. same_Some k j h; numbered = λ j h. refl }
+  answered-begun m k number b (Some r) =
+      record {
+        over = λ q h. refl;
+        same = λ j h. absurd (none-some j h);
+        numbered = λ j h. absurd (none-some j h);
+      }
 
-  heap-begun : (m : Memory S) (k : Call) (number : ℕ) (b : HeapBegun) → m.asked ≡ None → IsBegun k number (heap_answered m k number b)
+  heap-begun : (m : NodeMemory S) (k : Call) (number : ℕ) (b : HeapBegun) → m.asked ≡ None
+      → IsBegun k number (heap_answered m k number b)
   heap-begun m k number b idle = record {
     over = λ r h. ap (asked_after m.asked k) h ∙ idle;
     same = λ j h. asked_so k j m.asked b.answer idle h;
     numbered = λ j h. numbered_so k j m.asked m.number number b.answer idle h;
   }
 
-  needed-begun : (m : Memory S) (k : Call) (number : ℕ) (b : Begun S) (n : Need) → m.asked ≡ None → IsBegun k number (needed m k number b n)
+  needed-begun : (m : NodeMemory S) (k : Call) (number : ℕ) (b : Begun S) (n : Need)
+      → m.asked ≡ None → IsBegun k number (needed m k number b n)
   needed-begun m k number b (need.Have o) idle = answered-begun m k number b (reply_of o)
   needed-begun m k number b need.Started idle = answered-begun m k number b None
   needed-begun m k number b need.Busy idle = idle-begun m k number idle Unserved []
 
-  again_unless-begun : (m : Memory S) (k : Call) (b : Begun S) (r : Option Reply) → m.asked ≡ Some k → IsBegun k m.number (again_unless m (answered (taken_out m) k m.number b r) r)
+  again_unless-begun : (m : NodeMemory S) (k : Call) (b : Begun S) (r : Option Reply)
+      → m.asked ≡ Some k
+      → IsBegun k m.number (again_unless m (answered (taken_out m) k m.number b r) r)
   again_unless-begun m k b None asked = unserved-begun m k asked
   again_unless-begun m k b (Some r) asked = answered-begun (taken_out m) k m.number b (Some r)
 
-  pub again-begun : (m : Memory S) (k : Call) (b : Begun S) (n : Need) → m.asked ≡ Some k → IsBegun k m.number (again m (needed (taken_out m) k m.number b n) n)
+  pub again-begun : (m : NodeMemory S) (k : Call) (b : Begun S) (n : Need) → m.asked ≡ Some k
+      → IsBegun k m.number (again m (needed (taken_out m) k m.number b n) n)
   again-begun m k b (need.Have o) asked = again_unless-begun m k b (reply_of o) asked
   again-begun m k b need.Started asked = answered-begun (taken_out m) k m.number b None
   again-begun m k b need.Busy asked = unserved-begun m k asked
 
 module _ {S : Type 0} (ops : Ops S) where
-  as-begun : (m : Memory S) (k : Call) (number : ℕ) (x : Asked) → m.asked ≡ None → IsBegun k number (begun_as ops m k number x)
-  as-begun m k number (asked.Refused code) idle = idle-begun m k number idle (Given (reply.Refused code)) []
-  as-begun m k number (asked.Word page w) idle = let b : Begun S = begun ops m.coherence page w number in needed-begun m k number b b.need idle
-  as-begun m k number (asked.Heap h) idle = heap-begun m k number (heap_begun m.coherence.me m.side h number) idle
+  as-begun : (m : NodeMemory S) (k : Call) (number : ℕ) (x : Asked) → m.asked ≡ None
+      → IsBegun k number (begun_as ops m k number x)
+  as-begun m k number (asked.Refused code) idle =
+      idle-begun m k number idle (Given (reply.Refused code)) []
+  as-begun m k number (asked.Word page w) idle =
+      let b : Begun S = begun ops m.coherence page w number in needed-begun m k number b b.need idle
+  as-begun m k number (asked.Heap h) idle =
+      heap-begun m k number (heap_begun m.coherence.me m.side h number) idle
 
-  pub call-begun : (m : Memory S) (k : Call) (number : ℕ) → m.asked ≡ None → IsBegun k number (call_begun ops m k number)
+  pub call-begun : (m : NodeMemory S) (k : Call) (number : ℕ) → m.asked ≡ None
+      → IsBegun k number (call_begun ops m k number)
   unfolding call_begun
   call-begun m k number idle = as-begun m k number (asked_of m.coherence.config k) idle
 
-  as-same : (m : Memory S) (k : Call) (number : ℕ) (x : Asked) → SameNode m.coherence (begun_as ops m k number x).after.coherence
+  as-same : (m : NodeMemory S) (k : Call) (number : ℕ) (x : Asked)
+      → SameNode m.coherence (begun_as ops m k number x).after.coherence
   as-same m k number (asked.Refused code) = record { config = refl; me = refl }
-  as-same m k number (asked.Word page w) = let b : Begun S = begun ops m.coherence page w number in needed-same m k number b b.need (begun-begins ops m.coherence page w number).same
+  as-same m k number (asked.Word page w) =
+      let b : Begun S = begun ops m.coherence page w number in
+      needed-same m k number b b.need (begun-begins ops m.coherence page w number).same
   as-same m k number (asked.Heap h) = record { config = refl; me = refl }
 
   -- the node stays who it is
-  pub call-same : (m : Memory S) (k : Call) (number : ℕ) → SameNode m.coherence (call_begun ops m k number).after.coherence
+  pub call-same : (m : NodeMemory S) (k : Call) (number : ℕ)
+      → SameNode m.coherence (call_begun ops m k number).after.coherence
   unfolding call_begun
   call-same m k number = as-same m k number (asked_of m.coherence.config k)
 
-  as-few : (m : Memory S) (k : Call) (number : ℕ) (x : Asked) → IsSound ops m.coherence → length (begun_as ops m k number x).posted ≤ 8
+  as-few : (m : NodeMemory S) (k : Call) (number : ℕ) (x : Asked) → IsSound ops m.coherence
+      → length (begun_as ops m k number x).posted ≤ 8
   as-few m k number (asked.Refused code) s = omega arith
   as-few m k number (asked.Word page w) s =
       let b : Begun S = begun ops m.coherence page w number in
       let few = begun-few ops m.coherence page w number s in
-      let is : length (needed m k number b b.need).posted ≡ length b.posted = ap length (needed-posted m k number b b.need (begun-begins ops m.coherence page w number) refl) in
+      let is : length (needed m k number b b.need).posted ≡ length b.posted =
+      ap length
+      (needed-posted m k number b b.need (begun-begins ops m.coherence page w number) refl) in
       omega (arith, few, is)
   as-few m k number (asked.Heap h) s = heap_begun-few m.coherence.me m.side h number
 
-  pub call-few : (m : Memory S) (k : Call) (number : ℕ) → IsSound ops m.coherence → length (call_begun ops m k number).posted ≤ 8
+  pub call-few : (m : NodeMemory S) (k : Call) (number : ℕ) → IsSound ops m.coherence
+      → length (call_begun ops m k number).posted ≤ 8
   unfolding call_begun
   call-few m k number s = as-few m k number (asked_of m.coherence.config k) s

@@ -1,6 +1,9 @@
--- A word carried out on a page of the flat memory is one call of it: the page has the bytes after the word then, the
+-- A word carried out on a page of the flat memory is one call of it: the page has the bytes after
+-- the word then, the
 -- others stay as they are, and the word gives the call's reply.
-use Rattle.std.proofs.Common.{◌≡◌, ◌≢◌, ℕ, ◌+◌, ◌-◌, ◌*◌, ◌/◌, ◌%◌, ◌^◌, ◌<◌, ◌≤◌, Bool, true, false, nat_le, List, Option, Some, None, MatchOption, MatchBool, refl, sym, ap, ◌∙◌, subst, if◌then◌else◌, ◌==◌, slice_get, slice_set}
+use Rattle.std.proofs.Common.{◌≡◌, ◌≢◌, ℕ, ◌+◌, ◌-◌, ◌*◌, ◌/◌, ◌%◌, ◌^◌, ◌<◌, ◌≤◌, Bool, true}
+use Rattle.std.proofs.Common.{false, nat_le, List, Option, Some, None, MatchOption, MatchBool, refl}
+use Rattle.std.proofs.Common.{sym, ap, ◌∙◌, subst, if◌then◌else◌, ◌==◌, slice_get, slice_set}
 use Rattle.std.proofs.lemmas.Bool.{ne_eqb, leb-true}
 use Rattle.std.proofs.lemmas.Option.{slice_get_within}
 use Rattle.byteorder.specs.Endian.{big_bytes}
@@ -28,37 +31,60 @@ use Rattle.ivy_memory.specs.Flat.{Answers, IsServed}
 
 module _ (c : Config) (old : model.Memory) where
   -- what the memory answers and stays as it is
-  unchanged : (called : Call) (page : ℕ) (given : Out) → Answers c old called (reply_of given) old → IsServed c old called page (record { out = given; bytes = flat_page c old page })
-  unchanged called page given answers = record { new = old; answers = answers; here = refl; others = λ q inside ne. refl; blocks = refl }
+  unchanged : (called : Call) (page : ℕ) (given : Out) → Answers c old called (reply_of given) old
+      → IsServed c old called page (record { out = given; bytes = flat_page c old page })
+  unchanged called page given answers =
+      record {
+        new = old;
+        answers = answers;
+        here = refl;
+        others = λ q inside ne. refl;
+        blocks = refl;
+      }
 
-  module _ (config : IsConfig c) (width addr : ℕ) (legal : IsWidth width) (permitted : access_refusal c width addr ≡ None) where
+  module _ (config : IsConfig c) (width addr : ℕ) (legal : IsWidth width)
+      (permitted : access_refusal c width addr ≡ None) where
     placed : IsPlaced c width addr
     placed = access_placed c width addr config legal permitted
 
-    pub load_served : IsServed c old (call.Load width addr) (addr / c.page_size) (carried_out (word.Load width (addr % c.page_size)) (flat_page c old (addr / c.page_size)))
+    pub load_served : IsServed c old (call.Load width addr) (addr / c.page_size)
+        (carried_out (word.Load width (addr % c.page_size)) (flat_page c old (addr / c.page_size)))
     load_served =
-        let value : ℕ = number_at width (addr % c.page_size) (flat_page c old (addr / c.page_size)) in
+        let value : ℕ =
+        number_at width (addr % c.page_size) (flat_page c old (addr / c.page_size)) in
         unchanged (call.Load width addr) (addr / c.page_size) (out.Value value)
-        (subst (λ o. MatchOption o (Loads c old width addr (reply.Value value) old) (λ code. Refuses old code (reply.Value value) old)) (sym permitted)
+        (subst (λ o. MatchOption o (Loads c old width addr (reply.Value value) old)
+        (λ code. Refuses old code (reply.Value value) old)) (sym permitted)
         (ap reply.Value (sym (read_by_page c old width addr placed)), refl))
 
-    pub store_served : IsSized c old → (value : ℕ) → IsServed c old (call.Store width addr value) (addr / c.page_size) (carried_out (word.Store width (addr % c.page_size) value) (flat_page c old (addr / c.page_size)))
+    pub store_served : IsSized c old → (value : ℕ)
+        → IsServed c old (call.Store width addr value) (addr / c.page_size)
+        (carried_out (word.Store width (addr % c.page_size) value)
+        (flat_page c old (addr / c.page_size)))
     store_served sized value =
         let new : model.Memory = with_word c old width addr value in
         record {
           new = new;
-          answers = subst (λ o. MatchOption o (Stores c old width addr value reply.Done new) (λ code. Refuses old code reply.Done new)) (sym permitted) (refl, refl);
+          answers =
+              subst (λ o. MatchOption o (Stores c old width addr value reply.Done new)
+              (λ code. Refuses old code reply.Done new)) (sym permitted) (refl, refl);
           here = write_by_page c old width addr value sized.bytes placed;
-          others = λ q inside ne. write_elsewhere c old width addr value q sized.bytes placed inside ne;
+          others =
+              λ q inside ne. write_elsewhere c old width addr value q sized.bytes placed inside ne;
           blocks = refl;
         }
 
   module _ (width addr code : ℕ) (refusal : access_refusal c width addr ≡ Some code) where
     pub load_refused : Serves c old (call.Load width addr) (reply.Refused code) old
-    load_refused = subst (λ o. MatchOption o (Loads c old width addr (reply.Refused code) old) (λ n. Refuses old n (reply.Refused code) old)) (sym refusal) (refl, refl)
+    load_refused =
+        subst (λ o. MatchOption o (Loads c old width addr (reply.Refused code) old)
+        (λ n. Refuses old n (reply.Refused code) old)) (sym refusal) (refl, refl)
 
-    pub store_refused : (value : ℕ) → Serves c old (call.Store width addr value) (reply.Refused code) old
-    store_refused value = subst (λ o. MatchOption o (Stores c old width addr value (reply.Refused code) old) (λ n. Refuses old n (reply.Refused code) old)) (sym refusal) (refl, refl)
+    pub store_refused : (value : ℕ)
+        → Serves c old (call.Store width addr value) (reply.Refused code) old
+    store_refused value =
+        subst (λ o. MatchOption o (Stores c old width addr value (reply.Refused code) old)
+        (λ n. Refuses old n (reply.Refused code) old)) (sym refusal) (refl, refl)
 
   -- a count is a word of page 0
   module _ (sized : IsSized c old) (k n : ℕ) (there : slice_get old.counts k ≡ Some n) where
@@ -72,21 +98,30 @@ module _ (c : Config) (old : model.Memory) where
     count_served =
         let value : ℕ = number_at 8 (8 * k) words in
         unchanged (call.Count k) 0 (out.Value value)
-        (subst (λ o. MatchOption o (Refuses old (fault_number NoSuchCount) (reply.Value value) old) (λ m. (reply.Value value ≡ reply.Value m) × (old ≡ old))) (sym there)
+        (subst (λ o. MatchOption o (Refuses old (fault_number NoSuchCount) (reply.Value value) old)
+        (λ m. (reply.Value value ≡ reply.Value m) × (old ≡ old))) (sym there)
         (ap reply.Value count_read, refl))
 
     abbrev counted : model.Memory
-    counted = record { bytes = old.bytes; counts = slice_set old.counts k (n + 1); blocks = old.blocks }
+    counted =
+        record { bytes = old.bytes; counts = slice_set old.counts k (n + 1); blocks = old.blocks }
 
     advances : (r : Reply) (new : model.Memory) (b : Bool) → (n == 2 ^ 64 - 1) ≡ b
-        → MatchBool b (Refuses old (fault_number CountFull) r new) ((r ≡ reply.Done) × (new ≡ counted)) → Serves c old (call.Advance k) r new
+        → MatchBool b (Refuses old (fault_number CountFull) r new)
+        ((r ≡ reply.Done) × (new ≡ counted)) → Serves c old (call.Advance k) r new
     advances r new b test did =
-        subst (λ o. MatchOption o (Refuses old (fault_number NoSuchCount) r new) (λ m. Advances old k m r new)) (sym there)
-        (subst (λ d. MatchBool d (Refuses old (fault_number CountFull) r new) ((r ≡ reply.Done) × (new ≡ counted))) (sym test) did)
+        subst (λ o. MatchOption o (Refuses old (fault_number NoSuchCount) r new)
+        (λ m. Advances old k m r new)) (sym there)
+        (subst (λ d. MatchBool d (Refuses old (fault_number CountFull) r new)
+        ((r ≡ reply.Done) × (new ≡ counted))) (sym test) did)
 
     advanced_by : (b : Bool) → (n == 2 ^ 64 - 1) ≡ b
-        → IsServed c old (call.Advance k) 0 (if b then record { out = out.Full; bytes = words } else record { out = out.Done; bytes = overwrite words (8 * k) (big_bytes 8 (n + 1)) })
-    advanced_by true full = unchanged (call.Advance k) 0 out.Full (advances (reply.Refused 7) old true full (refl, refl))
+        → IsServed c old (call.Advance k) 0
+        (if b then record { out = out.Full; bytes = words }
+        else record { out = out.Done; bytes = overwrite words (8 * k) (big_bytes 8 (n + 1)) })
+    advanced_by true full =
+        unchanged (call.Advance k) 0 out.Full
+        (advances (reply.Refused 7) old true full (refl, refl))
     advanced_by false room = record {
       new = counted;
       answers = advances reply.Done counted false room (refl, refl);
@@ -95,27 +130,40 @@ module _ (c : Config) (old : model.Memory) where
       blocks = refl;
     }
 
-    pub advance_served : IsServed c old (call.Advance k) 0 (carried_out (word.Advance (8 * k)) words)
-    advance_served = subst (λ m. IsServed c old (call.Advance k) 0 (advanced m (8 * k) words)) (sym count_read) (advanced_by (n == 2 ^ 64 - 1) refl)
+    pub advance_served : IsServed c old (call.Advance k) 0
+        (carried_out (word.Advance (8 * k)) words)
+    advance_served =
+        subst (λ m. IsServed c old (call.Advance k) 0 (advanced m (8 * k) words)) (sym count_read)
+        (advanced_by (n == 2 ^ 64 - 1) refl)
 
-    awaited_by : (least : ℕ) (b : Bool) → nat_le least n ≡ b → Answers c old (call.Await k least) (reply_of (if b then out.Value n else out.NotYet)) old
+    awaited_by : (least : ℕ) (b : Bool) → nat_le least n ≡ b
+        → Answers c old (call.Await k least) (reply_of (if b then out.Value n else out.NotYet)) old
     awaited_by least true enough =
-        subst (λ o. MatchOption o (Refuses old (fault_number NoSuchCount) (reply.Value n) old) (λ m. (least ≤ m) × (reply.Value n ≡ reply.Value m) × (old ≡ old))) (sym there)
+        subst (λ o. MatchOption o (Refuses old (fault_number NoSuchCount) (reply.Value n) old)
+        (λ m. (least ≤ m) × (reply.Value n ≡ reply.Value m) × (old ≡ old))) (sym there)
         (leb-true least n enough, refl, refl)
     awaited_by least false few = refl
 
-    pub await_served : (least : ℕ) → IsServed c old (call.Await k least) 0 (carried_out (word.Await (8 * k) least) words)
+    pub await_served : (least : ℕ)
+        → IsServed c old (call.Await k least) 0 (carried_out (word.Await (8 * k) least) words)
     await_served least =
         unchanged (call.Await k least) 0 (awaited (number_at 8 (8 * k) words) least)
-        (subst (λ m. Answers c old (call.Await k least) (reply_of (awaited m least)) old) (sym count_read) (awaited_by least (nat_le least n) refl))
+        (subst (λ m. Answers c old (call.Await k least) (reply_of (awaited m least)) old)
+        (sym count_read) (awaited_by least (nat_le least n) refl))
 
   module _ (k : ℕ) (past : slice_get old.counts k ≡ None) where
     pub count_refused : Serves c old (call.Count k) (reply.Refused 6) old
-    count_refused = subst (λ o. MatchOption o (Refuses old (fault_number NoSuchCount) (reply.Refused 6) old) (λ m. (reply.Refused 6 ≡ reply.Value m) × (old ≡ old))) (sym past) (refl, refl)
+    count_refused =
+        subst (λ o. MatchOption o (Refuses old (fault_number NoSuchCount) (reply.Refused 6) old)
+        (λ m. (reply.Refused 6 ≡ reply.Value m) × (old ≡ old))) (sym past) (refl, refl)
 
     pub advance_refused : Serves c old (call.Advance k) (reply.Refused 6) old
-    advance_refused = subst (λ o. MatchOption o (Refuses old (fault_number NoSuchCount) (reply.Refused 6) old) (λ m. Advances old k m (reply.Refused 6) old)) (sym past) (refl, refl)
+    advance_refused =
+        subst (λ o. MatchOption o (Refuses old (fault_number NoSuchCount) (reply.Refused 6) old)
+        (λ m. Advances old k m (reply.Refused 6) old)) (sym past) (refl, refl)
 
     pub await_refused : (least : ℕ) → Serves c old (call.Await k least) (reply.Refused 6) old
     await_refused least =
-        subst (λ o. MatchOption o (Refuses old (fault_number NoSuchCount) (reply.Refused 6) old) (λ m. (least ≤ m) × (reply.Refused 6 ≡ reply.Value m) × (old ≡ old))) (sym past) (refl, refl)
+        subst (λ o. MatchOption o (Refuses old (fault_number NoSuchCount) (reply.Refused 6) old)
+        (λ m. (least ≤ m) × (reply.Refused 6 ≡ reply.Value m) × (old ≡ old))) (sym past)
+        (refl, refl)

@@ -57,7 +57,8 @@ IsOfHeap (asked.Refused code) = ⊥
 IsOfHeap (asked.Word page w) = ⊥
 IsOfHeap (asked.Heap k) = Unit {0}
 
--- a call of the heap, so answered, that may be refused by a fault: it gives a block, or node 0 has to be asked
+-- a call of the heap, so answered, that may be refused by a fault: it gives a block, or node 0 has
+-- to be asked
 abbrev pub MayBeRefused : Asked → Answer → Type 0
 MayBeRefused a answer = IsOfHeap a × (IsAddress answer ⊎ (answer ≡ Awaited))
 

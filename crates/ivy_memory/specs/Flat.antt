@@ -20,7 +20,8 @@ abbrev pub Answers : Config → model.Memory → Call → Option Reply → model
 Answers c old call None new = new ≡ old
 Answers c old call (Some r) new = Serves c old call r new
 
--- the call is what carrying a word out on this page came to: its reply, and the bytes of the page; all else stays
+-- the call is what carrying a word out on this page came to: its reply, and the bytes of the page;
+-- all else stays
 pub record IsServed (c : Config) (old : model.Memory) (call : Call) (page : ℕ)
     (came : Carried) : Type 0 where
   pub new : model.Memory

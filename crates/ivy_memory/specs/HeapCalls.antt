@@ -9,7 +9,7 @@ use Rattle.ivy_wire.specs.declared.Content.TheVariants as content
 use Rattle.ivy_wire.specs.Data.{Content, Message, Parcel}
 use Rattle.ivy_serving.specs.Serving.{parcel_to}
 use Rattle.ivy_alloc.specs.Heap.{HeapState, first_heap}
-use Rattle.ivy_alloc.specs.Told.{Told, alloc_told, free_told}
+use Rattle.ivy_alloc.specs.Told.{BlocksTold, alloc_told, free_told}
 use Rattle.ivy_memory.specs.declared.answer.Answer.{Answer}
 use Rattle.ivy_memory.specs.declared.answer.Answer.TheVariants.{Given, Awaited, Unserved}
 use Rattle.ivy_memory.specs.declared.heap_side.HeapCall.{HeapCall}
@@ -17,7 +17,8 @@ use Rattle.ivy_memory.specs.declared.heap_side.HeapCall.TheVariants.{Alloc, Free
 use Rattle.ivy_memory.specs.declared.heap_side.Errand.{Errand}
 use Rattle.ivy_memory.specs.declared.heap_side.Errand.TheVariants as errand
 
--- `heap` is the heap, at node 0 alone; `errand` is where the call in progress stands that node 0 was asked for
+-- `heap` is the heap, at node 0 alone; `errand` is where the call in progress stands that node 0
+-- was asked for
 pub record HeapSide : Type 0 where
   pub heap : Option HeapState
   pub errand : Option Errand
@@ -43,7 +44,8 @@ abbrev pub IsAddressPosted : List Parcel → Type 0
 IsAddressPosted ps =
     (p : Parcel) × (addr : ℕ) × (ps ≡ p ∷ []) × (p.message.content ≡ content.AllocRep 0 addr)
 
--- a fault with which the heap refuses to give a block: want of memory, and only where there is room for the block
+-- a fault with which the heap refuses to give a block: want of memory, and only where there is room
+-- for the block
 abbrev pub IsGrowth : Answer → Fault → Type 0
 IsGrowth answer fault = IsAddress answer × (fault ≡ Memory)
 
@@ -52,16 +54,16 @@ abbrev pub IsGrowthPosted : List Parcel → Fault → Type 0
 IsGrowthPosted posted fault = IsAddressPosted posted × (fault ≡ Memory)
 
 -- what the heap answers to a call, and the heap after it
-abbrev pub told_of : HeapState → HeapCall → Told
+abbrev pub told_of : HeapState → HeapCall → BlocksTold
 told_of h (Alloc size) = alloc_told h.config h.blocks size
 told_of h (Free addr) = free_told h.blocks addr
 
 -- the heap after it served a call
-abbrev pub after_told : HeapState → Told → HeapState
+abbrev pub after_told : HeapState → BlocksTold → HeapState
 after_told h t = record { config = h.config; blocks = t.blocks }
 
 -- the side of node 0 after its heap served a call
-abbrev pub kept : HeapSide → HeapState → Told → HeapSide
+abbrev pub kept : HeapSide → HeapState → BlocksTold → HeapSide
 kept s h t = record s { heap = Some (after_told h t) }
 
 -- whether a message is about a page: any other is of the heap
@@ -90,7 +92,8 @@ answer_to (Alloc size) (Refused code) = content.AllocRep code 0
 answer_to (Free addr) (Refused code) = content.FreeRep code
 answer_to (Free addr) r = content.FreeRep 0
 
--- the reply that the answer to an Alloc is, and that to a Free: with code 0 it is served, else refused with the code
+-- the reply that the answer to an Alloc is, and that to a Free: with code 0 it is served, else
+-- refused with the code
 abbrev pub block_told : ℕ → ℕ → Reply
 block_told code addr = if code == 0 then Value addr else Refused code
 
@@ -109,13 +112,14 @@ pub record HeapBegun : Type 0 where
   pub after : HeapSide
   pub posted : List Parcel
 
--- Node 0 serves it at once. Any other node asks node 0, whatever will be refused; there is no request with a number
+-- Node 0 serves it at once. Any other node asks node 0, whatever will be refused; there is no
+-- request with a number
 -- that takes more than 8 bytes.
-abbrev pub begun_at : ℕ → HeapSide → HeapCall → ℕ → Option HeapState → HeapBegun
-begun_at me s k number (Some h) =
+abbrev pub heap_begun_at : ℕ → HeapSide → HeapCall → ℕ → Option HeapState → HeapBegun
+heap_begun_at me s k number (Some h) =
     let t = told_of h k in
     record { answer = Given t.reply; after = kept s h t; posted = [] }
-begun_at me s k number None =
+heap_begun_at me s k number None =
     if nat_lt (number_in k) (2 ^ 64)
     then record {
       answer = Awaited;
@@ -126,7 +130,7 @@ begun_at me s k number None =
 
 -- a call of the heap begins, as the one of this number
 abbrev pub heap_begun : ℕ → HeapSide → HeapCall → ℕ → HeapBegun
-heap_begun me s k number = begun_at me s k number s.heap
+heap_begun me s k number = heap_begun_at me s k number s.heap
 
 -- what a message does: whether it fits a rule, and what comes of it
 pub record HeapTold : Type 0 where
@@ -150,8 +154,8 @@ served_at me s from number k (Some h) =
 served_at me s from number k None = misfit s
 
 -- node 0 serves nobody but the node that the request is from
-abbrev pub served : ℕ → HeapSide → ℕ → Message → HeapCall → HeapTold
-served me s from m k =
+abbrev pub errand_served : ℕ → HeapSide → ℕ → Message → HeapCall → HeapTold
+errand_served me s from m k =
     if m.origin == from then served_at me s from m.call k s.heap else misfit s
 
 -- the answer to the call that node 0 was asked for
@@ -168,16 +172,16 @@ learns s number body (Some (errand.Told r)) = misfit s
 learns s number body None = misfit s
 
 -- and from node 0 alone, about a call of this node
-abbrev pub answered_by : ℕ → HeapSide → ℕ → Message → HeapTold
-answered_by me s from m =
+abbrev pub told_answer : ℕ → HeapSide → ℕ → Message → HeapTold
+told_answer me s from m =
     if from == 0 && m.origin == me then learns s m.call m.content s.errand else misfit s
 
 -- which rule there is for a message, by what it is about
 abbrev pub heap_told_as : ℕ → HeapSide → ℕ → Message → Content → HeapTold
-heap_told_as me s from m (content.AllocReq size) = served me s from m (Alloc size)
-heap_told_as me s from m (content.FreeReq addr) = served me s from m (Free addr)
-heap_told_as me s from m (content.AllocRep code addr) = answered_by me s from m
-heap_told_as me s from m (content.FreeRep code) = answered_by me s from m
+heap_told_as me s from m (content.AllocReq size) = errand_served me s from m (Alloc size)
+heap_told_as me s from m (content.FreeReq addr) = errand_served me s from m (Free addr)
+heap_told_as me s from m (content.AllocRep code addr) = told_answer me s from m
+heap_told_as me s from m (content.FreeRep code) = told_answer me s from m
 heap_told_as me s from m body = misfit s
 
 -- what a message of another node does to the side

@@ -1,4 +1,5 @@
--- A node's memory: its coherence, the call that it has in progress, and its side of the calls of the heap.
+-- A node's memory: its coherence, the call that it has in progress, and its side of the calls of
+-- the heap.
 use Rattle.std.specs.Prelude.{◌≡◌, ℕ, Option, Some, None, List, [], if◌then◌else◌}
 use Rattle.ivy_model.specs.declared.Config.{Config}
 use Rattle.ivy_model.specs.declared.Call.{Call}
@@ -21,15 +22,16 @@ use Rattle.ivy_memory.specs.declared.asked.Asked.TheVariants as asked
 use Rattle.ivy_memory.specs.Asking.{asked_of, CallHasToAsk}
 use Rattle.ivy_memory.specs.HeapCalls.{HeapSide, HeapBegun, HeapTold, first_side, closed, heap_begun, heap_told, reply_told}
 
--- `number` is that of the call in progress, or of the last one that was in progress where there is none
-pub record Memory (S : Type 0) : Type 0 where
+-- `number` is that of the call in progress, or of the last one that was in progress where there is
+-- none
+pub record NodeMemory (S : Type 0) : Type 0 where
   pub coherence : Coherent S
   pub asked : Option Call
   pub number : ℕ
   pub side : HeapSide
 
 -- the memory of a node as it begins
-abbrev pub first_memory : {S : Type 0} → Ops S → Config → ℕ → Memory S
+abbrev pub first_memory : {S : Type 0} → Ops S → Config → ℕ → NodeMemory S
 first_memory ops c me = record {
   coherence = first_coherent ops c me;
   asked = None;
@@ -54,11 +56,11 @@ first_reply (Some r) o = Some r
 first_reply None o = o
 
 -- the reply of the call in progress, once it is there
-abbrev pub reply_at : {S : Type 0} → Memory S → Option Reply
+abbrev pub reply_at : {S : Type 0} → NodeMemory S → Option Reply
 reply_at m = first_reply (reply_told m.side.errand) (reply_there m.coherence.done)
 
 -- the memory without the call in progress: its reply was taken out, or it begins anew
-abbrev pub taken_out : {S : Type 0} → Memory S → Memory S
+abbrev pub taken_out : {S : Type 0} → NodeMemory S → NodeMemory S
 taken_out m = record {
   coherence = record m.coherence { done = None };
   asked = None;
@@ -67,16 +69,17 @@ taken_out m = record {
 }
 
 -- other nodes have to be asked for the call in progress, which has no reply yet
-pub record HasToAskAgain {S : Type 0} (m : Memory S) : Type 0 where
+pub record HasToAskAgain {S : Type 0} (m : NodeMemory S) : Type 0 where
   pub call : Call
   pub asked : m.asked ≡ Some call
   pub untold : reply_at m ≡ None
   pub asks : CallHasToAsk m.coherence call
 
--- what a call comes to when it begins or is tried again: what it is answered, the memory after, and what is posted
+-- what a call comes to when it begins or is tried again: what it is answered, the memory after, and
+-- what is posted
 pub record CallBegun (S : Type 0) : Type 0 where
   pub answer : Answer
-  pub after : Memory S
+  pub after : NodeMemory S
   pub posted : List Parcel
 
 -- the call in progress after a call of the heap began, and its number
@@ -90,7 +93,7 @@ number_after old number answer = old
 
 module _ {S : Type 0} where
   -- it is answered, or it is in progress, under its number, where it has no reply
-  abbrev pub answered : Memory S → Call → ℕ → Begun S → Option Reply → CallBegun S
+  abbrev pub answered : NodeMemory S → Call → ℕ → Begun S → Option Reply → CallBegun S
   answered m call number b None = record {
     answer = Awaited;
     after = record { coherence = b.after; asked = Some call; number = number; side = m.side };
@@ -102,29 +105,30 @@ module _ {S : Type 0} where
     posted = b.posted;
   }
 
-  abbrev pub refused : Memory S → ℕ → CallBegun S
+  abbrev pub refused : NodeMemory S → ℕ → CallBegun S
   refused m code = record { answer = Given (reply.Refused code); after = m; posted = [] }
 
-  abbrev pub unserved : Memory S → CallBegun S
+  abbrev pub unserved : NodeMemory S → CallBegun S
   unserved m = record { answer = Unserved; after = m; posted = [] }
 
-  abbrev pub needed : Memory S → Call → ℕ → Begun S → Need → CallBegun S
+  abbrev pub needed : NodeMemory S → Call → ℕ → Begun S → Need → CallBegun S
   needed m call number b (need.Have o) = answered m call number b (reply_of o)
   needed m call number b need.Started = answered m call number b None
   needed m call number b need.Busy = unserved m
 
-  -- a call that is tried again: where its word has no answer now either, or another one waits, nothing changes
-  abbrev pub again_unless : Memory S → CallBegun S → Option Reply → CallBegun S
+  -- a call that is tried again: where its word has no answer now either, or another one waits,
+  -- nothing changes
+  abbrev pub again_unless : NodeMemory S → CallBegun S → Option Reply → CallBegun S
   again_unless m a None = unserved m
   again_unless m a (Some r) = a
 
-  abbrev pub again : Memory S → CallBegun S → Need → CallBegun S
+  abbrev pub again : NodeMemory S → CallBegun S → Need → CallBegun S
   again m a (need.Have o) = again_unless m a (reply_of o)
   again m a need.Started = a
   again m a need.Busy = unserved m
 
   -- a call of the heap has its reply, or it is in progress where node 0 was asked
-  abbrev pub heap_answered : Memory S → Call → ℕ → HeapBegun → CallBegun S
+  abbrev pub heap_answered : NodeMemory S → Call → ℕ → HeapBegun → CallBegun S
   heap_answered m call number b = record {
     answer = b.answer;
     after = record {
@@ -138,14 +142,14 @@ module _ {S : Type 0} where
 
 -- what a message does to a memory, and what is posted
 pub record MemoryEffect (S : Type 0) : Type 0 where
-  pub after : Memory S
+  pub after : NodeMemory S
   pub posted : List Parcel
 
-abbrev pub by_side : {S : Type 0} → Memory S → HeapTold → MemoryEffect S
+abbrev pub by_side : {S : Type 0} → NodeMemory S → HeapTold → MemoryEffect S
 by_side m t = record { after = record m { side = t.after }; posted = t.posted }
 
 module _ {S : Type 0} (ops : Ops S) where
-  abbrev pub begun_as : Memory S → Call → ℕ → Asked → CallBegun S
+  abbrev pub begun_as : NodeMemory S → Call → ℕ → Asked → CallBegun S
   begun_as m call number (asked.Refused code) = refused m code
   begun_as m call number (asked.Word page word) =
       let b = begun ops m.coherence page word number in
@@ -154,43 +158,44 @@ module _ {S : Type 0} (ops : Ops S) where
       heap_answered m call number (heap_begun m.coherence.me m.side k number)
 
   -- a call begins, as the one of this number
-  unfoldable pub call_begun : Memory S → Call → ℕ → CallBegun S
+  unfoldable pub call_begun : NodeMemory S → Call → ℕ → CallBegun S
   call_begun m call number = begun_as m call number (asked_of m.coherence.config call)
 
   -- the word of the call in progress is tried again, as if the call began under its number
-  abbrev pub tried_as : Memory S → Call → Asked → CallBegun S
+  abbrev pub tried_as : NodeMemory S → Call → Asked → CallBegun S
   tried_as m call (asked.Refused code) = unserved m
   tried_as m call (asked.Word page word) =
       let b = begun ops (taken_out m).coherence page word m.number in
       again m (needed (taken_out m) call m.number b b.need) b.need
   tried_as m call (asked.Heap k) = unserved m
 
-  abbrev pub polled_as : Memory S → Call → Option Reply → CallBegun S
+  abbrev pub polled_as : NodeMemory S → Call → Option Reply → CallBegun S
   polled_as m call (Some r) = record { answer = Given r; after = taken_out m; posted = [] }
   polled_as m call None = tried_as m call (asked_of m.coherence.config call)
 
-  abbrev pub polled_at : Memory S → Option Call → CallBegun S
+  abbrev pub polled_at : NodeMemory S → Option Call → CallBegun S
   polled_at m None = unserved m
   polled_at m (Some call) = polled_as m call (reply_at m)
 
   -- the reply of the call in progress: it is there, or the call is tried again
-  unfoldable pub polled : Memory S → CallBegun S
+  unfoldable pub polled : NodeMemory S → CallBegun S
   polled m = polled_at m m.asked
 
-  abbrev pub by_coherence : Memory S → ℕ → Message → MemoryEffect S
+  abbrev pub by_coherence : NodeMemory S → ℕ → Message → MemoryEffect S
   by_coherence m from message = record {
     after = record m { coherence = (handled ops m.coherence from message).after };
     posted = (handled ops m.coherence from message).posted;
   }
 
-  -- a message of the heap that fits a rule is for the node's side of it; any other is for its coherence
-  abbrev pub memory_handled_as : Memory S → ℕ → Message → HeapTold → MemoryEffect S
+  -- a message of the heap that fits a rule is for the node's side of it; any other is for its
+  -- coherence
+  abbrev pub memory_handled_as : NodeMemory S → ℕ → Message → HeapTold → MemoryEffect S
   memory_handled_as m from message t = if t.fits then by_side m t else by_coherence m from message
 
   -- a message comes
-  abbrev pub memory_handled : Memory S → ℕ → Message → MemoryEffect S
+  abbrev pub memory_handled : NodeMemory S → ℕ → Message → MemoryEffect S
   memory_handled m from message =
       memory_handled_as m from message (heap_told m.coherence.me m.side from message)
 
-  abbrev pub memory_told : Memory S → ℕ → Message → Memory S
+  abbrev pub memory_told : NodeMemory S → ℕ → Message → NodeMemory S
   memory_told m from message = (memory_handled m from message).after

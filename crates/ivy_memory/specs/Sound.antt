@@ -13,7 +13,7 @@ use Rattle.ivy_memory.specs.declared.heap_side.Errand.{Errand}
 use Rattle.ivy_memory.specs.declared.heap_side.Errand.TheVariants as errand
 use Rattle.ivy_memory.specs.Asking.{asked_of}
 use Rattle.ivy_memory.specs.HeapCalls.{HeapSide}
-use Rattle.ivy_memory.specs.Memories.{Memory}
+use Rattle.ivy_memory.specs.Memories.{NodeMemory}
 
 -- the call in progress is this one of the heap
 pub record IsInProgress (c : Config) (in_progress : Option Call) (k : HeapCall) : Type 0 where
@@ -27,18 +27,22 @@ IsErrandOf c in_progress None = Unit {0}
 IsErrandOf c in_progress (Some (errand.Asked k number)) = IsInProgress c in_progress k
 IsErrandOf c in_progress (Some (errand.Told r)) = (k : HeapCall) × IsInProgress c in_progress k
 
--- the heap is at node 0, which asks nobody; any other node asks that one, for each call of the heap in progress
-pub record IsSoundSide (c : Config) (me : ℕ) (in_progress : Option Call) (s : HeapSide) : Type 0 where
-  pub away : s.heap ≡ None → me ≢ 0
-  pub home : (h : HeapState) → s.heap ≡ Some h → (h.config ≡ c) × (me ≡ 0)
-  pub errand : IsErrandOf c in_progress s.errand
-  pub owed : (k : HeapCall) → IsInProgress c in_progress k → (e : Errand) × (s.errand ≡ Some e)
-  pub none : me ≡ 0 → s.errand ≡ None
+-- the heap is at node 0, which asks nobody; any other node asks that one, for each call of the heap
+-- in progress
+pub record IsSoundSide (c : Config) (me : ℕ) (in_progress : Option Call) (s : HeapSide) : Type 0
+  where
+    pub away : s.heap ≡ None → me ≢ 0
+    pub home : (h : HeapState) → s.heap ≡ Some h → (h.config ≡ c) × (me ≡ 0)
+    pub errand : IsErrandOf c in_progress s.errand
+    pub owed : (k : HeapCall) → IsInProgress c in_progress k → (e : Errand) × (s.errand ≡ Some e)
+    pub none : me ≡ 0 → s.errand ≡ None
 
--- Without a call in progress no word waits, and none was carried out; nor does a word wait beside one carried out, or
--- beside a call of the heap that node 0 was asked for. The call in progress has a width that the memory knows, and a
+-- Without a call in progress no word waits, and none was carried out; nor does a word wait beside
+-- one carried out, or
+-- beside a call of the heap that node 0 was asked for. The call in progress has a width that the
+-- memory knows, and a
 -- number that a message can carry.
-pub record IsSoundMemory {S : Type 0} (ops : Ops S) (m : Memory S) : Type 0 where
+pub record IsSoundMemory {S : Type 0} (ops : Ops S) (m : NodeMemory S) : Type 0 where
   pub coherent : IsSound ops m.coherence
   pub done : m.asked ≡ None → m.coherence.done ≡ None
   pub locked : m.asked ≡ None → m.coherence.locked ≡ None

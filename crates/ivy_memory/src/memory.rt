@@ -49,7 +49,7 @@ impl<M: Manager, A: Allocator> Model for Memory<M, A> {
     ghost use Rattle.ivy_memory.specs.Memories as memories;
     ghost use Rattle.ivy_memory.specs.Sound.{IsSoundMemory};
 
-    ghost Value = { memories.Memory M };
+    ghost Value = { memories.NodeMemory M };
 
     ghost use Rattle.std.specs.Coded.{codes};
     ghost use Rattle.ivy_pagetable.specs.NodeSets.{nodes_code};

@@ -20,9 +20,11 @@ use Rattle.ivy_model.specs.Serves.{IsLeast, IsRoom}
 use Rattle.ivy_model.proofs.Limits.{page_has_words}
 use Rattle.ivy_model.proofs.Blocks.{Misses, apart_from_all, all_from_apart, get_block}
 
--- the walk has come to this address, and these blocks are left of all of them: no lower address misses all, and
+-- the walk has come to this address, and these blocks are left of all of them: no lower address
+-- misses all, and
 -- from here on one that misses what is left misses all
-pub record IsWalkedTo (c : Config) (all : List (ℕ × ℕ)) (size addr : ℕ) (left : List (ℕ × ℕ)) : Type 0 where
+pub record IsWalkedTo (c : Config) (all : List (ℕ × ℕ)) (size addr : ℕ) (left : List (ℕ × ℕ)) : Type
+    0 where
   pub sorted : IsStrictlySortedBy nat_cmp (keys_of left)
   pub sound : All (λ b. IsBlock c b.0 b.1) left
   pub aligned : addr % 8 ≡ 0
@@ -39,9 +41,11 @@ later : (size addr start : ℕ) (es : List (ℕ × ℕ)) → addr + size ≤ sta
     → AllByRecursion (λ k. nat_cmp start k ≡ Less) (keys_of es) → All (Misses size addr) es
 later size addr start [] h s = All-nil (Misses size addr)
 later size addr start (e ∷ es) h s =
-    All-cons (Misses size addr) e es (inl (let l : start < e.0 = less start e.0 s.0 in omega arith)) (later size addr start es h s.1)
+    All-cons (Misses size addr) e es (inl (let l : start < e.0 = less start e.0 s.0 in omega arith))
+    (later size addr start es h s.1)
 
-module _ (c : Config) (all : List (ℕ × ℕ)) (size addr : ℕ) (b : ℕ × ℕ) (bs : List (ℕ × ℕ)) (w : IsWalkedTo c all size addr (b ∷ bs)) where
+module _ (c : Config) (all : List (ℕ × ℕ)) (size addr : ℕ) (b : ℕ × ℕ) (bs : List (ℕ × ℕ))
+    (w : IsWalkedTo c all size addr (b ∷ bs)) where
   pub next_block : IsBlock c b.0 b.1
   next_block = All-head (λ b. IsBlock c b.0 b.1) b bs w.sound
 
@@ -72,27 +76,38 @@ module _ (c : Config) (all : List (ℕ × ℕ)) (size addr : ℕ) (b : ℕ × �
             (All-head (Misses size a) b bs ((w.same a before).1 k));
       }
 
-module _ (c : Config) (m : BTreeMap ℕ ℕ) (o : IsOrdered nat_cmp m) (size addr : ℕ) (left : List (ℕ × ℕ))
+module _ (c : Config) (m : BTreeMap ℕ ℕ) (o : IsOrdered nat_cmp m) (size addr : ℕ)
+    (left : List (ℕ × ℕ))
     (w : IsWalkedTo c m.entries size addr left) where
   -- no lower address has room
   pub none_lower : (a : ℕ) → IsRoom c (from_entries m.entries) size a → addr ≤ a
   none_lower a r = w.least a r.above (all_from_apart m o size a r.apart)
 
   -- this one has it, if it misses all blocks and the heap does not end before
-  pub is_least : addr + size ≤ heap_end c → All (Misses size addr) m.entries → IsLeast (IsRoom c (from_entries m.entries) size) addr
+  pub is_least : addr + size ≤ heap_end c → All (Misses size addr) m.entries
+      → IsLeast (IsRoom c (from_entries m.entries) size) addr
   is_least e h = record {
-    holds = record { aligned = w.aligned; above = w.above; below = e; apart = apart_from_all m o size addr h };
+    holds = record {
+      aligned = w.aligned;
+      above = w.above;
+      below = e;
+      apart = apart_from_all m o size addr h;
+    };
     least = none_lower;
   }
 
 -- the walk begins at the first address of the heap, with all blocks left
-pub walk_begins : (c : Config) (m : BTreeMap ℕ ℕ) → IsOrdered nat_cmp m → AreBlocks c (from_entries m.entries) → (size : ℕ)
+pub walk_begins : (c : Config) (m : BTreeMap ℕ ℕ) → IsOrdered nat_cmp m
+    → AreBlocks c (from_entries m.entries) → (size : ℕ)
     → IsConfig c → IsWalkedTo c m.entries size c.page_size m.entries
 walk_begins c m o blocks size limits = record {
   sorted = o;
   sound = λ k d l.
       let e : ℕ × ℕ = get_or m.entries k d in
-      blocks e.0 e.1 (get_block m.entries e.0 ∙ (btree_map_get_iff nat_cmp_total exact_unsigned m o e.0 e.1).1 (Contains-get_or m.entries k d l));
+      blocks e.0 e.1
+      (get_block m.entries e.0
+      ∙ (btree_map_get_iff nat_cmp_total exact_unsigned m o e.0 e.1).1
+      (Contains-get_or m.entries k d l));
   aligned = (let words = (page_has_words c.page_size limits.page_size).words in omega arith);
   above = omega arith;
   below = (let some = mul-le-mul_right c.page_size limits.pages_from in omega arith);

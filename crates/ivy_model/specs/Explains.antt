@@ -16,7 +16,8 @@ pub record Answered : Type 0 where
   pub history : List Record
   pub asked : Option Call
 
--- what the order may have of a node past its history: nothing, or one record of the call in progress
+-- what the order may have of a node past its history: nothing, or one record of the call in
+-- progress
 abbrev pub IsOwed : Option Call → List Record → Type 0
 IsOwed asked [] = Unit {0}
 IsOwed asked (r ∷ []) = asked ≡ Some r.call

@@ -1,7 +1,13 @@
 -- The numbers of the faults, which a refused call and a printed refusal carry.
 use Rattle.std.specs.Prelude.{ℕ}
 use Rattle.ivy_model.specs.declared.fault.Fault.{Fault}
-use Rattle.ivy_model.specs.declared.fault.Fault.TheVariants.{Memory, BadConfig, Misaligned, OutOfRange, Reserved, NoSuchCount, CountFull, ZeroSize, NoRoom, NotABlock, ShortFrame, BadMagic, BadVersion, BadKind, BadNode, BadBody, NumbersSpent, Busy, NoSuchFrame, ProgramFault, TurnLimit}
+use Rattle.ivy_model.specs.declared.fault.Fault.TheVariants.{Memory, BadConfig, Misaligned}
+use Rattle.ivy_model.specs.declared.fault.Fault.TheVariants.{OutOfRange, Reserved, NoSuchCount}
+use Rattle.ivy_model.specs.declared.fault.Fault.TheVariants.{CountFull, ZeroSize, NoRoom, NotABlock}
+use Rattle.ivy_model.specs.declared.fault.Fault.TheVariants.{ShortFrame, BadMagic, BadVersion}
+use Rattle.ivy_model.specs.declared.fault.Fault.TheVariants.{BadKind, BadNode, BadBody}
+use Rattle.ivy_model.specs.declared.fault.Fault.TheVariants.{NumbersSpent, Busy, NoSuchFrame}
+use Rattle.ivy_model.specs.declared.fault.Fault.TheVariants.{ProgramFault, TurnLimit}
 
 abbrev pub fault_number : Fault → ℕ
 fault_number Memory = 1

@@ -30,29 +30,40 @@ use Rattle.ivy_node.specs.Keeping.{Keeps}
 use Rattle.ivy_node.proofs.Leading.{leads_on}
 use Rattle.ivy_host.proofs.Tame.{tame, opening_is}
 
-module _ (c : Config) (programs : List (List Instruction)) (config : IsConfig c) (each : length programs ≡ c.nodes) where
+module _ (c : Config) (programs : List (List Instruction)) (config : IsConfig c)
+    (each : length programs ≡ c.nodes) where
   tamed : IsTame (host_rules managed_ops) c (IsSoundHost managed_ops c)
   tamed = tame managed_laws c
 
   opened : Follows c (IsSoundHost managed_ops c) (opening managed_ops c programs) (λ i j. [])
-  opened = opening_follows c (IsSoundHost managed_ops c) (opening managed_ops c programs) (opening_is managed_laws c programs config each)
+  opened =
+      opening_follows c (IsSoundHost managed_ops c) (opening managed_ops c programs)
+      (opening_is managed_laws c programs config each)
 
-  pub exclusive-led : (moves : List Move) (w : World (Host Managed)) → Leads (host_rules managed_ops) c (opening managed_ops c programs) moves w → IsExclusive w
+  pub exclusive-led : (moves : List Move) (w : World (Host Managed))
+      → Leads (host_rules managed_ops) c (opening managed_ops c programs) moves w → IsExclusive w
   exclusive-led = exclusive_led managed_laws c config (managed_ops.first c 0) programs each
 
-  pub no_breach-led : (moves : List Move) (w : World (Host Managed)) → Leads (host_rules managed_ops) c (opening managed_ops c programs) moves w → HasNoBreach w
+  pub no_breach-led : (moves : List Move) (w : World (Host Managed))
+      → Leads (host_rules managed_ops) c (opening managed_ops c programs) moves w → HasNoBreach w
   no_breach-led = either_no_breach c config (managed_ops.first c 0) programs each
 
-  pub runs-led : (moves : List Move) (w : World (Host Managed)) → Leads (host_rules managed_ops) c (opening managed_ops c programs) moves w → AreRuns programs w
+  pub runs-led : (moves : List Move) (w : World (Host Managed))
+      → Leads (host_rules managed_ops) c (opening managed_ops c programs) moves w
+      → AreRuns programs w
   runs-led moves w h = opening_runs managed_ops managed_laws c config programs each opened w moves h
 
-  pub explained-along : (moves : List Move) → GoesOn (host_rules managed_ops) c answered_by (opening managed_ops c programs) [] moves
-  explained-along moves = opening_explained managed_ops managed_laws c config programs each opened moves
+  pub explained-along : (moves : List Move)
+      → GoesOn (host_rules managed_ops) c answered_by (opening managed_ops c programs) [] moves
+  explained-along moves =
+      opening_explained managed_ops managed_laws c config programs each opened moves
 
-  pub spelled-led : (moves : List Move) (w : World (Host Managed)) → Leads (host_rules managed_ops) c (opening managed_ops c programs) moves w → AllSpell c w
+  pub spelled-led : (moves : List Move) (w : World (Host Managed))
+      → Leads (host_rules managed_ops) c (opening managed_ops c programs) moves w → AllSpell c w
   spelled-led moves w h bytes there =
       let f : (posted : ℕ → ℕ → List Message) × Follows c (IsSoundHost managed_ops c) w posted
-      = led (host_rules managed_ops) c (IsSoundHost managed_ops c) config tamed (opening managed_ops c programs) w (λ i j. []) moves opened h in
+      = led (host_rules managed_ops) c (IsSoundHost managed_ops c) config tamed
+      (opening managed_ops c programs) w (λ i j. []) moves opened h in
       let s : IsString c f.0 bytes = All-contains (IsString c f.0) w.sent bytes f.1.strings there in
       (s.0, s.1)
 
@@ -67,7 +78,8 @@ module _ (c : Config) (programs : List (List Instruction)) (config : IsConfig c)
       f.1.sound
 
 -- what is promised of each world that was reached
-pub keeps-reached : (r : Run) → IsConfig r.config → length r.programs ≡ r.config.nodes → IsReached r → Keeps r
+pub keeps-reached : (r : Run) → IsConfig r.config → length r.programs ≡ r.config.nodes → IsReached r
+    → Keeps r
 keeps-reached r config each reached = record {
   reached = reached;
   exclusive = exclusive-led r.config r.programs config each reached.0 r.world reached.1;
@@ -83,10 +95,15 @@ keeps-reached r config each reached = record {
 -- and of a site that is one of it
 pub none-of-run : (s : Shown) → IsOfRun s → s.node.core.memory.coherence.breaches ≡ 0
 none-of-run s r =
-    no_breach-led r.run.config r.run.programs r.limits r.programs r.reached.0 r.run.world r.reached.1 s.me s.node r.node
+    no_breach-led r.run.config r.run.programs r.limits r.programs r.reached.0 r.run.world
+    r.reached.1 s.me s.node r.node
 
 -- and moves that go on from there
-pub explained-on : (r : Run) → IsConfig r.config → length r.programs ≡ r.config.nodes → (made : List Move) (w : World (Host Managed)) → IsLedTo r.config r.world made w
-    → (before : List Move) → IsLedTo r.config (opening_of r) before r.world → IsLedTo r.config (opening_of r) (before ++ made) w × IsExplainedAlong r (before ++ made)
-explained-on r config each made w led before there =
-    (leads_on (host_rules managed_ops) r.config (opening_of r) r.world w before made there led, explained-along r.config r.programs config each (before ++ made))
+pub explained-on : (r : Run) → IsConfig r.config → length r.programs ≡ r.config.nodes
+    → (made : List Move) (w : World (Host Managed)) → IsLedTo r.config r.world made w
+    → (before : List Move) → IsLedTo r.config (opening_of r) before r.world
+    → IsLedTo r.config (opening_of r) (before ++ made) w × IsExplainedAlong r (before ++ made)
+explained-on r config each made w led before there = (
+  leads_on (host_rules managed_ops) r.config (opening_of r) r.world w before made there led,
+  explained-along r.config r.programs config each (before ++ made),
+)

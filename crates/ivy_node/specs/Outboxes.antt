@@ -81,7 +81,8 @@ HasNumbers o parcels = has_numbers o.link parcels ≡ true
 abbrev pub posted_by : Outbox → List Parcel → Outbox
 posted_by o parcels = with_sending o (sends o.link parcels)
 
--- why parcels were refused, of which there is one at least: memory, or one of them would need a number above the
+-- why parcels were refused, of which there is one at least: memory, or one of them would need a
+-- number above the
 -- greatest one
 abbrev pub IsRefused : Fault → Outbox → List Parcel → Type 0
 IsRefused Memory o parcels = parcels ≢ []
@@ -107,7 +108,8 @@ pub takes_none : (o : Outbox) → HasNumbers o []
 takes_none o = refl
 
 pub after_none : (o : Outbox) → posted_by o [] ≡ o
-after_none o = ap (λ w. record { config = o.config; me = o.me; link = o.link; waiting = w; held = o.held })
+after_none o =
+    ap (λ w. record { config = o.config; me = o.me; link = o.link; waiting = w; held = o.held })
     (append-nil o.waiting)
 
 pub refuses_none : (o : Outbox) (f : Fault) → Refuses o [] f → ⊥

@@ -18,7 +18,8 @@ abbrev pub made_of : Result (Unit {0}) (ℕ × Fault) → List Move → List Mov
 made_of (Ok done) moves = moves
 made_of (Err e) moves = take e.0 moves
 
--- why a move was refused: what it names is not there, or it would need a number above the greatest one, or memory
+-- why a move was refused: what it names is not there, or it would need a number above the greatest
+-- one, or memory
 abbrev pub IsRefusedBy : Config → World (Host Managed) → Fault → Option Move → Type 0
 IsRefusedBy c w NoSuchFrame (Some m) = is_named w m ≡ false
 IsRefusedBy c w NumbersSpent (Some m) = HasNoneAfter (host_rules managed_ops) c w m
@@ -45,7 +46,8 @@ IsLedTo c = Leads (host_rules managed_ops) c
 abbrev pub IsReached : Run → Type 0
 IsReached r = (before : List Move) × IsLedTo r.config (opening_of r) before r.world
 
--- the node is one of a world that some moves lead to from the opening of as many programs as there are nodes
+-- the node is one of a world that some moves lead to from the opening of as many programs as there
+-- are nodes
 pub record IsOfRun (s : Shown) : Type 0 where
   pub run : Run
   pub limits : IsConfig run.config
@@ -53,7 +55,8 @@ pub record IsOfRun (s : Shown) : Type 0 where
   pub reached : IsReached run
   pub node : slice_get run.world.nodes s.me ≡ Some s.node
 
--- at the opening no record explains what the nodes were answered, and after each of the moves an order that goes on
+-- at the opening no record explains what the nodes were answered, and after each of the moves an
+-- order that goes on
 -- from the one before does
 abbrev pub IsExplainedAlong : Run → List Move → Type 0
 IsExplainedAlong r moves =

@@ -63,7 +63,8 @@ AfterTurn Moved old new = Turns old new
 AfterTurn Ended old new =
     HasEnded old.node.core.process × (turn_of managed_ops old.node.core ≡ None) × (new ≡ old)
 
--- the string spells a frame, which is what the verdict says, and the delivery is that of the definitions
+-- the string spells a frame, which is what the verdict says, and the delivery is that of the
+-- definitions
 pub record Delivers (bytes : List ℕ) (verdict : Verdict) (old new : Shown) : Type 0 where
   pub frame : Frame
   pub spelled : Spells old.config frame bytes
@@ -107,13 +108,15 @@ pub record Hears (bytes : List ℕ) (answer : Verdict) (source : ℕ) (again : O
   pub early : MatchOption again (answer ≢ verdict.Ahead)
       (λ string. (string ≡ bytes) × Contains (early_at new) string × (answer ≡ verdict.Ahead))
 
-pub record Receives (bytes : List ℕ) (verdict : Verdict) (source : ℕ) (old new : Shown) : Type 0 where
-  pub mid : Shown
-  pub first : Delivers bytes verdict old mid
-  pub from : first.frame.source ≡ source
-  pub holds : Holds verdict first.frame bytes mid new
+pub record Receives (bytes : List ℕ) (verdict : Verdict) (source : ℕ) (old new : Shown) : Type 0
+  where
+    pub mid : Shown
+    pub first : Delivers bytes verdict old mid
+    pub from : first.frame.source ≡ source
+    pub holds : Holds verdict first.frame bytes mid new
 
--- the string that is held of the next number from this node, which came too early once, is delivered as the next one
+-- the string that is held of the next number from this node, which came too early once, is
+-- delivered as the next one
 pub record GoesOnOnce (source : ℕ) (bytes : List ℕ) (old new : Shown) : Type 0 where
   pub ready : ready_of (holding_at old) source ≡ Some bytes
   pub early : Contains (early_at old) bytes
@@ -132,7 +135,8 @@ WentOnOnce source old new = (bytes : List ℕ) × GoesOnOnce source bytes old ne
 abbrev pub WentOn : ℕ → Shown → Shown → Type 0
 WentOn source old new = (more : List (List ℕ)) × GoesOn source more old new
 
--- after the delivery of a frame that is the next one the site may go on, and one that came too early is held
+-- after the delivery of a frame that is the next one the site may go on, and one that came too
+-- early is held
 abbrev pub Follows : Verdict → Frame → List ℕ → Shown → Shown → Type 0
 Follows verdict.NotMine f bytes mid new = new ≡ mid
 Follows verdict.Next f bytes mid new = WentOn f.source mid new
@@ -152,7 +156,8 @@ abbrev pub IsSpentDelivery : Shown → List ℕ → Fault → Type 0
 IsSpentDelivery old bytes fault =
     fault ≡ NumbersSpent → delivered (host_rules managed_ops) old.config old.node bytes ≡ None
 
--- the node is what its events make of the first one of its program, and the strings that wait are the last of those
+-- the node is what its events make of the first one of its program, and the strings that wait are
+-- the last of those
 -- that the events sent
 pub record IsMadeByEvents (s : Shown) : Type 0 where
   pub effect : Effect (Host Managed)
@@ -167,7 +172,8 @@ pub record IsSentBy (s : Shown) (bytes : List ℕ) : Type 0 where
   pub made : IsMadeByEvents s
   pub sent : Contains made.effect.sent bytes
 
--- a string that is held in this place of a node's window came too early, and spells the frame of that number from the
+-- a string that is held in this place of a node's window came too early, and spells the frame of
+-- that number from the
 -- node to this one
 pub record IsHeld (s : Shown) (from place : ℕ) (bytes : List ℕ) : Type 0 where
   pub early : Contains (early_at s) bytes
@@ -190,7 +196,7 @@ pub record IsSite (s : Shown) : Type 0 where
   pub made : IsMadeByEvents s
   pub held : HoldsEarly s
 
-abbrev pub host_of : memories.Memory Managed → Process → List Record → Host Managed
+abbrev pub host_of : memories.NodeMemory Managed → Process → List Record → Host Managed
 host_of memory process history = record { memory = memory; process = process; history = history }
 
 -- the node has a turn, by the rules of the definitions, and what is posted is sent

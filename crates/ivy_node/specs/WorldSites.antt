@@ -23,7 +23,8 @@ world_of sites sent = record {
   early = map early_at sites;
 }
 
--- each site is the node of its place, under this configuration, made by its events, and no string waits at it
+-- each site is the node of its place, under this configuration, made by its events, and no string
+-- waits at it
 pub record AreSites (c : Config) (sites : List Shown) : Type 0 where
   pub config : (i : ℕ) (s : Shown) → slice_get sites i ≡ Some s → s.config ≡ c
   pub me : (i : ℕ) (s : Shown) → slice_get sites i ≡ Some s → s.me ≡ i

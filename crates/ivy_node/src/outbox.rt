@@ -7,7 +7,7 @@ ghost use Rattle.ivy_link.specs.Linked.{first_link, frames_of, sends, has_number
 ghost use Rattle.ivy_link.specs.Accepted.{offered};
 ghost use Rattle.ivy_link.specs.Fitting.{FitsLink};
 ghost use Rattle.ivy_link.specs.Windows.{first_window};
-ghost use Rattle.ivy_link.specs.Holding.{link_of, accepted, after_hold, ready_of, after_taking};
+ghost use Rattle.ivy_link.specs.Holding.{link_of, accepted_at, after_hold, ready_of, after_taking};
 ghost use Rattle.ivy_link.specs.Pulsed.{frames_again, pulsed};
 ghost use Rattle.ivy_node.specs.Outboxes.{holding_of, with_holding, with_waiting, with_sending, Takes, most_sent, next_dest};
 
@@ -152,7 +152,7 @@ impl<A: Allocator + Copy> Outbox<A> {
     pub(crate) fn accept<B>(&mut self, frame: &Frame<B>)
         requires source { frame.now.source < self.old.config.nodes }
         requires number { frame.now.number < 2 ^ 64 }
-        ensures { self.new ≡ with_holding self.old (accepted (holding_of self.old) frame.now) }
+        ensures { self.new ≡ with_holding self.old (accepted_at (holding_of self.old) frame.now) }
     {
         self.link.accept(frame);
     }

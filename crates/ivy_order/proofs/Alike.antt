@@ -1,4 +1,5 @@
--- Managers and nets that agree in each of their parts: what is said of the ones is said of the others.
+-- Managers and nets that agree in each of their parts: what is said of the ones is said of the
+-- others.
 use Rattle.std.proofs.Common.{◌≡◌, ℕ, List, sym, subst}
 use Rattle.ivy_order.specs.Letters.{Net}
 use Rattle.ivy_order.specs.Rows.{Claim}
@@ -27,4 +28,5 @@ module _ {S : Type 0} (m m' : ℕ → S) (n n' : Net) (same : AreAlike m m' n n'
   }
 
   pub alike_holds : (P : Claim S) (f : ℕ → List ℕ) → P m n f → P m' n' f
-  alike_holds P f h = subst (λ v. P v n' f) (sym same_managers) (subst (λ v. P m v f) (sym same_net) h)
+  alike_holds P f h =
+      subst (λ v. P v n' f) (sym same_managers) (subst (λ v. P m v f) (sym same_net) h)

@@ -1,4 +1,5 @@
--- A second claim beside one that each step keeps: it is shown of each step with the first before and after the step.
+-- A second claim beside one that each step keeps: it is shown of each step with the first before
+-- and after the step.
 use Rattle.std.specs.Prelude.{ℕ, List}
 use Rattle.ivy_model.specs.declared.Config.{Config}
 use Rattle.ivy_pagetable.specs.Manager.{Ops}

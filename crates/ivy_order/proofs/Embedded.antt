@@ -1,4 +1,5 @@
--- Managers of one kind within those of another: a step that managers of the wide kind follow is one that those of the
+-- Managers of one kind within those of another: a step that managers of the wide kind follow is one
+-- that those of the
 -- narrow kind follow, and so what each step keeps for the narrow kind, it keeps for the wide one.
 use Rattle.std.proofs.Common.{◌≡◌, ◌<◌, ℕ, Bool, true, false, List, ap, ◌∙◌, if◌then◌else◌, ◌==◌}
 use Rattle.ivy_model.specs.declared.Config.{Config}
@@ -21,12 +22,14 @@ pub record Embeds {S T : Type 0} (small : Ops S) (large : Ops T) (embed : S → 
 abbrev pub AreWithin : {S T : Type 0} → (S → T) → Config → (ℕ → S) → (ℕ → T) → Type 0
 AreWithin embed c s m = (i : ℕ) → i < c.nodes → m i ≡ embed (s i)
 
-if_within : {S T : Type 0} (embed : S → T) (b : Bool) (x y : S) (v w : T) → v ≡ embed x → w ≡ embed y
+if_within : {S T : Type 0} (embed : S → T) (b : Bool) (x y : S) (v w : T) → v ≡ embed x
+    → w ≡ embed y
     → (if b then v else w) ≡ embed (if b then x else y)
 if_within embed true x y v w first second = first
 if_within embed false x y v w first second = second
 
-module _ {S T : Type 0} {small : Ops S} {large : Ops T} (embed : S → T) (e : Embeds small large embed)
+module _ {S T : Type 0} {small : Ops S} {large : Ops T} (embed : S → T)
+    (e : Embeds small large embed)
     (c : Config) (s : ℕ → S) (m : ℕ → T) (within : AreWithin embed c s m) where
   -- one of them is told something
   told_within : (x : ℕ) → x < c.nodes → (ask : T → T) (answer : S → S)
@@ -37,7 +40,8 @@ module _ {S T : Type 0} {small : Ops S} {large : Ops T} (embed : S → T) (e : E
       (ap ask (within x here) ∙ same (s x)) (within i below)
 
   -- they have the same notice
-  same_hop : (x p hop : ℕ) → x < c.nodes → hop ≡ large.next_hop (m x) p → hop ≡ small.next_hop (s x) p
+  same_hop : (x p hop : ℕ) → x < c.nodes → hop ≡ large.next_hop (m x) p
+      → hop ≡ small.next_hop (s x) p
   same_hop x p hop here is = is ∙ ap (λ v. large.next_hop v p) (within x here) ∙ e.next_hop (s x) p
 
   of_within : (notice : Notice) → IsOf large c m notice → IsOf small c s notice
@@ -66,10 +70,13 @@ module _ {S T : Type 0} {small : Ops S} {large : Ops T} (embed : S → T) (e : E
       (λ v. e.on_invalidated v p by)
 
 -- Q says of managers of the large kind that they are of the small kind, and P holds of these
-pub embedded-kept : {S T : Type 0} {small : Ops S} {large : Ops T} (embed : S → T) → Embeds small large embed
+pub embedded-kept : {S T : Type 0} {small : Ops S} {large : Ops T} (embed : S → T)
+    → Embeds small large embed
     → (c : Config) (P : Claim S) (Q : Claim T)
-    → ((m : ℕ → T) (n : Net) (f : ℕ → List ℕ) → Q m n f → (s : ℕ → S) × AreWithin embed c s m × P s n f)
-    → ((s : ℕ → S) (m : ℕ → T) (n : Net) (f : ℕ → List ℕ) → AreWithin embed c s m → P s n f → Q m n f)
+    → ((m : ℕ → T) (n : Net) (f : ℕ → List ℕ) → Q m n f
+    → (s : ℕ → S) × AreWithin embed c s m × P s n f)
+    → ((s : ℕ → S) (m : ℕ → T) (n : Net) (f : ℕ → List ℕ) → AreWithin embed c s m → P s n f
+    → Q m n f)
     → IsKept small c P → IsKept large c Q
 embedded-kept {small = small} {large = large} embed e c P Q says said kept = record {
   by = λ {m} {n} {f} {notice} {n'} {f'} row of q. (

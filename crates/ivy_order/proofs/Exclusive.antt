@@ -9,14 +9,19 @@ use Rattle.ivy_pagetable.specs.Entries.{readable, writable, is_owner, copies_of}
 use Rattle.ivy_order.specs.Letters.{Net}
 use Rattle.ivy_order.specs.Orderly.{reads, At, IsOrderly}
 
-pub orderly_exclusive : (c : Config) (n : Net) → IsOrderly c n → (i j p : ℕ) → writable (n.entry i p) ≡ true → readable (n.entry j p) ≡ true → i ≡ j
+pub orderly_exclusive : (c : Config) (n : Net) → IsOrderly c n → (i j p : ℕ)
+    → writable (n.entry i p) ≡ true → readable (n.entry j p) ≡ true → i ≡ j
 orderly_exclusive c n o i j p writes may_read =
-    let alone : (is_owner (n.entry i p) ≡ true) × (copies_of (n.entry i p) ≡ set.empty) = o.alone i p writes in
+    let alone : (is_owner (n.entry i p) ≡ true) × (copies_of (n.entry i p) ≡ set.empty) =
+    o.alone i p writes in
     elim (cases_eq j i) [
       | inl same ↦ sym same
       | inr ne ↦ (
-          let held : set.contains (copies_of (n.entry i p)) j ≡ true = o.counted p i j (copies_of (n.entry i p)) (At i) (refl, alone.0, refl) ne (reads may_read) in
-          let f : true ≡ false = sym held ∙ ap (λ t. set.contains t j) alone.1 ∙ contains-empty nat_cmp j in
+          let held : set.contains (copies_of (n.entry i p)) j ≡ true =
+          o.counted p i j (copies_of (n.entry i p)) (At i) (refl, alone.0, refl) ne
+          (reads may_read) in
+          let f : true ≡ false =
+          sym held ∙ ap (λ t. set.contains t j) alone.1 ∙ contains-empty nat_cmp j in
           absurd cc
           )
     ]

@@ -37,5 +37,6 @@ module _ (c : Config) (config : IsConfig c) where
   orderly_by (Row.asks_page r hop plain away) o = page_asked c _ r o hop
   orderly_by (Row.ends_copies r owner reader low out) o = copies_ordered_back c _ r o owner reader
 
-pub orderly-kept : {S : Type 0} (ops : Ops S) (c : Config) → IsConfig c → IsKept ops c (λ m n f. IsOrderly c n)
+pub orderly-kept : {S : Type 0} (ops : Ops S) (c : Config) → IsConfig c
+    → IsKept ops c (λ m n f. IsOrderly c n)
 orderly-kept ops c config = record { by = λ row of order. orderly_by c config row order }

@@ -37,7 +37,8 @@ Needs e l (content.AllocRep code addr) = ⊥
 Needs e l (content.FreeReq addr) = ⊥
 Needs e l (content.FreeRep code) = ⊥
 
-pub needs : (c : Config) (n : Net) (l : Letter) (m : Content) → IsExpectedAs c n l m → Needs (n.entry l.message.origin (page_of m)) l m
+pub needs : (c : Config) (n : Net) (l : Letter) (m : Content) → IsExpectedAs c n l m
+    → Needs (n.entry l.message.origin (page_of m)) l m
 needs c n l (content.ReadReq page) f = f.1
 needs c n l (content.WriteReq page) f = f.1
 needs c n l (content.ReadRep page bytes) f = f.2
@@ -49,9 +50,12 @@ needs c n l (content.AllocRep code addr) f = f
 needs c n l (content.FreeReq addr) f = f
 needs c n l (content.FreeRep code) f = f
 
--- a letter fits another net too where its needs are met, and where no copy came to a node that gave its own up
-pub refit : (c : Config) (n n' : Net) (l : Letter) (m : Content) → IsExpectedAs c n l m → Needs (n'.entry l.message.origin (page_of m)) l m
-    → ((q : ℕ) → m ≡ content.InvalAck q → HasCopy n' l.source q → HasCopy n l.source q) → IsExpectedAs c n' l m
+-- a letter fits another net too where its needs are met, and where no copy came to a node that gave
+-- its own up
+pub refit : (c : Config) (n n' : Net) (l : Letter) (m : Content) → IsExpectedAs c n l m
+    → Needs (n'.entry l.message.origin (page_of m)) l m
+    → ((q : ℕ) → m ≡ content.InvalAck q → HasCopy n' l.source q → HasCopy n l.source q)
+    → IsExpectedAs c n' l m
 refit c n n' l (content.ReadReq page) f need acks = (f.0, need)
 refit c n n' l (content.WriteReq page) f need acks = (f.0, need)
 refit c n n' l (content.ReadRep page bytes) f need acks = (f.0, f.1, need)
@@ -64,7 +68,8 @@ refit c n n' l (content.FreeReq addr) f need acks = f
 refit c n n' l (content.FreeRep code) f need acks = f
 
 -- what each of the three ways to wait meets, the letter's need does
-pub needs_met : (e e' : Entry) (l : Letter) (m : Content) → ((k : ℕ) → AwaitsCopy e k → AwaitsCopy e' k) → ((k : ℕ) → AwaitsPage e k → AwaitsPage e' k)
+pub needs_met : (e e' : Entry) (l : Letter) (m : Content)
+    → ((k : ℕ) → AwaitsCopy e k → AwaitsCopy e' k) → ((k : ℕ) → AwaitsPage e k → AwaitsPage e' k)
     → ((k node : ℕ) → Collects e k node → Collects e' k node) → Needs e l m → Needs e' l m
 needs_met e e' l (content.ReadReq page) r w a f = r l.message.call f
 needs_met e e' l (content.WriteReq page) r w a f = w l.message.call f
@@ -91,7 +96,8 @@ idle_needs s l (content.FreeReq addr) f = f
 idle_needs s l (content.FreeRep code) f = f
 
 -- where a copy or the page is awaited, each letter is the waiting word's own
-pub read_key : (s : WaitingState) (l : Letter) (m : Content) → Needs (entry.AwaitRead s) l m → key_as l m ≡ Own l.message.origin (page_of m)
+pub read_key : (s : WaitingState) (l : Letter) (m : Content) → Needs (entry.AwaitRead s) l m
+    → key_as l m ≡ Own l.message.origin (page_of m)
 read_key s l (content.ReadReq page) f = refl
 read_key s l (content.WriteReq page) f = absurd f
 read_key s l (content.ReadRep page bytes) f = refl
@@ -103,7 +109,8 @@ read_key s l (content.AllocRep code addr) f = absurd f
 read_key s l (content.FreeReq addr) f = absurd f
 read_key s l (content.FreeRep code) f = absurd f
 
-pub write_key : (s : AwaitWriteState) (l : Letter) (m : Content) → Needs (entry.AwaitWrite s) l m → key_as l m ≡ Own l.message.origin (page_of m)
+pub write_key : (s : AwaitWriteState) (l : Letter) (m : Content) → Needs (entry.AwaitWrite s) l m
+    → key_as l m ≡ Own l.message.origin (page_of m)
 write_key s l (content.ReadReq page) f = absurd f
 write_key s l (content.WriteReq page) f = refl
 write_key s l (content.ReadRep page bytes) f = absurd f
@@ -115,9 +122,11 @@ write_key s l (content.AllocRep code addr) f = absurd f
 write_key s l (content.FreeReq addr) f = absurd f
 write_key s l (content.FreeRep code) f = absurd f
 
--- where copies are given up, it is the order to one of the nodes that are left, or its acknowledgement
+-- where copies are given up, it is the order to one of the nodes that are left, or its
+-- acknowledgement
 pub acks_key : (s : AwaitAcksState) (l : Letter) (m : Content) → Needs (entry.AwaitAcks s) l m
-    → (target : ℕ) × (key_as l m ≡ Order l.message.origin target (page_of m)) × (set.contains s.left target ≡ true)
+    → (target : ℕ) × (key_as l m ≡ Order l.message.origin target (page_of m))
+    × (set.contains s.left target ≡ true)
 acks_key s l (content.ReadReq page) f = absurd f
 acks_key s l (content.WriteReq page) f = absurd f
 acks_key s l (content.ReadRep page bytes) f = absurd f
@@ -130,8 +139,10 @@ acks_key s l (content.FreeReq addr) f = absurd f
 acks_key s l (content.FreeRep code) f = absurd f
 
 -- and it needs no more than that this node is left
-pub acks_still : (s : AwaitAcksState) (left : set.FinSet _) (l : Letter) (m : Content) → Needs (entry.AwaitAcks s) l m
-    → ((target : ℕ) → key_as l m ≡ Order l.message.origin target (page_of m) → set.contains s.left target ≡ true → set.contains left target ≡ true)
+pub acks_still : (s : AwaitAcksState) (left : set.FinSet _) (l : Letter) (m : Content)
+    → Needs (entry.AwaitAcks s) l m
+    → ((target : ℕ) → key_as l m ≡ Order l.message.origin target (page_of m)
+    → set.contains s.left target ≡ true → set.contains left target ≡ true)
     → Needs (entry.AwaitAcks (record { left = left; waiting = s.waiting })) l m
 acks_still s left l (content.ReadReq page) f still = f
 acks_still s left l (content.WriteReq page) f still = f
@@ -164,7 +175,8 @@ put_page (entry.AwaitRead s) q k f = f
 put_page (entry.AwaitWrite s) q k f = f
 put_page (entry.AwaitAcks s) q k f = f
 
-pub put_acks : (e : Entry) (q : PutOff) (k node : ℕ) → Collects e k node → Collects (with_put_off e q) k node
+pub put_acks : (e : Entry) (q : PutOff) (k node : ℕ) → Collects e k node
+    → Collects (with_put_off e q) k node
 put_acks (entry.Idle s) q k node f = f
 put_acks (entry.AwaitRead s) q k node f = f
 put_acks (entry.AwaitWrite s) q k node f = f

@@ -1,4 +1,5 @@
--- The entries of all nodes and the messages among them, wherever these are: under way, put off at an entry, or
+-- The entries of all nodes and the messages among them, wherever these are: under way, put off at
+-- an entry, or
 -- taken from there and not served yet.
 use Rattle.std.specs.Prelude.{◌≡◌, ◌≤◌, ℕ, ◌==◌, ◌&&◌, List, slice_get, Some, if◌then◌else◌}
 use Rattle.ivy_wire.specs.declared.Content.TheVariants as content
@@ -16,8 +17,10 @@ pub record Letter : Type 0 where
   pub dest : ℕ
   pub message : Message
 
--- The entry and the bytes that a node has of a page, how many messages fitted no rule at a node, and the messages.
--- `loose` are letters that a node has taken and not served yet, within an event; between events there are none.
+-- The entry and the bytes that a node has of a page, how many messages fitted no rule at a node,
+-- and the messages.
+-- `loose` are letters that a node has taken and not served yet, within an event; between events
+-- there are none.
 pub record Net : Type 0 where
   pub entry : ℕ → ℕ → Entry
   pub page : ℕ → ℕ → List ℕ
@@ -26,7 +29,8 @@ pub record Net : Type 0 where
   pub delivered : ℕ → ℕ → ℕ
   pub loose : List Letter
 
--- where a letter is: the message of this number from one node to another, under way; the one of this number that is
+-- where a letter is: the message of this number from one node to another, under way; the one of
+-- this number that is
 -- put off at a page of a node; or loose
 pub data Place : Type 0 where
   Underway : (source dest number : ℕ) → Place

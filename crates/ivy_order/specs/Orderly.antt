@@ -1,6 +1,9 @@
--- What holds of the entries and letters of a world at every moment, under every manager (Li and Hudak 1989): each
--- page has at most one owner, or is on its way to one node; who may read a page, or is about to, is counted there; and
--- each word that waits has at most one letter of its own, or one for each node that is to give its copy up.
+-- What holds of the entries and letters of a world at every moment, under every manager (Li and
+-- Hudak 1989): each
+-- page has at most one owner, or is on its way to one node; who may read a page, or is about to, is
+-- counted there; and
+-- each word that waits has at most one letter of its own, or one for each node that is to give its
+-- copy up.
 use Rattle.std.specs.Prelude.{◌≡◌, ◌≢◌, ◌<◌, ℕ, true, false, List, slice_get, Some}
 use Rattle.std.specs.FinSet as set
 use Rattle.ivy_model.specs.declared.Config.{Config}
@@ -14,7 +17,8 @@ use Rattle.ivy_pagetable.specs.NodeSets.{Nodes, IsBelow, nodes_with}
 use Rattle.ivy_pagetable.specs.Entries.{put_offs, readable, writable, is_owner, copies_of}
 use Rattle.ivy_order.specs.Letters.{Letter, Net, Place, IsAt}
 
--- the word of this call waits for a copy, to read; for the page, to write; for this node to give its copy up
+-- the word of this call waits for a copy, to read; for the page, to write; for this node to give
+-- its copy up
 abbrev pub AwaitsCopy : Entry → ℕ → Type 0
 AwaitsCopy (entry.Idle s) call = ⊥
 AwaitsCopy (entry.AwaitRead s) call = s.call ≡ call
@@ -60,7 +64,8 @@ IsOwned n page node copies (In at) =
     (l : Letter) × (bits : ℕ) × (bytes : List ℕ) × IsAt n at l × (l.dest ≡ node)
     × (l.message.content ≡ content.WriteRep page bits bytes) × (copies ≡ nodes_with bits)
 
--- whose letter it is: of the word that waits at a node for a page, or of the order from that node to another to give
+-- whose letter it is: of the word that waits at a node for a page, or of the order from that node
+-- to another to give
 -- its copy up. A message of the heap is no letter, and its key is never looked at.
 pub data Key : Type 0 where
   Own : (origin page : ℕ) → Key

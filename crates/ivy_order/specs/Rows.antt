@@ -1,5 +1,7 @@
--- The steps of which every event of a world is made, on managers, entries and letters alone: a letter is taken, one
--- is served at an idle entry, put off, dropped; a copy, a page or an acknowledgement comes; a word begins to wait.
+-- The steps of which every event of a world is made, on managers, entries and letters alone: a
+-- letter is taken, one
+-- is served at an idle entry, put off, dropped; a copy, a page or an acknowledgement comes; a word
+-- begins to wait.
 -- What each of them keeps, every world keeps.
 -- Beside them stand the pages of the flat memory, which change where a word is carried out.
 use Rattle.std.specs.Prelude.{◌≡◌, ◌≢◌, ◌⊎◌, ◌<◌, ◌≤◌, ℕ, Bool, true, false, List, [], ◌∷◌, map, slice_get, Some, if◌then◌else◌, ◌==◌}
@@ -165,32 +167,34 @@ pub record PutsOff (c : Config) (n : Net) : Type 0 where
   pub room : can_put_off before ≡ true
 
 -- a letter of another node is served at an entry of such a state, with these left to be served
-pub record Served {T : Type 0} (c : Config) (n : Net) (at : T → Entry) (ask : ℕ → Content) : Type 0 where
-  pub node : ℕ
-  pub page : ℕ
-  pub from : ℕ
-  pub origin : ℕ
-  pub call : ℕ
-  pub state : T
-  pub rest : List Letter
-  pub here : node < c.nodes
-  pub inside : page < c.pages
-  pub loose : n.loose ≡ letter from node origin call (ask page) ∷ rest
-  pub foreign : origin ≢ node
-  pub is : n.entry node page ≡ at state
+pub record Served {T : Type 0} (c : Config) (n : Net) (at : T → Entry) (ask : ℕ → Content) : Type 0
+  where
+    pub node : ℕ
+    pub page : ℕ
+    pub from : ℕ
+    pub origin : ℕ
+    pub call : ℕ
+    pub state : T
+    pub rest : List Letter
+    pub here : node < c.nodes
+    pub inside : page < c.pages
+    pub loose : n.loose ≡ letter from node origin call (ask page) ∷ rest
+    pub foreign : origin ≢ node
+    pub is : n.entry node page ≡ at state
 
 -- what a node's own word waits for comes, at an entry of such a state
-pub record Comes {T : Type 0} (c : Config) (n : Net) (at : T → Entry) (bring : ℕ → Content) : Type 0 where
-  pub node : ℕ
-  pub page : ℕ
-  pub from : ℕ
-  pub call : ℕ
-  pub state : T
-  pub here : node < c.nodes
-  pub inside : page < c.pages
-  pub loose : n.loose ≡ letter from node node call (bring page) ∷ []
-  pub foreign : from ≢ node
-  pub is : n.entry node page ≡ at state
+pub record Comes {T : Type 0} (c : Config) (n : Net) (at : T → Entry) (bring : ℕ → Content) : Type 0
+  where
+    pub node : ℕ
+    pub page : ℕ
+    pub from : ℕ
+    pub call : ℕ
+    pub state : T
+    pub here : node < c.nodes
+    pub inside : page < c.pages
+    pub loose : n.loose ≡ letter from node node call (bring page) ∷ []
+    pub foreign : from ≢ node
+    pub is : n.entry node page ≡ at state
 
 -- a word begins to wait at a node at which none waits and none is served
 pub record Begins (c : Config) (n : Net) : Type 0 where
@@ -210,7 +214,8 @@ pub record Begins (c : Config) (n : Net) : Type 0 where
 abbrev pub bare : AwaitWriteState → AwaitWriteState
 bare s = record { had_copy = false; waiting = s.waiting }
 
--- One step from this net and these pages of the flat memory to those, of which a manager has this notice.
+-- One step from this net and these pages of the flat memory to those, of which a manager has this
+-- notice.
 pub data Row (c : Config) (n : Net) (f : ℕ → List ℕ) : Notice → Net → (ℕ → List ℕ) → Type 0 where
   -- a word is carried out where access suffices
   carries : (r : Carries c n) → Row c n f Silent

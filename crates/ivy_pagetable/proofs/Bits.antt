@@ -1,5 +1,8 @@
 -- Sets of nodes as numbers: bit q of the number stands for node q.
-use Rattle.std.proofs.Common.{◌≡◌, ◌≢◌, ℕ, zero, suc, ◌+◌, ◌-◌, ◌*◌, ◌/◌, ◌%◌, ◌^◌, ◌<◌, ◌≤◌, Bool, true, false, not, ◌&&◌, ◌||◌, cond, eqb, List, [], ◌∷◌, ◌++◌, length, IsTrue, ◌↔◌, refl, sym, ap, ◌∙◌, arith, inl, inr, add-one, w8, min, eqb-true, true≢false}
+use Rattle.std.proofs.Common.{◌≡◌, ◌≢◌, ℕ, zero, suc, ◌+◌, ◌-◌, ◌*◌, ◌/◌, ◌%◌, ◌^◌, ◌<◌, ◌≤◌, Bool}
+use Rattle.std.proofs.Common.{true, false, not, ◌&&◌, ◌||◌, cond, eqb, List, [], ◌∷◌, ◌++◌, length}
+use Rattle.std.proofs.Common.{IsTrue, ◌↔◌, refl, sym, ap, ◌∙◌, arith, inl, inr, add-one, w8, min}
+use Rattle.std.proofs.Common.{eqb-true, true≢false}
 use Rattle.std.specs.List.{filter, range_with_len, sum_by}
 use Rattle.std.specs.Int.{bit_at}
 use Rattle.std.specs.Int.RustNames.{bit_or, bit_and}
@@ -13,7 +16,9 @@ use Rattle.std.proofs.lemmas.List.FromFn.{length-range_with_len}
 use Rattle.std.proofs.lemmas.List.Sums.{sum_by-cons, length-filter, count_by-le-length}
 use Rattle.std.proofs.lemmas.List.{append-nil}
 use Rattle.std.proofs.lemmas.Nat.{pow_pos}
-use Rattle.std.proofs.lemmas.Nat.Bits.{bit_at-zero, bit_at-lt, bit_at_lowest, bit_at-suc, bit_at_above, bit_at_and, bit_at_set_same, bit_at_set_other, bit_at_clear_same, bit_at_clear_other, same_from_bits_below}
+use Rattle.std.proofs.lemmas.Nat.Bits.{bit_at-zero, bit_at-lt, bit_at_lowest, bit_at-suc}
+use Rattle.std.proofs.lemmas.Nat.Bits.{bit_at_above, bit_at_and, bit_at_set_same, bit_at_set_other}
+use Rattle.std.proofs.lemmas.Nat.Bits.{bit_at_clear_same, bit_at_clear_other, same_from_bits_below}
 use Rattle.ivy_pagetable.specs.NodeSets.{Nodes, nodes_of, IsBelow, bits_of, nodes_with}
 use Rattle.ivy_pagetable.specs.Bytes.{lists, has, in_range, lists_with, no_bit, contains_with}
 use Rattle.ivy_pagetable.proofs.NodeSets.{tied, untied, sets_equal}
@@ -22,7 +27,8 @@ use Rattle.ivy_pagetable.proofs.NodeSets.{tied, untied, sets_equal}
 pub empty_below : (n : ℕ) → IsBelow n set.empty
 empty_below n q is = absurd (true≢false (sym is ∙ contains-empty nat_cmp q))
 
-pub insert_below : (n : ℕ) (s : Nodes) (node : ℕ) → IsBelow n s → node < n → IsBelow n (set.insert s node)
+pub insert_below : (n : ℕ) (s : Nodes) (node : ℕ) → IsBelow n s → node < n
+    → IsBelow n (set.insert s node)
 insert_below n s node low lt q is =
     elim (cases_Bool (eqb node q)) [
       | inl y ↦ omega (arith, eqb-true node q y, lt)
@@ -30,7 +36,8 @@ insert_below n s node low lt q is =
     ]
 
 pub remove_below : (n : ℕ) (s : Nodes) (node : ℕ) → IsBelow n s → IsBelow n (set.remove s node)
-remove_below n s node low q is = low q (and_parts (not (eqb node q)) (set.contains s q) (sym (untied q node s) ∙ is)).1
+remove_below n s node low q is =
+    low q (and_parts (not (eqb node q)) (set.contains s q) (sym (untied q node s) ∙ is)).1
 
 pub more_below : (m n : ℕ) (s : Nodes) → m ≤ n → IsBelow m s → IsBelow n s
 more_below m n s le low q is = omega (arith, low q is, le)
@@ -42,14 +49,20 @@ number p first n = sum_by (λ q. 2 ^ q) (filter p (range_with_len first n))
 doubled : (n : ℕ) → 2 ^ (n + 1) ≡ 2 * 2 ^ n
 doubled n = ap (λ (k : ℕ). 2 ^ k) (add-one n) ∙ pow-succ' 2 n
 
-with_first : (p : ℕ → Bool) (first n : ℕ) → p first ≡ true → number p first (suc n) ≡ 2 ^ first + number p (first + 1) n
+with_first : (p : ℕ → Bool) (first n : ℕ) → p first ≡ true
+    → number p first (suc n) ≡ 2 ^ first + number p (first + 1) n
 with_first p first n t =
-    ap (λ b. sum_by (λ q. 2 ^ q) (cond b (first ∷ filter p (range_with_len (first + 1) n)) (filter p (range_with_len (first + 1) n)))) t
+    ap (λ b. sum_by (λ q. 2 ^ q)
+    (cond b (first ∷ filter p (range_with_len (first + 1) n))
+    (filter p (range_with_len (first + 1) n)))) t
     ∙ sum_by-cons (λ q. 2 ^ q) first (filter p (range_with_len (first + 1) n))
 
-without_first : (p : ℕ → Bool) (first n : ℕ) → p first ≡ false → number p first (suc n) ≡ number p (first + 1) n
+without_first : (p : ℕ → Bool) (first n : ℕ) → p first ≡ false
+    → number p first (suc n) ≡ number p (first + 1) n
 without_first p first n t =
-    ap (λ b. sum_by (λ q. 2 ^ q) (cond b (first ∷ filter p (range_with_len (first + 1) n)) (filter p (range_with_len (first + 1) n)))) t
+    ap (λ b. sum_by (λ q. 2 ^ q)
+    (cond b (first ∷ filter p (range_with_len (first + 1) n))
+    (filter p (range_with_len (first + 1) n)))) t
 
 -- to move the nodes on by one doubles the number
 moved : (p : ℕ → Bool) (first n : ℕ) → number p (first + 1) n ≡ 2 * number (λ q. p (q + 1)) first n
@@ -57,8 +70,21 @@ moved p first zero = refl
 moved p first (suc n) =
     let rest = moved p (first + 1) n in
     elim (cases_Bool (p (first + 1))) [
-      | inl y ↦ omega (arith, with_first p (first + 1) n y, with_first (λ q. p (q + 1)) first n y, rest, doubled first)
-      | inr y ↦ omega (arith, without_first p (first + 1) n y, without_first (λ q. p (q + 1)) first n y, rest)
+      | inl y ↦
+          omega (
+            arith,
+            with_first p (first + 1) n y,
+            with_first (λ q. p (q + 1)) first n y,
+            rest,
+            doubled first,
+          )
+      | inr y ↦
+          omega (
+            arith,
+            without_first p (first + 1) n y,
+            without_first (λ q. p (q + 1)) first n y,
+            rest,
+          )
     ]
 
 -- so bit 0 is the first node's, and the half is the number of the others
@@ -79,14 +105,22 @@ bit_of_number (suc n) p zero lt =
     ]
 bit_of_number (suc n) p (suc q) lt =
     let half : number p 0 (suc n) / 2 ≡ number (λ q. p (q + 1)) 0 n =
-    elim (cases_Bool (p 0)) [ inl y ↦ omega (arith, odd p n y) | inr y ↦ omega (arith, even p n y) ] in
-    bit_at-suc (number p 0 (suc n)) q ∙ ap (λ x. bit_at x q) half ∙ bit_of_number n (λ q. p (q + 1)) q (omega (arith, lt)) ∙ ap (λ (k : ℕ). cond (p k) 1 0) (add-one q)
+    elim (cases_Bool (p 0)) [
+      | inl y ↦ omega (arith, odd p n y)
+      | inr y ↦
+          omega (arith, even p n y)
+    ] in
+    bit_at-suc (number p 0 (suc n)) q ∙ ap (λ x. bit_at x q) half
+    ∙ bit_of_number n (λ q. p (q + 1)) q (omega (arith, lt))
+    ∙ ap (λ (k : ℕ). cond (p k) 1 0) (add-one q)
 
 -- a number below a power of two, where no node from there on passes
-number_below : (n : ℕ) (p : ℕ → Bool) (m : ℕ) → ((q : ℕ) → p q ≡ true → q < m) → number p 0 n < 2 ^ m
+number_below : (n : ℕ) (p : ℕ → Bool) (m : ℕ) → ((q : ℕ) → p q ≡ true → q < m)
+    → number p 0 n < 2 ^ m
 number_below zero p m low = omega (arith, pow_pos m)
 number_below (suc n) p zero low =
-    let rest = number_below n (λ q. p (q + 1)) zero (λ q t. absurd (omega (arith, low (q + 1) t))) in
+    let rest =
+    number_below n (λ q. p (q + 1)) zero (λ q t. absurd (omega (arith, low (q + 1) t))) in
     omega (arith, rest, even p n (false_from_ne_true (p 0) (λ t. omega (arith, low 0 t))))
 number_below (suc n) p (suc m) low =
     let rest = number_below n (λ q. p (q + 1)) m (λ q t. omega (arith, low (q + 1) t)) in
@@ -108,7 +142,10 @@ pub with_below : (n bits : ℕ) → bits < 2 ^ n → IsBelow n (nodes_with bits)
 with_below n bits small q is =
     elim (cases_lt q n) [
       | inl lt ↦ lt
-      | inr le ↦ absurd (true≢false (sym (and_parts (has bits q) _ (sym (lists_with bits q) ∙ is)).0 ∙ no_bit bits n q small le))
+      | inr le ↦
+          absurd (true≢false
+          (sym (and_parts (has bits q) _ (sym (lists_with bits q) ∙ is)).0
+          ∙ no_bit bits n q small le))
     ]
 
 -- the nodes of a set's number are the set's
@@ -117,7 +154,9 @@ with_bits_of n s le low =
     let small = bits_of_below 32 s (more_below n 32 s le low) in
     sets_equal _ _ (λ q. contains_with (bits_of s) q small ∙ elim (cases_lt q 32) [
       | inl lt ↦ ap (λ x. eqb x 1) (bits_of_bit s q lt) ∙ back (set.contains s q)
-      | inr past ↦ no_bit (bits_of s) 32 q small past ∙ sym (false_from_ne_true (set.contains s q) (λ is. omega (arith, low q is, past, le)))
+      | inr past ↦
+          no_bit (bits_of s) 32 q small past
+          ∙ sym (false_from_ne_true (set.contains s q) (λ is. omega (arith, low q is, past, le)))
     ])
   where
     back : (b : Bool) → eqb (cond b 1 0) 1 ≡ b
@@ -127,8 +166,10 @@ with_bits_of n s le low =
 -- a number of 32 bits is that of its nodes
 pub bits_of_with : (bits : ℕ) → bits < 2 ^ 32 → bits_of (nodes_with bits) ≡ bits
 bits_of_with bits small =
-    same_from_bits_below 32 (bits_of (nodes_with bits)) bits (bits_of_below 32 (nodes_with bits) (with_below 32 bits small)) small (λ q lt. (
-    bits_of_bit (nodes_with bits) q lt ∙ ap (λ b. cond b 1 0) (contains_with bits q small) ∙ bit (bit_at bits q) (bit_at-lt bits q)
+    same_from_bits_below 32 (bits_of (nodes_with bits)) bits
+    (bits_of_below 32 (nodes_with bits) (with_below 32 bits small)) small (λ q lt. (
+    bits_of_bit (nodes_with bits) q lt ∙ ap (λ b. cond b 1 0) (contains_with bits q small)
+    ∙ bit (bit_at bits q) (bit_at-lt bits q)
     ))
   where
     bit : (x : ℕ) → x < 2 → cond (eqb x 1) 1 0 ≡ x
@@ -138,19 +179,33 @@ bits_of_with bits small =
 
 -- no bit, and no node
 pub no_bits : nodes_with 0 ≡ set.empty
-no_bits = sets_equal _ _ (λ q. lists_with 0 q ∙ ap (λ x. eqb x 1 && lists (range_with_len 0 32) q) (bit_at-zero q) ∙ sym (contains-empty nat_cmp q))
+no_bits =
+    sets_equal _ _
+    (λ q. lists_with 0 q ∙ ap (λ x. eqb x 1 && lists (range_with_len 0 32) q) (bit_at-zero q)
+    ∙ sym (contains-empty nat_cmp q))
 
 pub emptiness : (bits : ℕ) → bits < 2 ^ 32 → IsTrue (eqb bits 0) ↔ (nodes_with bits ≡ set.empty)
-emptiness bits small = (λ t. ap nodes_with (eqb-true bits 0 t) ∙ no_bits, λ e. eq-eqb bits 0 (sym (bits_of_with bits small) ∙ ap bits_of (e ∙ sym no_bits) ∙ bits_of_with 0 (omega arith)))
+emptiness bits small = (
+  λ t. ap nodes_with (eqb-true bits 0 t) ∙ no_bits,
+  λ e. eq-eqb bits 0
+      (sym (bits_of_with bits small) ∙ ap bits_of (e ∙ sym no_bits) ∙ bits_of_with 0 (omega arith)),
+)
 
 -- a bit that is set, and one that is cleared
-pub with_bit : (bits node : ℕ) → node < 8 → nodes_with (bit_or bits (1 * 2 ^ node % 2 ^ 8)) ≡ set.insert (nodes_with bits) node
+pub with_bit : (bits node : ℕ) → node < 8
+    → nodes_with (bit_or bits (1 * 2 ^ node % 2 ^ 8)) ≡ set.insert (nodes_with bits) node
 with_bit bits node few =
     sets_equal _ _ (λ q. lists_with new q ∙ elim (cases_eq node q) [
-      | inl e ↦ ap (λ k. has new k && here k) (sym e) ∙ ap (λ x. eqb x 1 && here node) (bit_at_set_same w8 bits node few) ∙ in_range 0 32 node (omega arith) (omega (arith, few))
+      | inl e ↦
+          ap (λ k. has new k && here k) (sym e)
+          ∙ ap (λ x. eqb x 1 && here node) (bit_at_set_same w8 bits node few)
+          ∙ in_range 0 32 node (omega arith) (omega (arith, few))
           ∙ sym (tied q node _ ∙ ap (λ b. b || set.contains (nodes_with bits) q) (eq-eqb node q e))
-      | inr other ↦ ap (λ x. eqb x 1 && here q) (bit_at_set_other w8 bits node few q (λ e. other (sym e))) ∙ sym (lists_with bits q)
-          ∙ sym (tied q node _ ∙ ap (λ b. b || set.contains (nodes_with bits) q) (ne_eqb node q other))
+      | inr other ↦
+          ap (λ x. eqb x 1 && here q) (bit_at_set_other w8 bits node few q (λ e. other (sym e)))
+          ∙ sym (lists_with bits q)
+          ∙ sym (tied q node _
+          ∙ ap (λ b. b || set.contains (nodes_with bits) q) (ne_eqb node q other))
     ])
   where
     new : ℕ
@@ -159,13 +214,18 @@ with_bit bits node few =
     here : ℕ → Bool
     here q = lists (range_with_len 0 32) q
 
-pub without_bit : (bits node : ℕ) → bits < 2 ^ 8 → node < 8 → nodes_with (bit_and bits (255 - 1 * 2 ^ node % 2 ^ 8)) ≡ set.remove (nodes_with bits) node
+pub without_bit : (bits node : ℕ) → bits < 2 ^ 8 → node < 8
+    → nodes_with (bit_and bits (255 - 1 * 2 ^ node % 2 ^ 8)) ≡ set.remove (nodes_with bits) node
 without_bit bits node small few =
     sets_equal _ _ (λ q. lists_with new q ∙ elim (cases_eq node q) [
-      | inl e ↦ ap (λ k. has new k && here q) (sym e) ∙ ap (λ x. eqb x 1 && here q) (bit_at_clear_same w8 bits node few)
-          ∙ sym (untied q node _ ∙ ap (λ b. not b && set.contains (nodes_with bits) q) (eq-eqb node q e))
+      | inl e ↦
+          ap (λ k. has new k && here q) (sym e)
+          ∙ ap (λ x. eqb x 1 && here q) (bit_at_clear_same w8 bits node few)
+          ∙ sym (untied q node _
+          ∙ ap (λ b. not b && set.contains (nodes_with bits) q) (eq-eqb node q e))
       | inr other ↦ ap (λ b. b && here q) (others q other) ∙ sym (lists_with bits q)
-          ∙ sym (untied q node _ ∙ ap (λ b. not b && set.contains (nodes_with bits) q) (ne_eqb node q other))
+          ∙ sym (untied q node _
+          ∙ ap (λ b. not b && set.contains (nodes_with bits) q) (ne_eqb node q other))
     ])
   where
     new : ℕ
@@ -177,23 +237,33 @@ without_bit bits node small few =
     others : (q : ℕ) → node ≢ q → has new q ≡ has bits q
     others q other =
         elim (cases_lt q 8) [
-          | inl lt ↦ ap (λ x. eqb x 1) (bit_at_clear_other w8 bits node few q lt (λ e. other (sym e)))
+          | inl lt ↦
+              ap (λ x. eqb x 1) (bit_at_clear_other w8 bits node few q lt (λ e. other (sym e)))
           | inr past ↦ ap (λ x. eqb x 1) (bit_at_and bits (255 - 1 * 2 ^ node % 2 ^ 8) q)
-              ∙ ap (λ x. eqb (min x (bit_at (255 - 1 * 2 ^ node % 2 ^ 8) q)) 1) (bit_at_above bits 8 q small past)
-              ∙ ap (λ x. eqb x 1) (zero-min (bit_at (255 - 1 * 2 ^ node % 2 ^ 8) q)) ∙ sym (no_bit bits 8 q small past)
+              ∙ ap (λ x. eqb (min x (bit_at (255 - 1 * 2 ^ node % 2 ^ 8) q)) 1)
+              (bit_at_above bits 8 q small past)
+              ∙ ap (λ x. eqb x 1) (zero-min (bit_at (255 - 1 * 2 ^ node % 2 ^ 8) q))
+              ∙ sym (no_bit bits 8 q small past)
         ]
 
 -- the steps of `nodes`: those below k that a test passes
 abbrev pub passing : (ℕ → Bool) → ℕ → List ℕ
 passing test k = filter test (range_with_len 0 k)
 
-range_more : (first k : ℕ) → range_with_len first (suc k) ≡ range_with_len first k ++ (first + k) ∷ []
+range_more : (first k : ℕ)
+    → range_with_len first (suc k) ≡ range_with_len first k ++ (first + k) ∷ []
 range_more first zero = ap (λ (x : ℕ). x ∷ []) (omega arith)
-range_more first (suc k) = ap (λ xs. first ∷ xs) (range_more (first + 1) k ∙ ap (λ (x : ℕ). range_with_len (first + 1) k ++ x ∷ []) (omega arith))
+range_more first (suc k) =
+    ap (λ xs. first ∷ xs)
+    (range_more (first + 1) k
+    ∙ ap (λ (x : ℕ). range_with_len (first + 1) k ++ x ∷ []) (omega arith))
 
-pub passing_more : (test : ℕ → Bool) (k : ℕ) → passing test (k + 1) ≡ passing test k ++ cond (test k) (k ∷ []) []
+pub passing_more : (test : ℕ → Bool) (k : ℕ)
+    → passing test (k + 1) ≡ passing test k ++ cond (test k) (k ∷ []) []
 passing_more test k =
-    ap (passing test) (add-one k) ∙ ap (filter test) (range_more 0 k ∙ ap (λ (x : ℕ). range_with_len 0 k ++ x ∷ []) (omega arith))
+    ap (passing test) (add-one k)
+    ∙ ap (filter test)
+    (range_more 0 k ∙ ap (λ (x : ℕ). range_with_len 0 k ++ x ∷ []) (omega arith))
     ∙ filter-append test (range_with_len 0 k) (k ∷ [])
 
 pub passing_few : (test : ℕ → Bool) (k : ℕ) → length (passing test k) ≤ k
@@ -213,5 +283,6 @@ nodes_below s low = sym (none_from 24)
     none_from (suc n) =
         let q : ℕ = 8 + n in
         ap (passing (set.contains s)) (omega arith) ∙ passing_more (set.contains s) q
-        ∙ ap (λ b. passing (set.contains s) q ++ cond b (q ∷ []) []) (false_from_ne_true (set.contains s q) (λ is. omega (arith, low q is)))
+        ∙ ap (λ b. passing (set.contains s) q ++ cond b (q ∷ []) [])
+        (false_from_ne_true (set.contains s q) (λ is. omega (arith, low q is)))
         ∙ append-nil (passing (set.contains s) q) ∙ none_from n

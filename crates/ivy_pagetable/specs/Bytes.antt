@@ -1,5 +1,8 @@
--- A byte is known from the nodes whose bits it has. It stands here since the model of a set of nodes cites it.
-use Rattle.std.proofs.Common.{◌≡◌, ℕ, zero, suc, ◌+◌, ◌*◌, ◌/◌, ◌%◌, ◌^◌, ◌<◌, ◌≤◌, Bool, true, false, ◌&&◌, ◌||◌, cond, eqb, List, refl, sym, ap, ◌∙◌, arith, inl, inr, add-one, eqb-true, eq-or-lt_of_le}
+-- A byte is known from the nodes whose bits it has. It stands here since the model of a set of
+-- nodes cites it.
+use Rattle.std.proofs.Common.{◌≡◌, ℕ, zero, suc, ◌+◌, ◌*◌, ◌/◌, ◌%◌, ◌^◌, ◌<◌, ◌≤◌, Bool, true}
+use Rattle.std.proofs.Common.{false, ◌&&◌, ◌||◌, cond, eqb, List, refl, sym, ap, ◌∙◌, arith, inl}
+use Rattle.std.proofs.Common.{inr, add-one, eqb-true, eq-or-lt_of_le}
 use Rattle.std.specs.List.{filter, list_any, range_with_len}
 use Rattle.std.specs.Int.{bit_at}
 use Rattle.std.specs.FinSet as set
@@ -29,7 +32,8 @@ in_range first (suc n) q le lt =
     above : (first ≡ q → ⊥) → first + 1 ≤ q
     above n = elim (eq-or-lt_of_le le) [ inl e ↦ absurd (n e) | inr lt ↦ omega (arith, lt) ]
 
-pub lists_with : (bits q : ℕ) → set.contains (nodes_with bits) q ≡ (has bits q && lists (range_with_len 0 32) q)
+pub lists_with : (bits q : ℕ)
+    → set.contains (nodes_with bits) q ≡ (has bits q && lists (range_with_len 0 32) q)
 unfolding nodes_with
 lists_with bits q =
     contains-from_list_nat (filter (has bits) (range_with_len 0 32)) q
@@ -39,12 +43,15 @@ lists_with bits q =
 pub no_bit : (bits n q : ℕ) → bits < 2 ^ n → n ≤ q → has bits q ≡ false
 no_bit bits n q small le = ap (λ x. eqb x 1) (bit_at_above bits n q small le)
 
-pub contains_with : (bits q : ℕ) → bits < 2 ^ 32 → set.contains (nodes_with bits) q ≡ eqb (bit_at bits q) 1
+pub contains_with : (bits q : ℕ) → bits < 2 ^ 32
+    → set.contains (nodes_with bits) q ≡ eqb (bit_at bits q) 1
 contains_with bits q small =
     lists_with bits q ∙ elim (cases_lt q 32) [
-      | inl lt ↦ ap (λ b. has bits q && b) (in_range 0 32 q (omega arith) lt) ∙ and_true (has bits q)
+      | inl lt ↦
+          ap (λ b. has bits q && b) (in_range 0 32 q (omega arith) lt) ∙ and_true (has bits q)
       | inr le ↦
-          ap (λ b. b && lists (range_with_len 0 32) q) (no_bit bits 32 q small le) ∙ sym (no_bit bits 32 q small le)
+          ap (λ b. b && lists (range_with_len 0 32) q) (no_bit bits 32 q small le)
+          ∙ sym (no_bit bits 32 q small le)
     ]
   where
     and_true : (b : Bool) → (b && true) ≡ b
@@ -61,11 +68,13 @@ digit zero lt = refl
 digit (suc zero) lt = refl
 digit (suc (suc x)) lt = absurd (omega (arith, lt))
 
-from_bits_of : (n bits : ℕ) (test : ℕ → Bool) → bits < 2 ^ n → ((q : ℕ) → test q ≡ has bits q) → bits_from n test ≡ bits
+from_bits_of : (n bits : ℕ) (test : ℕ → Bool) → bits < 2 ^ n → ((q : ℕ) → test q ≡ has bits q)
+    → bits_from n test ≡ bits
 from_bits_of zero bits test small tells = omega (arith, small)
 from_bits_of (suc n) bits test small tells =
     let lowest : cond (test 0) 1 0 ≡ bits % 2 =
-    ap (λ b. cond b 1 0) (tells 0 ∙ ap (λ x. eqb x 1) (bit_at_lowest bits)) ∙ digit (bits % 2) (omega arith) in
+    ap (λ b. cond b 1 0) (tells 0 ∙ ap (λ x. eqb x 1) (bit_at_lowest bits))
+    ∙ digit (bits % 2) (omega arith) in
     let others : bits_from n (λ q. test (q + 1)) ≡ bits / 2 =
     from_bits_of n (bits / 2) (λ q. test (q + 1)) (omega (arith, small, pow-succ' 2 n)) (λ q. (
     tells (q + 1) ∙ ap (has bits) (add-one q) ∙ ap (λ x. eqb x 1) (bit_at-suc bits q))) in
@@ -76,4 +85,5 @@ byte_of nodes = bits_from 8 (set.contains nodes)
 
 pub byte_of_with : (bits : ℕ) → bits < 2 ^ 8 → byte_of (nodes_with bits) ≡ bits
 byte_of_with bits small =
-    from_bits_of 8 bits (set.contains (nodes_with bits)) small (λ q. contains_with bits q (omega (arith, small)))
+    from_bits_of 8 bits (set.contains (nodes_with bits)) small
+    (λ q. contains_with bits q (omega (arith, small)))

@@ -99,14 +99,16 @@ put_offs (entry.AwaitAcks s) = s.waiting.put_off
 abbrev pub can_put_off : Entry → Bool
 can_put_off e = is_locked e && nat_lt (length (put_offs e)) most_put_off
 
-abbrev pub one_more : WaitingState → PutOff → WaitingState
-one_more s message = record { word = s.word; call = s.call; put_off = s.put_off ++ message ∷ [] }
+abbrev pub with_one_put_off : WaitingState → PutOff → WaitingState
+with_one_put_off s message =
+    record { word = s.word; call = s.call; put_off = s.put_off ++ message ∷ [] }
 
 -- a locked entry with one more message put off
 abbrev pub with_put_off : Entry → PutOff → Entry
 with_put_off (entry.Idle s) message = entry.Idle s
-with_put_off (entry.AwaitRead s) message = entry.AwaitRead (one_more s message)
+with_put_off (entry.AwaitRead s) message = entry.AwaitRead (with_one_put_off s message)
 with_put_off (entry.AwaitWrite s) message =
-    entry.AwaitWrite (record { had_copy = s.had_copy; waiting = one_more s.waiting message })
+    entry.AwaitWrite
+    (record { had_copy = s.had_copy; waiting = with_one_put_off s.waiting message })
 with_put_off (entry.AwaitAcks s) message =
-    entry.AwaitAcks (record { left = s.left; waiting = one_more s.waiting message })
+    entry.AwaitAcks (record { left = s.left; waiting = with_one_put_off s.waiting message })

@@ -1,5 +1,7 @@
--- What a page table ends as, where the bytes of a page are lent to be written. What is written has the page's length.
--- The logic asks for a table at any other list too: that goes over the bytes of the region from the page's first one on.
+-- What a page table ends as, where the bytes of a page are lent to be written. What is written has
+-- the page's length.
+-- The logic asks for a table at any other list too: that goes over the bytes of the region from the
+-- page's first one on.
 use Rattle.std.specs.Prelude.{ℕ, ◌*◌, List, ◌++◌, length, take, drop, if◌then◌else◌, ◌==◌}
 use Rattle.std.specs.List.{concat, refill}
 use Rattle.std.specs.Borrow.{Lends, Fml, RattleType, MutBor, Array, u8}
@@ -9,19 +11,22 @@ use Rattle.ivy_pagetable.specs.TableState.{Table, pages_in}
 use Rattle.ivy_pagetable.specs.Tables.{with_page}
 
 abbrev pub poured : List ℕ → ℕ → List ℕ → List ℕ
-poured bytes at new = refill (length bytes) bytes (take at bytes ++ (new ++ drop (length new) (drop at bytes)))
+poured bytes at new =
+    refill (length bytes) bytes (take at bytes ++ (new ++ drop (length new) (drop at bytes)))
 
 abbrev pub spilled : Table → ℕ → List ℕ → Table
 spilled t page new = record {
   page_size = t.page_size;
   entries = t.entries;
-  pages = pages_in t.page_size (length t.entries) (poured (concat t.pages) (page * t.page_size) new);
+  pages = pages_in t.page_size (length t.entries)
+      (poured (concat t.pages) (page * t.page_size) new);
 }
 
-abbrev pub written : Table → ℕ → List ℕ → Table
-written t page new = if length new == t.page_size then with_page t page new else spilled t page new
+abbrev pub page_given_back : Table → ℕ → List ℕ → Table
+page_given_back t page new =
+    if length new == t.page_size then with_page t page new else spilled t page new
 
 module _ (A : RattleType) (heap : Ghosts A.Denot) where
   abbrev pub LendsPage : MutBor Table → ℕ → MutBor (List ℕ) → Fml
   LendsPage t page bytes =
-      Lends (table.the_row A heap) (Array u8 0) t bytes (written t.now page)
+      Lends (table.the_row A heap) (Array u8 0) t bytes (page_given_back t.now page)

@@ -40,7 +40,7 @@ brought_back ops page hop from s =
 
 -- Of a change at page p: who the manager's node is, how many pages it has and how many nodes there
 -- are stay, and so does the next hop of each other page.
-pub record Keeps {S : Type 0} (ops : Ops S) (s : S) (p : ℕ) (new : S) : Type 0 where
+pub record KeepsElsewhere {S : Type 0} (ops : Ops S) (s : S) (p : ℕ) (new : S) : Type 0 where
   pub me : ops.me new ≡ ops.me s
   pub size : ops.size new ≡ ops.size s
   pub nodes : ops.nodes new ≡ ops.nodes s
@@ -65,11 +65,11 @@ pub record Laws {S : Type 0} (ops : Ops S) : Type 0 where
       → ops.next_hop (ops.first c i) p ≡ i → i ≡ 0
   -- each call changes one page
   pub keeps_forward : (s : S) (p : ℕ) (write : Bool) (origin : ℕ)
-      → Keeps ops s p (ops.on_forward s p write origin)
-  pub keeps_given : (s : S) (p to : ℕ) → Keeps ops s p (ops.on_given s p to)
+      → KeepsElsewhere ops s p (ops.on_forward s p write origin)
+  pub keeps_given : (s : S) (p to : ℕ) → KeepsElsewhere ops s p (ops.on_given s p to)
   pub keeps_replied : (s : S) (p : ℕ) (write : Bool) (from : ℕ)
-      → Keeps ops s p (ops.on_replied s p write from)
-  pub keeps_invalidated : (s : S) (p by : ℕ) → Keeps ops s p (ops.on_invalidated s p by)
+      → KeepsElsewhere ops s p (ops.on_replied s p write from)
+  pub keeps_invalidated : (s : S) (p by : ℕ) → KeepsElsewhere ops s p (ops.on_invalidated s p by)
   -- the next hop stays a node, where the call names one
   pub hop_forward : (s : S) (p : ℕ) (write : Bool) (origin : ℕ) → IsRouted ops s p
       → origin < ops.nodes s → ops.next_hop (ops.on_forward s p write origin) p < ops.nodes s

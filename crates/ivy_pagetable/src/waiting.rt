@@ -1,5 +1,5 @@
 ghost use Rattle.std.specs.Prelude.{◌≡◌, ◌<◌, ◌≤◌, [], ◌∷◌, ◌++◌, length, nat_le, nat_lt, if◌then◌else◌};
-ghost use Rattle.ivy_pagetable.specs.Entries.{one_more};
+ghost use Rattle.ivy_pagetable.specs.Entries.{with_one_put_off};
 ghost use Rattle.ivy_pagetable.specs.Limits.{most_put_off};
 
 use crate::put_off::PutOff;
@@ -48,7 +48,7 @@ impl Waiting {
     /// Puts one message more off.
     pub fn put_off(&mut self, message: PutOff)
         requires { length self.old.put_off < most_put_off }
-        ensures { self.new ≡ one_more self.old message }
+        ensures { self.new ≡ with_one_put_off self.old message }
     {
         self.put_off.push(message);
     }
@@ -56,7 +56,7 @@ impl Waiting {
     /// Puts one message more off where there is room, and says whether it did.
     pub(crate) fn try_put_off(&mut self, message: PutOff) -> bool
         ensures done { result ≡ nat_lt (length self.old.put_off) most_put_off }
-        ensures kept { self.new ≡ if nat_lt (length self.old.put_off) most_put_off then one_more self.old message else self.old }
+        ensures kept { self.new ≡ if nat_lt (length self.old.put_off) most_put_off then with_one_put_off self.old message else self.old }
     {
         if self.is_full() {
             return false;

@@ -25,7 +25,8 @@ zeros_gone zero = refl
 zeros_gone (suc n) = zeros_gone n
 
 -- the letters of the 16 bytes of a name are the name
-pub letters-padded : (word : List ℕ) → list_all is_name_byte word ≡ true → letters_of (padded word) ≡ word
+pub letters-padded : (word : List ℕ) → list_all is_name_byte word ≡ true
+    → letters_of (padded word) ≡ word
 letters-padded word h =
     filter-append (λ b. nat_lt 0 b) word (drop (length word) (replicate 16 0))
     ∙ ap (λ l. letters_of word ++ letters_of l) (drop-replicate (length word) 16 0)

@@ -9,22 +9,28 @@ use Rattle.ivy_program.specs.declared.instruction.Instruction.{Instruction}
 use Rattle.ivy_program.specs.declared.instruction.Instruction.TheVariants.{Load, Store, Count, Advance, Await, Alloc, Free}
 use Rattle.ivy_program.specs.Instructions.{bytes_in}
 use Rattle.ivy_program.specs.States.{State}
-use Rattle.ivy_program.specs.Steps.{Step, Local, Asks, Ends, step, step_at, answered}
+use Rattle.ivy_program.specs.Steps.{Step, Local, Asks, Ends, step, step_at, after_reply}
 use Rattle.ivy_program.specs.Runs.{StepsTo, Runs}
 
-leads_on : (p : List Instruction) (n : ℕ) (old mid new : State) → StepsTo p n old mid → step p mid ≡ Local new → StepsTo p (suc n) old new
+leads_on : (p : List Instruction) (n : ℕ) (old mid new : State) → StepsTo p n old mid
+    → step p mid ≡ Local new → StepsTo p (suc n) old new
 leads_on p zero old mid new e h = (new, subst (λ s. step p s ≡ Local new) e h, refl)
 leads_on p (suc n) old mid new l h = (l.0, l.1, leads_on p n l.0 mid new l.2 h)
 
 -- a run goes on by one instruction of its own
-pub runs_on : (p : List Instruction) (rs : List Record) (old mid new : State) → Runs p old rs mid → step p mid ≡ Local new → Runs p old rs new
+pub runs_on : (p : List Instruction) (rs : List Record) (old mid new : State) → Runs p old rs mid
+    → step p mid ≡ Local new → Runs p old rs new
 runs_on p [] old mid new run h = (suc run.0, leads_on p run.0 old mid new run.1 h)
-runs_on p (r ∷ rs) old mid new run h = (run.0, run.1, run.2, runs_on p rs (answered p run.0 r.reply) mid new run.3 h)
+runs_on p (r ∷ rs) old mid new run h =
+    (run.0, run.1, run.2, runs_on p rs (after_reply p run.0 r.reply) mid new run.3 h)
 
 -- a run goes on by one call and its reply
-pub runs_answered : (p : List Instruction) (rs : List Record) (old mid : State) (r : Record) → Runs p old rs mid → step p mid ≡ Asks r.call → Runs p old (rs ++ r ∷ []) (answered p mid r.reply)
+pub runs_answered : (p : List Instruction) (rs : List Record) (old mid : State) (r : Record)
+    → Runs p old rs mid → step p mid ≡ Asks r.call
+    → Runs p old (rs ++ r ∷ []) (after_reply p mid r.reply)
 runs_answered p [] old mid r run h = (mid, run, h, (0, refl))
-runs_answered p (q ∷ rs) old mid r run h = (run.0, run.1, run.2, runs_answered p rs (answered p run.0 q.reply) mid r run.3 h)
+runs_answered p (q ∷ rs) old mid r run h =
+    (run.0, run.1, run.2, runs_answered p rs (after_reply p run.0 q.reply) mid r run.3 h)
 
 is_width : (w : Width) → IsWidth (bytes_in w)
 is_width One = (0, lit< tt, refl)
@@ -37,7 +43,8 @@ asked c (Local s) = c
 asked c (Asks d) = d
 asked c Ends = c
 
-legal_at : (n : ℕ) (s : State) (i : Option Instruction) (c : Call) → step_at n s i ≡ Asks c → HasWidth c
+legal_at : (n : ℕ) (s : State) (i : Option Instruction) (c : Call) → step_at n s i ≡ Asks c
+    → HasWidth c
 legal_at n s None c h = cc
 legal_at n s (Some (Load width to addr)) c h = subst HasWidth (ap (asked c) h) (is_width width)
 legal_at n s (Some (Store width addr from)) c h = subst HasWidth (ap (asked c) h) (is_width width)

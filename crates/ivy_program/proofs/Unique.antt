@@ -1,5 +1,7 @@
 -- The words of a line are those of no other line.
-use Rattle.std.proofs.Common.{◌≡◌, ◌∙◌, ℕ, ◌+◌, ◌-◌, ◌*◌, ◌≤◌, ◌<◌, eqb, nat_lt, Bool, true, false, cond, List, [], ◌∷◌, codes, fold, length, slice_index, slice_index_or, Option, Some, None, refl, sym, ap, arith}
+use Rattle.std.proofs.Common.{◌≡◌, ◌∙◌, ℕ, ◌+◌, ◌-◌, ◌*◌, ◌≤◌, ◌<◌, eqb, nat_lt, Bool, true, false}
+use Rattle.std.proofs.Common.{cond, List, [], ◌∷◌, codes, fold, length, slice_index, slice_index_or}
+use Rattle.std.proofs.Common.{Option, Some, None, refl, sym, ap, arith}
 use Rattle.std.specs.List.{AllZip}
 use Rattle.std.specs.Str.Parse.{digits_value}
 use Rattle.std.proofs.lemmas.Bool.Decides.{nat_tests}
@@ -14,7 +16,7 @@ use Rattle.ivy_program.specs.declared.line.Action.TheVariants as action
 use Rattle.ivy_program.specs.declared.line.Line.{Line}
 use Rattle.ivy_program.specs.declared.line.Line.TheVariants as line
 use Rattle.ivy_program.specs.Instructions.{bytes_in}
-use Rattle.ivy_program.specs.Lines.{Spells, SpellsAction, SpellsPlain}
+use Rattle.ivy_program.specs.Lines.{SpellsLine, SpellsAction, SpellsPlain}
 use Rattle.ivy_program.specs.Operands.{register_word, operation_word}
 use Rattle.ivy_program.specs.Readings.{IsReading}
 use Rattle.ivy_program.specs.Words.{words_of}
@@ -26,11 +28,13 @@ high : (r : ℕ) → nat_lt r 10 ≡ false → 10 ≤ r
 high r h = grind (arith, nat_tests)
 
 either_register : (a b : Bool) (r s : ℕ) → nat_lt r 10 ≡ a → nat_lt s 10 ≡ b
-    → cond a (114 ∷ (48 + r) ∷ []) (114 ∷ 49 ∷ (48 + (r - 10)) ∷ []) ≡ cond b (114 ∷ (48 + s) ∷ []) (114 ∷ 49 ∷ (48 + (s - 10)) ∷ []) → r ≡ s
+    → cond a (114 ∷ (48 + r) ∷ []) (114 ∷ 49 ∷ (48 + (r - 10)) ∷ [])
+    ≡ cond b (114 ∷ (48 + s) ∷ []) (114 ∷ 49 ∷ (48 + (s - 10)) ∷ []) → r ≡ s
 either_register true true r s p q h = omega (arith, ap (λ w. slice_index w 1) h)
 either_register true false r s p q h = absurd (omega (arith, ap length h))
 either_register false true r s p q h = absurd (omega (arith, ap length h))
-either_register false false r s p q h = omega (arith, high r p, high s q, ap (λ w. slice_index w 2) h)
+either_register false false r s p q h =
+    omega (arith, high r p, high s q, ap (λ w. slice_index w 2) h)
 
 register_same : (r s : ℕ) → register_word r ≡ register_word s → r ≡ s
 register_same r s h = either_register (nat_lt r 10) (nat_lt s 10) r s refl refl h
@@ -52,7 +56,8 @@ number word = fold (λ n b. n * 256 + b) 0 word
 abbrev key : List (List ℕ) → ℕ
 key words =
     let n = number (word_at words 0) in
-    cond (eqb n (number (codes "add"))) 1 (cond (eqb n (number (codes "sub"))) 1 (cond (eqb n (number (codes "mul"))) 1 n))
+    cond (eqb n (number (codes "add"))) 1
+    (cond (eqb n (number (codes "sub"))) 1 (cond (eqb n (number (codes "mul"))) 1 n))
 
 abbrev key_of : Instruction → ℕ
 key_of (Load width to addr) = number (codes "load")
@@ -98,7 +103,9 @@ plain_key ws Stop h = ap key h
 plain_key ws _ h = absurd h
 
 abbrev rank : ℕ → ℕ
-rank n = cond (eqb n 0) 0 (cond (eqb n (number (codes "node"))) 1 (cond (eqb n (number (codes "label"))) 2 3))
+rank n =
+    cond (eqb n 0) 0
+    (cond (eqb n (number (codes "node"))) 1 (cond (eqb n (number (codes "label"))) 2 3))
 
 abbrev rank_of : Line → ℕ
 rank_of line.Blank = 0
@@ -114,24 +121,30 @@ jump_rank_of (action.Plain i) = 0
 jump_rank_of (action.Jump n) = 1
 jump_rank_of (action.JumpIfZero f n) = 2
 
-plain_ranks : (ws : List (List ℕ)) (i : Instruction) → SpellsPlain ws i → (rank (key_of i) ≡ 3) × (jump_rank (key_of i) ≡ 0)
+plain_ranks : (ws : List (List ℕ)) (i : Instruction) → SpellsPlain ws i
+    → (rank (key_of i) ≡ 3) × (jump_rank (key_of i) ≡ 0)
 plain_ranks ws (Jump p) h = absurd h
 plain_ranks ws (JumpIfZero f p) h = absurd h
 plain_ranks ws i h = (refl, refl)
 
-action_rank : (ws : List (List ℕ)) (a : Action) → SpellsAction ws a → (rank (key ws) ≡ 3) × (jump_rank (key ws) ≡ jump_rank_of a)
-action_rank ws (action.Plain i) h =
-    (ap rank (plain_key ws i h.1) ∙ (plain_ranks ws i h.1).0, ap jump_rank (plain_key ws i h.1) ∙ (plain_ranks ws i h.1).1)
+action_rank : (ws : List (List ℕ)) (a : Action) → SpellsAction ws a
+    → (rank (key ws) ≡ 3) × (jump_rank (key ws) ≡ jump_rank_of a)
+action_rank ws (action.Plain i) h = (
+  ap rank (plain_key ws i h.1) ∙ (plain_ranks ws i h.1).0,
+  ap jump_rank (plain_key ws i h.1) ∙ (plain_ranks ws i h.1).1,
+)
 action_rank ws (action.Jump n) h = (ap (λ w. rank (key w)) h.1, ap (λ w. jump_rank (key w)) h.1)
-action_rank ws (action.JumpIfZero f n) h = (ap (λ w. rank (key w)) h.2, ap (λ w. jump_rank (key w)) h.2)
+action_rank ws (action.JumpIfZero f n) h =
+    (ap (λ w. rank (key w)) h.2, ap (λ w. jump_rank (key w)) h.2)
 
-line_rank : (ws : List (List ℕ)) (l : Line) → Spells ws l → rank (key ws) ≡ rank_of l
+line_rank : (ws : List (List ℕ)) (l : Line) → SpellsLine ws l → rank (key ws) ≡ rank_of l
 line_rank ws line.Blank h = ap (λ w. rank (key w)) h
 line_rank ws (line.Node n) h = ap (λ w. rank (key w)) h.2
 line_rank ws (line.Label n) h = ap (λ w. rank (key w)) h.1
 line_rank ws (line.Does a) h = (action_rank ws a h).0
 
-operand_same : (ws : List (List ℕ)) (k r s : ℕ) → word_at ws k ≡ register_word r → word_at ws k ≡ register_word s → r ≡ s
+operand_same : (ws : List (List ℕ)) (k r s : ℕ) → word_at ws k ≡ register_word r
+    → word_at ws k ≡ register_word s → r ≡ s
 operand_same ws k r s p q = register_same r s (sym p ∙ q)
 
 module _ (ws : List (List ℕ)) where
@@ -152,18 +165,24 @@ module _ (ws : List (List ℕ)) where
       (width_same w v (sym h.1.1 ∙ ap (digits_value 10) (sym (at 1 _ h.2) ∙ at 1 _ k.2) ∙ k.1.1) i)
       (operand_same ws 2 a b (at 2 _ h.2) (at 2 _ k.2) i)
       (operand_same ws 3 f g (at 3 _ h.2) (at 3 _ k.2) i)
-  plain_same (Count t c) (Count u d) h k = λ i. Count (operand_same ws 1 t u (at 1 _ h) (at 1 _ k) i) (operand_same ws 2 c d (at 2 _ h) (at 2 _ k) i)
+  plain_same (Count t c) (Count u d) h k =
+      λ i. Count (operand_same ws 1 t u (at 1 _ h) (at 1 _ k) i)
+      (operand_same ws 2 c d (at 2 _ h) (at 2 _ k) i)
   plain_same (Advance c) (Advance d) h k = ap Advance (operand_same ws 1 c d (at 1 _ h) (at 1 _ k))
   plain_same (Await t c l) (Await u d m) h k = λ i. Await
       (operand_same ws 1 t u (at 1 _ h) (at 1 _ k) i)
       (operand_same ws 2 c d (at 2 _ h) (at 2 _ k) i)
       (operand_same ws 3 l m (at 3 _ h) (at 3 _ k) i)
-  plain_same (Alloc t n) (Alloc u m) h k = λ i. Alloc (operand_same ws 1 t u (at 1 _ h) (at 1 _ k) i) (operand_same ws 2 n m (at 2 _ h) (at 2 _ k) i)
+  plain_same (Alloc t n) (Alloc u m) h k =
+      λ i. Alloc (operand_same ws 1 t u (at 1 _ h) (at 1 _ k) i)
+      (operand_same ws 2 n m (at 2 _ h) (at 2 _ k) i)
   plain_same (Free a) (Free b) h k = ap Free (operand_same ws 1 a b (at 1 _ h) (at 1 _ k))
   plain_same (Set t n) (Set u m) h k = λ i. Set
       (operand_same ws 1 t u (at 1 _ h.2) (at 1 _ k.2) i)
       ((sym h.1.1 ∙ ap (digits_value 10) (sym (at 2 _ h.2) ∙ at 2 _ k.2) ∙ k.1.1) i)
-  plain_same (Move t f) (Move u g) h k = λ i. Move (operand_same ws 1 t u (at 1 _ h) (at 1 _ k) i) (operand_same ws 2 f g (at 2 _ h) (at 2 _ k) i)
+  plain_same (Move t f) (Move u g) h k =
+      λ i. Move (operand_same ws 1 t u (at 1 _ h) (at 1 _ k) i)
+      (operand_same ws 2 f g (at 2 _ h) (at 2 _ k) i)
   plain_same (Compute o t l r) (Compute p u m s) h k = λ i. Compute
       (operation_same o p (sym (at 0 _ h) ∙ at 0 _ k) i)
       (operand_same ws 1 t u (at 1 _ h) (at 1 _ k) i)
@@ -182,9 +201,10 @@ module _ (ws : List (List ℕ)) where
       ((sym (at 2 _ h.2) ∙ at 2 _ k.2) i)
   action_same a b h k = absurd (omega (arith, sym (action_rank ws a h).1 ∙ (action_rank ws b k).1))
 
-  line_same : (a b : Line) → Spells ws a → Spells ws b → a ≡ b
+  line_same : (a b : Line) → SpellsLine ws a → SpellsLine ws b → a ≡ b
   line_same line.Blank line.Blank h k = refl
-  line_same (line.Node n) (line.Node m) h k = ap line.Node (sym h.1.1 ∙ ap (digits_value 10) (sym (at 1 _ h.2) ∙ at 1 _ k.2) ∙ k.1.1)
+  line_same (line.Node n) (line.Node m) h k =
+      ap line.Node (sym h.1.1 ∙ ap (digits_value 10) (sym (at 1 _ h.2) ∙ at 1 _ k.2) ∙ k.1.1)
   line_same (line.Label n) (line.Label m) h k = ap line.Label (sym (at 1 _ h.1) ∙ at 1 _ k.1)
   line_same (line.Does a) (line.Does b) h k = ap line.Does (action_same a b h k)
   line_same a b h k = absurd (omega (arith, sym (line_rank ws a h) ∙ line_rank ws b k))
@@ -196,10 +216,12 @@ reading_same text None (Some b) h k = absurd (h b k)
 reading_same text None None h k = refl
 
 -- each text is read in one way
-pub readings_same : (texts : List (List ℕ)) (xs ys : List (Option Line)) → AllZip IsReading texts xs → AllZip IsReading texts ys → xs ≡ ys
+pub readings_same : (texts : List (List ℕ)) (xs ys : List (Option Line)) → AllZip IsReading texts xs
+    → AllZip IsReading texts ys → xs ≡ ys
 readings_same [] [] [] h k = refl
 readings_same [] (x ∷ xs) ys h k = absurd h
 readings_same [] xs (y ∷ ys) h k = absurd k
 readings_same (t ∷ ts) [] ys h k = absurd h
 readings_same (t ∷ ts) (x ∷ xs) [] h k = absurd k
-readings_same (t ∷ ts) (x ∷ xs) (y ∷ ys) h k = λ i. reading_same t x y h.0 k.0 i ∷ readings_same ts xs ys h.1 k.1 i
+readings_same (t ∷ ts) (x ∷ xs) (y ∷ ys) h k =
+    λ i. reading_same t x y h.0 k.0 i ∷ readings_same ts xs ys h.1 k.1 i

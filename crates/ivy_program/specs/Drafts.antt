@@ -28,7 +28,7 @@ knows_place (Does action) = has_place action
 knows_place _ = false
 
 -- there are at most 4,096 lines, no jump knows its place, and the labels are inside
-pub record IsSound (lines : List Numbered) (labels : List Label) : Type 0 where
+pub record IsSoundDraft (lines : List Numbered) (labels : List Label) : Type 0 where
   pub short : length lines ≤ 4096
   pub by_label : All (λ line. has_place line.action ≡ false) lines
   pub inside : AreInside (length lines) labels

@@ -25,14 +25,16 @@ SpellsPlain words (Count to count) =
 SpellsPlain words (Advance count) = words ≡ codes "advance" ∷ register_word count ∷ []
 SpellsPlain words (Await to count least) =
     words ≡ codes "await" ∷ register_word to ∷ register_word count ∷ register_word least ∷ []
-SpellsPlain words (Alloc to size) = words ≡ codes "alloc" ∷ register_word to ∷ register_word size ∷ []
+SpellsPlain words (Alloc to size) =
+    words ≡ codes "alloc" ∷ register_word to ∷ register_word size ∷ []
 SpellsPlain words (Free addr) = words ≡ codes "free" ∷ register_word addr ∷ []
 SpellsPlain words (Set to value) = (w : List ℕ) × IsNumberWord w value
     × (words ≡ codes "set" ∷ register_word to ∷ w ∷ [])
 SpellsPlain words (Move to from) =
     words ≡ codes "mov" ∷ register_word to ∷ register_word from ∷ []
 SpellsPlain words (Compute operation to left right) =
-    words ≡ operation_word operation ∷ register_word to ∷ register_word left ∷ register_word right ∷ []
+    words ≡ operation_word operation ∷ register_word to ∷ register_word left ∷ register_word right
+    ∷ []
 SpellsPlain words (Status to) = words ≡ codes "status" ∷ register_word to ∷ []
 SpellsPlain words (Print from) = words ≡ codes "print" ∷ register_word from ∷ []
 SpellsPlain words Stop = words ≡ codes "stop" ∷ []
@@ -47,9 +49,9 @@ SpellsAction words (action.JumpIfZero from name) = (from < 16) × IsName name
     × (words ≡ codes "jumpz" ∷ register_word from ∷ name ∷ [])
 
 -- the words of a line
-abbrev pub Spells : List (List ℕ) → Line → Type 0
-Spells words line.Blank = words ≡ []
-Spells words (line.Node number) = (w : List ℕ) × IsNumberWord w number
+abbrev pub SpellsLine : List (List ℕ) → Line → Type 0
+SpellsLine words line.Blank = words ≡ []
+SpellsLine words (line.Node number) = (w : List ℕ) × IsNumberWord w number
     × (words ≡ codes "node" ∷ w ∷ [])
-Spells words (line.Label name) = IsName name × (words ≡ codes "label" ∷ name ∷ [])
-Spells words (line.Does action) = SpellsAction words action
+SpellsLine words (line.Label name) = IsName name × (words ≡ codes "label" ∷ name ∷ [])
+SpellsLine words (line.Does action) = SpellsAction words action

@@ -12,8 +12,8 @@ pub record Part : Type 0 where
   pub labels : List Label
 
 -- the place that the labels give a name, if one does
-abbrev pub place_of : List Label → List ℕ → Option ℕ
-place_of labels name = lookup (same_name name) labels
+abbrev pub label_place : List Label → List ℕ → Option ℕ
+label_place labels name = lookup (same_name name) labels
 
 abbrev pub last_part : List Part → Option Part
 last_part parts = slice_get parts (length parts - 1)
@@ -40,7 +40,8 @@ put_last parts (Some part) = Some (with_last parts part)
 put_last parts None = None
 
 abbrev pub label_last : List Part → List ℕ → Option Part → Option (List Part)
-label_last parts name (Some part) = put_last parts (labelled part name (place_of part.labels name))
+label_last parts name (Some part) =
+    put_last parts (labelled part name (label_place part.labels name))
 label_last parts name None = None
 
 abbrev pub lengthen_last : List Part → Numbered → Option Part → Option (List Part)

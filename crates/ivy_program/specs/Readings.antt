@@ -7,17 +7,18 @@ use Rattle.ivy_program.specs.declared.line.Line.{Line}
 use Rattle.ivy_program.specs.declared.parser.Numbered.{Numbered}
 use Rattle.ivy_program.specs.declared.instruction.Instruction.{Instruction}
 use Rattle.ivy_program.specs.declared.instruction.Instruction.TheVariants.{Jump, JumpIfZero}
-use Rattle.ivy_program.specs.Lines.{Spells}
+use Rattle.ivy_program.specs.Lines.{SpellsLine}
 use Rattle.ivy_program.specs.Names.{Label}
-use Rattle.ivy_program.specs.Parts.{Part, joined, place_of}
+use Rattle.ivy_program.specs.Parts.{Part, joined, label_place}
 use Rattle.ivy_program.specs.Words.{words_of}
 
 -- what a line says by its words, if they are a line
 abbrev pub IsReading : List ℕ → Option Line → Type 0
-IsReading text (Some line) = Spells (words_of text) line
-IsReading text None = (line : Line) → ¬ Spells (words_of text) line
+IsReading text (Some line) = SpellsLine (words_of text) line
+IsReading text None = (line : Line) → ¬ SpellsLine (words_of text) line
 
--- the answer is that it was done, and all is as it is to be, or that it can't be done, and all is as it was
+-- the answer is that it was done, and all is as it is to be, or that it can't be done, and all is
+-- as it was
 abbrev pub Changes : {X : Type 0} → Bool → X → Option X → X → Type 0
 Changes true old wanted new = wanted ≡ Some new
 Changes false old wanted new = (wanted ≡ None) × (new ≡ old)
@@ -27,20 +28,21 @@ abbrev pub TakesIn : Bool → List Part → ℕ → List ℕ → List Part → T
 TakesIn ok old number text new =
     (line : Option Line) × IsReading text line × Changes ok old (joined old number line) new
 
--- the parts with these lines, of which the first has this number; a line that is out of order is left out
+-- the parts with these lines, of which the first has this number; a line that is out of order is
+-- left out
 abbrev pub parts_from : List Part → ℕ → List (Option Line) → List Part
 parts_from parts number [] = parts
 parts_from parts number (line ∷ lines) =
     parts_from (unwrap_or (joined parts number line) parts) (number + 1) lines
 
-abbrev pub parts_of : List (Option Line) → List Part
-parts_of lines = parts_from [] 1 lines
+abbrev pub text_parts : List (Option Line) → List Part
+text_parts lines = parts_from [] 1 lines
 
 -- the line of this number is none by its words, or is not in order behind those before it
 abbrev pub IsOutOfOrder : List (Option Line) → ℕ → Type 0
 IsOutOfOrder lines number = (before : ℕ) × (number ≡ before + 1) × (line : Option Line)
     × (slice_get lines before ≡ Some line)
-    × (joined (parts_of (take before lines)) number line ≡ None)
+    × (joined (text_parts (take before lines)) number line ≡ None)
 
 abbrev pub jump_to : Option ℕ → Option Instruction
 jump_to (Some place) = Some (Jump place)
@@ -53,8 +55,8 @@ jump_if_zero_to from None = None
 -- the instruction of an action, where the labels have the one that it names, if it names one
 abbrev pub resolved : List Label → Action → Option Instruction
 resolved labels (action.Plain instruction) = Some instruction
-resolved labels (action.Jump name) = jump_to (place_of labels name)
-resolved labels (action.JumpIfZero from name) = jump_if_zero_to from (place_of labels name)
+resolved labels (action.Jump name) = jump_to (label_place labels name)
+resolved labels (action.JumpIfZero from name) = jump_if_zero_to from (label_place labels name)
 
 -- the program of a part whose labels are all known
 abbrev pub program_of : Part → List Instruction
@@ -78,12 +80,12 @@ finds_all part = list_all (λ line. is_some (resolved part.labels line.action)) 
 
 -- the line of this number is at fault
 abbrev pub IsAtFault : List (Option Line) → ℕ → Type 0
-IsAtFault lines number = IsOutOfOrder lines number ⊎ IsLost (parts_of lines) number
+IsAtFault lines number = IsOutOfOrder lines number ⊎ IsLost (text_parts lines) number
 
 -- the least number with this property, if one has it
-abbrev pub IsLeast : (ℕ → Type 0) → Option ℕ → Type 0
-IsLeast P None = (n : ℕ) → ¬ P n
-IsLeast P (Some n) = P n × ((m : ℕ) → P m → n ≤ m)
+abbrev pub IsLeastOrNone : (ℕ → Type 0) → Option ℕ → Type 0
+IsLeastOrNone P None = (n : ℕ) → ¬ P n
+IsLeastOrNone P (Some n) = P n × ((m : ℕ) → P m → n ≤ m)
 
 abbrev pub lesser : Option ℕ → ℕ → ℕ
 lesser None n = n
@@ -91,4 +93,4 @@ lesser (Some m) n = if nat_lt m n then m else n
 
 -- the lines lead to these parts, and the first that is out of order is this one
 abbrev pub IsReadAs : List (Option Line) → List Part → Option ℕ → Type 0
-IsReadAs lines parts first = (parts ≡ parts_of lines) × IsLeast (IsOutOfOrder lines) first
+IsReadAs lines parts first = (parts ≡ text_parts lines) × IsLeastOrNone (IsOutOfOrder lines) first

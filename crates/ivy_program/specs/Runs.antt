@@ -3,7 +3,7 @@ use Rattle.std.specs.Prelude.{◌≡◌, ℕ, suc, zero, List, [], ◌∷◌}
 use Rattle.ivy_model.specs.declared.Record.{Record}
 use Rattle.ivy_program.specs.declared.instruction.Instruction.{Instruction}
 use Rattle.ivy_program.specs.States.{State, first_state}
-use Rattle.ivy_program.specs.Steps.{Local, Asks, Ends, step, answered}
+use Rattle.ivy_program.specs.Steps.{Local, Asks, Ends, step, after_reply}
 
 -- so many instructions without a call lead from one state to another
 abbrev pub StepsTo : List Instruction → ℕ → State → State → Type 0
@@ -14,12 +14,13 @@ StepsTo program (suc n) old new =
 abbrev pub Reaches : List Instruction → State → State → Type 0
 Reaches program old new = (n : ℕ) × StepsTo program n old new
 
--- the program makes the calls of the records one after another, each with its reply, and then comes to this state
+-- the program makes the calls of the records one after another, each with its reply, and then comes
+-- to this state
 abbrev pub Runs : List Instruction → State → List Record → State → Type 0
 Runs program old [] new = Reaches program old new
 Runs program old (r ∷ rs) new =
     (asking : State) × Reaches program old asking × (step program asking ≡ Asks r.call)
-    × Runs program (answered program asking r.reply) rs new
+    × Runs program (after_reply program asking r.reply) rs new
 
 -- a run of the program from its beginning
 abbrev pub IsRunTo : List Instruction → List Record → State → Type 0

@@ -13,8 +13,8 @@ abbrev pub first_state : State
 first_state = record { place = 0; registers = replicate 16 0; status = 0; output = [] }
 
 -- what the register holds
-abbrev pub held : State → ℕ → ℕ
-held s r = slice_index_or s.registers r 0
+abbrev pub value_in : State → ℕ → ℕ
+value_in s r = slice_index_or s.registers r 0
 
 -- the state at another place
 abbrev pub gone_to : State → ℕ → State

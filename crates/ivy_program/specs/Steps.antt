@@ -9,9 +9,10 @@ use Rattle.ivy_program.specs.declared.instruction.Instruction.TheVariants.{Set, 
 use Rattle.ivy_program.specs.declared.machine.Next.{Next}
 use Rattle.ivy_program.specs.declared.machine.Next.TheVariants as next
 use Rattle.ivy_program.specs.Instructions.{bytes_in, result_of, receiver_of}
-use Rattle.ivy_program.specs.States.{State, held, gone_to, moved_on, put, printed, with_status}
+use Rattle.ivy_program.specs.States.{State, value_in, gone_to, moved_on, put, printed, with_status}
 
--- what comes next: an instruction of its own and the state after it, a call of the memory, or the end
+-- what comes next: an instruction of its own and the state after it, a call of the memory, or the
+-- end
 pub data Step : Type 0 where
   Local : State → Step
   Asks : Call → Step
@@ -19,43 +20,45 @@ pub data Step : Type 0 where
 
 -- the call that an instruction makes, if it makes one
 abbrev pub call_of : State → Instruction → Option Call
-call_of s (Load width to addr) = Some (call.Load (bytes_in width) (held s addr))
-call_of s (Store width addr from) = Some (call.Store (bytes_in width) (held s addr) (held s from))
-call_of s (Count to count) = Some (call.Count (held s count))
-call_of s (Advance count) = Some (call.Advance (held s count))
-call_of s (Await to count least) = Some (call.Await (held s count) (held s least))
-call_of s (Alloc to size) = Some (call.Alloc (held s size))
-call_of s (Free addr) = Some (call.Free (held s addr))
+call_of s (Load width to addr) = Some (call.Load (bytes_in width) (value_in s addr))
+call_of s (Store width addr from) =
+    Some (call.Store (bytes_in width) (value_in s addr) (value_in s from))
+call_of s (Count to count) = Some (call.Count (value_in s count))
+call_of s (Advance count) = Some (call.Advance (value_in s count))
+call_of s (Await to count least) = Some (call.Await (value_in s count) (value_in s least))
+call_of s (Alloc to size) = Some (call.Alloc (value_in s size))
+call_of s (Free addr) = Some (call.Free (value_in s addr))
 call_of s _ = None
 
 -- what an instruction without a call writes: a register, or the output
-abbrev pub changed : State → Instruction → State
-changed s (Set to value) = put s to value
-changed s (Move to from) = put s to (held s from)
-changed s (Compute operation to left right) =
-    put s to (result_of operation (held s left) (held s right))
-changed s (Status to) = put s to s.status
-changed s (Print from) = printed s (held s from)
-changed s _ = s
+abbrev pub after_instruction : State → Instruction → State
+after_instruction s (Set to value) = put s to value
+after_instruction s (Move to from) = put s to (value_in s from)
+after_instruction s (Compute operation to left right) =
+    put s to (result_of operation (value_in s left) (value_in s right))
+after_instruction s (Status to) = put s to s.status
+after_instruction s (Print from) = printed s (value_in s from)
+after_instruction s _ = s
 
 -- where a program of so many instructions goes on after one; `stop` goes past the last
 abbrev pub place_after : ℕ → State → Instruction → ℕ
 place_after count s (Jump place) = place
-place_after count s (JumpIfZero from place) = if held s from == 0 then place else s.place + 1
+place_after count s (JumpIfZero from place) = if value_in s from == 0 then place else s.place + 1
 place_after count s Stop = count
 place_after count s _ = s.place + 1
 
-abbrev pub told : Option Call → State → Step
-told (Some call) s = Asks call
-told None s = Local s
+abbrev pub step_told : Option Call → State → Step
+step_told (Some call) s = Asks call
+step_told None s = Local s
 
 -- what an instruction of a program of so many does
-abbrev pub carried_out : ℕ → State → Instruction → Step
-carried_out count s i = told (call_of s i) (gone_to (changed s i) (place_after count s i))
+abbrev pub step_by : ℕ → State → Instruction → Step
+step_by count s i =
+    step_told (call_of s i) (gone_to (after_instruction s i) (place_after count s i))
 
 abbrev pub step_at : ℕ → State → Option Instruction → Step
 step_at count s None = Ends
-step_at count s (Some i) = carried_out count s i
+step_at count s (Some i) = step_by count s i
 
 -- the step of the program in this state: it ends past its last instruction
 abbrev pub step : List Instruction → State → Step
@@ -78,8 +81,8 @@ replied s i Done = moved_on (with_status s 0)
 replied s i (Refused code) = moved_on (with_status s code)
 
 -- the state after the call that the program makes in this one, with this reply
-abbrev pub answered : List Instruction → State → Reply → State
-answered program s reply = replied s (slice_get program s.place) reply
+abbrev pub after_reply : List Instruction → State → Reply → State
+after_reply program s reply = replied s (slice_get program s.place) reply
 
 -- the instruction adds to the output
 abbrev pub Prints : Instruction → Type 0
@@ -109,10 +112,10 @@ abbrev pub at_state : Process → State → Process
 at_state p s = record { program = p.program; state = s }
 
 -- what a step is told as, and what it leaves: a call and the end leave all as it is
-abbrev pub Steps : Next → Process → Process → Type 0
-Steps next.Local old new = (step_of old ≡ Local new.state) × (new ≡ at_state old new.state)
-Steps (next.Call call) old new = (step_of old ≡ Asks call) × (new ≡ old)
-Steps next.Ended old new = (step_of old ≡ Ends) × (new ≡ old)
+abbrev pub TellsStep : Next → Process → Process → Type 0
+TellsStep next.Local old new = (step_of old ≡ Local new.state) × (new ≡ at_state old new.state)
+TellsStep (next.Call call) old new = (step_of old ≡ Asks call) × (new ≡ old)
+TellsStep next.Ended old new = (step_of old ≡ Ends) × (new ≡ old)
 
 abbrev pub answered_with : Process → Reply → Process
-answered_with p reply = at_state p (answered p.program p.state reply)
+answered_with p reply = at_state p (after_reply p.program p.state reply)

@@ -8,7 +8,7 @@ use Rattle.ivy_program.specs.declared.instruction.Instruction.{Instruction}
 use Rattle.ivy_program.specs.declared.line.Line.{Line}
 use Rattle.ivy_program.specs.Instructions.{IsProgram}
 use Rattle.ivy_program.specs.Parts.{Part}
-use Rattle.ivy_program.specs.Readings.{finds_all, IsAtFault, IsLeast, IsReadAs, IsReading, parts_of, program_of}
+use Rattle.ivy_program.specs.Readings.{finds_all, IsAtFault, IsLeastOrNone, IsReadAs, IsReading, text_parts, program_of}
 
 -- memory was refused, or a line, counted from 1, is at fault
 abbrev pub IsRefusal : Fault → Type 0
@@ -20,40 +20,46 @@ pub record ArePrograms (programs : List (List Instruction)) : Type 0 where
   pub each : All IsProgram programs
 
 -- no line is at fault, and these are the programs
-pub record SpellsPrograms (lines : List (Option Line)) (programs : List (List Instruction)) : Type 0 where
-  pub faultless : IsLeast (IsAtFault lines) None
-  pub same : programs ≡ map program_of (parts_of lines)
+pub record SpellsPrograms (lines : List (Option Line)) (programs : List (List Instruction)) : Type 0
+  where
+    pub faultless : IsLeastOrNone (IsAtFault lines) None
+    pub same : programs ≡ map program_of (text_parts lines)
 
 -- memory was refused, or this is the least line at fault, counted from 1
 abbrev pub IsFaultOf : List (Option Line) → Fault → Type 0
 IsFaultOf lines f = (f ≡ Memory)
-    ⊎ ((line : ℕ) × (1 ≤ line) × IsLeast (IsAtFault lines) (Some line) × (f ≡ ProgramFault line))
+    ⊎ ((line : ℕ) × (1 ≤ line) × IsLeastOrNone (IsAtFault lines) (Some line)
+    × (f ≡ ProgramFault line))
 
 -- what each of these lines says, and it says nothing else
 pub record IsOnlyReading (texts : List (List ℕ)) (read : List (Option Line)) : Type 0 where
   pub each : AllZip IsReading texts read
   pub only : (other : List (Option Line)) → AllZip IsReading texts other → other ≡ read
 
--- no further line, whatever it says, can be the least at fault: there is one, and each jump has found its label
-abbrev pub IsSettled : List Part → Option ℕ → Type 0
-IsSettled parts first = (first ≢ None) × (list_all finds_all parts ≡ true)
+-- no further line, whatever it says, can be the least at fault: there is one, and each jump has
+-- found its label
+abbrev pub IsFaultSettled : List Part → Option ℕ → Type 0
+IsFaultSettled parts first = (first ≢ None) × (list_all finds_all parts ≡ true)
 
--- what was read, up to the end of the text or to a fault that is settled, leads to these parts, and the first line that
+-- what was read, up to the end of the text or to a fault that is settled, leads to these parts, and
+-- the first line that
 -- is out of order is this one
 pub record IsTextReadAs (text : List ℕ) (parts : List Part) (first : Option ℕ) : Type 0 where
   pub read : List (Option Line)
   pub only : IsOnlyReading (take (length read) (lines text)) read
   pub leads : IsReadAs read parts first
-  pub ended : (length read ≡ length (lines text)) ⊎ IsSettled parts first
+  pub ended : (length read ≡ length (lines text)) ⊎ IsFaultSettled parts first
 
 -- the programs that the text spells
 abbrev pub SpellsText : List ℕ → List (List Instruction) → Type 0
 SpellsText text programs = (read : List (Option Line)) × IsOnlyReading (lines text) read
     × SpellsPrograms read programs
 
--- memory was refused, or this is the least line of the text that is at fault, by what its first lines say, whatever
+-- memory was refused, or this is the least line of the text that is at fault, by what its first
+-- lines say, whatever
 -- the others say
 abbrev pub IsFaultOfText : List ℕ → Fault → Type 0
 IsFaultOfText text f = (f ≡ Memory)
     ⊎ ((read : List (Option Line)) × IsOnlyReading (take (length read) (lines text)) read
-    × ((rest : List (Option Line)) → length read + length rest ≡ length (lines text) → IsFaultOf (read ++ rest) f))
+    × ((rest : List (Option Line)) → length read + length rest ≡ length (lines text)
+    → IsFaultOf (read ++ rest) f))

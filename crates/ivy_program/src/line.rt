@@ -1,7 +1,7 @@
 //! What one line of a text of programs says.
 ghost use Rattle.std.specs.Prelude.{◌≡◌, ◌≢◌, ◌<◌, ℕ, [], ◌∷◌, map, IfSome, IfNone, false};
 ghost use Rattle.ivy_program.specs.Drafts.{has_place, knows_place};
-ghost use Rattle.ivy_program.specs.Lines.{Spells, SpellsAction};
+ghost use Rattle.ivy_program.specs.Lines.{SpellsLine, SpellsAction};
 ghost use Rattle.ivy_program.specs.Operands.{register_word, operation_word, IsWidthWord, IsName};
 ghost use Rattle.ivy_program.specs.declared.instruction.Operation.{Operation};
 ghost use Rattle.ivy_program.specs.declared.instruction.Width.{Width};
@@ -243,8 +243,8 @@ pub(crate) enum Line {
 impl Line {
     /// What the line of these words says, where it is one.
     pub(crate) fn read(words: &[&str]) -> Option<Line>
-        ensures found { IfSome result (λ line. Spells (map (λ w. w.now) words.now) line) }
-        ensures none { IfNone result ((line : Line) → ¬ Spells (map (λ w. w.now) words.now) line) }
+        ensures found { IfSome result (λ line. SpellsLine (map (λ w. w.now) words.now) line) }
+        ensures none { IfNone result ((line : Line) → ¬ SpellsLine (map (λ w. w.now) words.now) line) }
         ensures plain { IfSome result (λ line. knows_place line ≡ false) }
     {
         Some(match *words {

@@ -4,8 +4,8 @@ ghost use Rattle.ivy_program.specs.declared.line.Line.{Line};
 ghost use Rattle.ivy_model.specs.declared.Fault.TheVariants.{Memory};
 ghost use Rattle.ivy_program.specs.Drafts.{has_place, knows_place};
 ghost use Rattle.ivy_program.specs.Instructions.{IsProgram, NamesRegisters, JumpsWithin};
-ghost use Rattle.ivy_program.specs.Parts.{joined, labelled, lengthened, place_of};
-ghost use Rattle.ivy_program.specs.Readings.{Changes, finds_all, HasLost, IsLeast, IsReadAs, TakesIn, lesser, program_of, resolved};
+ghost use Rattle.ivy_program.specs.Parts.{joined, labelled, lengthened, label_place};
+ghost use Rattle.ivy_program.specs.Readings.{Changes, finds_all, HasLost, IsLeastOrNone, IsReadAs, TakesIn, lesser, program_of, resolved};
 ghost use Rattle.ivy_program.specs.Texts.{ArePrograms, IsFaultOf, IsFaultOfText, IsRefusal, IsTextReadAs, SpellsPrograms, SpellsText};
 
 use crate::instruction::Instruction;
@@ -84,14 +84,14 @@ struct Draft<A: Allocator> {
 }
 
 impl<A: Allocator> Model for Draft<A> {
-    ghost use Rattle.ivy_program.specs.Drafts.{IsSound};
+    ghost use Rattle.ivy_program.specs.Drafts.{IsSoundDraft};
     ghost use Rattle.ivy_program.specs.Parts.{Part};
 
     ghost Value = { Part };
 
     ghost view = { λ d. record { lines = d.lines.items; labels = d.labels.entries } };
 
-    ghost invariant = { λ d. IsSound d.lines.items d.labels.entries };
+    ghost invariant = { λ d. IsSoundDraft d.lines.items d.labels.entries };
 }
 
 impl<A: Allocator + Copy> Draft<A> {
@@ -120,7 +120,7 @@ impl<A: Allocator + Copy> Draft<A> {
 
     /// Names the next instruction. False where the name is there already.
     fn label(&mut self, name: Name) -> Result<bool, Fault>
-        ensures added { IfOk result (λ ok. Changes ok self.old (labelled self.old name (place_of self.old.labels name)) self.new) }
+        ensures added { IfOk result (λ ok. Changes ok self.old (labelled self.old name (label_place self.old.labels name)) self.new) }
         ensures want { IsOkUnless result Memory }
     {
         if self.place_of(name).is_some() {
@@ -132,7 +132,7 @@ impl<A: Allocator + Copy> Draft<A> {
 
     /// The place that has this name.
     fn place_of(&self, name: Name) -> Option<usize>
-        ensures found { result ≡ place_of self.now.labels name }
+        ensures found { result ≡ label_place self.now.labels name }
         ensures inside { IfSome result (λ place. place ≤ length self.now.lines) }
     {
         self.labels.get(&name).copied()
@@ -171,7 +171,7 @@ impl<A: Allocator + Copy> Draft<A> {
     fn program(&self) -> Result<Result<Program<A>, LineNumber>, Fault>
         ensures program { IfOk result (λ read. IfOk read (λ p. p ≡ program_of self.now)) }
         ensures whole { IfOk result (λ read. IfOk read (λ _. (n : ℕ) → ¬ HasLost self.now n)) }
-        ensures lost { IfOk result (λ read. IfErr read (λ n. IsLeast (HasLost self.now) (Some n))) }
+        ensures lost { IfOk result (λ read. IfErr read (λ n. IsLeastOrNone (HasLost self.now) (Some n))) }
         ensures sound { IfOk result (λ read. IfOk read IsProgram) }
         ensures want { IsOkUnless result Memory }
     {

@@ -11,6 +11,7 @@ ungrown (inl grows) = grows.2
 ungrown (inr refuses) = refuses.1
 
 -- nor is it asked where a call is in progress
-pub unasked : {A B D C X : Type 0} {old new : X} (a b : Option A) → b ≡ a → (IsSome b → new ≡ old) → (b ≡ None → (B × D × (new ≡ old)) ⊎ (C × (new ≡ old))) → new ≡ old
+pub unasked : {A B D C X : Type 0} {old new : X} (a b : Option A) → b ≡ a → (IsSome b → new ≡ old)
+    → (b ≡ None → (B × D × (new ≡ old)) ⊎ (C × (new ≡ old))) → new ≡ old
 unasked None b is h k = ungrown (k is)
 unasked (Some k) b is h other = h (subst IsSome (sym is) refl)

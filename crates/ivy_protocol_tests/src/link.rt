@@ -1,7 +1,7 @@
 //! Messages between nodes: numbered, acknowledged, sent again, and told apart.
 ghost use Rattle.std.specs.Prelude.{◌≡◌, ◌<◌, length, map, IfOk};
 ghost use Rattle.ivy_wire.specs.Lent.{owned_parcel};
-ghost use Rattle.ivy_link.specs.Holding.{AreWithin};
+ghost use Rattle.ivy_link.specs.Holding.{AreToPeers};
 
 use crate::letters::{Bytes, Said, message};
 use ivy_link::{Link, Verdict, delivers_in_order};
@@ -111,7 +111,7 @@ fn peer(node: u8) -> Result<u8, Fail>
 /// Sends the messages. Whether their frames are these, and were shown before.
 fn sends(link: &mut Link<Global>, parcels: &[Parcel<&[u8]>], rows: &[Row]) -> Result<bool, Fail>
     requires nodes { length link.old.peers ≡ NODES }
-    requires within { AreWithin link.old (map owned_parcel parcels.now) }
+    requires within { AreToPeers link.old (map owned_parcel parcels.now) }
     ensures { length link.new.peers ≡ NODES }
 {
     let shown = are(&link.frames(parcels)?, rows);

@@ -38,7 +38,7 @@ impl<A: Allocator> Model for Node<A> {
     ghost use Rattle.ivy_pagetable.specs.NodeSets.{nodes_code};
     ghost use Rattle.ivy_alloc.specs.Heap.{heap_state_code};
 
-    ghost Value = { memories.Memory Owners × (declared.Config × ℕ × List wire.Parcel) };
+    ghost Value = { memories.NodeMemory Owners × (declared.Config × ℕ × List wire.Parcel) };
 
     ghost coded = { Prim.hlevel (codes, nodes_code, heap_state_code) };
 

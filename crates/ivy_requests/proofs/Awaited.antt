@@ -14,19 +14,22 @@ use Rattle.ivy_requests.proofs.Remaining.{HasKey}
 use Rattle.ivy_requests.proofs.Owed.{Wants, IsOwed}
 
 -- what is waited for, as a key
-copy_wanted : (e : Entry) (call node page : ℕ) → AwaitsCopy e call → Wants e node page (Own node page)
+copy_wanted : (e : Entry) (call node page : ℕ) → AwaitsCopy e call
+    → Wants e node page (Own node page)
 copy_wanted (entry.Idle s) call node page a = a
 copy_wanted (entry.AwaitRead s) call node page a = refl
 copy_wanted (entry.AwaitWrite s) call node page a = absurd a
 copy_wanted (entry.AwaitAcks s) call node page a = absurd a
 
-page_wanted : (e : Entry) (call node page : ℕ) → AwaitsPage e call → Wants e node page (Own node page)
+page_wanted : (e : Entry) (call node page : ℕ) → AwaitsPage e call
+    → Wants e node page (Own node page)
 page_wanted (entry.Idle s) call node page a = a
 page_wanted (entry.AwaitRead s) call node page a = absurd a
 page_wanted (entry.AwaitWrite s) call node page a = refl
 page_wanted (entry.AwaitAcks s) call node page a = absurd a
 
-ack_wanted : (e : Entry) (call node page target : ℕ) → Collects e call target → Wants e node page (Order node target page)
+ack_wanted : (e : Entry) (call node page target : ℕ) → Collects e call target
+    → Wants e node page (Order node target page)
 ack_wanted (entry.Idle s) call node page target a = a
 ack_wanted (entry.AwaitRead s) call node page target a = absurd a
 ack_wanted (entry.AwaitWrite s) call node page target a = absurd a
@@ -57,14 +60,22 @@ order_page a b s t p q h = cc
 
 -- a letter of the node about the page
 module _ (c : Config) (n : Net) (node page : ℕ) where
-  copy_there : (i q k : ℕ) → Own i q ≡ Own node page → AwaitsCopy (n.entry i q) k → AwaitsCopy (n.entry node page) k
-  copy_there i q k key h = subst (λ j. AwaitsCopy (n.entry node j) k) (own_page i node q page key) (subst (λ j. AwaitsCopy (n.entry j q) k) (own_origin i node q page key) h)
+  copy_there : (i q k : ℕ) → Own i q ≡ Own node page → AwaitsCopy (n.entry i q) k
+      → AwaitsCopy (n.entry node page) k
+  copy_there i q k key h =
+      subst (λ j. AwaitsCopy (n.entry node j) k) (own_page i node q page key)
+      (subst (λ j. AwaitsCopy (n.entry j q) k) (own_origin i node q page key) h)
 
-  page_there : (i q k : ℕ) → Own i q ≡ Own node page → AwaitsPage (n.entry i q) k → AwaitsPage (n.entry node page) k
-  page_there i q k key h = subst (λ j. AwaitsPage (n.entry node j) k) (own_page i node q page key) (subst (λ j. AwaitsPage (n.entry j q) k) (own_origin i node q page key) h)
+  page_there : (i q k : ℕ) → Own i q ≡ Own node page → AwaitsPage (n.entry i q) k
+      → AwaitsPage (n.entry node page) k
+  page_there i q k key h =
+      subst (λ j. AwaitsPage (n.entry node j) k) (own_page i node q page key)
+      (subst (λ j. AwaitsPage (n.entry j q) k) (own_origin i node q page key) h)
 
   -- where the node waits for a copy
-  reading_as : (call : ℕ) → AwaitsCopy (n.entry node page) call → (a : Place) (l : Letter) (m : Content) → IsAt n a l → l.message.content ≡ m → IsExpectedAs c n l m
+  reading_as : (call : ℕ) → AwaitsCopy (n.entry node page) call
+      → (a : Place) (l : Letter) (m : Content) → IsAt n a l → l.message.content ≡ m
+      → IsExpectedAs c n l m
       → key_as l m ≡ Own node page → IsReading n node page
   reading_as call waits a l (content.ReadReq q) at is fit key = asks_copy l.dest (record {
     at = a;
@@ -84,9 +95,11 @@ module _ (c : Config) (n : Net) (node page : ℕ) where
     brings = is ∙ ap (λ v. content.ReadRep v bytes) (own_page l.message.origin node q page key);
   })
   reading_as call waits a l (content.WriteReq q) at is fit key =
-      absurd (not_both (n.entry node page) call l.message.call waits (page_there l.message.origin q l.message.call key fit.1))
+      absurd (not_both (n.entry node page) call l.message.call waits
+      (page_there l.message.origin q l.message.call key fit.1))
   reading_as call waits a l (content.WriteRep q copies bytes) at is fit key =
-      absurd (not_both (n.entry node page) call l.message.call waits (page_there l.message.origin q l.message.call key fit.2))
+      absurd (not_both (n.entry node page) call l.message.call waits
+      (page_there l.message.origin q l.message.call key fit.2))
   reading_as call waits a l (content.Inval q) at is fit key = cc
   reading_as call waits a l (content.InvalAck q) at is fit key = cc
   reading_as call waits a l (content.AllocReq size) at is fit key = absurd fit
@@ -95,7 +108,9 @@ module _ (c : Config) (n : Net) (node page : ℕ) where
   reading_as call waits a l (content.FreeRep code) at is fit key = absurd fit
 
   -- where it waits for the page
-  writing_as : (call : ℕ) → AwaitsPage (n.entry node page) call → (a : Place) (l : Letter) (m : Content) → IsAt n a l → l.message.content ≡ m → IsExpectedAs c n l m
+  writing_as : (call : ℕ) → AwaitsPage (n.entry node page) call
+      → (a : Place) (l : Letter) (m : Content) → IsAt n a l → l.message.content ≡ m
+      → IsExpectedAs c n l m
       → key_as l m ≡ Own node page → IsWriting n node page
   writing_as call waits a l (content.WriteReq q) at is fit key = asks_page l.dest (record {
     at = a;
@@ -105,12 +120,16 @@ module _ (c : Config) (n : Net) (node page : ℕ) where
     asker = own_origin l.message.origin node q page key;
     asks = is ∙ ap (λ v. content.WriteReq v) (own_page l.message.origin node q page key);
   })
-  writing_as call waits a l (content.WriteRep q copies bytes) at is fit key = gets_page (comes a l copies bytes at
-      (fit.1 ∙ own_origin l.message.origin node q page key) (is ∙ ap (λ v. content.WriteRep v copies bytes) (own_page l.message.origin node q page key)))
+  writing_as call waits a l (content.WriteRep q copies bytes) at is fit key =
+      gets_page (comes a l copies bytes at
+      (fit.1 ∙ own_origin l.message.origin node q page key)
+      (is ∙ ap (λ v. content.WriteRep v copies bytes) (own_page l.message.origin node q page key)))
   writing_as call waits a l (content.ReadReq q) at is fit key =
-      absurd (not_both (n.entry node page) l.message.call call (copy_there l.message.origin q l.message.call key fit.1) waits)
+      absurd (not_both (n.entry node page) l.message.call call
+      (copy_there l.message.origin q l.message.call key fit.1) waits)
   writing_as call waits a l (content.ReadRep q bytes) at is fit key =
-      absurd (not_both (n.entry node page) l.message.call call (copy_there l.message.origin q l.message.call key fit.2) waits)
+      absurd (not_both (n.entry node page) l.message.call call
+      (copy_there l.message.origin q l.message.call key fit.2) waits)
   writing_as call waits a l (content.Inval q) at is fit key = cc
   writing_as call waits a l (content.InvalAck q) at is fit key = cc
   writing_as call waits a l (content.AllocReq size) at is fit key = absurd fit
@@ -119,7 +138,8 @@ module _ (c : Config) (n : Net) (node page : ℕ) where
   writing_as call waits a l (content.FreeRep code) at is fit key = absurd fit
 
   -- where another node is to give its copy up
-  giving_up_as : (target : ℕ) (a : Place) (l : Letter) (m : Content) → IsAt n a l → l.message.content ≡ m → IsExpectedAs c n l m
+  giving_up_as : (target : ℕ) (a : Place) (l : Letter) (m : Content) → IsAt n a l
+      → l.message.content ≡ m → IsExpectedAs c n l m
       → key_as l m ≡ Order node target page → IsGivingUp n node target page
   giving_up_as target a l (content.Inval q) at is fit key = ordered (record {
     at = a;
@@ -127,7 +147,8 @@ module _ (c : Config) (n : Net) (node page : ℕ) where
     there = at;
     from = fit.1 ∙ order_origin l.message.origin node l.dest target q page key;
     dest = order_target l.message.origin node l.dest target q page key;
-    says = is ∙ ap (λ v. content.Inval v) (order_page l.message.origin node l.dest target q page key);
+    says = is
+        ∙ ap (λ v. content.Inval v) (order_page l.message.origin node l.dest target q page key);
   })
   giving_up_as target a l (content.InvalAck q) at is fit key = gave_up (record {
     at = a;
@@ -135,7 +156,9 @@ module _ (c : Config) (n : Net) (node page : ℕ) where
     there = at;
     from = order_target l.message.origin node l.source target q page key;
     dest = fit.1 ∙ order_origin l.message.origin node l.source target q page key;
-    says = is ∙ ap (λ v. content.InvalAck v) (order_page l.message.origin node l.source target q page key);
+    says = is
+        ∙ ap (λ v. content.InvalAck v)
+        (order_page l.message.origin node l.source target q page key);
   })
   giving_up_as target a l (content.ReadReq q) at is fit key = cc
   giving_up_as target a l (content.ReadRep q bytes) at is fit key = cc
@@ -149,16 +172,25 @@ module _ (c : Config) (n : Net) (node page : ℕ) where
 pub awaited : (c : Config) (n : Net) → IsOrderly c n → IsOwed n → IsAwaited n
 awaited c n order owed = record {
   readers = λ node page call waits. (
-      let h : HasKey n (Own node page) = owed.owed node page (Own node page) (copy_wanted (n.entry node page) call node page waits) in
-      reading_as c n node page call waits h.at h.letter h.letter.message.content h.there refl (order.fits h.at h.letter h.there) h.key
+      let h : HasKey n (Own node page) =
+      owed.owed node page (Own node page)
+      (copy_wanted (n.entry node page) call node page waits) in
+      reading_as c n node page call waits h.at h.letter h.letter.message.content h.there refl
+      (order.fits h.at h.letter h.there) h.key
       );
   writers = λ node page call waits. (
-      let h : HasKey n (Own node page) = owed.owed node page (Own node page) (page_wanted (n.entry node page) call node page waits) in
-      writing_as c n node page call waits h.at h.letter h.letter.message.content h.there refl (order.fits h.at h.letter h.there) h.key
+      let h : HasKey n (Own node page) =
+      owed.owed node page (Own node page)
+      (page_wanted (n.entry node page) call node page waits) in
+      writing_as c n node page call waits h.at h.letter h.letter.message.content h.there refl
+      (order.fits h.at h.letter h.there) h.key
       );
   collectors = λ owner node page call waits. (
-      let h : HasKey n (Order owner node page) = owed.owed owner page (Order owner node page) (ack_wanted (n.entry owner page) call owner page node waits) in
-      giving_up_as c n owner page node h.at h.letter h.letter.message.content h.there refl (order.fits h.at h.letter h.there) h.key
+      let h : HasKey n (Order owner node page) =
+      owed.owed owner page (Order owner node page)
+      (ack_wanted (n.entry owner page) call owner page node waits) in
+      giving_up_as c n owner page node h.at h.letter h.letter.message.content h.there refl
+      (order.fits h.at h.letter h.there) h.key
       );
 }
 

@@ -9,7 +9,8 @@ use Rattle.ivy_requests.specs.Descending.{IsAsked}
 
 module _ (n : Net) (first : IsFirst n) where
   pub no_letter : (a : Place) (l : Letter) → IsAt n a l → ⊥
-  no_letter (Underway i j k) l at = none-some l.message (ap (λ v. slice_get v k) (sym (first.posted i j)) ∙ at.1)
+  no_letter (Underway i j k) l at =
+      none-some l.message (ap (λ v. slice_get v k) (sym (first.posted i j)) ∙ at.1)
   no_letter (Aside i p k) l at = elim (first.entries i p) [
     | inl y ↦ none-some at.0 (ap (λ e. slice_get (put_offs e) k) (sym y.1) ∙ at.1)
     | inr y ↦ none-some at.0 (ap (λ e. slice_get (put_offs e) k) (sym y) ∙ at.1)

@@ -1,4 +1,5 @@
--- Routes from heights: where requests, copies on their way and next hops all lead down, routes lead on to the page from
+-- Routes from heights: where requests, copies on their way and next hops all lead down, routes lead
+-- on to the page from
 -- everywhere, as whoever waits has its message.
 use Rattle.std.proofs.Common.{◌≡◌, ◌⊎◌, ◌<◌, ◌%◌, ℕ, zero, suc, true, false, List, [], ◌∷◌, ◌++◌, refl, sym, ◌∙◌, subst, inl, inr, arith}
 use Rattle.std.proofs.lemmas.Bool.{cases_Bool}
@@ -19,7 +20,8 @@ use Rattle.ivy_requests.proofs.Claims.{writer_claims, page_claimed}
 use Rattle.ivy_requests.proofs.Moves.{both}
 
 -- who claims a page owns it, or awaits it
-claims_either : (e : Entry) → claims e ≡ true → (is_owner e ≡ true) ⊎ ((call : ℕ) × AwaitsPage e call)
+claims_either : (e : Entry) → claims e ≡ true
+    → (is_owner e ≡ true) ⊎ ((call : ℕ) × AwaitsPage e call)
 claims_either (entry.Idle s) h = inl h
 claims_either (entry.AwaitRead s) h = absurd (let f : false ≡ true = h in cc)
 claims_either (entry.AwaitWrite s) h = inr (s.waiting.call, refl)
@@ -33,12 +35,16 @@ owner_claims (entry.AwaitAcks s) h = refl
 
 module _ (c : Config) (n : Net) (page : ℕ) (hop : ℕ → ℕ) where
   -- one route more
-  then_route : (node mid end : ℕ) (nodes : List ℕ) → LeadAlong c n page hop node nodes mid → IsRoute c n page hop mid end
+  then_route : (node mid end : ℕ) (nodes : List ℕ) → LeadAlong c n page hop node nodes mid
+      → IsRoute c n page hop mid end
       → LeadAlong c n page hop node (nodes ++ end ∷ []) end
-  then_route node mid end [] along route = (subst (λ v. IsRoute c n page hop v end) along route, refl)
-  then_route node mid end (next ∷ rest) along route = (along.0, then_route next mid end rest along.1 route)
+  then_route node mid end [] along route =
+      (subst (λ v. IsRoute c n page hop v end) along route, refl)
+  then_route node mid end (next ∷ rest) along route =
+      (along.0, then_route next mid end rest along.1 route)
 
-  pub lead_on : (node mid end : ℕ) → LeadTo c n page hop node mid → IsRoute c n page hop mid end → LeadTo c n page hop node end
+  pub lead_on : (node mid end : ℕ) → LeadTo c n page hop node mid → IsRoute c n page hop mid end
+      → LeadTo c n page hop node end
   lead_on node mid end to route = (to.0 ++ end ∷ [], then_route node mid end to.0 to.1 route)
 
   pub lead_once : (node end : ℕ) → IsRoute c n page hop node end → LeadTo c n page hop node end
@@ -48,15 +54,19 @@ module _ (c : Config) (n : Net) (page : ℕ) (hop : ℕ → ℕ) where
     has_claims : (node : ℕ) → HasPage n node page → claims (n.entry node page) ≡ true
     has_claims node (owns h) = owner_claims (n.entry node page) h
     has_claims node (comes a l bits bytes at dest is) = (
-        let fit : IsExpectedAs c n l (content.WriteRep page bits bytes) = fits_as c n order a l (content.WriteRep page bits bytes) at is in
-        page_claimed (n.entry node page) l.message.call (subst (λ i. AwaitsPage (n.entry i page) l.message.call) (sym fit.1 ∙ dest) fit.2)
+        let fit : IsExpectedAs c n l (content.WriteRep page bits bytes) =
+        fits_as c n order a l (content.WriteRep page bits bytes) at is in
+        page_claimed (n.entry node page) l.message.call
+        (subst (λ i. AwaitsPage (n.entry i page) l.message.call) (sym fit.1 ∙ dest) fit.2)
         )
 
-    pub plain_away : (node : ℕ) → node < c.nodes → claims (n.entry node page) ≡ false → IsAway c n page node
+    pub plain_away : (node : ℕ) → node < c.nodes → claims (n.entry node page) ≡ false
+        → IsAway c n page node
     plain_away node below plain = record {
       below = below;
       without = λ h. both (claims (n.entry node page)) (has_claims node h) plain;
-      silent = λ at k. both (claims (n.entry node page)) (writer_claims c n order page node at k) plain;
+      silent =
+          λ at k. both (claims (n.entry node page)) (writer_claims c n order page node at k) plain;
     }
 
   away_writes : (node : ℕ) → IsAway c n page node → IsWriting n node page → ⊥
@@ -77,12 +87,16 @@ module _ (c : Config) (n : Net) (page : ℕ) (hop : ℕ → ℕ) where
     pub letters : (a : Place) (l : Letter) → IsAt n a l → l.dest < c.nodes
     pub hops : (node : ℕ) → node < c.nodes → hop node < c.nodes
 
-  module _ (order : IsOrderly c n) (waits : IsAwaited n) (inside : IsInside) (g : ℕ → ℕ) (requests : GoDown n page g)
-      (copies : (source node : ℕ) → claims (n.entry node page) ≡ false → IsSent n page source node → g source < g node)
-      (down : (node : ℕ) → node < c.nodes → claims (n.entry node page) ≡ false → g (hop node) < g node) where
+  module _ (order : IsOrderly c n) (waits : IsAwaited n) (inside : IsInside) (g : ℕ → ℕ)
+      (requests : GoDown n page g)
+      (copies : (source node : ℕ) → claims (n.entry node page) ≡ false → IsSent n page source node
+      → g source < g node)
+      (down : (node : ℕ) → node < c.nodes → claims (n.entry node page) ≡ false
+      → g (hop node) < g node) where
     lower : (node next : ℕ) → IsRoute c n page hop node next → g next < g node
     lower node next (follows k) = requests.writes node next k
-    lower node next (hops away same) = subst (λ v. g v < g node) (sym same) (down node away.below (away_plain waits node away))
+    lower node next (hops away same) =
+        subst (λ v. g v < g node) (sym same) (down node away.below (away_plain waits node away))
     lower node next (receives away k) = copies next node (away_plain waits node away) k
 
     -- some routes lead to a node that has the page
@@ -96,7 +110,8 @@ module _ (c : Config) (n : Net) (page : ℕ) (hop : ℕ → ℕ) where
     asked_below at node k = subst (λ v. v < c.nodes) k.dest (inside.letters k.at k.letter k.there)
 
     -- from a node that awaits the page
-    writing : (node : ℕ) → IsWriting n node page → ((at : ℕ) → IsAsked n (content.WriteReq page) node at → IsFound at) → IsFound node
+    writing : (node : ℕ) → IsWriting n node page
+        → ((at : ℕ) → IsAsked n (content.WriteReq page) node at → IsFound at) → IsFound node
     writing node (gets_page h) on = (node, h, ([], refl))
     writing node (asks_page at k) on = after_route node at (follows k) (on at k)
 
@@ -105,12 +120,15 @@ module _ (c : Config) (n : Net) (page : ℕ) (hop : ℕ → ℕ) where
     found_from (suc fuel) node below lt = elim (cases_Bool (claims (n.entry node page))) [
       | inr plain ↦ (
           let less : g (hop node) < g node = down node below plain in
-          after_route node (hop node) (hops (plain_away order node below plain) refl) (found_from fuel (hop node) (inside.hops node below) (omega (arith, less, lt)))
+          after_route node (hop node) (hops (plain_away order node below plain) refl)
+          (found_from fuel (hop node) (inside.hops node below) (omega (arith, less, lt)))
           )
       | inl claiming ↦ elim (claims_either (n.entry node page) claiming) [
         | inl owner ↦ (node, owns owner, ([], refl))
         | inr call ↦ writing node (waits.writers node page call.0 call.1)
-            (λ at k. (let less : g at < g node = requests.writes node at k in found_from fuel at (asked_below at node k) (omega (arith, less, lt))))
+            (λ at k.
+            (let less : g at < g node = requests.writes node at k in
+            found_from fuel at (asked_below at node k) (omega (arith, less, lt))))
       ]
     ]
 
@@ -123,7 +141,8 @@ module _ (c : Config) (n : Net) (page : ℕ) (hop : ℕ → ℕ) where
     }
 
 -- the next hops of all nodes are the same
-module _ (c : Config) (n : Net) (page : ℕ) (hop hop' : ℕ → ℕ) (same : (node : ℕ) → node < c.nodes → hop' node ≡ hop node) where
+module _ (c : Config) (n : Net) (page : ℕ) (hop hop' : ℕ → ℕ)
+    (same : (node : ℕ) → node < c.nodes → hop' node ≡ hop node) where
   route_back : (node next : ℕ) → IsRoute c n page hop' node next → IsRoute c n page hop node next
   route_back node next (follows k) = follows k
   route_back node next (hops away is) = hops away (is ∙ same node away.below)
@@ -134,24 +153,33 @@ module _ (c : Config) (n : Net) (page : ℕ) (hop hop' : ℕ → ℕ) (same : (n
   route_on node next (hops away is) = hops away (is ∙ sym (same node away.below))
   route_on node next (receives away k) = receives away k
 
-  along_on : (node end : ℕ) (nodes : List ℕ) → LeadAlong c n page hop node nodes end → LeadAlong c n page hop' node nodes end
+  along_on : (node end : ℕ) (nodes : List ℕ) → LeadAlong c n page hop node nodes end
+      → LeadAlong c n page hop' node nodes end
   along_on node end [] along = along
-  along_on node end (next ∷ rest) along = (route_on node next along.0, along_on next end rest along.1)
+  along_on node end (next ∷ rest) along =
+      (route_on node next along.0, along_on next end rest along.1)
 
   pub same_routes : AreRoutes c n page hop → AreRoutes c n page hop'
   same_routes r = record {
     height = r.height;
     lower = λ node next route. r.lower node next (route_back node next route);
     reads = r.reads;
-    found = λ node below. (let f = r.found node below in (f.0, f.1, (f.2.0, along_on node f.0 f.2.0 f.2.1)));
+    found = λ node below.
+        (let f = r.found node below in (f.0, f.1, (f.2.0, along_on node f.0 f.2.0 f.2.1)));
   }
 
   pub same_besides : page % c.nodes < c.nodes → AreManaged c n page hop → AreManaged c n page hop'
   same_besides below m = record {
-    on_route = λ node at ne away k. (let f = m.on_route node at ne away k in (f.0, along_on (page % c.nodes) node f.0 f.1));
+    on_route =
+        λ node at ne away k.
+        (let f = m.on_route node at ne away k in (f.0, along_on (page % c.nodes) node f.0 f.1));
     asks = λ at k. m.asks at k ∙ sym (same (page % c.nodes) below);
     receives = λ source k. m.receives source k ∙ sym (same (page % c.nodes) below);
   }
 
   pub same_inside : IsInside c n page hop' → IsInside c n page hop
-  same_inside i = record { letters = i.letters; hops = λ node below. subst (λ v. v < c.nodes) (same node below) (i.hops node below) }
+  same_inside i =
+      record {
+        letters = i.letters;
+        hops = λ node below. subst (λ v. v < c.nodes) (same node below) (i.hops node below);
+      }

@@ -2,24 +2,32 @@
 use Rattle.std.specs.Prelude.{slice_index, slice_set}
 use Rattle.std.proofs.Common.{◌≡◌, ◌≢◌, ◌⊎◌, ◌<◌, ◌%◌, ℕ, Bool, false, length, sym, ap, ◌∙◌, subst, inl, inr, if◌then◌else◌, ◌==◌, get_or-set_same}
 use Rattle.std.proofs.lemmas.Bool.{cases_eq, eq-eqb, ne_eqb}
-use Rattle.ivy_pagetable.specs.Manager.{Ops, Keeps}
+use Rattle.ivy_pagetable.specs.Manager.{Ops, KeepsElsewhere}
 use Rattle.ivy_fixed.specs.Fixed.{Owners, manages, owner_kept, hop_of}
 use Rattle.ivy_order.specs.Rows.{told}
 
 -- of the managers, that of one node may have changed, at one page
 pub record IsTold {S : Type 0} (ops : Ops S) (m m' : ℕ → S) (x p : ℕ) : Type 0 where
-  pub keeps : (i : ℕ) → Keeps ops (m i) p (m' i)
+  pub keeps : (i : ℕ) → KeepsElsewhere ops (m i) p (m' i)
   pub elsewhere : (i : ℕ) → i ≢ x → m' i ≡ m i
 
 module _ {S : Type 0} (ops : Ops S) where
-  same_keeps : (s t : S) (p : ℕ) → t ≡ s → Keeps ops s p t
-  same_keeps s t p same = record { me = ap ops.me same; size = ap ops.size same; nodes = ap ops.nodes same; others = λ q n. ap (λ v. ops.next_hop v q) same }
+  same_keeps : (s t : S) (p : ℕ) → t ≡ s → KeepsElsewhere ops s p t
+  same_keeps s t p same =
+      record {
+        me = ap ops.me same;
+        size = ap ops.size same;
+        nodes = ap ops.nodes same;
+        others = λ q n. ap (λ v. ops.next_hop v q) same;
+      }
 
   pub none_told : (m m' : ℕ → S) (x p : ℕ) → ((i : ℕ) → m' i ≡ m i) → IsTold ops m m' x p
-  none_told m m' x p same = record { keeps = λ i. same_keeps (m i) (m' i) p (same i); elsewhere = λ i n. same i }
+  none_told m m' x p same =
+      record { keeps = λ i. same_keeps (m i) (m' i) p (same i); elsewhere = λ i n. same i }
 
   -- of the other nodes, and of the other pages, the next hops are the same
-  pub hop_else : (m m' : ℕ → S) (x p : ℕ) → IsTold ops m m' x p → (i q : ℕ) → (i ≢ x) ⊎ (q ≢ p) → ops.next_hop (m' i) q ≡ ops.next_hop (m i) q
+  pub hop_else : (m m' : ℕ → S) (x p : ℕ) → IsTold ops m m' x p → (i q : ℕ) → (i ≢ x) ⊎ (q ≢ p)
+      → ops.next_hop (m' i) q ≡ ops.next_hop (m i) q
   hop_else m m' x p t i q other = elim other [
     | inl ne ↦ ap (λ v. ops.next_hop v q) (t.elsewhere i ne)
     | inr ne ↦ (t.keeps i).others q ne
@@ -34,26 +42,40 @@ module _ {S : Type 0} (m : ℕ → S) (x : ℕ) where
 
   -- told what changes nothing
   pub told_itself : (i : ℕ) → told m x (m x) i ≡ m i
-  told_itself i = elim (cases_eq i x) [ inl same ↦ told_here (m x) i same ∙ ap m (sym same) | inr ne ↦ told_else (m x) i ne ]
+  told_itself i =
+      elim (cases_eq i x) [
+        | inl same ↦ told_here (m x) i same ∙ ap m (sym same)
+        | inr ne ↦
+            told_else (m x) i ne
+      ]
 
-  pub one_told : (ops : Ops S) (s : S) (p : ℕ) → Keeps ops (m x) p s → IsTold ops m (told m x s) x p
+  pub one_told : (ops : Ops S) (s : S) (p : ℕ) → KeepsElsewhere ops (m x) p s
+      → IsTold ops m (told m x s) x p
   one_told ops s p k = record {
     keeps = λ i. elim (cases_eq i x) [
-      | inl same ↦ subst (λ v. Keeps ops (m i) p v) (sym (told_here s i same)) (subst (λ j. Keeps ops (m j) p s) (sym same) k)
+      | inl same ↦
+          subst (λ v. KeepsElsewhere ops (m i) p v) (sym (told_here s i same))
+          (subst (λ j. KeepsElsewhere ops (m j) p s) (sym same) k)
       | inr ne ↦ same_keeps ops (m i) (told m x s i) p (told_else s i ne)
     ];
     elsewhere = told_else s;
   }
 
 -- a node that does not manage the page asks the one that does
-pub hop_elsewhere : (s : Owners) (i nodes p : ℕ) → s.me ≡ i → s.nodes ≡ nodes → i ≢ p % nodes → hop_of s p ≡ p % nodes
-hop_elsewhere s i nodes p me size ne = ap (λ (b : Bool). if b then slice_index s.owners p else p % s.nodes) other ∙ ap (λ k. p % k) size
+pub hop_elsewhere : (s : Owners) (i nodes p : ℕ) → s.me ≡ i → s.nodes ≡ nodes → i ≢ p % nodes
+    → hop_of s p ≡ p % nodes
+hop_elsewhere s i nodes p me size ne =
+    ap (λ (b : Bool). if b then slice_index s.owners p else p % s.nodes) other
+    ∙ ap (λ k. p % k) size
   where
     other : manages s p ≡ false
-    other = ap (λ k. p % k == s.me) size ∙ ap (λ k. p % nodes == k) me ∙ ne_eqb (p % nodes) i (λ h. ne (sym h))
+    other = ap (λ k. p % k == s.me) size ∙ ap (λ k. p % nodes == k) me
+        ∙ ne_eqb (p % nodes) i (λ h. ne (sym h))
 
 -- the managing node asks the owner that it was told of
-pub hop_kept : (s : Owners) (p o : ℕ) → p % s.nodes ≡ s.me → p < length s.owners → hop_of (owner_kept s p o) p ≡ o
+pub hop_kept : (s : Owners) (p o : ℕ) → p % s.nodes ≡ s.me → p < length s.owners
+    → hop_of (owner_kept s p o) p ≡ o
 hop_kept s p o mine lt =
-    ap (λ (b : Bool). if b then slice_index (if b then slice_set s.owners p o else s.owners) p else p % s.nodes) (eq-eqb (p % s.nodes) s.me mine)
+    ap (λ (b : Bool). if b then slice_index (if b then slice_set s.owners p o else s.owners) p
+    else p % s.nodes) (eq-eqb (p % s.nodes) s.me mine)
     ∙ get_or-set_same s.owners p o 0 lt

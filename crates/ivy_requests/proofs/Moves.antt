@@ -1,5 +1,7 @@
--- How the requests for one page may change at a step, and that they stay where the managing node looks for them. Each
--- move goes from claims a, requests to write W and to read R and the kept owner k to b, V, Q and h; w manages the page.
+-- How the requests for one page may change at a step, and that they stay where the managing node
+-- looks for them. Each
+-- move goes from claims a, requests to write W and to read R and the kept owner k to b, V, Q and h;
+-- w manages the page.
 use Rattle.std.proofs.Common.{◌≡◌, ◌≢◌, ◌⊎◌, ℕ, Bool, true, false, sym, ap, ◌∙◌, subst, inl, inr}
 use Rattle.std.proofs.lemmas.Bool.{cases_eq}
 use Rattle.ivy_requests.specs.Managing.{IsRouted}
@@ -22,7 +24,8 @@ module _ (a b : ℕ → Bool) (W V R Q : ℕ → ℕ → Type 0) (w k h : ℕ) w
     pub kept : h ≡ k
     pub route : ((hop ≡ w) × (o ≢ w)) ⊎ ((hop ≡ k) × (a w ≡ false) × (o ≢ k))
 
-  -- the managing node sends a request to write on to the owner that it kept, and keeps its origin now
+  -- the managing node sends a request to write on to the owner that it kept, and keeps its origin
+  -- now
   pub record IsWriteSent (o : ℕ) : Type 0 where
     pub claims : (y : ℕ) → b y ≡ a y
     pub writes : (i y : ℕ) → V i y → (W i y × (i ≢ o)) ⊎ ((i ≡ o) × (y ≡ k))
@@ -99,7 +102,8 @@ module _ (a b : ℕ → Bool) (W V R Q : ℕ → ℕ → Type 0) (w k h : ℕ) (
     one_writer = λ o q y ne v u. r.one_writer o q y ne (c.writes o y v) (c.writes q y u);
     kept_away = kept_then (λ i. i ≢ w) r.kept_away;
     kept_claims = kept_then (λ i. b i ≡ true) (λ f. c.claims k ∙ r.kept_claims f);
-    kept_unasked = kept_then (λ i. (o : ℕ) → V o i → ⊥) (λ f o v. r.kept_unasked f o (c.writes o k v));
+    kept_unasked =
+        kept_then (λ i. (o : ℕ) → V o i → ⊥) (λ f o v. r.kept_unasked f o (c.writes o k v));
     queued_unasked = λ o q v u. r.queued_unasked o q (c.writes o w v) (c.writes q o u);
     queued_unkept = λ o v. kept_then (λ i. o ≢ i) (r.queued_unkept o (c.writes o w v));
     chained = λ o y no ny v. elim (r.chained o y no ny (c.writes o y v)) [
@@ -222,12 +226,16 @@ module _ (a b : ℕ → Bool) (W V R Q : ℕ → ℕ → Type 0) (w k h : ℕ) (
   given_elsewhere_routed : (x o : ℕ) → IsGivenElsewhere a b W V R Q w k h x o → IsRouted b V Q w h
   given_elsewhere_routed x o c = subst (IsRouted b V Q w) (sym c.kept) (record {
     claimed = λ i y ne v. elim (cases_eq y x) [
-      | inl here ↦ absurd ((c.writes i y v).1 (r.one_writer i o x c.away (subst (W i) here (c.writes i y v).0) c.asked))
+      | inl here ↦
+          absurd ((c.writes i y v).1
+          (r.one_writer i o x c.away (subst (W i) here (c.writes i y v).0) c.asked))
       | inr other ↦ c.claims y other ∙ r.claimed i y ne (c.writes i y v).0
     ];
     one_writer = λ i q y ne v u. r.one_writer i q y ne (c.writes i y v).0 (c.writes q y u).0;
     kept_away = λ f. r.kept_away (was f);
-    kept_claims = λ f. c.claims k (λ same. r.kept_unasked (was f) o (subst (W o) (sym same) c.asked)) ∙ r.kept_claims (was f);
+    kept_claims =
+        λ f. c.claims k (λ same. r.kept_unasked (was f) o (subst (W o) (sym same) c.asked))
+        ∙ r.kept_claims (was f);
     kept_unasked = λ f i v. r.kept_unasked (was f) i (c.writes i k v).0;
     queued_unasked = λ i q v u. r.queued_unasked i q (c.writes i w v).0 (c.writes q i u).0;
     queued_unkept = λ i v f. r.queued_unkept i (c.writes i w v).0 (was f);
@@ -340,13 +348,21 @@ module _ (a b : ℕ → Bool) (W V R Q : ℕ → ℕ → Type 0) (w k h : ℕ) (
       was f = sym (c.claims w (λ same. c.away (sym same))) ∙ f
 
       still : (y : ℕ) → a y ≡ true → b y ≡ true
-      still y was_so = elim (cases_eq y x) [ inl here ↦ ap b here ∙ c.waits | inr other ↦ c.claims y other ∙ was_so ]
+      still y was_so =
+          elim (cases_eq y x) [
+            | inl here ↦ ap b here ∙ c.waits
+            | inr other ↦
+                c.claims y other ∙ was_so
+          ]
 
-pub move_routed : (a b : ℕ → Bool) (W V R Q : ℕ → ℕ → Type 0) (w k h : ℕ) → Move a b W V R Q w k h → IsRouted a W R w k → IsRouted b V Q w h
+pub move_routed : (a b : ℕ → Bool) (W V R Q : ℕ → ℕ → Type 0) (w k h : ℕ) → Move a b W V R Q w k h
+    → IsRouted a W R w k → IsRouted b V Q w h
 move_routed a b W V R Q w k h (Calm c) r = calm_routed a b W V R Q w k h r c
 move_routed a b W V R Q w k h (ReadSent o hop c) r = read_sent_routed a b W V R Q w k h r o hop c
 move_routed a b W V R Q w k h (WriteSent o c) r = write_sent_routed a b W V R Q w k h r o c
 move_routed a b W V R Q w k h (GivenHere o c) r = given_here_routed a b W V R Q w k h r o c
-move_routed a b W V R Q w k h (GivenElsewhere x o c) r = given_elsewhere_routed a b W V R Q w k h r x o c
+move_routed a b W V R Q w k h (GivenElsewhere x o c) r =
+    given_elsewhere_routed a b W V R Q w k h r x o c
 move_routed a b W V R Q w k h (AskedHere c) r = asked_here_routed a b W V R Q w k h r c
-move_routed a b W V R Q w k h (AskedElsewhere x c) r = asked_elsewhere_routed a b W V R Q w k h r x c
+move_routed a b W V R Q w k h (AskedElsewhere x c) r =
+    asked_elsewhere_routed a b W V R Q w k h r x c

@@ -18,7 +18,8 @@ abbrev pub Wants : Entry → ℕ → ℕ → Key → Type 0
 Wants (entry.Idle s) node page k = ⊥
 Wants (entry.AwaitRead s) node page k = k ≡ Own node page
 Wants (entry.AwaitWrite s) node page k = k ≡ Own node page
-Wants (entry.AwaitAcks s) node page k = (target : ℕ) × (set.contains s.left target ≡ true) × (k ≡ Order node target page)
+Wants (entry.AwaitAcks s) node page k =
+    (target : ℕ) × (set.contains s.left target ≡ true) × (k ≡ Order node target page)
 
 -- and the letter is there
 pub record IsOwed (n : Net) : Type 0 where
@@ -39,14 +40,16 @@ wants_page (entry.AwaitWrite s) i q k w = ap key_page w
 wants_page (entry.AwaitAcks s) i q k w = ap key_page w.2
 
 -- to put a message off changes nothing of what is waited for
-pub put_wants : (e : Entry) (r : PutOff) (i q : ℕ) (k : Key) → Wants (with_put_off e r) i q k → Wants e i q k
+pub put_wants : (e : Entry) (r : PutOff) (i q : ℕ) (k : Key) → Wants (with_put_off e r) i q k
+    → Wants e i q k
 put_wants (entry.Idle s) r i q k w = w
 put_wants (entry.AwaitRead s) r i q k w = w
 put_wants (entry.AwaitWrite s) r i q k w = w
 put_wants (entry.AwaitAcks s) r i q k w = w
 
 -- where no letter is gone, and the entries are the same
-pub all_owed : (n n' : Net) → ((i q : ℕ) → n'.entry i q ≡ n.entry i q) → IsCounted n' → Remain n n' IsNothing → IsOwed n → IsOwed n'
+pub all_owed : (n n' : Net) → ((i q : ℕ) → n'.entry i q ≡ n.entry i q) → IsCounted n'
+    → Remain n n' IsNothing → IsOwed n → IsOwed n'
 all_owed n n' same counted remain o = record {
   counted = counted;
   owed = λ i q k w. (
@@ -59,19 +62,25 @@ all_owed n n' same counted remain o = record {
 }
 
 pub installed_owed : (n : Net) (x p : ℕ) (bytes : List ℕ) → IsOwed n → IsOwed (installs n x p bytes)
-installed_owed n x p bytes o = all_owed n (installs n x p bytes) (λ i q. refl) o.counted (installed_remain n x p bytes) o
+installed_owed n x p bytes o =
+    all_owed n (installs n x p bytes) (λ i q. refl) o.counted (installed_remain n x p bytes) o
 
 -- a letter is taken
-module _ (n : Net) (s x : ℕ) (m : Message) (first : slice_get (n.posted s x) (n.delivered s x) ≡ Some m) (none : n.loose ≡ []) where
+module _ (n : Net) (s x : ℕ) (m : Message)
+    (first : slice_get (n.posted s x) (n.delivered s x) ≡ Some m) (none : n.loose ≡ []) where
   abbrev after_taking : Net
   after_taking = taken n s x m
 
   pub taken_owed : IsOwed n → IsOwed after_taking
-  taken_owed o = all_owed n after_taking (λ i q. refl) (taken_counted n s x m first none o.counted) (taken_remain n s x m first none) o
+  taken_owed o =
+      all_owed n after_taking (λ i q. refl) (taken_counted n s x m first none o.counted)
+      (taken_remain n s x m first none) o
 
--- A node writes an entry, takes loose letters and posts parcels: what is waited for here was so before, and is there, or is
+-- A node writes an entry, takes loose letters and posts parcels: what is waited for here was so
+-- before, and is there, or is
 -- there now; and the letter that is gone was waited for here, or another one takes its place.
-module _ (n : Net) (x p : ℕ) (e z : Entry) (left : List Letter) (parcels : List Parcel) (is : n.entry x p ≡ e) (o : IsOwed n) (Gone : Letter → Type 0)
+module _ (n : Net) (x p : ℕ) (e z : Entry) (left : List Letter) (parcels : List Parcel)
+    (is : n.entry x p ≡ e) (o : IsOwed n) (Gone : Letter → Type 0)
     (remain : Remain n (goes_on n x p z left parcels) Gone) where
   abbrev next : Net
   next = goes_on n x p z left parcels
@@ -92,11 +101,15 @@ module _ (n : Net) (x p : ℕ) (e z : Entry) (left : List Letter) (parcels : Lis
     counted = still_counted n x p z left parcels o.counted;
     owed = λ i q k w. elim (same_or_other i q x p) [
       | inr other ↦ (
-          let was : Wants (n.entry i q) i q k = subst (λ y. Wants y i q k) (written-other n.entry x p z i q other) w in
+          let was : Wants (n.entry i q) i q k =
+          subst (λ y. Wants y i q k) (written-other n.entry x p z i q other) w in
           spared k (others i q k other was) (o.owed i q k was)
           )
       | inl same ↦ (
-          let now : Wants z x p k = subst (λ b. Wants z x b k) same.1 (subst (λ a. Wants z a q k) same.0 (subst (λ y. Wants y i q k) (written-here n.entry x p z i q same.0 same.1) w)) in
+          let now : Wants z x p k =
+          subst (λ b. Wants z x b k) same.1
+          (subst (λ a. Wants z a q k) same.0
+          (subst (λ y. Wants y i q k) (written-here n.entry x p z i q same.0 same.1) w)) in
           elim (mine k now) [
             | inr there ↦ there
             | inl old ↦ spared k old.1 (o.owed x p k (subst (λ y. Wants y x p k) (sym is) old.0))
@@ -106,12 +119,16 @@ module _ (n : Net) (x p : ℕ) (e z : Entry) (left : List Letter) (parcels : Lis
   }
 
   -- where what is gone has another one in its place
-  pub stays_owed : ((k : Key) → IsSpared k) → ((k : Key) → Wants z x p k → Wants e x p k ⊎ HasKey next k) → IsOwed next
-  stays_owed safe mine = step_owed (λ i q k other was. safe k) (λ k w. elim (mine k w) [ inl old ↦ inl (old, safe k) | inr new ↦ inr new ])
+  pub stays_owed : ((k : Key) → IsSpared k)
+      → ((k : Key) → Wants z x p k → Wants e x p k ⊎ HasKey next k) → IsOwed next
+  stays_owed safe mine =
+      step_owed (λ i q k other was. safe k)
+      (λ k w. elim (mine k w) [ inl old ↦ inl (old, safe k) | inr new ↦ inr new ])
 
   -- where it is what this node waited for
   pub comes_owed : ((l : Letter) → Gone l → (key_origin (key_of l) ≡ x) × (key_page (key_of l) ≡ p))
-      → ((k : Key) → Wants z x p k → (Wants e x p k × ((l : Letter) → Gone l → key_of l ≢ k)) ⊎ HasKey next k) → IsOwed next
+      → ((k : Key) → Wants z x p k
+      → (Wants e x p k × ((l : Letter) → Gone l → key_of l ≢ k)) ⊎ HasKey next k) → IsOwed next
   comes_owed about mine = step_owed
       (λ i q k other was l gone key. absurd (
       let f = about l gone in
@@ -120,4 +137,8 @@ module _ (n : Net) (x p : ℕ) (e z : Entry) (left : List Letter) (parcels : Lis
         | inr ne ↦ ne (sym (wants_page (n.entry i q) i q k was) ∙ ap key_page (sym key) ∙ f.1)
       ]
       ))
-      (λ k w. elim (mine k w) [ inl was ↦ inl (was.0, λ l gone key. absurd (was.1 l gone key)) | inr new ↦ inr new ])
+      (λ k w. elim (mine k w) [
+        | inl was ↦
+            inl (was.0, λ l gone key. absurd (was.1 l gone key))
+        | inr new ↦ inr new
+      ])

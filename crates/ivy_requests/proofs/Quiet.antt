@@ -1,4 +1,5 @@
--- Nets that are orderly, with the requests where the managers look for them, and in which no message was a breach.
+-- Nets that are orderly, with the requests where the managers look for them, and in which no
+-- message was a breach.
 use Rattle.std.proofs.Common.{◌≡◌, ℕ, List, refl, ◌∙◌}
 use Rattle.ivy_model.specs.declared.Config.{Config}
 use Rattle.ivy_model.specs.Config.{IsConfig}
@@ -21,13 +22,17 @@ module _ (c : Config) (config : IsConfig c) where
       absurd (no_breach _ down c config order r.node r.old r.rest r.here r.loose r.dest r.misfits)
   unbroken row order down i = refl
 
--- what a manager has to show: its requests go down, and each step leaves them where it looks for them
-pub record IsRoutedBy {S : Type 0} (ops : Ops S) (c : Config) (Routed : (ℕ → S) → Net → Type 0) : Type 0 where
+-- what a manager has to show: its requests go down, and each step leaves them where it looks for
+-- them
+pub record IsRoutedBy {S : Type 0} (ops : Ops S) (c : Config)
+    (Routed : (ℕ → S) → Net → Type 0) : Type 0 where
   pub descends : (m : ℕ → S) (n : Net) → IsOrderly c n → Routed m n → Descends n
   pub by : {m : ℕ → S} {n : Net} {f : ℕ → List ℕ} {notice : Notice} {n' : Net} {f' : ℕ → List ℕ}
-      → Row c n f notice n' f' → IsOf ops c m notice → IsOrderly c n → Routed m n → Routed (noticed ops m notice) n'
+      → Row c n f notice n' f' → IsOf ops c m notice → IsOrderly c n → Routed m n
+      → Routed (noticed ops m notice) n'
 
-pub quiet-kept : {S : Type 0} {ops : Ops S} {c : Config} {Routed : (ℕ → S) → Net → Type 0} → IsConfig c → IsRoutedBy ops c Routed
+pub quiet-kept : {S : Type 0} {ops : Ops S} {c : Config} {Routed : (ℕ → S) → Net → Type 0}
+    → IsConfig c → IsRoutedBy ops c Routed
     → IsKept ops c (IsQuiet Routed c)
 quiet-kept {c = c} config routed = record {
   by = λ row of q. (

@@ -1,5 +1,7 @@
--- Where the requests for a page are under managing nodes. Node p mod N manages page p: while it does
--- not claim the page itself, it asks the owner that it keeps, and sends requests on to it; the others
+-- Where the requests for a page are under managing nodes. Node p mod N manages page p: while it
+-- does
+-- not claim the page itself, it asks the owner that it keeps, and sends requests on to it; the
+-- others
 -- ask the managing node. No request comes to its own origin.
 use Rattle.std.specs.Prelude.{◌≡◌, ◌≢◌, ◌⊎◌, ◌<◌, ◌≤◌, ◌%◌, ℕ, Bool, true, false, length}
 use Rattle.ivy_model.specs.declared.Config.{Config}
@@ -23,11 +25,13 @@ pub data IsReader (n : Net) (page origin node : ℕ) : Type 0 where
   asking : IsAsked n (content.ReadReq page) origin node → IsReader n page origin node
   getting : IsSent n page node origin → IsReader n page origin node
 
--- One page: which nodes claim it; of which node a request to write is at which, and which reads from
+-- One page: which nodes claim it; of which node a request to write is at which, and which reads
+-- from
 -- which; the managing node, and the owner that it keeps.
 pub record IsRouted (claiming : ℕ → Bool) (Writes Reads : ℕ → ℕ → Type 0) (manager kept : ℕ)
     : Type 0 where
-  -- elsewhere than at the managing node, requests to write are at nodes that claim the page, and one
+  -- elsewhere than at the managing node, requests to write are at nodes that claim the page, and
+  -- one
   -- alone at each
   pub claimed : (origin node : ℕ) → node ≢ manager → Writes origin node → claiming node ≡ true
   pub one_writer : (origin other node : ℕ) → node ≢ manager → Writes origin node → Writes other node
@@ -41,7 +45,8 @@ pub record IsRouted (claiming : ℕ → Bool) (Writes Reads : ℕ → ℕ → Ty
   pub queued_unasked : (origin other : ℕ) → Writes origin manager → Writes other origin → ⊥
   pub queued_unkept : (origin : ℕ) → Writes origin manager → claiming manager ≡ false
       → origin ≢ kept
-  -- a node that asks another one to write is asked by one itself, or is the kept owner: so the requests
+  -- a node that asks another one to write is asked by one itself, or is the kept owner: so the
+  -- requests
   -- to write lead on from the managing node
   pub chained : (origin node : ℕ) → origin ≢ manager → node ≢ manager → Writes origin node
       → ((other : ℕ) × Writes other origin) ⊎ ((claiming manager ≡ false) × (origin ≡ kept))
@@ -51,7 +56,8 @@ pub record IsRouted (claiming : ℕ → Bool) (Writes Reads : ℕ → ℕ → Ty
   pub manager_reads : (node : ℕ) → Reads manager node → node ≡ kept
 
 -- The managing node of a page numbers the requests to write in the order in which it sends them on,
--- or gives the page: the last number of each node, the latest of all, and the nodes whose request it
+-- or gives the page: the last number of each node, the latest of all, and the nodes whose request
+-- it
 -- has not sent on yet.
 pub record Turns : Type 0 where
   pub turn : ℕ → ℕ

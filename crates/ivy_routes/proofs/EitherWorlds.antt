@@ -1,4 +1,5 @@
--- The worlds of a configuration under the manager that it names, managing nodes or hints: no node has met a message
+-- The worlds of a configuration under the manager that it names, managing nodes or hints: no node
+-- has met a message
 -- that fits no rule.
 use Rattle.std.proofs.Common.{◌≡◌, ◌<◌, ℕ, List, length, refl}
 use Rattle.ivy_model.specs.declared.Config.{Config}
@@ -56,25 +57,34 @@ module _ (c : Config) (limits : IsConfig c) where
   -- each row keeps it so
   pub either-kept : (k : Kind) → IsKept managed_ops c (IsQuiet (RoutedBy k c) c)
   either-kept kind.Fixed =
-      embedded-kept Fixed fixed_within c (IsQuiet (IsManaged c) c) (IsQuiet (RoutedBy kind.Fixed c) c)
+      embedded-kept Fixed fixed_within c (IsQuiet (IsManaged c) c)
+      (IsQuiet (RoutedBy kind.Fixed c) c)
       (λ m n f q. (q.1.0, q.1.1, (q.0, q.1.2, q.2)))
       (λ s m n f within q. (q.0, (s, within, q.1), q.2))
       (quiet-kept limits (managed-routed c limits))
   either-kept kind.Dynamic =
-      embedded-kept Dynamic hints_within c (IsQuiet (IsHinted c) c) (IsQuiet (RoutedBy kind.Dynamic c) c)
+      embedded-kept Dynamic hints_within c (IsQuiet (IsHinted c) c)
+      (IsQuiet (RoutedBy kind.Dynamic c) c)
       (λ m n f q. (q.1.0, q.1.1, (q.0, q.1.2, q.2)))
       (λ s m n f within q. (q.0, (s, within, q.1), q.2))
       (quiet-kept limits (hinted-routed c limits))
 
   -- and it is so at first
-  pub either-first : (k : Kind) (m : ℕ → Managed) (n : Net) → IsFirst n → ((p : ℕ) → p < c.pages → n.entry 0 p ≡ owned)
+  pub either-first : (k : Kind) (m : ℕ → Managed) (n : Net) → IsFirst n
+      → ((p : ℕ) → p < c.pages → n.entry 0 p ≡ owned)
       → ((i : ℕ) → i < c.nodes → m i ≡ first_managed k c i) → RoutedBy k c m n
-  either-first kind.Fixed m n first owner managers =
-      (first_owners c, managers, managed_opening c limits (first_owners c) n first owner (λ i below. refl))
+  either-first kind.Fixed m n first owner managers = (
+    first_owners c,
+    managers,
+    managed_opening c limits (first_owners c) n first owner (λ i below. refl),
+  )
   either-first kind.Dynamic m n first owner managers =
       (first_hints c, managers, first_hinted c (first_hints c) n first owner (λ i below. refl))
 
-  pub either_no_breach : (spare : Managed) (programs : List (List Instruction)) → length programs ≡ c.nodes
-      → (moves : List Move) (w : World (Host Managed)) → Leads (host_rules managed_ops) c (opening managed_ops c programs) moves w → HasNoBreach w
+  pub either_no_breach : (spare : Managed) (programs : List (List Instruction))
+      → length programs ≡ c.nodes
+      → (moves : List Move) (w : World (Host Managed))
+      → Leads (host_rules managed_ops) c (opening managed_ops c programs) moves w → HasNoBreach w
   either_no_breach =
-      quiet_no_breach managed_laws c limits (RoutedBy c.manager c) (either-kept c.manager) (either-first c.manager)
+      quiet_no_breach managed_laws c limits (RoutedBy c.manager c) (either-kept c.manager)
+      (either-first c.manager)

@@ -1,4 +1,5 @@
--- The first net under hints: every node hints at node 0, which owns all pages and is the lowest, and there is no request.
+-- The first net under hints: every node hints at node 0, which owns all pages and is the lowest,
+-- and there is no request.
 use Rattle.std.proofs.Common.{◌≡◌, ◌≢◌, ◌<◌, ℕ, Bool, length, sym, ap, ◌∙◌, inl, inr, arith, if◌then◌else◌, ◌==◌}
 use Rattle.std.proofs.lemmas.Bool.{eq-eqb, ne_eqb}
 use Rattle.std.proofs.lemmas.List.{get_or-replicate, length-replicate}
@@ -25,13 +26,16 @@ height-0 y same = ap (λ (b : Bool). if b then 0 else 1) (eq-eqb y 0 same)
 above_zero : (i y : ℕ) → i ≡ 0 → y ≢ i → first_height i < first_height y
 above_zero i y zero_node ne =
     let d : first_height i ≡ 0 = height-0 i zero_node in
-    let e : first_height y ≡ 1 = ap (λ (b : Bool). if b then 0 else 1) (ne_eqb y 0 (λ h. ne (h ∙ sym zero_node))) in
+    let e : first_height y ≡ 1 =
+    ap (λ (b : Bool). if b then 0 else 1) (ne_eqb y 0 (λ h. ne (h ∙ sym zero_node))) in
     omega (arith, d, e)
 
-module _ (c : Config) (m : ℕ → Hints) (n : Net) (first : IsFirst n) (owner : (p : ℕ) → p < c.pages → n.entry 0 p ≡ owned)
+module _ (c : Config) (m : ℕ → Hints) (n : Net) (first : IsFirst n)
+    (owner : (p : ℕ) → p < c.pages → n.entry 0 p ≡ owned)
     (managers : (i : ℕ) → i < c.nodes → m i ≡ first_hints c i) where
   first_hint : (i p : ℕ) → i < c.nodes → p < c.pages → hint_of (m i) p ≡ 0
-  first_hint i p below lt = ap (λ v. hint_of v p) (managers i below) ∙ get_or-replicate {A = ℕ} c.pages p 0 0 lt
+  first_hint i p below lt =
+      ap (λ v. hint_of v p) (managers i below) ∙ get_or-replicate {A = ℕ} c.pages p 0 0 lt
 
   zero_has : (r p : ℕ) → HasPage n r p → r ≡ 0
   zero_has r p (owns h) = elim (first.entries r p) [
@@ -54,12 +58,14 @@ module _ (c : Config) (m : ℕ → Hints) (n : Net) (first : IsFirst n) (owner :
         };
         copies = λ s y k. absurd (no_letter n first k.at k.letter k.there);
         hints = λ y below plain. above_zero (hint_of (m y) p) y (first_hint y p below lt)
-            (λ same. both (claims (n.entry 0 p)) (ap claims (owner p lt)) (ap (λ i. claims (n.entry i p)) (sym (same ∙ first_hint y p below lt)) ∙ plain));
+            (λ same. both (claims (n.entry 0 p)) (ap claims (owner p lt))
+            (ap (λ i. claims (n.entry i p)) (sym (same ∙ first_hint y p below lt)) ∙ plain));
         lowest = λ r y k ne. above_zero r y (zero_has r p k) ne;
       },
     );
   }
 
   -- and no message was a breach
-  pub hinted-opening : ((i : ℕ) → n.breaches i ≡ 0) → IsOrderly c n × IsHinted c m n × ((i : ℕ) → n.breaches i ≡ 0)
+  pub hinted-opening : ((i : ℕ) → n.breaches i ≡ 0)
+      → IsOrderly c n × IsHinted c m n × ((i : ℕ) → n.breaches i ≡ 0)
   hinted-opening none = (orderly_opening n first c, first_hinted, none)

@@ -1,4 +1,5 @@
--- The first net: each managing node keeps node 0 as the owner of its pages, and there is no request.
+-- The first net: each managing node keeps node 0 as the owner of its pages, and there is no
+-- request.
 use Rattle.std.proofs.Common.{◌≡◌, ◌≢◌, ◌<◌, ◌%◌, ℕ, Bool, true, false, length, replicate, refl, sym, ap, ◌∙◌, inl, inr, arith, if◌then◌else◌, ◌==◌, mod-lt, get_or}
 use Rattle.std.proofs.lemmas.Bool.{cases_eq, eq-eqb, ne_eqb}
 use Rattle.std.proofs.lemmas.List.{get_or-replicate, length-replicate}
@@ -18,9 +19,12 @@ use Rattle.ivy_requests.proofs.FirstLetters.{no_letter, none_asked}
 
 -- a managing node keeps node 0
 first_kept : (c : Config) (p : ℕ) → p < c.pages → hop_of (first_owners c (p % c.nodes)) p ≡ 0
-first_kept c p lt = ap (λ (b : Bool). if b then get_or (replicate c.pages 0) p 0 else p % c.nodes) (eq-eqb (p % c.nodes) (p % c.nodes) refl) ∙ get_or-replicate {A = ℕ} c.pages p 0 0 lt
+first_kept c p lt =
+    ap (λ (b : Bool). if b then get_or (replicate c.pages 0) p 0 else p % c.nodes)
+    (eq-eqb (p % c.nodes) (p % c.nodes) refl) ∙ get_or-replicate {A = ℕ} c.pages p 0 0 lt
 
-module _ (c : Config) (config : IsConfig c) (m : ℕ → Owners) (n : Net) (first : IsFirst n) (owner : (p : ℕ) → p < c.pages → n.entry 0 p ≡ owned)
+module _ (c : Config) (config : IsConfig c) (m : ℕ → Owners) (n : Net) (first : IsFirst n)
+    (owner : (p : ℕ) → p < c.pages → n.entry 0 p ≡ owned)
     (managers : (i : ℕ) → i < c.nodes → m i ≡ first_owners c i) where
   unasked : (body : Content) (i y : ℕ) → IsAsked n body i y → ⊥
   unasked = none_asked n first
@@ -31,7 +35,9 @@ module _ (c : Config) (config : IsConfig c) (m : ℕ → Owners) (n : Net) (firs
 
   module _ (p : ℕ) (lt : p < c.pages) where
     kept_zero : hop_of (m (p % c.nodes)) p ≡ 0
-    kept_zero = ap (λ s. hop_of s p) (managers (p % c.nodes) (mod-lt p (omega (arith, config.nodes_from)))) ∙ first_kept c p lt
+    kept_zero =
+        ap (λ s. hop_of s p) (managers (p % c.nodes) (mod-lt p (omega (arith, config.nodes_from))))
+        ∙ first_kept c p lt
 
     zero_claims : claims (n.entry 0 p) ≡ true
     zero_claims = ap claims (owner p lt)
@@ -50,12 +56,15 @@ module _ (c : Config) (config : IsConfig c) (m : ℕ → Owners) (n : Net) (firs
   managed_opening = record {
     me = λ i lt. ap (λ (s : Owners). s.me) (managers i lt);
     nodes = λ i lt. ap (λ (s : Owners). s.nodes) (managers i lt);
-    size = λ i lt. ap (λ (s : Owners). length s.owners) (managers i lt) ∙ length-replicate c.pages 0;
+    size = λ i lt. ap (λ (s : Owners). length s.owners) (managers i lt)
+        ∙ length-replicate c.pages 0;
     counted = λ i j. (let f : n.delivered i j ≡ 0 = first.delivered i j in omega (arith, f));
     routed = λ p lt. record {
       claimed = λ i y ne v. absurd (unasked _ i y v);
       one_writer = λ i j y ne v u. absurd (unasked _ i y v);
-      kept_away = λ f same. both (claims (n.entry 0 p)) (zero_claims p lt) (ap (λ i. claims (n.entry i p)) (sym (kept_zero p lt) ∙ same) ∙ f);
+      kept_away =
+          λ f same. both (claims (n.entry 0 p)) (zero_claims p lt)
+          (ap (λ i. claims (n.entry i p)) (sym (kept_zero p lt) ∙ same) ∙ f);
       kept_claims = λ f. ap (λ i. claims (n.entry i p)) (kept_zero p lt) ∙ zero_claims p lt;
       kept_unasked = λ f i v. unasked _ i _ v;
       queued_unasked = λ i j v u. unasked _ i _ v;
@@ -74,7 +83,8 @@ module _ (c : Config) (config : IsConfig c) (m : ℕ → Owners) (n : Net) (firs
         ];
         writer_later = λ i y ny ni v. absurd (unasked _ i y v);
         kept_latest = λ f y ne. (
-            let e : first_turn y ≡ 0 = first_turn-other y (λ same. ne (same ∙ sym (kept_zero p lt))) in
+            let e : first_turn y ≡ 0 =
+            first_turn-other y (λ same. ne (same ∙ sym (kept_zero p lt))) in
             let d : first_turn (hop_of (m (p % c.nodes)) p) ≡ 1 = first_turn-0 _ (kept_zero p lt) in
             omega (arith, d, e)
             );
@@ -88,5 +98,6 @@ module _ (c : Config) (config : IsConfig c) (m : ℕ → Owners) (n : Net) (firs
   }
 
   -- and it is quiet
-  pub quiet-opening : ((i : ℕ) → n.breaches i ≡ 0) → IsOrderly c n × IsManaged c m n × ((i : ℕ) → n.breaches i ≡ 0)
+  pub quiet-opening : ((i : ℕ) → n.breaches i ≡ 0)
+      → IsOrderly c n × IsManaged c m n × ((i : ℕ) → n.breaches i ≡ 0)
   quiet-opening none = (orderly_opening n first c, managed_opening, none)

@@ -10,4 +10,6 @@ module _ (m : ℕ → Hints) (x p o : ℕ) where
   told_hint = one_told m x dynamic_ops (hinted (m x) p o) p (dynamic_laws.keeps_given (m x) p o)
 
   pub hint_now : p < length (m x).hints → hint_of (told m x (hinted (m x) p o) x) p ≡ o
-  hint_now lt = ap (λ v. hint_of v p) (told_here m x (hinted (m x) p o) x refl) ∙ get_or-set_same (m x).hints p o 0 lt
+  hint_now lt =
+      ap (λ v. hint_of v p) (told_here m x (hinted (m x) p o) x refl)
+      ∙ get_or-set_same (m x).hints p o 0 lt

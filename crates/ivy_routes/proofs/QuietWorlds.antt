@@ -1,4 +1,5 @@
--- In each world that moves lead to from an opening, no node has met a message that fits no rule, where requests are
+-- In each world that moves lead to from an opening, no node has met a message that fits no rule,
+-- where requests are
 -- routed so that each row keeps it.
 use Rattle.std.proofs.Common.{◌≡◌, ◌<◌, ℕ, List, [], length, slice_get, Some, sym, ap, ◌∙◌, inl, inr, arith}
 use Rattle.std.proofs.lemmas.List.{get_or-replicate}
@@ -27,16 +28,21 @@ use Rattle.ivy_worlds.proofs.Worlds.{first_net, opening-led}
 
 -- the first net and its managers are so routed
 abbrev pub BeginsSo : {S : Type 0} → Ops S → Config → ((ℕ → S) → Net → Type 0) → Type 0
-BeginsSo ops c Routed = (m : ℕ → _) (n : Net) → IsFirst n → ((p : ℕ) → p < c.pages → n.entry 0 p ≡ owned)
+BeginsSo ops c Routed =
+    (m : ℕ → _) (n : Net) → IsFirst n → ((p : ℕ) → p < c.pages → n.entry 0 p ≡ owned)
     → ((i : ℕ) → i < c.nodes → m i ≡ ops.first c i) → Routed m n
 
-module _ {S : Type 0} {ops : Ops S} (laws : Laws ops) (c : Config) (limits : IsConfig c) (Routed : (ℕ → S) → Net → Type 0) (kept : IsKept ops c (IsQuiet Routed c))
-    (begins : BeginsSo ops c Routed) (spare : S) (programs : List (List Instruction)) (many : length programs ≡ c.nodes) where
+module _ {S : Type 0} {ops : Ops S} (laws : Laws ops) (c : Config) (limits : IsConfig c)
+    (Routed : (ℕ → S) → Net → Type 0) (kept : IsKept ops c (IsQuiet Routed c))
+    (begins : BeginsSo ops c Routed) (spare : S) (programs : List (List Instruction))
+    (many : length programs ≡ c.nodes) where
   abbrev first : Ordered (Host S)
   first = ordered_of (opening ops c programs) (λ i j. [])
 
   -- a node of the world as it begins
-  first_there : (i : ℕ) → i < c.nodes → (h : Host S) × (slice_get first.cores i ≡ Some h) × ((program : List Instruction) × (h ≡ first_host ops c i program))
+  first_there : (i : ℕ) → i < c.nodes
+      → (h : Host S) × (slice_get first.cores i ≡ Some h)
+      × ((program : List Instruction) × (h ≡ first_host ops c i program))
   first_there i below = elim (slice_get_cases first.cores i).1 [
     | inl there ↦ (there.0, there.2, opening_first ops c programs i there.0 there.2)
     | inr past ↦ absurd (
@@ -55,23 +61,35 @@ module _ {S : Type 0} {ops : Ops S} (laws : Laws ops) (c : Config) (limits : IsC
   first_owned p inside =
       let some = limits.nodes_from in
       let there = first_there 0 (omega (arith, some)) in
-      ap (λ z. entry_of z p) there.1 ∙ ap (λ (h : Host S). entry_at h.memory.coherence.table p) there.2.1
+      ap (λ z. entry_of z p) there.1
+      ∙ ap (λ (h : Host S). entry_at h.memory.coherence.table p) there.2.1
       ∙ get_or-replicate c.pages p (first_entry 0) nothing inside
 
   first_breaches : (i : ℕ) → (net_of first).breaches i ≡ 0
   first_breaches i = elim (slice_get_cases first.cores i).1 [
-    | inl there ↦ ap breaches_of there.2 ∙ (let h = opening_first ops c programs i there.0 there.2 in ap (λ (h : Host S). h.memory.coherence.breaches) h.1)
+    | inl there ↦
+        ap breaches_of there.2
+        ∙ (let h = opening_first ops c programs i there.0 there.2 in
+        ap (λ (h : Host S). h.memory.coherence.breaches) h.1)
     | inr past ↦ ap breaches_of past.1
   ]
 
   pub quiet_first : IsQuiet Routed c (managers_of spare first) (net_of first) (λ p. [])
-  quiet_first = (orderly_opening (net_of first) (first_net ops c programs) c, begins (managers_of spare first) (net_of first) (first_net ops c programs) first_owned first_managers, first_breaches)
+  quiet_first = (
+    orderly_opening (net_of first) (first_net ops c programs) c,
+    begins (managers_of spare first) (net_of first) (first_net ops c programs) first_owned
+        first_managers,
+    first_breaches,
+  )
 
-  quiet-led : (moves : List Move) (w : World (Host S)) → Leads (host_rules ops) c (opening ops c programs) moves w → HasOrder ops c (Holds ops c (IsQuiet Routed c) spare) w
+  quiet-led : (moves : List Move) (w : World (Host S))
+      → Leads (host_rules ops) c (opening ops c programs) moves w
+      → HasOrder ops c (Holds ops c (IsQuiet Routed c) spare) w
   quiet-led =
       opening-led laws c limits kept spare programs many (λ p. []) quiet_first
 
-  pub quiet_no_breach : (moves : List Move) (w : World (Host S)) → Leads (host_rules ops) c (opening ops c programs) moves w → HasNoBreach w
+  pub quiet_no_breach : (moves : List Move) (w : World (Host S))
+      → Leads (host_rules ops) c (opening ops c programs) moves w → HasNoBreach w
   quiet_no_breach moves w led i n there =
       let h = quiet-led moves w led in
       ap breaches_of (sym (core_there w.nodes i n there)) ∙ h.holds.1.1.2 i

@@ -2,7 +2,10 @@
 use Rattle.std.proofs.Common.{◌≡◌, ◌≢◌, ◌⊎◌, ◌<◌, ◌≤◌, ◌+◌, ℕ, Bool, true, false, refl, sym, ap, ◌∙◌, subst, inl, inr, arith, if◌then◌else◌, ◌==◌}
 use Rattle.std.proofs.lemmas.Bool.{cases_eq, eq-eqb, ne_eqb}
 use Rattle.ivy_requests.specs.Managing.{IsRouted, Turns, HasTurns}
-use Rattle.ivy_requests.proofs.Moves.{IsCalm, IsReadSent, IsWriteSent, IsGivenHere, IsGivenElsewhere, IsAskedHere, IsAskedElsewhere, Move, Calm, ReadSent, WriteSent, GivenHere, GivenElsewhere, AskedHere, AskedElsewhere, both}
+use Rattle.ivy_requests.proofs.Moves.{IsCalm, IsReadSent, IsWriteSent, IsGivenHere}
+use Rattle.ivy_requests.proofs.Moves.{IsGivenElsewhere, IsAskedHere, IsAskedElsewhere, Move, Calm}
+use Rattle.ivy_requests.proofs.Moves.{ReadSent, WriteSent, GivenHere, GivenElsewhere, AskedHere}
+use Rattle.ivy_requests.proofs.Moves.{AskedElsewhere, both}
 
 -- one value of a function is another
 abbrev but : {X : Type 0} → (ℕ → X) → ℕ → X → ℕ → X
@@ -16,12 +19,18 @@ but-other f o v y ne = ap (λ (b : Bool). if b then v else f y) (ne_eqb y o ne)
 
 -- a node has the next turn; a node is queued
 abbrev next_turn : Turns → ℕ → Turns
-next_turn t o = record { turn = but t.turn o (t.latest + 1); latest = t.latest + 1; queued = but t.queued o false }
+next_turn t o =
+    record {
+      turn = but t.turn o (t.latest + 1);
+      latest = t.latest + 1;
+      queued = but t.queued o false;
+    }
 
 abbrev queues : Turns → ℕ → Turns
 queues t x = record { turn = t.turn; latest = t.latest; queued = but t.queued x true }
 
-module _ (a b : ℕ → Bool) (W V R Q : ℕ → ℕ → Type 0) (w k h : ℕ) (r : IsRouted a W R w k) (t : Turns) (has : HasTurns a W R w k t) where
+module _ (a b : ℕ → Bool) (W V R Q : ℕ → ℕ → Type 0) (w k h : ℕ) (r : IsRouted a W R w k)
+    (t : Turns) (has : HasTurns a W R w k t) where
   calm_turns : IsCalm a b W V R Q w k h → HasTurns b V Q w h t
   calm_turns c = record {
     bounded = has.bounded;
@@ -49,7 +58,9 @@ module _ (a b : ℕ → Bool) (W V R Q : ℕ → ℕ → Type 0) (w k h : ℕ) (
       | inl old ↦ has.reader_earlier i y ny ni old
       | inr new ↦ elim c.route [
         | inl to ↦ absurd (ny (new.1 ∙ to.0))
-        | inr to ↦ subst (λ j. t.turn j < t.turn y) (sym new.0) (subst (λ j. t.turn o < t.turn j) (sym (new.1 ∙ to.0)) (has.kept_latest to.1 o to.2))
+        | inr to ↦
+            subst (λ j. t.turn j < t.turn y) (sym new.0)
+            (subst (λ j. t.turn o < t.turn j) (sym (new.1 ∙ to.0)) (has.kept_latest to.1 o to.2))
       ]
     ];
     queued = λ i v. has.queued i (c.writes i w v);
@@ -60,38 +71,47 @@ module _ (a b : ℕ → Bool) (W V R Q : ℕ → ℕ → Type 0) (w k h : ℕ) (
 
   -- a request to write leaves the managing node, or is answered there: its origin has the next turn
   turn_given : (o : ℕ) → W o w → a o ≡ true → ((i y : ℕ) → R i y → a i ≡ false)
-      → ((i y : ℕ) → V i y → (W i y × (i ≢ o)) ⊎ ((i ≡ o) × (y ≡ k) × (a w ≡ false))) → ((i y : ℕ) → Q i y → R i y)
+      → ((i y : ℕ) → V i y → (W i y × (i ≢ o)) ⊎ ((i ≡ o) × (y ≡ k) × (a w ≡ false)))
+      → ((i y : ℕ) → Q i y → R i y)
       → HasTurns b V Q w o (next_turn t o)
   turn_given o asked waits idle writes reads = record {
     bounded = λ y. elim (cases_eq y o) [
       | inl same ↦ (let e = but-here t.turn o (t.latest + 1) y same in omega (arith, e))
-      | inr ne ↦ (let e = but-other t.turn o (t.latest + 1) y ne in let g : t.turn y ≤ t.latest = has.bounded y in omega (arith, e, g))
+      | inr ne ↦
+          (let e = but-other t.turn o (t.latest + 1) y ne in
+          let g : t.turn y ≤ t.latest = has.bounded y in omega (arith, e, g))
     ];
     writer_later = λ i y ny ni v. elim (writes i y v) [
       | inl old ↦ (
-          let e : but t.turn o (t.latest + 1) y ≡ t.turn y = other y (λ same. r.queued_unasked o i asked (subst (W i) same old.0)) in
+          let e : but t.turn o (t.latest + 1) y ≡ t.turn y =
+          other y (λ same. r.queued_unasked o i asked (subst (W i) same old.0)) in
           let f : but t.turn o (t.latest + 1) i ≡ t.turn i = other i old.1 in
           let g : t.turn y < t.turn i = has.writer_later i y ny ni old.0 in
           omega (arith, e, f, g)
           )
       | inr new ↦ (
-          let e : but t.turn o (t.latest + 1) y ≡ t.turn y = other y (λ same. r.queued_unkept o asked new.2 (sym same ∙ new.1)) in
-          let f : but t.turn o (t.latest + 1) i ≡ t.latest + 1 = but-here t.turn o (t.latest + 1) i new.0 in
+          let e : but t.turn o (t.latest + 1) y ≡ t.turn y =
+          other y (λ same. r.queued_unkept o asked new.2 (sym same ∙ new.1)) in
+          let f : but t.turn o (t.latest + 1) i ≡ t.latest + 1 =
+          but-here t.turn o (t.latest + 1) i new.0 in
           let g : t.turn y ≤ t.latest = has.bounded y in
           omega (arith, e, f, g)
           )
     ];
     kept_latest = λ f y ne. (
         let e : but t.turn o (t.latest + 1) y ≡ t.turn y = other y ne in
-        let d : but t.turn o (t.latest + 1) o ≡ t.latest + 1 = but-here t.turn o (t.latest + 1) o refl in
+        let d : but t.turn o (t.latest + 1) o ≡ t.latest + 1 =
+        but-here t.turn o (t.latest + 1) o refl in
         let g : t.turn y ≤ t.latest = has.bounded y in
         omega (arith, e, d, g)
         );
     reader_earlier = λ i y ny ni v. (
-        let f : but t.turn o (t.latest + 1) i ≡ t.turn i = other i (λ same. both (a o) waits (ap a (sym same) ∙ idle i y (reads i y v))) in
+        let f : but t.turn o (t.latest + 1) i ≡ t.turn i =
+        other i (λ same. both (a o) waits (ap a (sym same) ∙ idle i y (reads i y v))) in
         elim (cases_eq y o) [
           | inl same ↦ (
-              let e : but t.turn o (t.latest + 1) y ≡ t.latest + 1 = but-here t.turn o (t.latest + 1) y same in
+              let e : but t.turn o (t.latest + 1) y ≡ t.latest + 1 =
+              but-here t.turn o (t.latest + 1) y same in
               let g : t.turn i ≤ t.latest = has.bounded i in
               omega (arith, e, f, g)
               )
@@ -126,12 +146,19 @@ module _ (a b : ℕ → Bool) (W V R Q : ℕ → ℕ → Type 0) (w k h : ℕ) (
       other : (y : ℕ) → y ≢ o → but t.turn o (t.latest + 1) y ≡ t.turn y
       other = but-other t.turn o (t.latest + 1)
 
-  write_sent_turns : (o : ℕ) → IsWriteSent a b W V R Q w k h o → ((i y : ℕ) → R i y → a i ≡ false) → HasTurns b V Q w h (next_turn t o)
-  write_sent_turns o c idle = subst (λ i. HasTurns b V Q w i (next_turn t o)) (sym c.kept) (turn_given o c.asked c.waits idle
-      (λ i y v. elim (c.writes i y v) [ inl old ↦ inl old | inr new ↦ inr (new.0, new.1, c.plain) ]) c.reads)
+  write_sent_turns : (o : ℕ) → IsWriteSent a b W V R Q w k h o → ((i y : ℕ) → R i y → a i ≡ false)
+      → HasTurns b V Q w h (next_turn t o)
+  write_sent_turns o c idle =
+      subst (λ i. HasTurns b V Q w i (next_turn t o)) (sym c.kept)
+      (turn_given o c.asked c.waits idle
+      (λ i y v. elim (c.writes i y v) [ inl old ↦ inl old | inr new ↦ inr (new.0, new.1, c.plain) ])
+      c.reads)
 
-  given_here_turns : (o : ℕ) → IsGivenHere a b W V R Q w k h o → ((i y : ℕ) → R i y → a i ≡ false) → HasTurns b V Q w h (next_turn t o)
-  given_here_turns o c idle = subst (λ i. HasTurns b V Q w i (next_turn t o)) (sym c.kept) (turn_given o c.asked c.waits idle (λ i y v. inl (c.writes i y v)) c.reads)
+  given_here_turns : (o : ℕ) → IsGivenHere a b W V R Q w k h o → ((i y : ℕ) → R i y → a i ≡ false)
+      → HasTurns b V Q w h (next_turn t o)
+  given_here_turns o c idle =
+      subst (λ i. HasTurns b V Q w i (next_turn t o)) (sym c.kept)
+      (turn_given o c.asked c.waits idle (λ i y v. inl (c.writes i y v)) c.reads)
 
   given_elsewhere_turns : (x o : ℕ) → IsGivenElsewhere a b W V R Q w k h x o → HasTurns b V Q w h t
   given_elsewhere_turns x o c = subst (λ i. HasTurns b V Q w i t) (sym c.kept) (record {
@@ -169,7 +196,8 @@ module _ (a b : ℕ → Bool) (W V R Q : ℕ → ℕ → Type 0) (w k h : ℕ) (
     queued_others = has.queued_others;
   })
 
-  asked_elsewhere_turns : (x : ℕ) → IsAskedElsewhere a b W V R Q w k h x → HasTurns b V Q w h (queues t x)
+  asked_elsewhere_turns : (x : ℕ) → IsAskedElsewhere a b W V R Q w k h x
+      → HasTurns b V Q w h (queues t x)
   asked_elsewhere_turns x c = subst (λ i. HasTurns b V Q w i (queues t x)) (sym c.kept) (record {
     bounded = has.bounded;
     writer_later = λ i y ny ni v. elim (c.writes i y v) [
@@ -190,16 +218,24 @@ module _ (a b : ℕ → Bool) (W V R Q : ℕ → ℕ → Type 0) (w k h : ℕ) (
         | inl same ↦ both (a x) (r.claimed j x c.away (subst (W j) same old)) c.plain
         | inr ne ↦ has.queued_unasked i j (sym (but-other t.queued x true i ne) ∙ q) old
       ]
-      | inr new ↦ both (t.queued w) (ap t.queued (sym new.1) ∙ sym (but-other t.queued x true i (λ same. c.away (sym same ∙ new.1))) ∙ q) has.queued_others
+      | inr new ↦
+          both (t.queued w)
+          (ap t.queued (sym new.1)
+          ∙ sym (but-other t.queued x true i (λ same. c.away (sym same ∙ new.1))) ∙ q)
+          has.queued_others
     ];
-    queued_unkept = λ f. but-other t.queued x true k (λ same. both (a x) (ap a (sym same) ∙ r.kept_claims (was f)) c.plain) ∙ has.queued_unkept (was f);
+    queued_unkept =
+        λ f. but-other t.queued x true k
+        (λ same. both (a x) (ap a (sym same) ∙ r.kept_claims (was f)) c.plain)
+        ∙ has.queued_unkept (was f);
     queued_others = but-other t.queued x true w (λ same. c.away (sym same)) ∙ has.queued_others;
   })
     where
       was : b w ≡ false → a w ≡ false
       was f = sym (c.claims w (λ same. c.away (sym same))) ∙ f
 
-  pub move_turns : Move a b W V R Q w k h → ((i y : ℕ) → R i y → a i ≡ false) → (u : Turns) × HasTurns b V Q w h u
+  pub move_turns : Move a b W V R Q w k h → ((i y : ℕ) → R i y → a i ≡ false)
+      → (u : Turns) × HasTurns b V Q w h u
   move_turns (Calm c) idle = (t, calm_turns c)
   move_turns (ReadSent o hop c) idle = (t, read_sent_turns o hop c)
   move_turns (WriteSent o c) idle = (next_turn t o, write_sent_turns o c idle)

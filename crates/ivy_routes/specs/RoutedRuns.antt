@@ -1,4 +1,5 @@
--- What is promised of each ordered world that programs reach: whoever waits has its message, and the
+-- What is promised of each ordered world that programs reach: whoever waits has its message, and
+-- the
 -- routes to each page.
 use Rattle.std.specs.Prelude.{◌≡◌, ◌<◌, ℕ, List}
 use Rattle.ivy_model.specs.declared.Config.{Config}
@@ -19,7 +20,8 @@ module _ {S : Type 0} (ops : Ops S) (c : Config) (programs : List (List Instruct
   abbrev pub hops_of : Ordered (Host S) → ℕ → ℕ → ℕ
   hops_of o page node = ops.next_hop (managers_of (ops.first c 0) o node) page
 
-  -- the entries and letters fit together, and whoever waits has its message: a word, and a call of the heap
+  -- the entries and letters fit together, and whoever waits has its message: a word, and a call of
+  -- the heap
   abbrev pub AllAwaited : Type 0
   AllAwaited = (o : Ordered (Host S)) → IsReachedInOrder ops c programs o
       → IsOrderly c (net_of o) × IsAwaited (net_of o) × AreErrands o × HaveErrands o

@@ -1,6 +1,7 @@
 -- How much one event does at most.
 use Rattle.std.specs.Prelude.{ℕ}
 
--- the messages that a node posts in one event: one for each that is served, or one to each other node
+-- the messages that a node posts in one event: one for each that is served, or one to each other
+-- node
 abbrev pub most_posted : ℕ
 most_posted = 8

@@ -1,4 +1,5 @@
--- Messages that are served at an idle entry, one after another (Li and Hudak 1989, the owner keeps the copy set). The
+-- Messages that are served at an idle entry, one after another (Li and Hudak 1989, the owner keeps
+-- the copy set). The
 -- bytes of the page stay as they are meanwhile.
 use Rattle.std.specs.Prelude.{ℕ, ◌+◌, ◌-◌, ◌^◌, Bool, true, false, List, [], ◌∷◌, ◌++◌, Option, Some, None, if◌then◌else◌, nat_lt, map}
 use Rattle.std.specs.FinSet as set
@@ -12,7 +13,8 @@ use Rattle.ivy_pagetable.specs.States.{IdleState}
 use Rattle.ivy_pagetable.specs.Entries.{without, sharing}
 use Rattle.ivy_pagetable.specs.Manager.{Ops}
 
--- an idle entry, the manager, the count of messages that fitted no rule, and what was posted so far, in order
+-- an idle entry, the manager, the count of messages that fitted no rule, and what was posted so
+-- far, in order
 pub record Serving (S : Type 0) : Type 0 where
   pub idle : IdleState
   pub manager : S
@@ -40,7 +42,8 @@ invalidations me page call nodes =
     map (λ node. parcel_to me node me call (content.Inval page)) (nodes_of nodes)
 
 module _ {S : Type 0} (ops : Ops S) (me page : ℕ) (bytes : List ℕ) where
-  -- at the owner: a copy is given, and both read from now on; the page itself is given, with the set of those that
+  -- at the owner: a copy is given, and both read from now on; the page itself is given, with the
+  -- set of those that
   -- have a copy; an owner is never told to give up a copy
   abbrev pub served_by_owner : Serving S → ℕ → ℕ → Request → Serving S
   served_by_owner v origin call request.Read = record {

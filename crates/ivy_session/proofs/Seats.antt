@@ -1,5 +1,7 @@
 -- A seated site stays seated, and may give its list.
-use Rattle.std.proofs.Common.{◌≡◌, ◌≢◌, ◌⊎◌, ℕ, zero, suc, ◌+◌, ◌<◌, List, [], ◌∷◌, ◌++◌, length, slice_get, Contains, Option, Some, None, true, false, refl, sym, ap, subst, ◌∙◌, inl, inr, arith, append-nil, append_assoc}
+use Rattle.std.proofs.Common.{◌≡◌, ◌≢◌, ◌⊎◌, ℕ, zero, suc, ◌+◌, ◌<◌, List, [], ◌∷◌, ◌++◌, length}
+use Rattle.std.proofs.Common.{slice_get, Contains, Option, Some, None, true, false, refl, sym, ap}
+use Rattle.std.proofs.Common.{subst, ◌∙◌, inl, inr, arith, append-nil, append_assoc}
 use Rattle.std.specs.Prelude.{IfSome, MatchResult, MatchOption, Result, Ok, Err}
 use Rattle.ivy_model.specs.declared.Fault.{Fault}
 use Rattle.ivy_ether.specs.Data.{Put, Item}
@@ -44,7 +46,8 @@ program_in s = s.node.core.process.program
 -- the first node of a program
 first_there : (c : Config) (me k : ℕ) (programs : List (List Instruction)) (i : ℕ)
     (program : List Instruction) → me + i ≡ k → slice_get programs i ≡ Some program
-    → slice_get (first_nodes managed_ops c me programs) i ≡ Some (first_node managed_ops c k program)
+    → slice_get (first_nodes managed_ops c me programs) i
+    ≡ Some (first_node managed_ops c k program)
 first_there c me k [] i program at is = absurd (none-some program is)
 first_there c me k (p ∷ ps) zero program at is =
     let here : me ≡ k = omega (arith, at) in
@@ -62,7 +65,8 @@ module _ (c : Config) (programs : List (List Instruction)) where
     node = first_node managed_ops c s.me (program_in s);
     there = first_there c 0 s.me programs s.me (program_in s) (omega arith) program;
     happen = subst
-        (λ k. AllHappen (host_rules managed_ops) k (first_node managed_ops k s.me (program_in s)) s.events made.effect)
+        (λ k. AllHappen (host_rules managed_ops) k (first_node managed_ops k s.me (program_in s))
+        s.events made.effect)
         config made.happen;
   }
 
@@ -88,7 +92,8 @@ module _ (c : Config) (programs : List (List Instruction)) where
       → es ≡ s'.events → s' ≡ record s { waiting = s'.waiting } → IsSeated wire c programs s p
       → IsSentBy s bytes → SendsFrom c programs p.known es bytes
   sends_from wire s s' p es bytes is same h sent =
-      subst (λ l. SendsFrom c programs p.known l bytes) (sym (is ∙ ap (λ (x : Shown). x.events) same)) (record {
+      subst (λ l. SendsFrom c programs p.known l bytes)
+      (sym (is ∙ ap (λ (x : Shown). x.events) same)) (record {
         node = s.me;
         sits = h.node;
         sends = record {
@@ -181,7 +186,8 @@ module _ (c : Config) (programs : List (List Instruction)) where
       stays_seated wire s s' p h (turn_stays t s s' p.known.took after)
 
   -- after a delivery of a string that the pass took
-  listed : (bytes : List ℕ) (v w : Verdict) (s s' : Shown) (took : List (List ℕ)) → IsConfig s.config
+  listed : (bytes : List ℕ) (v w : Verdict) (s s' : Shown) (took : List (List ℕ))
+      → IsConfig s.config
       → Contains took bytes → (d : Delivers bytes v s s')
       → s' ≡ after_hearing s bytes w d.frame.source d.effect → StaysAt s s' took
   listed bytes v w s s' took limits there d after = record {
@@ -218,8 +224,16 @@ module _ (c : Config) (programs : List (List Instruction)) where
       early-can (host_rules managed_ops) s.config took (length programs) s.me
       (first_node managed_ops s.config s.me (program_in s)) s.events bytes before once.early in
       let x : StaysAt (without_ready s source) s' took =
-      delivery_as bytes verdict.Next verdict.Next (without_ready s source) s' took refl limits there once.next in
-      record { me = x.me; config = x.config; program = x.program; ms = x.ms; events = x.events; can = x.can }
+      delivery_as bytes verdict.Next verdict.Next (without_ready s source) s' took refl limits there
+      once.next in
+      record {
+        me = x.me;
+        config = x.config;
+        program = x.program;
+        ms = x.ms;
+        events = x.events;
+        can = x.can;
+      }
 
   all_stay : (source : ℕ) (more : List (List ℕ)) (s s' : Shown) (took : List (List ℕ))
       → IsConfig s.config → AllCanBeMade took (length programs) s.me s.events
@@ -248,7 +262,8 @@ module _ (c : Config) (programs : List (List Instruction)) where
   follows_stay verdict.NotMine f bytes s s' took limits before same = stays_same s s' took same
   follows_stay verdict.Repeat f bytes s s' took limits before same = stays_same s s' took same
   follows_stay verdict.Ahead f bytes s s' took limits before same =
-      holding_stays s s' took (same ∙ ap (λ h. record s { held = h }) (sym (ap (λ (x : Shown). x.held) same)))
+      holding_stays s s' took
+      (same ∙ ap (λ h. record s { held = h }) (sym (ap (λ (x : Shown). x.held) same)))
   follows_stay verdict.Next f bytes s s' took limits before on =
       all_stay f.source on.0 s s' took limits before on.1
 
@@ -257,10 +272,12 @@ module _ (c : Config) (programs : List (List Instruction)) where
       → IsSeated wire c programs s' p
   delivery_seated wire bytes v s s' p h there d =
       let limits : IsConfig s.config = subst IsConfig (sym h.config) h.limits in
-      let x : StaysAt s d.mid p.known.took = delivery_as bytes v v s d.mid p.known.took refl limits there d.first in
+      let x : StaysAt s d.mid p.known.took =
+      delivery_as bytes v v s d.mid p.known.took refl limits there d.first in
       stays_seated wire s s' p h
       (stays_on s d.mid s' p.known.took x
-      (follows_stay v d.first.frame bytes d.mid s' p.known.took (subst IsConfig (sym x.config) limits)
+      (follows_stay v d.first.frame bytes d.mid s' p.known.took
+      (subst IsConfig (sym x.config) limits)
       (stays_took s d.mid p.known.took h.took x) d.follows))
 
   -- after a pulse to another node
@@ -382,7 +399,8 @@ module _ (c : Config) (programs : List (List Instruction)) where
   pub delivered : (wire : TableId) (r : Result Verdict Fault) (bytes : List ℕ) (s s' : Shown)
       (p : Held) → MatchResult r (λ v. AfterDelivery bytes v s s') (λ _. s' ≡ s)
       → Contains p.known.took bytes → IsSeated wire c programs s p → IsSeated wire c programs s' p
-  delivered wire (Ok v) bytes s s' p after there h = delivery_seated wire bytes v s s' p h there after
+  delivered wire (Ok v) bytes s s' p after there h =
+      delivery_seated wire bytes v s s' p h there after
   delivered wire (Err fault) bytes s s' p same there h =
       stays_seated wire s s' p h (stays_same s s' p.known.took same)
 
@@ -390,16 +408,19 @@ module _ (c : Config) (programs : List (List Instruction)) where
       → MatchResult r (λ _. s' ≡ after_pulse_to s to (pulsing s.node to)) (λ _. s' ≡ s)
       → to < s.config.nodes → to ≢ s.me → IsSeated wire c programs s p
       → IsSeated wire c programs s' p
-  pulsed wire (Ok done) to s s' p after below apart h = pulse_seated wire to s s' p h below apart after
+  pulsed wire (Ok done) to s s' p after below apart h =
+      pulse_seated wire to s s' p h below apart after
   pulsed wire (Err fault) to s s' p same below apart h =
       stays_seated wire s s' p h (stays_same s s' p.known.took same)
 
   -- and those of the ether
   pub put_seated : (wire : TableId) (r : Put) (s : Shown) (p p' : Held) (es : List Mark)
       (frame : List ℕ) → es ≡ s.events → p'.ether ≡ p.ether
-      → MatchPut r (p'.known ≡ with_events p.known es) (λ back. (back ≡ frame) × (p'.known ≡ p.known))
+      → MatchPut r (p'.known ≡ with_events p.known es)
+      (λ back. (back ≡ frame) × (p'.known ≡ p.known))
       → IsSeated wire c programs s p → IsSeated wire c programs s p'
-  put_seated wire Sent s p p' es frame is ether known h = events_seated wire s p p' es is ether known h
+  put_seated wire Sent s p p' es frame is ether known h =
+      events_seated wire s p p' es is ether known h
   put_seated wire (Lost back) s p p' es frame is ether known h =
       same_seated wire s p p' ether known.1 h
 
@@ -429,7 +450,8 @@ module _ (c : Config) (programs : List (List Instruction)) where
 -- what was taken is known to the pass
 pub took_item : (r : Option Item) (p p' : Held) (es : List Mark)
     → MatchOption r (p'.known ≡ p.known) (λ x. p'.known ≡ with_taken p.known es (strings_in x))
-    → IfSome r (λ x. (bytes : List ℕ) → Contains (strings_in x) bytes → Contains p'.known.took bytes)
+    → IfSome r
+    (λ x. (bytes : List ℕ) → Contains (strings_in x) bytes → Contains p'.known.took bytes)
 took_item None p p' es known = tt
 took_item (Some x) p p' es known = λ bytes there.
     subst (λ (v : View). Contains v.took bytes) (sym known)

@@ -1,5 +1,7 @@
 -- What the starter was told is a report.
-use Rattle.std.proofs.Common.{◌≡◌, ◌≢◌, ℕ, zero, suc, ◌+◌, ◌<◌, ◌≤◌, ◌==◌, All, List, [], ◌∷◌, ◌++◌, length, map, slice_get, Contains, Option, Some, None, ◌⊎◌, refl, sym, ap, subst, ◌∙◌, inl, inr, arith, append-nil}
+use Rattle.std.proofs.Common.{◌≡◌, ◌≢◌, ℕ, zero, suc, ◌+◌, ◌<◌, ◌≤◌, ◌==◌, All, List, [], ◌∷◌, ◌++◌}
+use Rattle.std.proofs.Common.{length, map, slice_get, Contains, Option, Some, None, ◌⊎◌, refl, sym}
+use Rattle.std.proofs.Common.{ap, subst, ◌∙◌, inl, inr, arith, append-nil}
 use Rattle.std.proofs.lemmas.Bool.{ne_eqb}
 use Rattle.std.proofs.lemmas.List.{length-map, same_from_push}
 use Rattle.std.proofs.lemmas.Option.{none-some, same_Some}
@@ -36,7 +38,8 @@ use Rattle.ivy_session.specs.Reports.{NodeReport, report_of, IsOf, IsDone, Expla
 use Rattle.ivy_session.specs.Told.{AreTold}
 
 -- the order at the end of a run
-explained_end : (c : Config) (w end : World (Host Managed)) (order : List Record) (moves : List Move)
+explained_end : (c : Config) (w end : World (Host Managed)) (order : List Record)
+    (moves : List Move)
     → GoesOn (host_rules managed_ops) c answered_by w order moves
     → Leads (host_rules managed_ops) c w moves end
     → (whole : List Record) × IsExplainedBy (host_rules managed_ops) c answered_by end whole
@@ -87,7 +90,9 @@ module _ (c : Config) (programs : List (List Instruction)) (limits : IsConfig c)
       → IsDone c programs i s → IsThere end i s
   is_there end parts i s run list done =
       let first = done.of.list.node in
-      let made = (runs_are_their_parts (host_rules managed_ops) c (beginning c programs) end parts run).each
+      let made =
+      (runs_are_their_parts (host_rules managed_ops) c (beginning c programs) end parts
+      run).each
       i first done.of.list.there in
       let same : made.0 ≡ done.of.effect =
       same-effect (host_rules managed_ops) c first s.events made.0 done.of.effect
@@ -140,7 +145,8 @@ module _ (c : Config) (programs : List (List Instruction)) (limits : IsConfig c)
           e.node.core.process.program,
           r.0,
           subst (λ (x : NodeReport). IsWholeRun e.node.core.process.program x.history x.output) s.is
-              (subst (λ h. IsWholeRun e.node.core.process.program h s.site.node.core.process.state.output)
+              (subst (λ h. IsWholeRun e.node.core.process.program h
+              s.site.node.core.process.state.output)
               (sym e.history)
               (record {
                 end = e.node.core.process.state;
@@ -167,9 +173,11 @@ module _ (c : Config) (programs : List (List Instruction)) (limits : IsConfig c)
     pub reported_as : IsReport c programs (map report_of sites)
     reported_as = record {
       all = length-map sites report_of ∙ count;
-      each = λ i n there. subst (IsOf c programs i) (site_of i n there).is (site_of i n there).done.of;
+      each = λ i n there. subst (IsOf c programs i) (site_of i n there).is
+          (site_of i n there).done.of;
       parts = parts;
-      lists = λ i n there. (site_of i n there).list ∙ ap (λ (x : NodeReport). x.events) (site_of i n there).is;
+      lists = λ i n there. (site_of i n there).list
+          ∙ ap (λ (x : NodeReport). x.events) (site_of i n there).is;
       end = end;
       run = run;
       whole = whole_run;
@@ -212,7 +220,8 @@ told_more c programs v v' sites sites' s i last more known done told j t there =
           let own : Contains v'.reports (i, s.events) =
           subst (λ (u : View). Contains u.reports (i, s.events)) (sym known)
           (Contains-push v.reports (i, s.events)) in (
-            subst (λ (y : ℕ × Shown). Contains v'.reports (y.0, y.1.events)) (λ k. (at k, new.1 k)) own,
+            subst (λ (y : ℕ × Shown). Contains v'.reports (y.0, y.1.events)) (λ k. (at k, new.1 k))
+                own,
             subst (λ (y : ℕ × Shown). IsDone c programs y.0 y.1) (λ k. (at k, new.1 k)) done,
           )
     ]

@@ -21,7 +21,8 @@ pub record HasGiven (nodes : ℕ) (s : Shown) (p : Held) : Type 0 where
   pub is : s.events ≡ p.known.events ++ more
   pub can : AllCanBeMade p.known.took nodes s.me more
 
--- the pass is of this ether, sits at the site's node and has not reported, and took each string that was delivered to
+-- the pass is of this ether, sits at the site's node and has not reported, and took each string
+-- that was delivered to
 -- the site; the site runs the node's program
 pub record IsSeated (wire : TableId) (c : Config) (programs : List (List Instruction))
     (s : Shown) (p : Held) : Type 0 where

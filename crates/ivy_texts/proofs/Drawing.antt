@@ -12,7 +12,8 @@ use Rattle.ivy_wire.proofs.Frames.{spelled_once, sound_checked}
 use Rattle.ivy_events.specs.declared.Move.TheVariants.{Turn}
 use Rattle.ivy_texts.specs.Drawn.{drawn, drawn_by, delivery, pulse}
 
-module _ (nodes : ℕ) (sent : List (List ℕ)) (g g1 g2 : Lcg) (x y : ℕ) (first : (x, g1) ≡ pcg32 g) (second : (y, g2) ≡ pcg32 g1) where
+module _ (nodes : ℕ) (sent : List (List ℕ)) (g g1 g2 : Lcg) (x y : ℕ) (first : (x, g1) ≡ pcg32 g)
+    (second : (y, g2) ≡ pcg32 g1) where
   by_words : drawn_by nodes sent x y g2 ≡ drawn nodes sent g
   unfolding drawn
   by_words =
@@ -23,15 +24,21 @@ module _ (nodes : ℕ) (sent : List (List ℕ)) (g g1 g2 : Lcg) (x y : ℕ) (fir
   turn_drawn small = rw (sym by_words, lt-ltb (x % 8) 4 small) refl
 
   pub delivery_drawn : 4 ≤ x % 8 → x % 8 < 7 → (delivery nodes sent y, g2) ≡ drawn nodes sent g
-  delivery_drawn large small = rw (sym by_words, le-ltb (x % 8) 4 large, lt-ltb (x % 8) 7 small) refl
+  delivery_drawn large small =
+      rw (sym by_words, le-ltb (x % 8) 4 large, lt-ltb (x % 8) 7 small) refl
 
-  pub pulse_drawn : (z : ℕ) (g3 : Lcg) → (z, g3) ≡ pcg32 g2 → 7 ≤ x % 8 → (pulse nodes y z, g3) ≡ drawn nodes sent g
+  pub pulse_drawn : (z : ℕ) (g3 : Lcg) → (z, g3) ≡ pcg32 g2 → 7 ≤ x % 8
+      → (pulse nodes y z, g3) ≡ drawn nodes sent g
   pulse_drawn z g3 third large =
       let not_few : 4 ≤ x % 8 = omega (arith, large) in
-      rw (sym by_words, le-ltb (x % 8) 4 not_few, le-ltb (x % 8) 7 large) (ap (λ (p : ℕ × Lcg). (pulse nodes y p.0, p.1)) third)
+      rw (sym by_words, le-ltb (x % 8) 4 not_few, le-ltb (x % 8) 7 large)
+      (ap (λ (p : ℕ × Lcg). (pulse nodes y p.0, p.1)) third)
 
-pub long_strings : (c : Config) (strings : List (List ℕ)) → IsConfig c → ((bytes : List ℕ) → Contains strings bytes → (f : Frame) × Spells c f bytes) → All (λ (s : List ℕ). 24 ≤ length s) strings
+pub long_strings : (c : Config) (strings : List (List ℕ)) → IsConfig c
+    → ((bytes : List ℕ) → Contains strings bytes → (f : Frame) × Spells c f bytes)
+    → All (λ (s : List ℕ). 24 ≤ length s) strings
 long_strings c strings limits spelled =
     All-weaker (Contains strings) (λ (s : List ℕ). 24 ≤ length s) (λ s here.
     let f : (f : Frame) × Spells c f s = spelled s here in
-    (sound_checked c (frame_kind f.0.body) s (spelled_once c f.0 s limits f.1).0).long) strings (All-contains_itself strings)
+    (sound_checked c (frame_kind f.0.body) s (spelled_once c f.0 s limits f.1).0).long) strings
+    (All-contains_itself strings)

@@ -7,7 +7,8 @@ use Rattle.ivy_wire.specs.Faults.{dest_at}
 use Rattle.ivy_events.specs.declared.Move.{Move}
 use Rattle.ivy_events.specs.declared.Move.TheVariants.{Turn, Deliver, Pulse}
 
--- the generator of a seed, whose sixteen bytes are made of the number as Rust's `seed_from_u64` does
+-- the generator of a seed, whose sixteen bytes are made of the number as Rust's `seed_from_u64`
+-- does
 abbrev pub seeded : ℕ → Lcg
 seeded seed = pcg32_of_seed (pcg32_seed 16 seed)
 
@@ -27,14 +28,14 @@ abbrev pub index_back : ℕ → ℕ → ℕ
 index_back sent y = sent - 1 - y % min sent reach
 
 -- the string goes to its destination; where none is there, a node makes a turn
-abbrev pub delivery_of : ℕ → ℕ → ℕ → Option (List ℕ) → Move
-delivery_of nodes y index (Some string) = Deliver index (dest_at string)
-delivery_of nodes y index None = Turn (y % nodes)
+abbrev pub drawn_delivery : ℕ → ℕ → ℕ → Option (List ℕ) → Move
+drawn_delivery nodes y index (Some string) = Deliver index (dest_at string)
+drawn_delivery nodes y index None = Turn (y % nodes)
 
 abbrev pub delivery : ℕ → List (List ℕ) → ℕ → Move
 delivery nodes sent y =
     let index = index_back (length sent) y in
-    delivery_of nodes y index (slice_get sent index)
+    drawn_delivery nodes y index (slice_get sent index)
 
 -- the node at a place among all but this one
 abbrev pub other_at : ℕ → ℕ → ℕ

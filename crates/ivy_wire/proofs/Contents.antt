@@ -17,11 +17,12 @@ use Rattle.ivy_wire.specs.Reading.{content_at}
 use Rattle.ivy_wire.proofs.Fields.{IsBytes, IsBytes-drop, field_1, field_4, only_1, only_4, only_8}
 
 -- the content that a sound text has in it
-pub record HasContent (c : Config) (k : FrameKind) (rest : List ℕ) (content : Content) : Type 0 where
-  pub read : content_at k rest ≡ Some content
-  pub kind : kind_of content ≡ k
-  pub text : rest ≡ content_text content
-  pub fits : FitsContent c content
+pub record HasContent (c : Config) (k : FrameKind) (rest : List ℕ) (content : Content) : Type 0
+  where
+    pub read : content_at k rest ≡ Some content
+    pub kind : kind_of content ≡ k
+    pub text : rest ≡ content_text content
+    pub fits : FitsContent c content
 
 pub both : (a b : Bool) → a && b ≡ true → (a ≡ true) × (b ≡ true)
 both true b e = (refl, e)
@@ -34,7 +35,8 @@ either false b e = inr e
 below : (m n : ℕ) → ltb m n ≡ true → m < n
 below m n e = grind (arith, nat_tests)
 
-reply_fits : (code addr : ℕ) → addr < 2 ^ 64 → eqb code 0 || ((eqb code 8 || eqb code 9) && eqb addr 0) ≡ true
+reply_fits : (code addr : ℕ) → addr < 2 ^ 64
+    → eqb code 0 || ((eqb code 8 || eqb code 9) && eqb addr 0) ≡ true
     → ((code ≡ 0) × (addr < 2 ^ 64)) ⊎ (((code ≡ 8) ⊎ (code ≡ 9)) × (addr ≡ 0))
 reply_fits code addr small e =
     elim (either (eqb code 0) ((eqb code 8 || eqb code 9) && eqb addr 0) e) [
@@ -48,46 +50,125 @@ reply_fits code addr small e =
     ]
 
 freed_fits : (code : ℕ) → eqb code 0 || eqb code 10 ≡ true → (code ≡ 0) ⊎ (code ≡ 10)
-freed_fits code e = elim (either (eqb code 0) (eqb code 10) e) [ inl z ↦ inl (eqb-true code 0 z) | inr z ↦ inr (eqb-true code 10 z) ]
+freed_fits code e =
+    elim (either (eqb code 0) (eqb code 10) e) [
+      | inl z ↦ inl (eqb-true code 0 z)
+      | inr z ↦
+          inr (eqb-true code 10 z)
+    ]
 
-page_of : (c : Config) (rest : List ℕ) → ltb (big_number 4 rest) c.pages ≡ true → big_number 4 rest < c.pages
+page_of : (c : Config) (rest : List ℕ) → ltb (big_number 4 rest) c.pages ≡ true
+    → big_number 4 rest < c.pages
 page_of c rest e = grind (arith, nat_tests)
 
-pub content_spelled : (c : Config) (kind : FrameKind) (rest : List ℕ) → IsBytes rest → (kind ≡ kinds.Ack → ⊥) → 9 + length rest ≡ text_len c kind → is_sound_content c kind rest ≡ true → (content : Content) × HasContent c kind rest content
+pub content_spelled : (c : Config) (kind : FrameKind) (rest : List ℕ) → IsBytes rest
+    → (kind ≡ kinds.Ack → ⊥) → 9 + length rest ≡ text_len c kind
+    → is_sound_content c kind rest ≡ true → (content : Content) × HasContent c kind rest content
 unfolding content_at is_sound_content
 content_spelled c kinds.Ack rest h some len sound = absurd (some refl)
-content_spelled c kinds.ReadReq rest h some len sound = (contents.ReadReq (big_number 4 rest), record { read = refl; kind = refl; text = only_4 rest h (omega arith); fits = page_of c rest sound })
-content_spelled c kinds.WriteReq rest h some len sound = (contents.WriteReq (big_number 4 rest), record { read = refl; kind = refl; text = only_4 rest h (omega arith); fits = page_of c rest sound })
-content_spelled c kinds.ReadRep rest h some len sound =
-    (contents.ReadRep (big_number 4 rest) (drop 4 rest), record { read = refl; kind = refl; text = field_4 rest h (omega arith); fits = (page_of c rest sound, omega (arith, length-drop 4 rest)) })
+content_spelled c kinds.ReadReq rest h some len sound = (
+  contents.ReadReq (big_number 4 rest),
+  record {
+    read = refl;
+    kind = refl;
+    text = only_4 rest h (omega arith);
+    fits = page_of c rest sound;
+  },
+)
+content_spelled c kinds.WriteReq rest h some len sound = (
+  contents.WriteReq (big_number 4 rest),
+  record {
+    read = refl;
+    kind = refl;
+    text = only_4 rest h (omega arith);
+    fits = page_of c rest sound;
+  },
+)
+content_spelled c kinds.ReadRep rest h some len sound = (
+  contents.ReadRep (big_number 4 rest) (drop 4 rest),
+  record {
+    read = refl;
+    kind = refl;
+    text = field_4 rest h (omega arith);
+    fits = (page_of c rest sound, omega (arith, length-drop 4 rest));
+  },
+)
 content_spelled c kinds.WriteRep rest h some len sound =
     let p = both (ltb (big_number 4 rest) c.pages) (ltb (get_or rest 4 0) (2 ^ c.nodes)) sound in
     let second : drop 4 rest ≡ get_or rest 4 0 ∷ drop 5 rest =
-    field_1 (drop 4 rest) (omega (arith, length-drop 4 rest)) ∙ rw (get_or-drop 4 rest 0 0, drop-drop 1 4 rest) refl in (
+    field_1 (drop 4 rest) (omega (arith, length-drop 4 rest))
+    ∙ rw (get_or-drop 4 rest 0 0, drop-drop 1 4 rest) refl in (
       contents.WriteRep (big_number 4 rest) (get_or rest 4 0) (drop 5 rest),
       record {
         read = refl;
         kind = refl;
-        text = field_4 rest h (omega arith) ∙ ap (λ (t : List ℕ). big_bytes 4 (big_number 4 rest) ++ t) second;
-        fits = (page_of c rest p.0, below (get_or rest 4 0) (2 ^ c.nodes) p.1, omega (arith, length-drop 5 rest));
+        text = field_4 rest h (omega arith)
+            ∙ ap (λ (t : List ℕ). big_bytes 4 (big_number 4 rest) ++ t) second;
+        fits = (
+          page_of c rest p.0,
+          below (get_or rest 4 0) (2 ^ c.nodes) p.1,
+          omega (arith, length-drop 5 rest),
+        );
       },
     )
-content_spelled c kinds.Inval rest h some len sound = (contents.Inval (big_number 4 rest), record { read = refl; kind = refl; text = only_4 rest h (omega arith); fits = page_of c rest sound })
-content_spelled c kinds.InvalAck rest h some len sound = (contents.InvalAck (big_number 4 rest), record { read = refl; kind = refl; text = only_4 rest h (omega arith); fits = page_of c rest sound })
-content_spelled c kinds.AllocReq rest h some len sound = (contents.AllocReq (big_number 8 rest), record { read = refl; kind = refl; text = only_8 rest h (omega arith); fits = big_from-lt 0 8 rest h })
+content_spelled c kinds.Inval rest h some len sound = (
+  contents.Inval (big_number 4 rest),
+  record {
+    read = refl;
+    kind = refl;
+    text = only_4 rest h (omega arith);
+    fits = page_of c rest sound;
+  },
+)
+content_spelled c kinds.InvalAck rest h some len sound = (
+  contents.InvalAck (big_number 4 rest),
+  record {
+    read = refl;
+    kind = refl;
+    text = only_4 rest h (omega arith);
+    fits = page_of c rest sound;
+  },
+)
+content_spelled c kinds.AllocReq rest h some len sound = (
+  contents.AllocReq (big_number 8 rest),
+  record {
+    read = refl;
+    kind = refl;
+    text = only_8 rest h (omega arith);
+    fits = big_from-lt 0 8 rest h;
+  },
+)
 content_spelled c kinds.AllocRep rest h some len sound =
     let tail = IsBytes-drop 1 rest h in (
       contents.AllocRep (get_or rest 0 0) (big_number 8 (drop 1 rest)),
       record {
         read = refl;
         kind = refl;
-        text = field_1 rest (omega arith) ∙ ap (λ (t : List ℕ). get_or rest 0 0 ∷ t) (only_8 (drop 1 rest) tail (omega (arith, length-drop 1 rest)));
-        fits = reply_fits (get_or rest 0 0) (big_number 8 (drop 1 rest)) (big_from-lt 0 8 (drop 1 rest) tail) sound;
+        text = field_1 rest (omega arith)
+            ∙ ap (λ (t : List ℕ). get_or rest 0 0 ∷ t)
+            (only_8 (drop 1 rest) tail (omega (arith, length-drop 1 rest)));
+        fits = reply_fits (get_or rest 0 0) (big_number 8 (drop 1 rest))
+            (big_from-lt 0 8 (drop 1 rest) tail) sound;
       },
     )
-content_spelled c kinds.FreeReq rest h some len sound = (contents.FreeReq (big_number 8 rest), record { read = refl; kind = refl; text = only_8 rest h (omega arith); fits = big_from-lt 0 8 rest h })
-content_spelled c kinds.FreeRep rest h some len sound =
-    (contents.FreeRep (get_or rest 0 0), record { read = refl; kind = refl; text = only_1 rest (omega arith); fits = freed_fits (get_or rest 0 0) sound })
+content_spelled c kinds.FreeReq rest h some len sound = (
+  contents.FreeReq (big_number 8 rest),
+  record {
+    read = refl;
+    kind = refl;
+    text = only_8 rest h (omega arith);
+    fits = big_from-lt 0 8 rest h;
+  },
+)
+content_spelled c kinds.FreeRep rest h some len sound = (
+  contents.FreeRep (get_or rest 0 0),
+  record {
+    read = refl;
+    kind = refl;
+    text = only_1 rest (omega arith);
+    fits = freed_fits (get_or rest 0 0) sound;
+  },
+)
 
 -- a content is read back from its text
 pub record ReadsBack (c : Config) (b : Content) : Type 0 where
@@ -98,10 +179,13 @@ pub record ReadsBack (c : Config) (b : Content) : Type 0 where
 above : (m n : ℕ) → m < n → ltb m n ≡ true
 above m n e = grind (arith, nat_tests)
 
-page_back : (c : Config) (page : ℕ) (rest : List ℕ) → IsConfig c → page < c.pages → big_number 4 (big_bytes 4 page ++ rest) ≡ page
-page_back c page rest limits lt = let most = limits.pages_to in big_number-reads_back 4 page rest (omega arith)
+page_back : (c : Config) (page : ℕ) (rest : List ℕ) → IsConfig c → page < c.pages
+    → big_number 4 (big_bytes 4 page ++ rest) ≡ page
+page_back c page rest limits lt =
+    let most = limits.pages_to in big_number-reads_back 4 page rest (omega arith)
 
-reply_sound : (code addr : ℕ) → ((code ≡ 0) × (addr < 2 ^ 64)) ⊎ (((code ≡ 8) ⊎ (code ≡ 9)) × (addr ≡ 0))
+reply_sound : (code addr : ℕ)
+    → ((code ≡ 0) × (addr < 2 ^ 64)) ⊎ (((code ≡ 8) ⊎ (code ≡ 9)) × (addr ≡ 0))
     → eqb code 0 || ((eqb code 8 || eqb code 9) && eqb addr 0) ≡ true
 reply_sound code addr (inl p) = rw p.0 refl
 reply_sound code addr (inr p) = elim p.0 [ inl e ↦ rw (e, p.1) refl | inr e ↦ rw (e, p.1) refl ]
@@ -110,7 +194,8 @@ freed_sound : (code : ℕ) → (code ≡ 0) ⊎ (code ≡ 10) → eqb code 0 || 
 freed_sound code (inl e) = rw e refl
 freed_sound code (inr e) = rw e refl
 
-addr_small : (code addr : ℕ) → ((code ≡ 0) × (addr < 2 ^ 64)) ⊎ (((code ≡ 8) ⊎ (code ≡ 9)) × (addr ≡ 0)) → addr < 2 ^ 64
+addr_small : (code addr : ℕ)
+    → ((code ≡ 0) × (addr < 2 ^ 64)) ⊎ (((code ≡ 8) ⊎ (code ≡ 9)) × (addr ≡ 0)) → addr < 2 ^ 64
 addr_small code addr (inl p) = p.1
 addr_small code addr (inr p) = omega (arith, p.1)
 
@@ -118,28 +203,65 @@ pub content_again : (c : Config) (b : Content) → IsConfig c → FitsContent c 
 unfolding content_at is_sound_content
 content_again c (contents.ReadReq page) limits fits =
     let back = page_back c page [] limits fits in
-    record { read = ap (λ n. Some (contents.ReadReq n)) back; sound = rw back (above page c.pages fits); len = refl }
+    record {
+      read = ap (λ n. Some (contents.ReadReq n)) back;
+      sound = rw back (above page c.pages fits);
+      len = refl;
+    }
 content_again c (contents.WriteReq page) limits fits =
     let back = page_back c page [] limits fits in
-    record { read = ap (λ n. Some (contents.WriteReq n)) back; sound = rw back (above page c.pages fits); len = refl }
+    record {
+      read = ap (λ n. Some (contents.WriteReq n)) back;
+      sound = rw back (above page c.pages fits);
+      len = refl;
+    }
 content_again c (contents.ReadRep page bytes) limits fits =
     let back = page_back c page bytes limits fits.0 in
-    record { read = ap (λ n. Some (contents.ReadRep n bytes)) back; sound = rw back (above page c.pages fits.0); len = omega (arith, fits.1) }
+    record {
+      read = ap (λ n. Some (contents.ReadRep n bytes)) back;
+      sound = rw back (above page c.pages fits.0);
+      len = omega (arith, fits.1);
+    }
 content_again c (contents.WriteRep page copies bytes) limits fits =
     let back = page_back c page (copies ∷ bytes) limits fits.0 in
-    record { read = ap (λ n. Some (contents.WriteRep n copies bytes)) back; sound = rw (back, above page c.pages fits.0) (above copies (2 ^ c.nodes) fits.1); len = omega (arith, fits.2) }
+    record {
+      read = ap (λ n. Some (contents.WriteRep n copies bytes)) back;
+      sound = rw (back, above page c.pages fits.0) (above copies (2 ^ c.nodes) fits.1);
+      len = omega (arith, fits.2);
+    }
 content_again c (contents.Inval page) limits fits =
     let back = page_back c page [] limits fits in
-    record { read = ap (λ n. Some (contents.Inval n)) back; sound = rw back (above page c.pages fits); len = refl }
+    record {
+      read = ap (λ n. Some (contents.Inval n)) back;
+      sound = rw back (above page c.pages fits);
+      len = refl;
+    }
 content_again c (contents.InvalAck page) limits fits =
     let back = page_back c page [] limits fits in
-    record { read = ap (λ n. Some (contents.InvalAck n)) back; sound = rw back (above page c.pages fits); len = refl }
+    record {
+      read = ap (λ n. Some (contents.InvalAck n)) back;
+      sound = rw back (above page c.pages fits);
+      len = refl;
+    }
 content_again c (contents.AllocReq size) limits fits =
-    record { read = ap (λ n. Some (contents.AllocReq n)) (big_number-reads_back 8 size [] fits); sound = refl; len = refl }
+    record {
+      read = ap (λ n. Some (contents.AllocReq n)) (big_number-reads_back 8 size [] fits);
+      sound = refl;
+      len = refl;
+    }
 content_again c (contents.AllocRep code addr) limits fits =
-    let back : big_number 8 (big_bytes 8 addr) ≡ addr = big_number-reads_back 8 addr [] (addr_small code addr fits) in
-    record { read = ap (λ n. Some (contents.AllocRep code n)) back; sound = rw back (reply_sound code addr fits); len = refl }
+    let back : big_number 8 (big_bytes 8 addr) ≡ addr =
+    big_number-reads_back 8 addr [] (addr_small code addr fits) in
+    record {
+      read = ap (λ n. Some (contents.AllocRep code n)) back;
+      sound = rw back (reply_sound code addr fits);
+      len = refl;
+    }
 content_again c (contents.FreeReq addr) limits fits =
-    record { read = ap (λ n. Some (contents.FreeReq n)) (big_number-reads_back 8 addr [] fits); sound = refl; len = refl }
+    record {
+      read = ap (λ n. Some (contents.FreeReq n)) (big_number-reads_back 8 addr [] fits);
+      sound = refl;
+      len = refl;
+    }
 content_again c (contents.FreeRep code) limits fits =
     record { read = refl; sound = freed_sound code fits; len = refl }

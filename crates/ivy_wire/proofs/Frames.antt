@@ -1,5 +1,8 @@
 -- A string passes the tests exactly where it spells a frame.
-use Rattle.std.proofs.Common.{◌≡◌, ◌≢◌, ℕ, suc, zero, ◌+◌, ◌^◌, ◌<◌, ◌≤◌, Bool, true, false, not, cond, eqb, ltb, leb, ◌&&◌, ◌||◌, List, [], ◌∷◌, ◌++◌, length, get_or, drop, Option, Some, None, Result, Ok, Err, refl, sym, ap, subst, eq-eqb, ◌∙◌, arith}
+use Rattle.std.proofs.Common.{◌≡◌, ◌≢◌, ℕ, suc, zero, ◌+◌, ◌^◌, ◌<◌, ◌≤◌, Bool, true, false, not}
+use Rattle.std.proofs.Common.{cond, eqb, ltb, leb, ◌&&◌, ◌||◌, List, [], ◌∷◌, ◌++◌, length, get_or}
+use Rattle.std.proofs.Common.{drop, Option, Some, None, Result, Ok, Err, refl, sym, ap, subst}
+use Rattle.std.proofs.Common.{eq-eqb, ◌∙◌, arith}
 use Rattle.std.specs.Prelude.{MatchOption, option_map}
 use Rattle.std.proofs.lemmas.List.{length-drop, drop-drop}
 use Rattle.std.proofs.lemmas.Bool.{eqb-true, ltb-true, lt-ltb, eqb-false, ltb-false, leb-false, le-ltb, lt-leb, ne_eqb}
@@ -35,11 +38,13 @@ pub record IsSound (c : Config) (kind : FrameKind) (bytes : List ℕ) : Type 0 w
   pub text_len : len_at bytes ≡ text_len c kind
   pub text : is_sound_text c kind (frame_number_at bytes) (text_at bytes) ≡ true
 
-guard : {A : Type 0} (b : Bool) (d : Fault) (r : Result A Fault) (y : A) → cond b (Err d) r ≡ Ok y → (b ≡ false) × (r ≡ Ok y)
+guard : {A : Type 0} (b : Bool) (d : Fault) (r : Result A Fault) (y : A) → cond b (Err d) r ≡ Ok y
+    → (b ≡ false) × (r ≡ Ok y)
 guard true d r y e = absurd cc
 guard false d r y e = (refl, e)
 
-last_guard : (b : Bool) (d : Fault) (x y : FrameKind) → cond b (Ok x) (Err d) ≡ Ok y → (b ≡ true) × (x ≡ y)
+last_guard : (b : Bool) (d : Fault) (x y : FrameKind) → cond b (Ok x) (Err d) ≡ Ok y
+    → (b ≡ true) × (x ≡ y)
 last_guard true d x y e = (refl, cc)
 last_guard false d x y e = absurd cc
 
@@ -63,42 +68,56 @@ record IsSoundIn (c : Config) (kind : FrameKind) (bytes : List ℕ) : Type 0 whe
   text_len : len_at bytes ≡ text_len c kind
   text : is_sound_text c kind (frame_number_at bytes) (text_at bytes) ≡ true
 
-sound_in : (c : Config) (kind k : FrameKind) (bytes : List ℕ) → checked_in c kind bytes ≡ Ok k → (kind ≡ k) × IsSoundIn c kind bytes
+sound_in : (c : Config) (kind k : FrameKind) (bytes : List ℕ) → checked_in c kind bytes ≡ Ok k
+    → (kind ≡ k) × IsSoundIn c kind bytes
 unfolding checked_in
 sound_in c kind k bytes e =
-    let g1 = guard (leb c.nodes (source_at bytes) || (leb c.nodes (dest_at bytes) || eqb (source_at bytes) (dest_at bytes))) BadNode _ k e in
+    let g1 =
+    guard (leb c.nodes (source_at bytes)
+    || (leb c.nodes (dest_at bytes) || eqb (source_at bytes) (dest_at bytes))) BadNode _ k e in
     let g2 = guard (not (eqb (length bytes) (24 + len_at bytes))) BadBody _ k g1.1 in
     let g3 = guard (not (eqb (len_at bytes) (text_len c kind))) BadBody _ k g2.1 in
-    let g4 = last_guard (is_sound_text c kind (frame_number_at bytes) (text_at bytes)) BadBody kind k g3.1 in
-    let n1 = neither (leb c.nodes (source_at bytes)) (leb c.nodes (dest_at bytes) || eqb (source_at bytes) (dest_at bytes)) g1.0 in
+    let g4 =
+    last_guard (is_sound_text c kind (frame_number_at bytes) (text_at bytes)) BadBody kind k
+    g3.1 in
+    let n1 =
+    neither (leb c.nodes (source_at bytes))
+    (leb c.nodes (dest_at bytes) || eqb (source_at bytes) (dest_at bytes)) g1.0 in
     let n2 = neither (leb c.nodes (dest_at bytes)) (eqb (source_at bytes) (dest_at bytes)) n1.1 in (
       g4.1,
       record {
         source = leb-false c.nodes (source_at bytes) n1.0;
         dest = leb-false c.nodes (dest_at bytes) n2.0;
         apart = eqb-false (source_at bytes) (dest_at bytes) n2.1;
-        len = eqb-true (length bytes) (24 + len_at bytes) (flipped (eqb (length bytes) (24 + len_at bytes)) g2.0);
-        text_len = eqb-true (len_at bytes) (text_len c kind) (flipped (eqb (len_at bytes) (text_len c kind)) g3.0);
+        len = eqb-true (length bytes) (24 + len_at bytes)
+            (flipped (eqb (length bytes) (24 + len_at bytes)) g2.0);
+        text_len =
+            eqb-true (len_at bytes) (text_len c kind)
+            (flipped (eqb (len_at bytes) (text_len c kind)) g3.0);
         text = g4.0;
       },
     )
 
-sound_kind : (c : Config) (o : Option FrameKind) (k : FrameKind) (bytes : List ℕ) → checked_kind c o bytes ≡ Ok k → (o ≡ Some k) × IsSoundIn c k bytes
+sound_kind : (c : Config) (o : Option FrameKind) (k : FrameKind) (bytes : List ℕ)
+    → checked_kind c o bytes ≡ Ok k → (o ≡ Some k) × IsSoundIn c k bytes
 unfolding checked_kind
 sound_kind c None k bytes e = absurd cc
 sound_kind c (Some kind) k bytes e =
     let p = sound_in c kind k bytes e in
     (ap Some p.0, subst (λ x. IsSoundIn c x bytes) p.0 p.1)
 
-pub sound_checked : (c : Config) (k : FrameKind) (bytes : List ℕ) → checked c bytes ≡ Ok k → IsSound c k bytes
+pub sound_checked : (c : Config) (k : FrameKind) (bytes : List ℕ) → checked c bytes ≡ Ok k
+    → IsSound c k bytes
 unfolding checked
 sound_checked c k bytes e =
     let g1 = guard (ltb (length bytes) 24) ShortFrame _ k e in
     let g2 = guard (ltb (length bytes) (24 + len_at bytes)) ShortFrame _ k g1.1 in
-    let g3 = guard (not (eqb (get_or bytes 0 0) 73 && eqb (get_or bytes 1 0) 86)) BadMagic _ k g2.1 in
+    let g3 =
+    guard (not (eqb (get_or bytes 0 0) 73 && eqb (get_or bytes 1 0) 86)) BadMagic _ k g2.1 in
     let g4 = guard (not (eqb (get_or bytes 2 0) 1)) BadVersion _ k g3.1 in
     let p = sound_kind c (kind_at (kind_byte bytes)) k bytes g4.1 in
-    let m = both (eqb (get_or bytes 0 0) 73) (eqb (get_or bytes 1 0) 86) (flipped (eqb (get_or bytes 0 0) 73 && eqb (get_or bytes 1 0) 86) g3.0) in
+    let m = both (eqb (get_or bytes 0 0) 73) (eqb (get_or bytes 1 0) 86)
+    (flipped (eqb (get_or bytes 0 0) 73 && eqb (get_or bytes 1 0) 86) g3.0) in
     record {
       long = ltb-false (length bytes) 24 g1.0;
       magic = (eqb-true (get_or bytes 0 0) 73 m.0, eqb-true (get_or bytes 1 0) 86 m.1);
@@ -113,23 +132,31 @@ sound_checked c k bytes e =
     }
 
 -- a test that refuses for another fault leaves the question to the tests after it
-pass : {A : Type 0} (b : Bool) (d : Fault) (r : Result A Fault) → d ≢ Memory → cond b (Err d) r ≡ Err Memory → r ≡ Err Memory
+pass : {A : Type 0} (b : Bool) (d : Fault) (r : Result A Fault) → d ≢ Memory
+    → cond b (Err d) r ≡ Err Memory → r ≡ Err Memory
 pass true d r other e = absurd (other cc)
 pass false d r other e = e
 
-last_pass : (b : Bool) (d : Fault) (x : FrameKind) → d ≢ Memory → cond b (Ok x) (Err d) ≡ Err Memory → ⊥
+last_pass : (b : Bool) (d : Fault) (x : FrameKind) → d ≢ Memory → cond b (Ok x) (Err d) ≡ Err Memory
+    → ⊥
 last_pass true d x other e = cc
 last_pass false d x other e = other cc
 
-in_never_memory : (c : Config) (kind : FrameKind) (bytes : List ℕ) → checked_in c kind bytes ≡ Err Memory → ⊥
+in_never_memory : (c : Config) (kind : FrameKind) (bytes : List ℕ)
+    → checked_in c kind bytes ≡ Err Memory → ⊥
 unfolding checked_in
 in_never_memory c kind bytes e =
-    let p1 = pass (leb c.nodes (source_at bytes) || (leb c.nodes (dest_at bytes) || eqb (source_at bytes) (dest_at bytes))) BadNode _ (λ n. cc) e in
+    let p1 =
+    pass (leb c.nodes (source_at bytes)
+    || (leb c.nodes (dest_at bytes) || eqb (source_at bytes) (dest_at bytes))) BadNode _
+    (λ n. cc) e in
     let p2 = pass (not (eqb (length bytes) (24 + len_at bytes))) BadBody _ (λ n. cc) p1 in
     let p3 = pass (not (eqb (len_at bytes) (text_len c kind))) BadBody _ (λ n. cc) p2 in
-    last_pass (is_sound_text c kind (frame_number_at bytes) (text_at bytes)) BadBody kind (λ n. cc) p3
+    last_pass (is_sound_text c kind (frame_number_at bytes) (text_at bytes)) BadBody kind (λ n. cc)
+    p3
 
-kind_never_memory : (c : Config) (o : Option FrameKind) (bytes : List ℕ) → checked_kind c o bytes ≡ Err Memory → ⊥
+kind_never_memory : (c : Config) (o : Option FrameKind) (bytes : List ℕ)
+    → checked_kind c o bytes ≡ Err Memory → ⊥
 unfolding checked_kind
 kind_never_memory c None bytes e = cc
 kind_never_memory c (Some kind) bytes e = in_never_memory c kind bytes e
@@ -140,25 +167,44 @@ unfolding checked
 never_memory c bytes e =
     let p1 = pass (ltb (length bytes) 24) ShortFrame _ (λ n. cc) e in
     let p2 = pass (ltb (length bytes) (24 + len_at bytes)) ShortFrame _ (λ n. cc) p1 in
-    let p3 = pass (not (eqb (get_or bytes 0 0) 73 && eqb (get_or bytes 1 0) 86)) BadMagic _ (λ n. cc) p2 in
+    let p3 =
+    pass (not (eqb (get_or bytes 0 0) 73 && eqb (get_or bytes 1 0) 86)) BadMagic _ (λ n. cc)
+    p2 in
     let p4 = pass (not (eqb (get_or bytes 2 0) 1)) BadVersion _ (λ n. cc) p3 in
     kind_never_memory c (kind_at (kind_byte bytes)) bytes p4
 
-checked_in_again : (c : Config) (kind : FrameKind) (bytes : List ℕ) → IsSound c kind bytes → checked_in c kind bytes ≡ Ok kind
+checked_in_again : (c : Config) (kind : FrameKind) (bytes : List ℕ) → IsSound c kind bytes
+    → checked_in c kind bytes ≡ Ok kind
 unfolding checked_in
 checked_in_again c kind bytes s =
-    rw (lt-leb c.nodes (source_at bytes) s.source, lt-leb c.nodes (dest_at bytes) s.dest, ne_eqb (source_at bytes) (dest_at bytes) s.apart, eq-eqb (length bytes) (24 + len_at bytes) s.len, eq-eqb (len_at bytes) (text_len c kind) s.text_len, s.text) refl
+    rw (
+      lt-leb c.nodes (source_at bytes) s.source,
+      lt-leb c.nodes (dest_at bytes) s.dest,
+      ne_eqb (source_at bytes) (dest_at bytes) s.apart,
+      eq-eqb (length bytes) (24 + len_at bytes) s.len,
+      eq-eqb (len_at bytes) (text_len c kind) s.text_len,
+      s.text,
+    ) refl
 
-pub checked_again : (c : Config) (kind : FrameKind) (bytes : List ℕ) → IsSound c kind bytes → checked c bytes ≡ Ok kind
+pub checked_again : (c : Config) (kind : FrameKind) (bytes : List ℕ) → IsSound c kind bytes
+    → checked c bytes ≡ Ok kind
 unfolding checked checked_kind
 checked_again c kind bytes s =
     let e = s.len in
-    rw (le-ltb (length bytes) 24 s.long, le-ltb (length bytes) (24 + len_at bytes) (omega arith), s.magic.0, s.magic.1, s.version, s.known) (checked_in_again c kind bytes s)
+    rw (
+      le-ltb (length bytes) 24 s.long,
+      le-ltb (length bytes) (24 + len_at bytes) (omega arith),
+      s.magic.0,
+      s.magic.1,
+      s.version,
+      s.known,
+    ) (checked_in_again c kind bytes s)
 
 -- ---- from a sound string to its frame
 
 -- the message of a text that is sound
-pub record HasMessage (c : Config) (k : FrameKind) (number : ℕ) (text : List ℕ) (message : Option Message) : Type 0 where
+pub record HasMessage (c : Config) (k : FrameKind) (number : ℕ) (text : List ℕ)
+    (message : Option Message) : Type 0 where
   pub read : message_at k text ≡ message
   pub kind : frame_kind message ≡ k
   pub spelled : text ≡ message_text message
@@ -168,24 +214,44 @@ pub no_text : (text : List ℕ) → length text ≡ 0 → text ≡ []
 no_text [] e = refl
 no_text (x ∷ xs) e = absurd (omega arith)
 
-some_message : (c : Config) (kind : FrameKind) (number : ℕ) (text : List ℕ) → IsBytes text → (kind ≡ kinds.Ack → ⊥) → 10 ≤ length text → length text ≡ text_len c kind
-    → not (eqb number 0) && (ltb (get_or text 0 0) c.nodes && (not (eqb (big_number 8 (drop 1 text)) 0) && is_sound_content c kind (drop 9 text))) ≡ true
+some_message : (c : Config) (kind : FrameKind) (number : ℕ) (text : List ℕ) → IsBytes text
+    → (kind ≡ kinds.Ack → ⊥) → 10 ≤ length text → length text ≡ text_len c kind
+    → not (eqb number 0)
+    && (ltb (get_or text 0 0) c.nodes
+    && (not (eqb (big_number 8 (drop 1 text)) 0) && is_sound_content c kind (drop 9 text))) ≡ true
     → (m : Option Message) × HasMessage c kind number text m
 unfolding message_at
 some_message c kind number text h other long len sound =
-    let p = both (not (eqb number 0)) (ltb (get_or text 0 0) c.nodes && (not (eqb (big_number 8 (drop 1 text)) 0) && is_sound_content c kind (drop 9 text))) sound in
-    let q = both (ltb (get_or text 0 0) c.nodes) (not (eqb (big_number 8 (drop 1 text)) 0) && is_sound_content c kind (drop 9 text)) p.1 in
-    let r = both (not (eqb (big_number 8 (drop 1 text)) 0)) (is_sound_content c kind (drop 9 text)) q.1 in
-    let b = content_spelled c kind (drop 9 text) (IsBytes-drop 9 text h) other (omega (arith, length-drop 9 text)) r.1 in
+    let p = both (not (eqb number 0))
+    (ltb (get_or text 0 0) c.nodes
+    && (not (eqb (big_number 8 (drop 1 text)) 0) && is_sound_content c kind (drop 9 text)))
+    sound in
+    let q = both (ltb (get_or text 0 0) c.nodes)
+    (not (eqb (big_number 8 (drop 1 text)) 0) && is_sound_content c kind (drop 9 text)) p.1 in
+    let r = both (not (eqb (big_number 8 (drop 1 text)) 0)) (is_sound_content c kind (drop 9 text))
+    q.1 in
+    let b = content_spelled c kind (drop 9 text) (IsBytes-drop 9 text h) other
+    (omega (arith, length-drop 9 text)) r.1 in
     let counted = eqb-false number 0 (unflipped (eqb number 0) p.0) in
-    let called = eqb-false (big_number 8 (drop 1 text)) 0 (unflipped (eqb (big_number 8 (drop 1 text)) 0) r.0) in
+    let called =
+    eqb-false (big_number 8 (drop 1 text)) 0
+    (unflipped (eqb (big_number 8 (drop 1 text)) 0) r.0) in
     let rest : drop 8 (drop 1 text) ≡ content_text b.0 = drop-drop 8 1 text ∙ b.1.text in (
       Some (record { origin = get_or text 0 0; call = big_number 8 (drop 1 text); content = b.0 }),
       record {
-        read = ap (option_map (λ (content : Content). record { origin = get_or text 0 0; call = big_number 8 (drop 1 text); content = content })) b.1.read;
+        read = ap
+            (option_map
+            (λ (content : Content).
+            record {
+              origin = get_or text 0 0;
+              call = big_number 8 (drop 1 text);
+              content = content;
+            })) b.1.read;
         kind = b.1.kind;
         spelled = field_1 text (omega arith)
-            ∙ ap (λ (t : List ℕ). get_or text 0 0 ∷ t) (field_8 (drop 1 text) (IsBytes-drop 1 text h) (omega (arith, length-drop 1 text)) ∙ ap (λ (t : List ℕ). big_bytes 8 (big_number 8 (drop 1 text)) ++ t) rest);
+            ∙ ap (λ (t : List ℕ). get_or text 0 0 ∷ t)
+            (field_8 (drop 1 text) (IsBytes-drop 1 text h) (omega (arith, length-drop 1 text))
+            ∙ ap (λ (t : List ℕ). big_bytes 8 (big_number 8 (drop 1 text)) ++ t) rest);
         fits = (
           omega (arith, counted),
           record {
@@ -198,10 +264,21 @@ some_message c kind number text h other long len sound =
       },
     )
 
-message_spelled : (c : Config) (kind : FrameKind) (number : ℕ) (text : List ℕ) → IsBytes text → length text ≡ text_len c kind → is_sound_text c kind number text ≡ true → (m : Option Message) × HasMessage c kind number text m
+message_spelled : (c : Config) (kind : FrameKind) (number : ℕ) (text : List ℕ) → IsBytes text
+    → length text ≡ text_len c kind → is_sound_text c kind number text ≡ true
+    → (m : Option Message) × HasMessage c kind number text m
 unfolding message_at content_at is_sound_text
-message_spelled c kinds.Ack number text h len sound = (None, record { read = refl; kind = refl; spelled = no_text text len; fits = eqb-true number 0 sound })
-message_spelled c kind number text h len sound = some_message c kind number text h (λ e. cc) (omega arith) len sound
+message_spelled c kinds.Ack number text h len sound = (
+  None,
+  record {
+    read = refl;
+    kind = refl;
+    spelled = no_text text len;
+    fits = eqb-true number 0 sound;
+  },
+)
+message_spelled c kind number text h len sound =
+    some_message c kind number text h (λ e. cc) (omega arith) len sound
 
 kind_code : (n : ℕ) (k : FrameKind) → kind_at n ≡ Some k → n ≡ code_of k
 unfolding kind_at
@@ -211,11 +288,16 @@ kind_code (suc (suc zero)) k e = let f : kinds.WriteReq ≡ k = cc in ap code_of
 kind_code (suc (suc (suc zero))) k e = let f : kinds.ReadRep ≡ k = cc in ap code_of f
 kind_code (suc (suc (suc (suc zero)))) k e = let f : kinds.WriteRep ≡ k = cc in ap code_of f
 kind_code (suc (suc (suc (suc (suc zero))))) k e = let f : kinds.Inval ≡ k = cc in ap code_of f
-kind_code (suc (suc (suc (suc (suc (suc zero)))))) k e = let f : kinds.InvalAck ≡ k = cc in ap code_of f
-kind_code (suc (suc (suc (suc (suc (suc (suc zero))))))) k e = let f : kinds.AllocReq ≡ k = cc in ap code_of f
-kind_code (suc (suc (suc (suc (suc (suc (suc (suc zero)))))))) k e = let f : kinds.AllocRep ≡ k = cc in ap code_of f
-kind_code (suc (suc (suc (suc (suc (suc (suc (suc (suc zero))))))))) k e = let f : kinds.FreeReq ≡ k = cc in ap code_of f
-kind_code (suc (suc (suc (suc (suc (suc (suc (suc (suc (suc zero)))))))))) k e = let f : kinds.FreeRep ≡ k = cc in ap code_of f
+kind_code (suc (suc (suc (suc (suc (suc zero)))))) k e =
+    let f : kinds.InvalAck ≡ k = cc in ap code_of f
+kind_code (suc (suc (suc (suc (suc (suc (suc zero))))))) k e =
+    let f : kinds.AllocReq ≡ k = cc in ap code_of f
+kind_code (suc (suc (suc (suc (suc (suc (suc (suc zero)))))))) k e =
+    let f : kinds.AllocRep ≡ k = cc in ap code_of f
+kind_code (suc (suc (suc (suc (suc (suc (suc (suc (suc zero))))))))) k e =
+    let f : kinds.FreeReq ≡ k = cc in ap code_of f
+kind_code (suc (suc (suc (suc (suc (suc (suc (suc (suc (suc zero)))))))))) k e =
+    let f : kinds.FreeRep ≡ k = cc in ap code_of f
 kind_code (suc (suc (suc (suc (suc (suc (suc (suc (suc (suc (suc n))))))))))) k e = absurd cc
 
 kind_again : (k : FrameKind) → kind_at (code_of k) ≡ Some k
@@ -246,8 +328,10 @@ not_ack (contents.FreeRep code) = refl
 
 -- the fields of the header, and the text
 header : (bs : List ℕ) → IsBytes bs → 24 ≤ length bs
-    → bs ≡ get_or bs 0 0 ∷ get_or bs 1 0 ∷ get_or bs 2 0 ∷ get_or bs 3 0 ∷ get_or bs 4 0 ∷ get_or bs 5 0
-    ∷ (big_bytes 2 (len_at bs) ++ (big_bytes 8 (frame_number_at bs) ++ (big_bytes 8 (ack_at bs) ++ text_at bs)))
+    → bs ≡ get_or bs 0 0 ∷ get_or bs 1 0 ∷ get_or bs 2 0 ∷ get_or bs 3 0 ∷ get_or bs 4 0 ∷ get_or bs
+    5 0
+    ∷ (big_bytes 2 (len_at bs)
+    ++ (big_bytes 8 (frame_number_at bs) ++ (big_bytes 8 (ack_at bs) ++ text_at bs)))
 unfolding len_at frame_number_at ack_at text_at
 header [] h long = absurd (omega arith)
 header (a ∷ []) h long = absurd (omega arith)
@@ -261,8 +345,11 @@ header (a ∷ b ∷ c ∷ d ∷ e ∷ f ∷ rest) h long =
     let k10 = IsBytes-drop 10 rest k in
     ap (λ (t : List ℕ). a ∷ b ∷ c ∷ d ∷ e ∷ f ∷ t)
     (field_2 rest k (omega arith) ∙ ap (λ (t : List ℕ). big_bytes 2 (big_number 2 rest) ++ t)
-    (field_8 (drop 2 rest) k2 (omega (arith, length-drop 2 rest)) ∙ ap (λ (t : List ℕ). big_bytes 8 (big_number 8 (drop 2 rest)) ++ t)
-    (drop-drop 8 2 rest ∙ field_8 (drop 10 rest) k10 (omega (arith, length-drop 10 rest)) ∙ ap (λ (t : List ℕ). big_bytes 8 (big_number 8 (drop 10 rest)) ++ t) (drop-drop 8 10 rest))))
+    (field_8 (drop 2 rest) k2 (omega (arith, length-drop 2 rest))
+    ∙ ap (λ (t : List ℕ). big_bytes 8 (big_number 8 (drop 2 rest)) ++ t)
+    (drop-drop 8 2 rest ∙ field_8 (drop 10 rest) k10 (omega (arith, length-drop 10 rest))
+    ∙ ap (λ (t : List ℕ). big_bytes 8 (big_number 8 (drop 10 rest)) ++ t)
+    (drop-drop 8 10 rest))))
 
 page_most : (c : Config) → IsConfig c → c.page_size ≤ 4096
 page_most c limits = (page_has_words c.page_size limits.page_size).most
@@ -272,7 +359,8 @@ text_small c kinds.ReadRep limits = let most = page_most c limits in omega arith
 text_small c kinds.WriteRep limits = let most = page_most c limits in omega arith
 text_small c k limits = omega arith
 
-text_rest : (bytes : List ℕ) → length bytes ≡ 24 + len_at bytes → length (text_at bytes) ≡ len_at bytes
+text_rest : (bytes : List ℕ) → length bytes ≡ 24 + len_at bytes
+    → length (text_at bytes) ≡ len_at bytes
 unfolding text_at
 text_rest bytes e = omega (arith, length-drop 24 bytes)
 
@@ -290,29 +378,48 @@ ack_small bytes h = big_from-lt 0 8 (drop 16 bytes) (IsBytes-drop 16 bytes h)
 
 -- the spelling of the fields that stand in a string
 abbrev respelled : List ℕ → ℕ → ℕ → ℕ → ℕ → ℕ → List ℕ → List ℕ
-respelled bytes a b v k len text = a ∷ b ∷ v ∷ k ∷ source_at bytes ∷ dest_at bytes ∷ (big_bytes 2 len ++ (big_bytes 8 (frame_number_at bytes) ++ (big_bytes 8 (ack_at bytes) ++ text)))
+respelled bytes a b v k len text =
+    a ∷ b ∷ v ∷ k ∷ source_at bytes ∷ dest_at bytes
+    ∷ (big_bytes 2 len
+    ++ (big_bytes 8 (frame_number_at bytes) ++ (big_bytes 8 (ack_at bytes) ++ text)))
 
-spelled_so : (c : Config) (kind : FrameKind) (bytes : List ℕ) (m : Option Message) → IsBytes bytes → IsSound c kind bytes → HasMessage c kind (frame_number_at bytes) (text_at bytes) m → length (text_at bytes) ≡ len_at bytes
-    → bytes ≡ respelled bytes 73 86 1 (code_of (frame_kind m)) (length (message_text m)) (message_text m)
+spelled_so : (c : Config) (kind : FrameKind) (bytes : List ℕ) (m : Option Message) → IsBytes bytes
+    → IsSound c kind bytes → HasMessage c kind (frame_number_at bytes) (text_at bytes) m
+    → length (text_at bytes) ≡ len_at bytes
+    → bytes ≡ respelled bytes 73 86 1 (code_of (frame_kind m)) (length (message_text m))
+    (message_text m)
 spelled_so c kind bytes m h s has len =
-    let e1 : get_or bytes 3 0 ≡ code_of (frame_kind m) = kind_code (get_or bytes 3 0) kind s.known ∙ ap code_of (sym has.kind) in
+    let e1 : get_or bytes 3 0 ≡ code_of (frame_kind m) =
+    kind_code (get_or bytes 3 0) kind s.known ∙ ap code_of (sym has.kind) in
     let e2 : len_at bytes ≡ length (message_text m) = sym len ∙ ap length has.spelled in
     header bytes h s.long
-    ∙ ap (λ x. respelled bytes x (get_or bytes 1 0) (get_or bytes 2 0) (get_or bytes 3 0) (len_at bytes) (text_at bytes)) s.magic.0
-    ∙ ap (λ x. respelled bytes 73 x (get_or bytes 2 0) (get_or bytes 3 0) (len_at bytes) (text_at bytes)) s.magic.1
+    ∙ ap (λ x. respelled bytes x (get_or bytes 1 0) (get_or bytes 2 0) (get_or bytes 3 0)
+    (len_at bytes) (text_at bytes)) s.magic.0
+    ∙ ap (λ x. respelled bytes 73 x (get_or bytes 2 0) (get_or bytes 3 0) (len_at bytes)
+    (text_at bytes)) s.magic.1
     ∙ ap (λ x. respelled bytes 73 86 x (get_or bytes 3 0) (len_at bytes) (text_at bytes)) s.version
     ∙ ap (λ x. respelled bytes 73 86 1 x (len_at bytes) (text_at bytes)) e1
     ∙ ap (λ x. respelled bytes 73 86 1 (code_of (frame_kind m)) x (text_at bytes)) e2
-    ∙ ap (λ x. respelled bytes 73 86 1 (code_of (frame_kind m)) (length (message_text m)) x) has.spelled
+    ∙ ap (λ x. respelled bytes 73 86 1 (code_of (frame_kind m)) (length (message_text m)) x)
+    has.spelled
 
 -- a sound string spells the frame in it
-pub frame_spelled : (c : Config) (kind : FrameKind) (bytes : List ℕ) → IsBytes bytes → IsSound c kind bytes → Spells c (frame_at kind bytes) bytes
+pub frame_spelled : (c : Config) (kind : FrameKind) (bytes : List ℕ) → IsBytes bytes
+    → IsSound c kind bytes → Spells c (frame_at kind bytes) bytes
 unfolding frame_at
 frame_spelled c kind bytes h s =
     let text_len_is : length (text_at bytes) ≡ len_at bytes = text_rest bytes s.len in
-    let m = message_spelled c kind (frame_number_at bytes) (text_at bytes) (text_bytes bytes h) (text_len_is ∙ s.text_len) s.text in
+    let m = message_spelled c kind (frame_number_at bytes) (text_at bytes) (text_bytes bytes h)
+    (text_len_is ∙ s.text_len) s.text in
     let whole = spelled_so c kind bytes m.0 h s m.1 text_len_is in
-    subst (λ x. Spells c (record { source = source_at bytes; dest = dest_at bytes; number = frame_number_at bytes; ack = ack_at bytes; body = x }) bytes) (sym m.1.read) (record {
+    subst (λ x. Spells c
+    (record {
+      source = source_at bytes;
+      dest = dest_at bytes;
+      number = frame_number_at bytes;
+      ack = ack_at bytes;
+      body = x;
+    }) bytes) (sym m.1.read) (record {
       fits = record {
         source = s.source;
         dest = s.dest;
@@ -332,29 +439,49 @@ record MessageBack (c : Config) (number : ℕ) (m : Option Message) : Type 0 whe
   sound : is_sound_text c (frame_kind m) number (message_text m) ≡ true
   len : length (message_text m) ≡ text_len c (frame_kind m)
 
-message_again : (c : Config) (number : ℕ) (m : Option Message) → IsConfig c → MatchOption m (number ≡ 0) (λ x. (1 ≤ number) × FitsMessage c x) → MessageBack c number m
+message_again : (c : Config) (number : ℕ) (m : Option Message) → IsConfig c
+    → MatchOption m (number ≡ 0) (λ x. (1 ≤ number) × FitsMessage c x) → MessageBack c number m
 unfolding message_at content_at is_sound_text
-message_again c number None limits fits = record { read = refl; sound = eq-eqb number 0 fits; len = refl }
+message_again c number None limits fits =
+    record { read = refl; sound = eq-eqb number 0 fits; len = refl }
 message_again c number (Some m) limits fits =
-    let back : big_number 8 (big_bytes 8 m.call ++ content_text m.content) ≡ m.call = big_number-reads_back 8 m.call (content_text m.content) fits.1.call_to in
+    let back : big_number 8 (big_bytes 8 m.call ++ content_text m.content) ≡ m.call =
+    big_number-reads_back 8 m.call (content_text m.content) fits.1.call_to in
     let b = content_again c m.content limits fits.1.content in
     record {
-      read = ap (λ n. option_map (λ (content : Content). record { origin = m.origin; call = n; content = content }) (content_at (kind_of m.content) (content_text m.content))) back
-          ∙ ap (option_map (λ (content : Content). record { origin = m.origin; call = m.call; content = content })) b.read;
-      sound = rw (not_ack m.content, back, ne_eqb number 0 (λ e. omega arith), lt-ltb m.origin c.nodes fits.1.origin, ne_eqb m.call 0 (λ e. omega (arith, fits.1.call_from))) b.sound;
+      read = ap
+          (λ n. option_map
+          (λ (content : Content). record { origin = m.origin; call = n; content = content })
+          (content_at (kind_of m.content) (content_text m.content))) back
+          ∙ ap (option_map
+          (λ (content : Content).
+          record { origin = m.origin; call = m.call; content = content })) b.read;
+      sound = rw (
+        not_ack m.content,
+        back,
+        ne_eqb number 0 (λ e. omega arith),
+        lt-ltb m.origin c.nodes fits.1.origin,
+        ne_eqb m.call 0 (λ e. omega (arith, fits.1.call_from)),
+      ) b.sound;
       len = omega (arith, b.len);
     }
 
-pub sound_spelling : (c : Config) (f : Frame) → IsConfig c → Fits c f → IsSound c (frame_kind f.body) (spelling f) × (frame_at (frame_kind f.body) (spelling f) ≡ f)
+pub sound_spelling : (c : Config) (f : Frame) → IsConfig c → Fits c f
+    → IsSound c (frame_kind f.body) (spelling f) × (frame_at (frame_kind f.body) (spelling f) ≡ f)
 unfolding len_at frame_number_at ack_at text_at frame_at
 sound_spelling c f limits fits =
     let m = message_again c f.number f.body limits fits.body in
     let text = message_text f.body in
     let small = text_small c (frame_kind f.body) limits in
-    let len : big_number 2 (big_bytes 2 (length text) ++ (big_bytes 8 f.number ++ (big_bytes 8 f.ack ++ text))) ≡ length text
-    = big_number-reads_back 2 (length text) (big_bytes 8 f.number ++ (big_bytes 8 f.ack ++ text)) (omega (arith, m.len)) in
-    let number : big_number 8 (big_bytes 8 f.number ++ (big_bytes 8 f.ack ++ text)) ≡ f.number = big_number-reads_back 8 f.number (big_bytes 8 f.ack ++ text) fits.number in
-    let ack : big_number 8 (big_bytes 8 f.ack ++ text) ≡ f.ack = big_number-reads_back 8 f.ack text fits.ack in (
+    let len : big_number 2
+    (big_bytes 2 (length text) ++ (big_bytes 8 f.number ++ (big_bytes 8 f.ack ++ text)))
+    ≡ length text
+    = big_number-reads_back 2 (length text) (big_bytes 8 f.number ++ (big_bytes 8 f.ack ++ text))
+    (omega (arith, m.len)) in
+    let number : big_number 8 (big_bytes 8 f.number ++ (big_bytes 8 f.ack ++ text)) ≡ f.number =
+    big_number-reads_back 8 f.number (big_bytes 8 f.ack ++ text) fits.number in
+    let ack : big_number 8 (big_bytes 8 f.ack ++ text) ≡ f.ack =
+    big_number-reads_back 8 f.ack text fits.ack in (
       record {
         long = omega arith;
         magic = (refl, refl);
@@ -371,7 +498,10 @@ sound_spelling c f limits fits =
     )
 
 -- what is spelled passes the tests, and the frame in it is the one that was spelled
-pub spelled_once : (c : Config) (f : Frame) (bytes : List ℕ) → IsConfig c → Spells c f bytes → (checked c bytes ≡ Ok (frame_kind f.body)) × (frame_at (frame_kind f.body) bytes ≡ f)
+pub spelled_once : (c : Config) (f : Frame) (bytes : List ℕ) → IsConfig c → Spells c f bytes
+    → (checked c bytes ≡ Ok (frame_kind f.body)) × (frame_at (frame_kind f.body) bytes ≡ f)
 spelled_once c f bytes limits s =
-    let p = sound_spelling c f limits s.fits in
-    (ap (checked c) s.text ∙ checked_again c (frame_kind f.body) (spelling f) p.0, ap (frame_at (frame_kind f.body)) s.text ∙ p.1)
+    let p = sound_spelling c f limits s.fits in (
+      ap (checked c) s.text ∙ checked_again c (frame_kind f.body) (spelling f) p.0,
+      ap (frame_at (frame_kind f.body)) s.text ∙ p.1,
+    )

@@ -19,7 +19,8 @@ pub spells_at_most_one : SpellsAtMostOne
 spells_at_most_one c f g bytes limits sf sg =
     let a = spelled_once c f bytes limits sf in
     let b = spelled_once c g bytes limits sg in
-    let same : frame_kind f.body ≡ frame_kind g.body = same_ok (frame_kind f.body) (frame_kind g.body) (sym a.0 ∙ b.0) in
+    let same : frame_kind f.body ≡ frame_kind g.body =
+    same_ok (frame_kind f.body) (frame_kind g.body) (sym a.0 ∙ b.0) in
     sym a.1 ∙ ap (λ k. frame_at k bytes) same ∙ b.1
 
 -- the length of the body stands in the header
@@ -38,6 +39,12 @@ len_before (a ∷ b ∷ c ∷ d ∷ e ∷ f ∷ g ∷ h ∷ rest) more long = re
 pub none_begins_another : NoneBeginsAnother
 none_begins_another c f g bytes more limits sf sg =
     let a = sound_checked c (frame_kind f.body) bytes (spelled_once c f bytes limits sf).0 in
-    let b = sound_checked c (frame_kind g.body) (bytes ++ more) (spelled_once c g (bytes ++ more) limits sg).0 in
-    let none : more ≡ [] = no_text more (omega (arith, a.len, b.len, len_before bytes more a.long, length-append bytes more)) in
-    (none, spells_at_most_one c f g bytes limits sf (subst (Spells c g) (ap (λ (m : List ℕ). bytes ++ m) none ∙ append-nil bytes) sg))
+    let b = sound_checked c (frame_kind g.body) (bytes ++ more)
+    (spelled_once c g (bytes ++ more) limits sg).0 in
+    let none : more ≡ [] =
+    no_text more
+    (omega (arith, a.len, b.len, len_before bytes more a.long, length-append bytes more)) in (
+      none,
+      spells_at_most_one c f g bytes limits sf
+          (subst (Spells c g) (ap (λ (m : List ℕ). bytes ++ m) none ∙ append-nil bytes) sg),
+    )

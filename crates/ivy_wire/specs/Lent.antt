@@ -38,7 +38,8 @@ owned_frame f = record {
 abbrev pub owned_parcel : parcel.Parcel (Bor (List ℕ)) → Parcel
 owned_parcel p = record { source = p.source; dest = p.dest; message = owned_message p.message }
 
--- what fills a place that holds no parcel yet: no message of a call, since these are numbered from 1
+-- what fills a place that holds no parcel yet: no message of a call, since these are numbered from
+-- 1
 abbrev pub filling : Parcel
 filling =
     record { source = 0; dest = 0; message = record { origin = 0; call = 0; content = ReadReq 0 } }

@@ -1,4 +1,5 @@
--- The calls of the heap in an ordered world: the messages of the heap that are under way, and what they tell of the
+-- The calls of the heap in an ordered world: the messages of the heap that are under way, and what
+-- they tell of the
 -- calls that node 0 was asked for.
 use Rattle.std.specs.Prelude.{◌≡◌, ◌≢◌, ◌⊎◌, ◌<◌, ◌+◌, ℕ, length, not, List, [], ◌∷◌, drop, filter, slice_get}
 use Rattle.std.specs.Prelude.{Option, Some, None}
@@ -35,7 +36,8 @@ IsAtRest None = Unit {0}
 IsAtRest (Some (errand.Asked k number)) = ⊥
 IsAtRest (Some (errand.Told r)) = Unit {0}
 
--- a reply that a call of the heap can have: of some bytes an address, or 9; of none 8; of a block's end done, or 10
+-- a reply that a call of the heap can have: of some bytes an address, or 9; of none 8; of a block's
+-- end done, or 10
 abbrev pub CanHave : HeapCall → Reply → Type 0
 CanHave (Alloc size) (Value addr) = 0 < size
 CanHave (Alloc size) Done = ⊥
@@ -43,8 +45,10 @@ CanHave (Alloc size) (Refused code) =
     ((size ≡ 0) × (code ≡ fault_number ZeroSize)) ⊎ ((0 < size) × (code ≡ fault_number NoRoom))
 CanHave (Free addr) r = IsFreeReply r
 
--- The messages of the heap under way from a node to node 0 and back, by the call that node 0 was asked for: none where
--- no answer is owed; else the request alone, or the answer alone, which tells a reply that the call can have.
+-- The messages of the heap under way from a node to node 0 and back, by the call that node 0 was
+-- asked for: none where
+-- no answer is owed; else the request alone, or the answer alone, which tells a reply that the call
+-- can have.
 pub data IsErrandAt (node : ℕ) (e : Option Errand) (there back : List Message) : Type 0 where
   resting : IsAtRest e → there ≡ [] → back ≡ [] → IsErrandAt node e there back
   asking : (k : HeapCall) (number : ℕ) → e ≡ Some (errand.Asked k number)
@@ -75,7 +79,8 @@ IsErrandFor k number None = ⊥
 IsErrandFor k number (Some (errand.Asked j n)) = (j ≡ k) × (n ≡ number)
 IsErrandFor k number (Some (errand.Told r)) = Unit {0}
 
--- for each call of the heap that is in progress at a node, node 0 was asked, under the number of the call, or has
+-- for each call of the heap that is in progress at a node, node 0 was asked, under the number of
+-- the call, or has
 -- answered; node 0 asks for none
 pub record HaveErrands {S : Type 0} (o : Ordered (Host S)) : Type 0 where
   pub each : (i : ℕ) (h : Host S) (k : HeapCall) → slice_get o.cores i ≡ Some h

@@ -6,5 +6,6 @@ use Rattle.std.specs.declared.alloc.Allocator.{Ghosts}
 use Rattle.growths.specs.contracts.RefusingAllocator.TheImpl.{ghosts}
 
 module _ (B : RattleType) (g : Ghosts B.Denot) where
-  pub frees : (d e : Dict) → Frees g g.dealloc_token → Frees (ghosts B g d e) (ghosts B g d e).dealloc_token
+  pub frees : (d e : Dict) → Frees g g.dealloc_token
+      → Frees (ghosts B g d e) (ghosts B g d e).dealloc_token
   frees d e inner = record { frees = λ h τ p. inner.frees h.inner τ p }

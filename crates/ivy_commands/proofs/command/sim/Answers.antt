@@ -5,5 +5,7 @@ use Rattle.ivy_commands.proofs.command.sim.Goals as goal
 
 pub returns : goal.returns
 returns g c =
-    drawn-printed c.args.settings c.len.result c.in_ok-config.config c.args.programs.items c.in_ok-world.world _ _ _ (c.len.ensures ∙ c.args.programs.ok.0) c.in_ok-config.ensures.shown c.in_ok-world.ensures.opens c.args.seed c.args.moves
+    drawn-printed c.args.settings c.len.result c.in_ok-config.config c.args.programs.items
+    c.in_ok-world.world _ _ _ (c.len.ensures ∙ c.args.programs.ok.0)
+    c.in_ok-config.ensures.shown c.in_ok-world.ensures.opens c.args.seed c.args.moves
     c.in_ok-run_drawn.ensures.drawn c.in_ok-print_world.ensures

@@ -8,5 +8,8 @@ use Rattle.ivy_commands.proofs.print.print_ends.Goals as goal
 
 pub loop-node-preserved : goal.loop-node-preserved
 loop-node-preserved g c =
-    rw (numbered-next end_line (λ n. has_ended n.core.process) _ c.args.world.now.world.nodes c.loop-node.node c.ended.result (omega (arith, c.loop-node-test.true, c.nodes-node-end.ensures, c.requires)) (λ n h. told-end c.ended.result (step_of n.core.process) h) c.ended.ensures)
+    rw (numbered-next end_line (λ n. has_ended n.core.process) _ c.args.world.now.world.nodes
+    c.loop-node.node c.ended.result
+    (omega (arith, c.loop-node-test.true, c.nodes-node-end.ensures, c.requires))
+    (λ n h. told-end c.ended.result (step_of n.core.process) h) c.ended.ensures)
     (appends-more _ _ _ _ _ c.loop-node.invariant c.in_ok-print_end.ensures)

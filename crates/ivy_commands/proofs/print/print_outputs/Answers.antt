@@ -6,5 +6,8 @@ use Rattle.ivy_commands.proofs.print.print_outputs.Goals as goal
 
 pub loop-node-preserved : goal.loop-node-preserved
 loop-node-preserved g c =
-    rw (numbered-next output_text (λ values. values) _ (g.N.Outputs.outputs c.args.nodes.now) c.loop-node.node c.output.result.now (omega (arith, c.loop-node-test.true, c.nodes-node-end.ensures, c.requires)) (λ values h. h) c.output.ensures)
+    rw (numbered-next output_text (λ values. values) _ (g.N.Outputs.outputs c.args.nodes.now)
+    c.loop-node.node c.output.result.now
+    (omega (arith, c.loop-node-test.true, c.nodes-node-end.ensures, c.requires)) (λ values h. h)
+    c.output.ensures)
     (appends-more _ _ _ _ _ c.loop-node.invariant c.in_ok-print_output.ensures)

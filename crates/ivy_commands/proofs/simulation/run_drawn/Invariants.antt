@@ -8,5 +8,6 @@ abbrev pub invariant-loop-made : goal.invariant-loop-made
 invariant-loop-made g l = record {
   config : l.world.config ≡ l.config;
   spelled : AllSpell l.world.config l.world.world;
-  drawn : IsDrawnSince l.config (seeded l.seed) l.initial.world.world l._made l.generator l.world.world;
+  drawn : IsDrawnSince l.config (seeded l.seed) l.initial.world.world l._made l.generator
+      l.world.world;
 }

@@ -9,31 +9,64 @@ use Rattle.ivy_link.proofs.keeping.reserve.Goals as goal
 
 pub index_mut-requires : goal.index_mut-requires
 index_mut-requires g c =
-    let at : c.from.result < length c.loop-parcel.sides.items = ready-within c.args.sides.now.items c.loop-parcel.sides.items c.args.parcels.now c.loop-parcel.parcel-index c.from.result c.loop-parcel.invariant.peers c.requires.within c.loop-parcel-test.true c.from.ensures in
+    let at : c.from.result < length c.loop-parcel.sides.items =
+    ready-within c.args.sides.now.items c.loop-parcel.sides.items c.args.parcels.now
+    c.loop-parcel.parcel-index c.from.result c.loop-parcel.invariant.peers c.requires.within
+    c.loop-parcel-test.true c.from.ensures in
     omega (arith, at)
 
 pub returns-in_err-reserve-clause-peers : goal.returns-in_err-reserve-clause-peers
 returns-in_err-reserve-clause-peers g c =
-    let at : c.from.result < length c.loop-parcel.sides.items = ready-within c.args.sides.now.items c.loop-parcel.sides.items c.args.parcels.now c.loop-parcel.parcel-index c.from.result c.loop-parcel.invariant.peers c.requires.within c.loop-parcel-test.true c.from.ensures in
-    stays-same peer_of c.args.sides.now.items c.loop-parcel.sides.items c.from.result c.index_mut.result.now c.reserve.new.self c.loop-parcel.invariant.peers at c.index_mut.ensures.value c.reserve.ensures.peer
+    let at : c.from.result < length c.loop-parcel.sides.items =
+    ready-within c.args.sides.now.items c.loop-parcel.sides.items c.args.parcels.now
+    c.loop-parcel.parcel-index c.from.result c.loop-parcel.invariant.peers c.requires.within
+    c.loop-parcel-test.true c.from.ensures in
+    stays-same peer_of c.args.sides.now.items c.loop-parcel.sides.items c.from.result
+    c.index_mut.result.now c.reserve.new.self c.loop-parcel.invariant.peers at
+    c.index_mut.ensures.value c.reserve.ensures.peer
 
 pub returns-in_err-reserve-clause-held : goal.returns-in_err-reserve-clause-held
 returns-in_err-reserve-clause-held g c =
-    let at : c.from.result < length c.loop-parcel.sides.items = ready-within c.args.sides.now.items c.loop-parcel.sides.items c.args.parcels.now c.loop-parcel.parcel-index c.from.result c.loop-parcel.invariant.peers c.requires.within c.loop-parcel-test.true c.from.ensures in
-    stays-same held_of c.args.sides.now.items c.loop-parcel.sides.items c.from.result c.index_mut.result.now c.reserve.new.self c.loop-parcel.invariant.held at c.index_mut.ensures.value c.reserve.ensures.held
+    let at : c.from.result < length c.loop-parcel.sides.items =
+    ready-within c.args.sides.now.items c.loop-parcel.sides.items c.args.parcels.now
+    c.loop-parcel.parcel-index c.from.result c.loop-parcel.invariant.peers c.requires.within
+    c.loop-parcel-test.true c.from.ensures in
+    stays-same held_of c.args.sides.now.items c.loop-parcel.sides.items c.from.result
+    c.index_mut.result.now c.reserve.new.self c.loop-parcel.invariant.held at
+    c.index_mut.ensures.value c.reserve.ensures.held
 
 pub loop-parcel-preserved : goal.loop-parcel-preserved
 loop-parcel-preserved g c =
-    let at : c.from.result < length c.loop-parcel.sides.items = ready-within c.args.sides.now.items c.loop-parcel.sides.items c.args.parcels.now c.loop-parcel.parcel-index c.from.result c.loop-parcel.invariant.peers c.requires.within c.loop-parcel-test.true c.from.ensures in
-    let more : c.count_to-more.result ≡ count_to (map owned_parcel c.args.parcels.now) (parcel_at c.args.parcels.now c.loop-parcel.parcel-index).dest = c.count_to-more.ensures in
+    let at : c.from.result < length c.loop-parcel.sides.items =
+    ready-within c.args.sides.now.items c.loop-parcel.sides.items c.args.parcels.now
+    c.loop-parcel.parcel-index c.from.result c.loop-parcel.invariant.peers c.requires.within
+    c.loop-parcel-test.true c.from.ensures in
+    let more : c.count_to-more.result
+    ≡ count_to (map owned_parcel c.args.parcels.now)
+    (parcel_at c.args.parcels.now c.loop-parcel.parcel-index).dest = c.count_to-more.ensures in
     let room : c.count_to-more.result ≤ c.reserve.new.self.room = c.in_ok-reserve.ensures.room in
     record {
-      peers = stays-same peer_of c.args.sides.now.items c.loop-parcel.sides.items c.from.result c.index_mut.result.now c.reserve.new.self c.loop-parcel.invariant.peers at c.index_mut.ensures.value c.reserve.ensures.peer;
-      held = stays-same held_of c.args.sides.now.items c.loop-parcel.sides.items c.from.result c.index_mut.result.now c.reserve.new.self c.loop-parcel.invariant.held at c.index_mut.ensures.value c.reserve.ensures.held;
-      room = room-more c.loop-parcel.sides.items (map owned_parcel c.args.parcels.now) c.loop-parcel.parcel-index c.from.result (parcel_at c.args.parcels.now c.loop-parcel.parcel-index) c.reserve.new.self (parcel-inside c.args.parcels.now c.loop-parcel.parcel-index c.loop-parcel-test.true) (parcel-here c.args.parcels.now c.loop-parcel.parcel-index c.loop-parcel-test.true) c.from.ensures at (omega (arith, more, room)) c.loop-parcel.invariant.room;
+      peers = stays-same peer_of c.args.sides.now.items c.loop-parcel.sides.items c.from.result
+          c.index_mut.result.now c.reserve.new.self c.loop-parcel.invariant.peers at
+          c.index_mut.ensures.value c.reserve.ensures.peer;
+      held = stays-same held_of c.args.sides.now.items c.loop-parcel.sides.items c.from.result
+          c.index_mut.result.now c.reserve.new.self c.loop-parcel.invariant.held at
+          c.index_mut.ensures.value c.reserve.ensures.held;
+      room = room-more c.loop-parcel.sides.items (map owned_parcel c.args.parcels.now)
+          c.loop-parcel.parcel-index c.from.result
+          (parcel_at c.args.parcels.now c.loop-parcel.parcel-index) c.reserve.new.self
+          (parcel-inside c.args.parcels.now c.loop-parcel.parcel-index c.loop-parcel-test.true)
+          (parcel-here c.args.parcels.now c.loop-parcel.parcel-index c.loop-parcel-test.true)
+          c.from.ensures at (omega (arith, more, room)) c.loop-parcel.invariant.room;
     }
 
 pub returns-clause-room : goal.returns-clause-room
 returns-clause-room g c =
-    let all : take c.loop-parcel.parcel-index (map owned_parcel c.args.parcels.now) ≡ map owned_parcel c.args.parcels.now = take_all c.loop-parcel.parcel-index (map owned_parcel c.args.parcels.now) (omega (arith, c.loop-parcel-test.false, length-map c.args.parcels.now owned_parcel)) in
-    λ j lt. room-none (map owned_parcel c.args.parcels.now) j (side_at c.loop-parcel.sides.items j).room (λ some. c.loop-parcel.invariant.room j lt (omega (arith, some, ap (λ ps. count_to ps j) all)))
+    let all : take c.loop-parcel.parcel-index (map owned_parcel c.args.parcels.now)
+    ≡ map owned_parcel c.args.parcels.now =
+    take_all c.loop-parcel.parcel-index (map owned_parcel c.args.parcels.now)
+    (omega (arith, c.loop-parcel-test.false, length-map c.args.parcels.now owned_parcel)) in
+    λ j lt. room-none (map owned_parcel c.args.parcels.now) j
+    (side_at c.loop-parcel.sides.items j).room
+    (λ some. c.loop-parcel.invariant.room j lt
+    (omega (arith, some, ap (λ ps. count_to ps j) all)))

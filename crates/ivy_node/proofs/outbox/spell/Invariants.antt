@@ -8,4 +8,6 @@ use Rattle.ivy_node.proofs.outbox.spell.Given as goal
 -- the first frames so far are spelled
 abbrev pub invariant-loop-index : goal.invariant-loop-index
 invariant-loop-index g l =
-    l.strings.items ≡ l.fn.strings.items ++ map spelling (take l.index (frames_of (link_of l.link) (map owned_parcel l.parcels)))
+    l.strings.items
+    ≡ l.fn.strings.items ++ map spelling
+    (take l.index (frames_of (link_of l.link) (map owned_parcel l.parcels)))

@@ -5,4 +5,6 @@ use Rattle.ivy_node.proofs.outbox.spell_again.Given as goal
 
 -- those so far are spelled, behind what was there
 abbrev pub invariant-loop-frame : goal.invariant-loop-frame
-invariant-loop-frame g l = l.strings.items ≡ l.fn.strings.items ++ map spelling (map owned_frame (take l.frame-index l.frames))
+invariant-loop-frame g l =
+    l.strings.items
+    ≡ l.fn.strings.items ++ map spelling (map owned_frame (take l.frame-index l.frames))

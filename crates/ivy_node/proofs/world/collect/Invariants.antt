@@ -1,7 +1,8 @@
 use Rattle.std.proofs.Common.{◌≡◌, ◌≤◌, ◌+◌, ◌++◌, [], length, vec_len, vec_capacity}
 use Rattle.ivy_node.proofs.world.collect.Given as goal
 
--- those sent so far and those that wait are all, there is room for them, and nothing else of the site changes
+-- those sent so far and those that wait are all, there is room for them, and nothing else of the
+-- site changes
 abbrev pub invariant-loop-bytes : goal.invariant-loop-bytes
 invariant-loop-bytes g l = record {
   all : l.sent.items ++ l.site.waiting ≡ l.initial.sent.items ++ l.initial.site.waiting;

@@ -6,5 +6,7 @@ use Rattle.ivy_serving.proofs.serving.invalidate.Goals as goal
 
 pub post-requires : goal.post-requires
 post-requires g c =
-    let all_told : map owned_parcel c.as_slice.result.now ≡ invalidations c.args.me c.args.page c.args.call c.args.nodes.now = grind (arith, common_steps) in
+    let all_told : map owned_parcel c.as_slice.result.now
+    ≡ invalidations c.args.me c.args.page c.args.call c.args.nodes.now =
+    grind (arith, common_steps) in
     record { fits = rw all_told c.requires.fits }

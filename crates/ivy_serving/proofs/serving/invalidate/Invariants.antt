@@ -8,5 +8,7 @@ use Rattle.ivy_serving.proofs.serving.invalidate.Given as goal
 abbrev pub invariant-loop-node : goal.invariant-loop-node
 invariant-loop-node g l = record {
   count : length l.parcels.items ≡ l.node-index;
-  told : map owned_parcel l.parcels.items ≡ map (λ node. parcel_to l.me node l.me l.call (content.Inval l.page)) (take l.node-index l.node-items);
+  told : map owned_parcel l.parcels.items
+      ≡ map (λ node. parcel_to l.me node l.me l.call (content.Inval l.page))
+      (take l.node-index l.node-items);
 }

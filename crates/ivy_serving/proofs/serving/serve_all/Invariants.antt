@@ -9,6 +9,9 @@ invariant-loop-message g l =
     let ops = g.M.Manager.ops in
     record {
       room : length l.out.items ≤ l.message-index;
-      after : all_served ops l.at.me l.at.page l.at.bytes.now (serving l.idle l.manager l.breaches (map owned_parcel l.out.items)) (drop l.message-index l.messages)
-          ≡ all_served ops l.at.me l.at.page l.at.bytes.now (serving l.initial.idle l.initial.manager l.initial.breaches []) l.messages;
+      after : all_served ops l.at.me l.at.page l.at.bytes.now
+          (serving l.idle l.manager l.breaches (map owned_parcel l.out.items))
+          (drop l.message-index l.messages)
+          ≡ all_served ops l.at.me l.at.page l.at.bytes.now
+          (serving l.initial.idle l.initial.manager l.initial.breaches []) l.messages;
     }

@@ -6,7 +6,8 @@ use Rattle.ivy_session.proofs.seating.exchange.Goals as goal
 pub put_report-requires-clause-events : goal.put_report-requires-clause-events
 put_report-requires-clause-events g c =
     may_give g.S.Setup.config g.S.Setup.programs _ c.args.site.now c.args.pass.now _
-    (c.in_ok-copy.ensures ∙ c.event_list-events.ensures.is) c.requires.seated c.event_list-events.ensures.made
+    (c.in_ok-copy.ensures ∙ c.event_list-events.ensures.is) c.requires.seated
+    c.event_list-events.ensures.made
 
 pub returns-clause-done : goal.returns-clause-done
 returns-clause-done g c =

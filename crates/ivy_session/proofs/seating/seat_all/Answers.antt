@@ -27,7 +27,8 @@ loop-program-init g c =
 pub seat_one-requires-clause-there : goal.seat_one-requires-clause-there
 seat_one-requires-clause-there g c =
     let at = c.loop-program in
-    let steps : into_iter_items at.program-iterator ≡ c.in-Some.program ∷ into_iter_items c.next.new.self = c.in-Some.ensures.steps.0 in
+    let steps : into_iter_items at.program-iterator
+    ≡ c.in-Some.program ∷ into_iter_items c.next.new.self = c.in-Some.ensures.steps.0 in
     subst (λ j. slice_get g.S.Setup.programs j ≡ Some c.in-Some.program) (omega arith)
     (at.invariant.there 0 c.in-Some.program (ap (λ l. slice_get l 0) steps))
 
@@ -40,7 +41,8 @@ pub loop-program-preserved : goal.loop-program-preserved
 loop-program-preserved g c =
     let at = c.loop-program in
     let was = at.invariant.left in
-    let steps : into_iter_items at.program-iterator ≡ c.in-Some.program ∷ into_iter_items c.next.new.self = c.in-Some.ensures.steps.0 in
+    let steps : into_iter_items at.program-iterator
+    ≡ c.in-Some.program ∷ into_iter_items c.next.new.self = c.in-Some.ensures.steps.0 in
     let gone = c.in-Some.ensures.steps.1 in
     let short = ap length steps in
     let count = at.invariant.count in

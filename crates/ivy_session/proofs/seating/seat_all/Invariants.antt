@@ -12,7 +12,8 @@ invariant-loop-program g l = record {
   finite : (goal.iterator-loop-program g).is_finite l.program-iterator;
   left : into_iter_len l.program-iterator ≡ length (into_iter_items l.program-iterator);
   count : l.node + length (into_iter_items l.program-iterator) ≡ length g.S.Setup.programs;
-  there : (k : ℕ) (p : List Instruction) → slice_get (into_iter_items l.program-iterator) k ≡ Some p → slice_get g.S.Setup.programs (l.node + k) ≡ Some p;
+  there : (k : ℕ) (p : List Instruction) → slice_get (into_iter_items l.program-iterator) k ≡ Some p
+      → slice_get g.S.Setup.programs (l.node + k) ≡ Some p;
   ether : l.starter.ether ≡ l.ether;
   starts : l.starter.known.starts ≡ true;
   issued : (j : ℕ) → l.node ≤ j → times j l.starter.known.issued ≡ 0;

@@ -15,14 +15,16 @@ loop-seat-init g c =
       room = search rules;
       ether = c.requires.starter;
       count = ap length (sym none);
-      told = told_none g.S.Setup.config g.S.Setup.programs c.args.starter.now.known c.in_ok-sites.sites.items none;
+      told = told_none g.S.Setup.config g.S.Setup.programs c.args.starter.now.known
+          c.in_ok-sites.sites.items none;
     }
 
 pub loop-seat-preserved : goal.loop-seat-preserved
 loop-seat-preserved g c =
     let at = c.loop-seat in
     let was = at.invariant.left in
-    let steps : into_iter_items at.seat-iterator ≡ c.in-Some.seat ∷ into_iter_items c.next.new.self = c.in-Some.ensures.steps.0 in
+    let steps : into_iter_items at.seat-iterator
+    ≡ c.in-Some.seat ∷ into_iter_items c.next.new.self = c.in-Some.ensures.steps.0 in
     let gone = c.in-Some.ensures.steps.1 in
     let short = ap length steps in
     let count = at.invariant.count in
@@ -33,8 +35,10 @@ loop-seat-preserved g c =
       room = search rules;
       ether = c.in_ok-site.ensures.starter ∙ at.invariant.ether;
       count = search rules;
-      told = told_more g.S.Setup.config g.S.Setup.programs _ _ at.sites.items _ c.in_ok-site.site at.node count
-          c.push_reserved.ensures.items c.in_ok-site.ensures.told c.in_ok-site.ensures.done at.invariant.told;
+      told = told_more g.S.Setup.config g.S.Setup.programs _ _ at.sites.items _ c.in_ok-site.site
+          at.node count
+          c.push_reserved.ensures.items c.in_ok-site.ensures.told c.in_ok-site.ensures.done
+          at.invariant.told;
     }
 
 pub returns-in_err-site-clause-starter : goal.returns-in_err-site-clause-starter

@@ -7,7 +7,9 @@ use Rattle.ivy_session.proofs.session.collect.Goals as goal
 
 pub returns-clause-report : goal.returns-clause-report
 returns-clause-report g c =
-    let told = subst (λ (h : Held). AreTold g.S.Setup.config g.S.Setup.programs h.known c.in_ok-sites.sites.items)
+    let told =
+    subst (λ (h : Held). AreTold g.S.Setup.config g.S.Setup.programs h.known
+    c.in_ok-sites.sites.items)
     (sym c.learn.ensures.same) c.in_ok-sites.ensures.told in
     let many : length c.in_ok-sites.sites.items ≡ length g.S.Setup.programs = search rules in
     subst (IsReport g.S.Setup.config g.S.Setup.programs) (sym c.new.ensures)

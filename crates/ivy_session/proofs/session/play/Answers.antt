@@ -6,7 +6,8 @@ use Rattle.ivy_session.proofs.session.play.Goals as goal
 
 pub seat_all-requires-clause-passes : goal.seat_all-requires-clause-passes
 seat_all-requires-clause-passes g c =
-    (fresh_pop _ _ c.pop.new.self.items c.in-Some.starter c.in_ok-ether.ensures.fresh c.in-Some.ensures.items).0
+    (fresh_pop _ _ c.pop.new.self.items c.in-Some.starter c.in_ok-ether.ensures.fresh
+    c.in-Some.ensures.items).0
 
 pub collect-requires-clause-each : goal.collect-requires-clause-each
 collect-requires-clause-each g c =
@@ -24,5 +25,6 @@ collect-requires-clause-nodes g c =
 
 pub collect-requires-clause-starter : goal.collect-requires-clause-starter
 collect-requires-clause-starter g c =
-    let p = (fresh_pop _ _ c.pop.new.self.items c.in-Some.starter c.in_ok-ether.ensures.fresh c.in-Some.ensures.items).1 in
+    let p = (fresh_pop _ _ c.pop.new.self.items c.in-Some.starter c.in_ok-ether.ensures.fresh
+    c.in-Some.ensures.items).1 in
     c.in_ok-seats.ensures.starter ∙ ap (λ (h : Held). h.ether) p

@@ -7,11 +7,13 @@ use Rattle.ivy_wire.proofs.reading.decode.Goals as goal
 
 -- what refuses the string is the test that it fails
 refused_with : (T : Type 0) (d : Fault) (tested : Result FrameKind Fault)
-    → MatchResult tested (λ _. IsOk (let r : Result T Fault = Err d in r)) (λ e. (let r : Result T Fault = Err d in r) ≡ Err e) → tested ≡ Err d
+    → MatchResult tested (λ _. IsOk (let r : Result T Fault = Err d in r))
+    (λ e. (let r : Result T Fault = Err d in r) ≡ Err e) → tested ≡ Err d
 refused_with T d (Ok kind) h = absurd cc
 refused_with T d (Err e) h = cc
 
 pub returns-in_err-frame-clause-memory : goal.returns-in_err-frame-clause-memory
 returns-in_err-frame-clause-memory g c = λ e.
     absurd (never_memory c.args.config.now c.args.bytes.now
-    (refused_with _ c.in_err-frame.field-0.0 (checked c.args.config.now c.args.bytes.now) c.in_err-frame.ensures.fault ∙ ap Err (sym (rw e at c.from_residual.ensures.1))))
+    (refused_with _ c.in_err-frame.field-0.0 (checked c.args.config.now c.args.bytes.now)
+    c.in_err-frame.ensures.fault ∙ ap Err (sym (rw e at c.from_residual.ensures.1))))

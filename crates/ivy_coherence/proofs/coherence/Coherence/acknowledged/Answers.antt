@@ -5,4 +5,5 @@ use Rattle.ivy_coherence.proofs.coherence.Coherence.acknowledged.Goals as goal
 pub left_with-requires-clause-left : goal.left_with-requires-clause-left
 left_with-requires-clause-left g c =
     rw (c.remove.ensures, c.left-in-AwaitAcks.ensures.left)
-    (fewer_missing g.met.M.Manager.laws _ _ c.self.view_is c.self.invariant.0 c.args.page c.in-AwaitAcks.state c.args.from (sym c.entry.ensures ∙ c.in-AwaitAcks.is))
+    (fewer_missing g.met.M.Manager.laws _ _ c.self.view_is c.self.invariant.0 c.args.page
+    c.in-AwaitAcks.state c.args.from (sym c.entry.ensures ∙ c.in-AwaitAcks.is))

@@ -3,7 +3,8 @@ use Rattle.ivy_coherence.proofs.coherence.Coherence.give_up.Goals as goal
 
 pub invariant_of-self : goal.invariant_of-self
 invariant_of-self g c = (
-  giving_sound g.met.M.Manager.laws _ _ c.self.view_is c.self.invariant.0 c.args.page c.args.waiting c.args.message _ _ c.requires.page c.requires.waits c.requires.message
+  giving_sound g.met.M.Manager.laws _ _ c.self.view_is c.self.invariant.0 c.args.page c.args.waiting
+      c.args.message _ _ c.requires.page c.requires.waits c.requires.message
       (rw c.new.ensures at c.set_entry.ensures) c.on_invalidated.ensures,
   c.self.invariant.1,
 )

@@ -7,22 +7,37 @@ use Rattle.ivy_coherence.proofs.coherence.Coherence.handle.Goals as goal
 
 pub page_came-requires-clause-copies : goal.page_came-requires-clause-copies
 page_came-requires-clause-copies g c =
-    rw c.from_bits-copies.ensures (with_below c.args.self.now.config.nodes c.in-WriteRep.copies (subst (FitsContent c.args.self.now.config) (ap owned_content c.in-WriteRep.is) c.requires.fits.content).1)
+    rw c.from_bits-copies.ensures
+    (with_below c.args.self.now.config.nodes c.in-WriteRep.copies
+    (subst (FitsContent c.args.self.now.config) (ap owned_content c.in-WriteRep.is)
+    c.requires.fits.content).1)
 
 pub returns-in_err-copy_came-in-ReadRep-clause-few : goal.returns-in_err-copy_came-in-ReadRep-clause-few
-returns-in_err-copy_came-in-ReadRep-clause-few g c = handled-few g.M.Manager.ops c.args.self.now c.args.from (owned_message c.args.message) c.sound.ensures c.requires.fits
+returns-in_err-copy_came-in-ReadRep-clause-few g c =
+    handled-few g.M.Manager.ops c.args.self.now c.args.from (owned_message c.args.message)
+    c.sound.ensures c.requires.fits
 
 pub returns-in_ok-copy_came-in-ReadRep-clause-few : goal.returns-in_ok-copy_came-in-ReadRep-clause-few
-returns-in_ok-copy_came-in-ReadRep-clause-few g c = handled-few g.M.Manager.ops c.args.self.now c.args.from (owned_message c.args.message) c.sound.ensures c.requires.fits
+returns-in_ok-copy_came-in-ReadRep-clause-few g c =
+    handled-few g.M.Manager.ops c.args.self.now c.args.from (owned_message c.args.message)
+    c.sound.ensures c.requires.fits
 
 pub returns-in_err-page_came-in-WriteRep-clause-few : goal.returns-in_err-page_came-in-WriteRep-clause-few
-returns-in_err-page_came-in-WriteRep-clause-few g c = handled-few g.M.Manager.ops c.args.self.now c.args.from (owned_message c.args.message) c.sound.ensures c.requires.fits
+returns-in_err-page_came-in-WriteRep-clause-few g c =
+    handled-few g.M.Manager.ops c.args.self.now c.args.from (owned_message c.args.message)
+    c.sound.ensures c.requires.fits
 
 pub returns-in_ok-page_came-in-WriteRep-clause-few : goal.returns-in_ok-page_came-in-WriteRep-clause-few
-returns-in_ok-page_came-in-WriteRep-clause-few g c = handled-few g.M.Manager.ops c.args.self.now c.args.from (owned_message c.args.message) c.sound.ensures c.requires.fits
+returns-in_ok-page_came-in-WriteRep-clause-few g c =
+    handled-few g.M.Manager.ops c.args.self.now c.args.from (owned_message c.args.message)
+    c.sound.ensures c.requires.fits
 
 pub returns-in_err-acknowledged-in-InvalAck-clause-few : goal.returns-in_err-acknowledged-in-InvalAck-clause-few
-returns-in_err-acknowledged-in-InvalAck-clause-few g c = handled-few g.M.Manager.ops c.args.self.now c.args.from (owned_message c.args.message) c.sound.ensures c.requires.fits
+returns-in_err-acknowledged-in-InvalAck-clause-few g c =
+    handled-few g.M.Manager.ops c.args.self.now c.args.from (owned_message c.args.message)
+    c.sound.ensures c.requires.fits
 
 pub returns-in_ok-acknowledged-in-InvalAck-clause-few : goal.returns-in_ok-acknowledged-in-InvalAck-clause-few
-returns-in_ok-acknowledged-in-InvalAck-clause-few g c = handled-few g.M.Manager.ops c.args.self.now c.args.from (owned_message c.args.message) c.sound.ensures c.requires.fits
+returns-in_ok-acknowledged-in-InvalAck-clause-few g c =
+    handled-few g.M.Manager.ops c.args.self.now c.args.from (owned_message c.args.message)
+    c.sound.ensures c.requires.fits

@@ -3,7 +3,8 @@ use Rattle.ivy_coherence.proofs.coherence.Coherence.left_with.Goals as goal
 
 pub invariant_of-self : goal.invariant_of-self
 invariant_of-self g c = (
-  left_sound g.met.M.Manager.laws _ _ c.self.view_is c.self.invariant.0 c.args.page c.args.left c.args.waiting _ c.requires.page c.requires.waits c.requires.left
+  left_sound g.met.M.Manager.laws _ _ c.self.view_is c.self.invariant.0 c.args.page c.args.left
+      c.args.waiting _ c.requires.page c.requires.waits c.requires.left
       (rw c.new.ensures at c.set_entry.ensures),
   c.self.invariant.1,
 )

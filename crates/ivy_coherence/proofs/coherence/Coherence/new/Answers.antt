@@ -5,6 +5,8 @@ use Rattle.ivy_coherence.proofs.coherence.Coherence.new.Goals as goal
 
 pub invariant_of-result : goal.invariant_of-result
 invariant_of-result g c = (
-  rw (c.in_ok-table.ensures.first, c.requires.fresh) (first-sound g.met.M.Manager.laws c.args.config.now c.args.me c.requires.limits c.requires.here),
+  rw (c.in_ok-table.ensures.first, c.requires.fresh)
+      (first-sound g.met.M.Manager.laws c.args.config.now c.args.me c.requires.limits
+      c.requires.here),
   ap length c.in_ok-spare.ensures ∙ length-replicate c.args.config.now.page_size 0,
 )

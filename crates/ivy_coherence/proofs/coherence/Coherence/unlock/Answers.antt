@@ -3,18 +3,28 @@ use Rattle.ivy_coherence.proofs.Opened.{fits_spare, spare_then, unlock_word, unl
 use Rattle.ivy_coherence.proofs.coherence.Coherence.unlock.Goals as goal
 
 pub copy_from-requires : goal.copy_from-requires
-copy_from-requires g c = fits_spare _ _ c.self.view_is c.args.bytes.now c.self.inside.spare c.requires.sized c.self.invariant.1
+copy_from-requires g c =
+    fits_spare _ _ c.self.view_is c.args.bytes.now c.self.inside.spare c.requires.sized
+    c.self.invariant.1
 
 pub carry_out-out-requires : goal.carry_out-out-requires
 carry_out-out-requires g c =
     rw (c.word.ensures, c.copy_from.ensures)
-    (unlock_word g.met.M.Manager.laws _ _ c.self.view_is c.self.invariant.0 c.args.page c.args.write c.args.bytes.now c.args.waiting.now c.requires.waits c.requires.sized)
+    (unlock_word g.met.M.Manager.laws _ _ c.self.view_is c.self.invariant.0 c.args.page c.args.write
+    c.args.bytes.now c.args.waiting.now c.requires.waits c.requires.sized)
 
 pub settle-requires-clause-fits : goal.settle-requires-clause-fits
 settle-requires-clause-fits g c =
     let sized : length c.bytes.result.now ≡ c.args.self.now.config.page_size = cc in
-    unlock_fits g.met.M.Manager.laws _ _ c.self.view_is c.self.invariant.0 c.args.from c.args.page c.args.write c.bytes.result.now c.args.waiting.now _ _ _ _
-    (record { below = c.requires.from; foreign = c.requires.foreign; inside = c.requires.page; sized = sized }) c.requires.waits c.unlocked_as-idle.ensures c.put_offs-messages.ensures.list c.requires.config c.requires.node
+    unlock_fits g.met.M.Manager.laws _ _ c.self.view_is c.self.invariant.0 c.args.from c.args.page
+    c.args.write c.bytes.result.now c.args.waiting.now _ _ _ _
+    (record {
+      below = c.requires.from;
+      foreign = c.requires.foreign;
+      inside = c.requires.page;
+      sized = sized;
+    }) c.requires.waits c.unlocked_as-idle.ensures
+    c.put_offs-messages.ensures.list c.requires.config c.requires.node
 
 pub invariant_of-self : goal.invariant_of-self
 invariant_of-self g c = (
@@ -26,9 +36,17 @@ pub invariant_of-self-2 : goal.invariant_of-self-2
 invariant_of-self-2 g c =
     let sized : length c.bytes.result.now ≡ c.args.self.now.config.page_size = cc in
     let long : length c.carry_out-out.new.self ≡ c.args.self.now.config.page_size = cc in (
-      unlock_sound g.met.M.Manager.laws _ _ c.self.view_is c.self.invariant.0 c.args.from c.args.page c.args.write c.bytes.result.now c.carry_out-out.new.self c.args.waiting.now c.unlocked_as-idle.result _ c.put_offs-messages.result.now _ _ _ _
-          (record { below = c.requires.from; foreign = c.requires.foreign; inside = c.requires.page; sized = sized }) long c.requires.waits
+      unlock_sound g.met.M.Manager.laws _ _ c.self.view_is c.self.invariant.0 c.args.from
+          c.args.page c.args.write c.bytes.result.now c.carry_out-out.new.self c.args.waiting.now
+          c.unlocked_as-idle.result _ c.put_offs-messages.result.now _ _ _ _
+          (record {
+            below = c.requires.from;
+            foreign = c.requires.foreign;
+            inside = c.requires.page;
+            sized = sized;
+          }) long c.requires.waits
           c.unlocked_as-idle.ensures c.put_offs-messages.ensures.list c.in_ok-after.ensures.idle
-          (rw (c.set_entry.ensures, c.bytes-2.ensures) at c.install.ensures) c.in_ok-after.ensures.manager c.in_ok-after.ensures.breaches,
+          (rw (c.set_entry.ensures, c.bytes-2.ensures) at c.install.ensures)
+          c.in_ok-after.ensures.manager c.in_ok-after.ensures.breaches,
       spare_then _ _ c.self.view_is c.args.bytes.now _ c.requires.sized cc,
     )

@@ -8,23 +8,41 @@ use Rattle.ivy_coherence.proofs.coherence.Coherence.write.Goals as goal
 pub settle-requires-clause-fits : goal.settle-requires-clause-fits
 settle-requires-clause-fits g c =
     let inside = pages_inside _ _ c.self.view_is c.self.invariant.0 c.args.page c.requires.page in
-    last_fits g.met.M.Manager.laws _ _ c.self.view_is c.self.invariant.0 c.args.from c.args.page _ c.args.waiting.now _ _ _ _ c.requires.page c.requires.waits
-    (c.page.ensures.bytes ∙ page_then c.self.inside.table c.carry_out-out.new.self c.args.page _ (rw c.word-word.ensures at c.carry_out-out.ensures.bytes) inside) c.owned.ensures c.put_offs-messages.ensures.list c.requires.config c.requires.node
+    last_fits g.met.M.Manager.laws _ _ c.self.view_is c.self.invariant.0 c.args.from c.args.page _
+    c.args.waiting.now _ _ _ _ c.requires.page c.requires.waits
+    (c.page.ensures.bytes
+    ∙ page_then c.self.inside.table c.carry_out-out.new.self c.args.page _
+    (rw c.word-word.ensures at c.carry_out-out.ensures.bytes) inside) c.owned.ensures
+    c.put_offs-messages.ensures.list c.requires.config c.requires.node
 
 pub invariant_of-self : goal.invariant_of-self
 invariant_of-self g c =
     let inside = pages_inside _ _ c.self.view_is c.self.invariant.0 c.args.page c.requires.page in
-    let word : IsWord (length (page_at c.self.inside.table c.args.page)) c.word-word.result = rw c.word-word.ensures (last_word_at g.met.M.Manager.laws _ _ c.self.view_is c.self.invariant.0 c.args.page c.args.waiting.now c.requires.page c.requires.waits) in
+    let word : IsWord (length (page_at c.self.inside.table c.args.page)) c.word-word.result =
+    rw c.word-word.ensures
+    (last_word_at g.met.M.Manager.laws _ _ c.self.view_is c.self.invariant.0 c.args.page
+    c.args.waiting.now c.requires.page c.requires.waits) in
     let back : c.carry_out.new.self ≡ c.self.inside.table
-    = restored c.self.inside.table c.carry_out-out.new.self c.carry_out.new.self c.args.page c.number.result c.word-word.result word c.number.ensures.fact inside c.number.ensures.number c.carry_out-out.ensures.bytes (rw (c.width.ensures, c.offset.ensures) at c.carry_out.ensures.bytes) in
-    (rw (back, c.in-Err.ensures.err.0, c.in-Err.ensures.err.1) c.self.invariant.0, c.self.invariant.1)
+    = restored c.self.inside.table c.carry_out-out.new.self c.carry_out.new.self c.args.page
+    c.number.result c.word-word.result word c.number.ensures.fact inside c.number.ensures.number
+    c.carry_out-out.ensures.bytes
+    (rw (c.width.ensures, c.offset.ensures) at c.carry_out.ensures.bytes) in (
+      rw (back, c.in-Err.ensures.err.0, c.in-Err.ensures.err.1) c.self.invariant.0,
+      c.self.invariant.1,
+    )
 
 pub returns-in-Err : goal.returns-in-Err
 returns-in-Err g c =
     let inside = pages_inside _ _ c.self.view_is c.self.invariant.0 c.args.page c.requires.page in
-    let word : IsWord (length (page_at c.self.inside.table c.args.page)) c.word-word.result = rw c.word-word.ensures (last_word_at g.met.M.Manager.laws _ _ c.self.view_is c.self.invariant.0 c.args.page c.args.waiting.now c.requires.page c.requires.waits) in
+    let word : IsWord (length (page_at c.self.inside.table c.args.page)) c.word-word.result =
+    rw c.word-word.ensures
+    (last_word_at g.met.M.Manager.laws _ _ c.self.view_is c.self.invariant.0 c.args.page
+    c.args.waiting.now c.requires.page c.requires.waits) in
     let back : c.carry_out.new.self ≡ c.self.inside.table
-    = restored c.self.inside.table c.carry_out-out.new.self c.carry_out.new.self c.args.page c.number.result c.word-word.result word c.number.ensures.fact inside c.number.ensures.number c.carry_out-out.ensures.bytes (rw (c.width.ensures, c.offset.ensures) at c.carry_out.ensures.bytes) in
+    = restored c.self.inside.table c.carry_out-out.new.self c.carry_out.new.self c.args.page
+    c.number.result c.word-word.result word c.number.ensures.fact inside c.number.ensures.number
+    c.carry_out-out.ensures.bytes
+    (rw (c.width.ensures, c.offset.ensures) at c.carry_out.ensures.bytes) in
     record {
       ok = search rules;
       posted = search rules;
@@ -38,10 +56,22 @@ pub invariant_of-self-2 : goal.invariant_of-self-2
 invariant_of-self-2 g c =
     let inside = pages_inside _ _ c.self.view_is c.self.invariant.0 c.args.page c.requires.page in
     let now = rw c.word-word.ensures at c.carry_out-out.ensures.bytes in
-    let written : c.page.result.now ≡ (carried_out c.word-word.result (page_at c.self.inside.table c.args.page)).bytes = c.page.ensures.bytes ∙ page_then c.self.inside.table c.carry_out-out.new.self c.args.page _ c.carry_out-out.ensures.bytes inside in (
-      last_sound g.met.M.Manager.laws _ _ c.self.view_is c.self.invariant.0 c.args.from c.args.page c.page.result.now c.args.waiting.now c.owned.result _ c.put_offs-messages.result.now _ _ _ _ c.requires.page c.requires.waits
-          (c.page.ensures.bytes ∙ page_then c.self.inside.table c.carry_out-out.new.self c.args.page _ now inside) c.owned.ensures c.put_offs-messages.ensures.list c.in-Ok.ensures.idle
-          (c.set_entry.ensures ∙ ap (λ t. with_entry t c.args.page (entry.Idle c.in-Ok.after)) (c.carry_out-out.ensures.bytes ∙ ap (with_page c.self.inside.table c.args.page) (sym written)))
-          c.in-Ok.ensures.manager (rw c.word-word.ensures at c.carry_out-out.ensures.out) c.in-Ok.ensures.breaches,
+    let written : c.page.result.now
+    ≡ (carried_out c.word-word.result (page_at c.self.inside.table c.args.page)).bytes =
+    c.page.ensures.bytes
+    ∙ page_then c.self.inside.table c.carry_out-out.new.self c.args.page _
+    c.carry_out-out.ensures.bytes inside in (
+      last_sound g.met.M.Manager.laws _ _ c.self.view_is c.self.invariant.0 c.args.from c.args.page
+          c.page.result.now c.args.waiting.now c.owned.result _ c.put_offs-messages.result.now _ _ _
+          _ c.requires.page c.requires.waits
+          (c.page.ensures.bytes
+          ∙ page_then c.self.inside.table c.carry_out-out.new.self c.args.page _ now inside)
+          c.owned.ensures c.put_offs-messages.ensures.list c.in-Ok.ensures.idle
+          (c.set_entry.ensures
+          ∙ ap (λ t. with_entry t c.args.page (entry.Idle c.in-Ok.after))
+          (c.carry_out-out.ensures.bytes
+          ∙ ap (with_page c.self.inside.table c.args.page) (sym written)))
+          c.in-Ok.ensures.manager (rw c.word-word.ensures at c.carry_out-out.ensures.out)
+          c.in-Ok.ensures.breaches,
       c.self.invariant.1,
     )

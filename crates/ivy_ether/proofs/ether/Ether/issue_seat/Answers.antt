@@ -14,9 +14,15 @@ pub push_as-requires-clause-rule : goal.push_as-requires-clause-rule
 push_as-requires-clause-rule g c =
     let config = g.S.Setup.config in
     let programs = g.S.Setup.programs in
-    let starts = subst (λ (h : Held). h.known.starts ≡ true) (sym c.pass.view_is) c.requires.starter in
-    let new = subst (λ (h : Held). times c.args.node h.known.issued ≡ 0) (sym c.pass.view_is) c.requires.new in
-    let inside = subst (λ k. c.args.node < k) (sym (first_length managed_ops config 0 programs)) c.requires.node in (
-      issues (host_rules managed_ops) config (beginning config programs) _ _ (view c.pass.inside.token) c.args.node starts inside new,
+    let starts =
+    subst (λ (h : Held). h.known.starts ≡ true) (sym c.pass.view_is) c.requires.starter in
+    let new =
+    subst (λ (h : Held). times c.args.node h.known.issued ≡ 0) (sym c.pass.view_is)
+    c.requires.new in
+    let inside =
+    subst (λ k. c.args.node < k) (sym (first_length managed_ops config 0 programs))
+    c.requires.node in (
+      issues (host_rules managed_ops) config (beginning config programs) _ _
+          (view c.pass.inside.token) c.args.node starts inside new,
       λ _ _ _ _. tt,
     )

@@ -12,4 +12,5 @@ ruled-requires-clause-rule g c =
 
 pub another-token-requires-clause-rule : goal.another-token-requires-clause-rule
 another-token-requires-clause-rule g c =
-    forks (host_rules managed_ops) g.S.Setup.config (beginning g.S.Setup.config g.S.Setup.programs) _ _
+    forks (host_rules managed_ops) g.S.Setup.config (beginning g.S.Setup.config g.S.Setup.programs)
+    _ _

@@ -15,8 +15,11 @@ push_as-requires-clause-rule g c =
     let events = g.E.Given.events in
     let may = subst (λ (h : Held). MayGive config programs h.known events)
     (sym c.pass.view_is) c.requires.events in
-    let from = subst (λ (h : Held). SendsFrom config programs h.known events c.args.frame ⊎ Contains h.known.took c.args.frame)
+    let from =
+    subst (λ (h : Held). SendsFrom config programs h.known events c.args.frame
+    ⊎ Contains h.known.took c.args.frame)
     (sym c.pass.view_is) c.requires.frame in (
-      puts (host_rules managed_ops) config (beginning config programs) _ _ (view c.pass.inside.token) c.args.frame events may from,
+      puts (host_rules managed_ops) config (beginning config programs) _ _
+          (view c.pass.inside.token) c.args.frame events may from,
       λ _ _ _ _. tt,
     )

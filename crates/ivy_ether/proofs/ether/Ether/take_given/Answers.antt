@@ -13,6 +13,7 @@ pop_as-requires-clause-rule g c =
     let programs = g.S.Setup.programs in
     let may = subst (λ (h : Held). MayGive config programs h.known g.E.Given.events)
     (sym c.pass.view_is) c.requires.events in (
-      takes (host_rules managed_ops) config (beginning config programs) _ (view c.pass.inside.token) g.E.Given.events may,
+      takes (host_rules managed_ops) config (beginning config programs) _ (view c.pass.inside.token)
+          g.E.Given.events may,
       λ _ _ _ _. tt,
     )

@@ -11,6 +11,7 @@ pub pop_as-requires-clause-rule : goal.pop_as-requires-clause-rule
 pop_as-requires-clause-rule g c =
     let config = g.S.Setup.config in
     let programs = g.S.Setup.programs in (
-      tells (host_rules managed_ops) config (beginning config programs) _ (view c.pass.inside.token),
+      tells (host_rules managed_ops) config (beginning config programs) _
+          (view c.pass.inside.token),
       λ _ _ _ _. tt,
     )

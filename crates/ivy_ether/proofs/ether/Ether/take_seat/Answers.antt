@@ -13,6 +13,7 @@ pop_as-requires-clause-rule g c =
     let config = g.S.Setup.config in
     let programs = g.S.Setup.programs in
     let none = subst (λ (h : Held). h.known.node ≡ None) (sym c.pass.view_is) c.requires.none in (
-      seats (host_rules managed_ops) config (beginning config programs) _ (view c.pass.inside.token) none,
+      seats (host_rules managed_ops) config (beginning config programs) _ (view c.pass.inside.token)
+          none,
       λ _ _ _ _. tt,
     )

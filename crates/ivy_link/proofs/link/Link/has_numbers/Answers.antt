@@ -12,23 +12,56 @@ use Rattle.ivy_link.proofs.link.Link.has_numbers.Goals as goal
 
 pub index-side-requires : goal.index-side-requires
 index-side-requires g c =
-    let at : c.from.result < length c.args.self.now.peers = here-within (link_of c.args.self.now) c.args.parcels.now c.loop-parcel.parcel-index c.from.result c.requires.within c.loop-parcel-test.true c.from.ensures in
-    search (rules, at, view-length (link_of c.args.self.now) c.self.inside.me c.self.inside.sides.items (ap link_of c.self.view_is))
+    let at : c.from.result < length c.args.self.now.peers =
+    here-within (link_of c.args.self.now) c.args.parcels.now c.loop-parcel.parcel-index
+    c.from.result c.requires.within c.loop-parcel-test.true c.from.ensures in
+    search (
+      rules,
+      at,
+      view-length (link_of c.args.self.now) c.self.inside.me c.self.inside.sides.items
+          (ap link_of c.self.view_is),
+    )
 
 pub returns-then-not-has_numbers : goal.returns-then-not-has_numbers
 returns-then-not-has_numbers g c =
-    let at : c.from.result < length c.args.self.now.peers = here-within (link_of c.args.self.now) c.args.parcels.now c.loop-parcel.parcel-index c.from.result c.requires.within c.loop-parcel-test.true c.from.ensures in
-    let peer : c.index-side.result.now.peer ≡ peer_at (link_of c.args.self.now) c.from.result = sym (view-read (link_of c.args.self.now) c.self.inside.me c.self.inside.sides.items (ap link_of c.self.view_is) c.from.result c.index-side.result.now at c.index-side.ensures) in
-    let spent : 2 ^ 64 ≤ c.index-side.result.now.peer.sent + c.count_to.result = elim (cases_lt (c.index-side.result.now.peer.sent + c.count_to.result) (2 ^ 64)) [ inl lt ↦ (let wrong : false ≡ true = (rw c.if-not-has_numbers.true at c.has_numbers.ensures).1 (omega (arith, lt)) in cc) | inr le ↦ le ] in
-    sym (here-spent (link_of c.args.self.now) c.args.parcels.now c.loop-parcel.parcel-index c.from.result c.requires.within c.loop-parcel-test.true c.from.ensures c.index-side.result.now.peer.sent c.count_to.result (ap (λ (p : Peer). p.sent) peer) c.count_to.ensures spent)
+    let at : c.from.result < length c.args.self.now.peers =
+    here-within (link_of c.args.self.now) c.args.parcels.now c.loop-parcel.parcel-index
+    c.from.result c.requires.within c.loop-parcel-test.true c.from.ensures in
+    let peer : c.index-side.result.now.peer ≡ peer_at (link_of c.args.self.now) c.from.result =
+    sym (view-read (link_of c.args.self.now) c.self.inside.me c.self.inside.sides.items
+    (ap link_of c.self.view_is) c.from.result c.index-side.result.now at
+    c.index-side.ensures) in
+    let spent : 2 ^ 64 ≤ c.index-side.result.now.peer.sent + c.count_to.result =
+    elim (cases_lt (c.index-side.result.now.peer.sent + c.count_to.result) (2 ^ 64)) [
+      | inl lt ↦
+          (let wrong : false ≡ true =
+          (rw c.if-not-has_numbers.true at c.has_numbers.ensures).1 (omega (arith, lt)) in cc)
+      | inr
+          le ↦ le
+    ] in
+    sym (here-spent (link_of c.args.self.now) c.args.parcels.now c.loop-parcel.parcel-index
+    c.from.result c.requires.within c.loop-parcel-test.true c.from.ensures
+    c.index-side.result.now.peer.sent c.count_to.result (ap (λ (p : Peer). p.sent) peer)
+    c.count_to.ensures spent)
 
 pub loop-parcel-preserved : goal.loop-parcel-preserved
 loop-parcel-preserved g c =
-    let at : c.from.result < length c.args.self.now.peers = here-within (link_of c.args.self.now) c.args.parcels.now c.loop-parcel.parcel-index c.from.result c.requires.within c.loop-parcel-test.true c.from.ensures in
-    let dest : c.from.result ≡ (parcel_at c.args.parcels.now c.loop-parcel.parcel-index).dest = c.from.ensures in
-    let peer : peer_at (link_of c.args.self.now) (parcel_at c.args.parcels.now c.loop-parcel.parcel-index).dest ≡ c.index-side.result.now.peer = ap (peer_at (link_of c.args.self.now)) (sym dest) ∙ view-read (link_of c.args.self.now) c.self.inside.me c.self.inside.sides.items (ap link_of c.self.view_is) c.from.result c.index-side.result.now at c.index-side.ensures in
-    let count : c.count_to.result ≡ count_to (map owned_parcel c.args.parcels.now) (parcel_at c.args.parcels.now c.loop-parcel.parcel-index).dest = c.count_to.ensures in
-    let enough : c.index-side.result.now.peer.sent + c.count_to.result < 2 ^ 64 = search (rules, c.if-not-has_numbers.ensures) in
+    let at : c.from.result < length c.args.self.now.peers =
+    here-within (link_of c.args.self.now) c.args.parcels.now c.loop-parcel.parcel-index
+    c.from.result c.requires.within c.loop-parcel-test.true c.from.ensures in
+    let dest : c.from.result ≡ (parcel_at c.args.parcels.now c.loop-parcel.parcel-index).dest =
+    c.from.ensures in
+    let peer : peer_at (link_of c.args.self.now)
+    (parcel_at c.args.parcels.now c.loop-parcel.parcel-index).dest
+    ≡ c.index-side.result.now.peer =
+    ap (peer_at (link_of c.args.self.now)) (sym dest)
+    ∙ view-read (link_of c.args.self.now) c.self.inside.me c.self.inside.sides.items
+    (ap link_of c.self.view_is) c.from.result c.index-side.result.now at c.index-side.ensures in
+    let count : c.count_to.result
+    ≡ count_to (map owned_parcel c.args.parcels.now)
+    (parcel_at c.args.parcels.now c.loop-parcel.parcel-index).dest = c.count_to.ensures in
+    let enough : c.index-side.result.now.peer.sent + c.count_to.result < 2 ^ 64 =
+    search (rules, c.if-not-has_numbers.ensures) in
     λ k lt.
     elim (cases_eq k c.loop-parcel.parcel-index) [
       | inl e ↦ rw e (omega (arith, enough, count, ap (λ (p : Peer). p.sent) peer))
@@ -37,6 +70,9 @@ loop-parcel-preserved g c =
 
 pub returns : goal.returns
 returns g c =
-    sym (numbers-all (link_of c.args.self.now) (map owned_parcel c.args.parcels.now) c.requires.within (λ k d lt.
-    let inside : k < length c.args.parcels.now = omega (arith, lt, length-map c.args.parcels.now owned_parcel) in
-    rw (get_or-map owned_parcel c.args.parcels.now k nobody d inside) (c.loop-parcel.invariant k (omega (arith, inside, c.loop-parcel-test.false)))))
+    sym (numbers-all (link_of c.args.self.now) (map owned_parcel c.args.parcels.now)
+    c.requires.within (λ k d lt.
+    let inside : k < length c.args.parcels.now =
+    omega (arith, lt, length-map c.args.parcels.now owned_parcel) in
+    rw (get_or-map owned_parcel c.args.parcels.now k nobody d inside)
+    (c.loop-parcel.invariant k (omega (arith, inside, c.loop-parcel-test.false)))))

@@ -1,75 +1,263 @@
 use Rattle.std.proofs.Common.{rules, ◌∙◌, sym, ap, arith}
 use Rattle.ivy_serving.specs.Outcomes.{HasRefused}
-use Rattle.ivy_memory.proofs.Beginning.{no_call, can, wide, words_now, words_before, had_memory, started_memory, busy_memory, busy_is, not_busy, call_posts, few_posted, err_refuses, call_asks, heap_memory}
+use Rattle.ivy_memory.proofs.Beginning.{no_call, can, wide, words_now, words_before, had_memory}
+use Rattle.ivy_memory.proofs.Beginning.{started_memory, busy_memory, busy_is, not_busy, call_posts}
+use Rattle.ivy_memory.proofs.Beginning.{few_posted, err_refuses, call_asks, heap_memory}
 use Rattle.ivy_memory.proofs.memory.Memory.begin.Goals as goal
 
 pub need-requires-clause-page : goal.need-requires-clause-page
 need-requires-clause-page g c =
-    (can g.met.M.Manager.laws _ _ c.config.result c.args.call c.args.number c.in-Word.page c.in-Word.word (record { same = c.self.view_is; sound = c.self.invariant; config = c.config.ensures; idle = no_call _ _ c.self.view_is c.is_some.ensures c.if-is_some.false; legal = c.requires.width; least = c.requires.number; most = omega arith; asks = sym c.asked_of.ensures.is ∙ c.in-Word.is })).0
+    (can g.met.M.Manager.laws _ _ c.config.result c.args.call c.args.number c.in-Word.page
+    c.in-Word.word
+    (record {
+      same = c.self.view_is;
+      sound = c.self.invariant;
+      config = c.config.ensures;
+      idle = no_call _ _ c.self.view_is c.is_some.ensures c.if-is_some.false;
+      legal = c.requires.width;
+      least = c.requires.number;
+      most = omega arith;
+      asks = sym c.asked_of.ensures.is ∙ c.in-Word.is;
+    })).0
 
 pub need-requires-clause-word : goal.need-requires-clause-word
 need-requires-clause-word g c =
-    (can g.met.M.Manager.laws _ _ c.config.result c.args.call c.args.number c.in-Word.page c.in-Word.word (record { same = c.self.view_is; sound = c.self.invariant; config = c.config.ensures; idle = no_call _ _ c.self.view_is c.is_some.ensures c.if-is_some.false; legal = c.requires.width; least = c.requires.number; most = omega arith; asks = sym c.asked_of.ensures.is ∙ c.in-Word.is })).1
+    (can g.met.M.Manager.laws _ _ c.config.result c.args.call c.args.number c.in-Word.page
+    c.in-Word.word
+    (record {
+      same = c.self.view_is;
+      sound = c.self.invariant;
+      config = c.config.ensures;
+      idle = no_call _ _ c.self.view_is c.is_some.ensures c.if-is_some.false;
+      legal = c.requires.width;
+      least = c.requires.number;
+      most = omega arith;
+      asks = sym c.asked_of.ensures.is ∙ c.in-Word.is;
+    })).1
 
 pub invariant_of-self-in-Some : goal.invariant_of-self-in-Some
 invariant_of-self-in-Some g c =
-    had_memory g.met.M.Manager.laws _ _ c.config.result c.args.call c.args.number c.in-Word.page c.in-Word.word (record { same = c.self.view_is; sound = c.self.invariant; config = c.config.ensures; idle = no_call _ _ c.self.view_is c.is_some.ensures c.if-is_some.false; legal = c.requires.width; least = c.requires.number; most = omega arith; asks = sym c.asked_of.ensures.is ∙ c.in-Word.is })
-    c.need.new.self c.in_ok-out-in-Word.field-0 c.in-Have.out c.self.inside.asked c.self.inside.number c.self.invariant.width c.self.invariant.numbered c.self.invariant.small (words_before g.met.M.Manager.laws _ _ c.config.result c.args.call c.args.number c.in-Word.page c.in-Word.word (record { same = c.self.view_is; sound = c.self.invariant; config = c.config.ensures; idle = no_call _ _ c.self.view_is c.is_some.ensures c.if-is_some.false; legal = c.requires.width; least = c.requires.number; most = omega arith; asks = sym c.asked_of.ensures.is ∙ c.in-Word.is })) c.in_ok-out-in-Word.ensures.ok c.in_ok-out-in-Word.ensures.need c.in-Have.is
+    had_memory g.met.M.Manager.laws _ _ c.config.result c.args.call c.args.number c.in-Word.page
+    c.in-Word.word
+    (record {
+      same = c.self.view_is;
+      sound = c.self.invariant;
+      config = c.config.ensures;
+      idle = no_call _ _ c.self.view_is c.is_some.ensures c.if-is_some.false;
+      legal = c.requires.width;
+      least = c.requires.number;
+      most = omega arith;
+      asks = sym c.asked_of.ensures.is ∙ c.in-Word.is;
+    })
+    c.need.new.self c.in_ok-out-in-Word.field-0 c.in-Have.out c.self.inside.asked
+    c.self.inside.number c.self.invariant.width c.self.invariant.numbered c.self.invariant.small
+    (words_before g.met.M.Manager.laws _ _ c.config.result c.args.call c.args.number
+    c.in-Word.page c.in-Word.word
+    (record {
+      same = c.self.view_is;
+      sound = c.self.invariant;
+      config = c.config.ensures;
+      idle = no_call _ _ c.self.view_is c.is_some.ensures c.if-is_some.false;
+      legal = c.requires.width;
+      least = c.requires.number;
+      most = omega arith;
+      asks = sym c.asked_of.ensures.is ∙ c.in-Word.is;
+    })) c.in_ok-out-in-Word.ensures.ok
+    c.in_ok-out-in-Word.ensures.need c.in-Have.is
 
 pub invariant_of-self-in-None : goal.invariant_of-self-in-None
 invariant_of-self-in-None g c =
-    had_memory g.met.M.Manager.laws _ _ c.config.result c.args.call c.args.number c.in-Word.page c.in-Word.word (record { same = c.self.view_is; sound = c.self.invariant; config = c.config.ensures; idle = no_call _ _ c.self.view_is c.is_some.ensures c.if-is_some.false; legal = c.requires.width; least = c.requires.number; most = omega arith; asks = sym c.asked_of.ensures.is ∙ c.in-Word.is })
-    c.need.new.self c.in_ok-out-in-Word.field-0 c.in-Have.out _ c.args.number (wide g.met.M.Manager.laws _ _ c.config.result c.args.call c.args.number c.in-Word.page c.in-Word.word (record { same = c.self.view_is; sound = c.self.invariant; config = c.config.ensures; idle = no_call _ _ c.self.view_is c.is_some.ensures c.if-is_some.false; legal = c.requires.width; least = c.requires.number; most = omega arith; asks = sym c.asked_of.ensures.is ∙ c.in-Word.is })) (λ j h. c.requires.number) (omega arith) (words_now g.met.M.Manager.laws _ _ c.config.result c.args.call c.args.number c.in-Word.page c.in-Word.word (record { same = c.self.view_is; sound = c.self.invariant; config = c.config.ensures; idle = no_call _ _ c.self.view_is c.is_some.ensures c.if-is_some.false; legal = c.requires.width; least = c.requires.number; most = omega arith; asks = sym c.asked_of.ensures.is ∙ c.in-Word.is })) c.in_ok-out-in-Word.ensures.ok c.in_ok-out-in-Word.ensures.need c.in-Have.is
+    had_memory g.met.M.Manager.laws _ _ c.config.result c.args.call c.args.number c.in-Word.page
+    c.in-Word.word
+    (record {
+      same = c.self.view_is;
+      sound = c.self.invariant;
+      config = c.config.ensures;
+      idle = no_call _ _ c.self.view_is c.is_some.ensures c.if-is_some.false;
+      legal = c.requires.width;
+      least = c.requires.number;
+      most = omega arith;
+      asks = sym c.asked_of.ensures.is ∙ c.in-Word.is;
+    })
+    c.need.new.self c.in_ok-out-in-Word.field-0 c.in-Have.out _ c.args.number
+    (wide g.met.M.Manager.laws _ _ c.config.result c.args.call c.args.number c.in-Word.page
+    c.in-Word.word
+    (record {
+      same = c.self.view_is;
+      sound = c.self.invariant;
+      config = c.config.ensures;
+      idle = no_call _ _ c.self.view_is c.is_some.ensures c.if-is_some.false;
+      legal = c.requires.width;
+      least = c.requires.number;
+      most = omega arith;
+      asks = sym c.asked_of.ensures.is ∙ c.in-Word.is;
+    })) (λ j h. c.requires.number) (omega arith)
+    (words_now g.met.M.Manager.laws _ _ c.config.result c.args.call c.args.number c.in-Word.page
+    c.in-Word.word
+    (record {
+      same = c.self.view_is;
+      sound = c.self.invariant;
+      config = c.config.ensures;
+      idle = no_call _ _ c.self.view_is c.is_some.ensures c.if-is_some.false;
+      legal = c.requires.width;
+      least = c.requires.number;
+      most = omega arith;
+      asks = sym c.asked_of.ensures.is ∙ c.in-Word.is;
+    })) c.in_ok-out-in-Word.ensures.ok
+    c.in_ok-out-in-Word.ensures.need c.in-Have.is
 
 pub invariant_of-self-in-Started : goal.invariant_of-self-in-Started
 invariant_of-self-in-Started g c =
-    started_memory g.met.M.Manager.laws _ _ c.config.result c.args.call c.args.number c.in-Word.page c.in-Word.word (record { same = c.self.view_is; sound = c.self.invariant; config = c.config.ensures; idle = no_call _ _ c.self.view_is c.is_some.ensures c.if-is_some.false; legal = c.requires.width; least = c.requires.number; most = omega arith; asks = sym c.asked_of.ensures.is ∙ c.in-Word.is })
+    started_memory g.met.M.Manager.laws _ _ c.config.result c.args.call c.args.number c.in-Word.page
+    c.in-Word.word
+    (record {
+      same = c.self.view_is;
+      sound = c.self.invariant;
+      config = c.config.ensures;
+      idle = no_call _ _ c.self.view_is c.is_some.ensures c.if-is_some.false;
+      legal = c.requires.width;
+      least = c.requires.number;
+      most = omega arith;
+      asks = sym c.asked_of.ensures.is ∙ c.in-Word.is;
+    })
     c.need.new.self c.in_ok-out-in-Word.ensures.ok
 
 pub invariant_of-self-in-Busy : goal.invariant_of-self-in-Busy
 invariant_of-self-in-Busy g c =
-    busy_memory g.met.M.Manager.laws _ _ c.config.result c.args.call c.args.number c.in-Word.page c.in-Word.word (record { same = c.self.view_is; sound = c.self.invariant; config = c.config.ensures; idle = no_call _ _ c.self.view_is c.is_some.ensures c.if-is_some.false; legal = c.requires.width; least = c.requires.number; most = omega arith; asks = sym c.asked_of.ensures.is ∙ c.in-Word.is })
-    c.need.new.self c.in_ok-out-in-Word.field-0 c.in_ok-out-in-Word.ensures.ok c.in_ok-out-in-Word.ensures.need c.in-Busy.is
+    busy_memory g.met.M.Manager.laws _ _ c.config.result c.args.call c.args.number c.in-Word.page
+    c.in-Word.word
+    (record {
+      same = c.self.view_is;
+      sound = c.self.invariant;
+      config = c.config.ensures;
+      idle = no_call _ _ c.self.view_is c.is_some.ensures c.if-is_some.false;
+      legal = c.requires.width;
+      least = c.requires.number;
+      most = omega arith;
+      asks = sym c.asked_of.ensures.is ∙ c.in-Word.is;
+    })
+    c.need.new.self c.in_ok-out-in-Word.field-0 c.in_ok-out-in-Word.ensures.ok
+    c.in_ok-out-in-Word.ensures.need c.in-Busy.is
 
 pub returns-in-Busy-clause-ok : goal.returns-in-Busy-clause-ok
 returns-in-Busy-clause-ok g c =
-    busy_is g.met.M.Manager.laws _ _ c.config.result c.args.call c.args.number c.in-Word.page c.in-Word.word (record { same = c.self.view_is; sound = c.self.invariant; config = c.config.ensures; idle = no_call _ _ c.self.view_is c.is_some.ensures c.if-is_some.false; legal = c.requires.width; least = c.requires.number; most = omega arith; asks = sym c.asked_of.ensures.is ∙ c.in-Word.is })
-    c.need.new.self c.in_ok-out-in-Word.field-0 c.in_ok-out-in-Word.ensures.ok c.in_ok-out-in-Word.ensures.need c.in-Busy.is
+    busy_is g.met.M.Manager.laws _ _ c.config.result c.args.call c.args.number c.in-Word.page
+    c.in-Word.word
+    (record {
+      same = c.self.view_is;
+      sound = c.self.invariant;
+      config = c.config.ensures;
+      idle = no_call _ _ c.self.view_is c.is_some.ensures c.if-is_some.false;
+      legal = c.requires.width;
+      least = c.requires.number;
+      most = omega arith;
+      asks = sym c.asked_of.ensures.is ∙ c.in-Word.is;
+    })
+    c.need.new.self c.in_ok-out-in-Word.field-0 c.in_ok-out-in-Word.ensures.ok
+    c.in_ok-out-in-Word.ensures.need c.in-Busy.is
 
 pub returns-in-Busy-clause-posted : goal.returns-in-Busy-clause-posted
 returns-in-Busy-clause-posted g c =
-    c.in_ok-out-in-Word.ensures.posted ∙ ap (λ x. g.P.Post.after c.args.post.now x) (call_posts g.met.M.Manager.laws _ _ c.config.result c.args.call c.args.number c.in-Word.page c.in-Word.word (record { same = c.self.view_is; sound = c.self.invariant; config = c.config.ensures; idle = no_call _ _ c.self.view_is c.is_some.ensures c.if-is_some.false; legal = c.requires.width; least = c.requires.number; most = omega arith; asks = sym c.asked_of.ensures.is ∙ c.in-Word.is }))
+    c.in_ok-out-in-Word.ensures.posted
+    ∙ ap (λ x. g.P.Post.after c.args.post.now x)
+    (call_posts g.met.M.Manager.laws _ _ c.config.result c.args.call c.args.number
+    c.in-Word.page c.in-Word.word
+    (record {
+      same = c.self.view_is;
+      sound = c.self.invariant;
+      config = c.config.ensures;
+      idle = no_call _ _ c.self.view_is c.is_some.ensures c.if-is_some.false;
+      legal = c.requires.width;
+      least = c.requires.number;
+      most = omega arith;
+      asks = sym c.asked_of.ensures.is ∙ c.in-Word.is;
+    }))
 
 pub returns-in_err-out-in-Word-clause-fault : goal.returns-in_err-out-in-Word-clause-fault
 returns-in_err-out-in-Word-clause-fault g c =
-    λ idle. err_refuses c.from_residual.result _ (HasRefused g.P.Post.refuses g.P.Post.after_refusal c.args.post.now c.need.new.post) _ _ _ (call_posts g.met.M.Manager.laws _ _ c.config.result c.args.call c.args.number c.in-Word.page c.in-Word.word (record { same = c.self.view_is; sound = c.self.invariant; config = c.config.ensures; idle = no_call _ _ c.self.view_is c.is_some.ensures c.if-is_some.false; legal = c.requires.width; least = c.requires.number; most = omega arith; asks = sym c.asked_of.ensures.is ∙ c.in-Word.is })) c.from_residual.ensures.1 c.in_err-out-in-Word.ensures.fault
+    λ idle. err_refuses c.from_residual.result _
+    (HasRefused g.P.Post.refuses g.P.Post.after_refusal c.args.post.now c.need.new.post) _ _ _
+    (call_posts g.met.M.Manager.laws _ _ c.config.result c.args.call c.args.number
+    c.in-Word.page c.in-Word.word
+    (record {
+      same = c.self.view_is;
+      sound = c.self.invariant;
+      config = c.config.ensures;
+      idle = no_call _ _ c.self.view_is c.is_some.ensures c.if-is_some.false;
+      legal = c.requires.width;
+      least = c.requires.number;
+      most = omega arith;
+      asks = sym c.asked_of.ensures.is ∙ c.in-Word.is;
+    })) c.from_residual.ensures.1
+    c.in_err-out-in-Word.ensures.fault
 
 pub returns-in_err-out-in-Word-clause-sure : goal.returns-in_err-out-in-Word-clause-sure
 returns-in_err-out-in-Word-clause-sure g c =
-    λ idle. call_asks g.met.M.Manager.laws _ _ c.config.result c.args.call c.args.number c.in-Word.page c.in-Word.word (record { same = c.self.view_is; sound = c.self.invariant; config = c.config.ensures; idle = no_call _ _ c.self.view_is c.is_some.ensures c.if-is_some.false; legal = c.requires.width; least = c.requires.number; most = omega arith; asks = sym c.asked_of.ensures.is ∙ c.in-Word.is }) c.from_residual.result c.in_err-out-in-Word.ensures.sure
+    λ idle. call_asks g.met.M.Manager.laws _ _ c.config.result c.args.call c.args.number
+    c.in-Word.page c.in-Word.word
+    (record {
+      same = c.self.view_is;
+      sound = c.self.invariant;
+      config = c.config.ensures;
+      idle = no_call _ _ c.self.view_is c.is_some.ensures c.if-is_some.false;
+      legal = c.requires.width;
+      least = c.requires.number;
+      most = omega arith;
+      asks = sym c.asked_of.ensures.is ∙ c.in-Word.is;
+    }) c.from_residual.result
+    c.in_err-out-in-Word.ensures.sure
 
 pub returns-then-is_some-clause-few : goal.returns-then-is_some-clause-few
-returns-then-is_some-clause-few g c = few_posted _ _ c.self.view_is c.self.invariant c.args.call c.args.number
+returns-then-is_some-clause-few g c =
+    few_posted _ _ c.self.view_is c.self.invariant c.args.call c.args.number
 
 pub returns-in_err-out-in-Word-clause-few : goal.returns-in_err-out-in-Word-clause-few
-returns-in_err-out-in-Word-clause-few g c = few_posted _ _ c.self.view_is c.self.invariant c.args.call c.args.number
+returns-in_err-out-in-Word-clause-few g c =
+    few_posted _ _ c.self.view_is c.self.invariant c.args.call c.args.number
 
 pub returns-in-Some-clause-few : goal.returns-in-Some-clause-few
-returns-in-Some-clause-few g c = few_posted _ _ c.self.view_is c.self.invariant c.args.call c.args.number
+returns-in-Some-clause-few g c =
+    few_posted _ _ c.self.view_is c.self.invariant c.args.call c.args.number
 
 pub returns-in-None-clause-few : goal.returns-in-None-clause-few
-returns-in-None-clause-few g c = few_posted _ _ c.self.view_is c.self.invariant c.args.call c.args.number
+returns-in-None-clause-few g c =
+    few_posted _ _ c.self.view_is c.self.invariant c.args.call c.args.number
 
 pub returns-in-Started-clause-few : goal.returns-in-Started-clause-few
-returns-in-Started-clause-few g c = few_posted _ _ c.self.view_is c.self.invariant c.args.call c.args.number
+returns-in-Started-clause-few g c =
+    few_posted _ _ c.self.view_is c.self.invariant c.args.call c.args.number
 
 pub invariant_of-self-in_default : goal.invariant_of-self-in_default
 invariant_of-self-in_default g c =
-    heap_memory g.met.M.Manager.laws _ _ c.config.result c.args.call c.args.number c.in-Heap.of_heap c.me.result
-    (record { same = c.self.view_is; sound = c.self.invariant; config = c.config.ensures; idle = no_call _ _ c.self.view_is c.is_some.ensures c.if-is_some.false; legal = c.requires.width; least = c.requires.number; most = omega arith; asks = sym c.asked_of.ensures.is ∙ c.in-Heap.is; me = c.me.ensures })
-    c.in_ok-answer-in-Heap.answer c.begin.new.self c.self.inside.asked c.self.inside.number c.in_ok-answer-in-Heap.ensures.reply c.in_ok-answer-in-Heap.ensures.ok (search rules) (search rules)
+    heap_memory g.met.M.Manager.laws _ _ c.config.result c.args.call c.args.number c.in-Heap.of_heap
+    c.me.result
+    (record {
+      same = c.self.view_is;
+      sound = c.self.invariant;
+      config = c.config.ensures;
+      idle = no_call _ _ c.self.view_is c.is_some.ensures c.if-is_some.false;
+      legal = c.requires.width;
+      least = c.requires.number;
+      most = omega arith;
+      asks = sym c.asked_of.ensures.is ∙ c.in-Heap.is;
+      me = c.me.ensures;
+    })
+    c.in_ok-answer-in-Heap.answer c.begin.new.self c.self.inside.asked c.self.inside.number
+    c.in_ok-answer-in-Heap.ensures.reply c.in_ok-answer-in-Heap.ensures.ok (search rules)
+    (search rules)
 
 pub returns-in-Busy-clause-begins : goal.returns-in-Busy-clause-begins
 returns-in-Busy-clause-begins g c =
-    absurd (not_busy g.met.M.Manager.laws _ _ c.config.result c.args.call c.args.number c.in-Word.page c.in-Word.word (record { same = c.self.view_is; sound = c.self.invariant; config = c.config.ensures; idle = no_call _ _ c.self.view_is c.is_some.ensures c.if-is_some.false; legal = c.requires.width; least = c.requires.number; most = omega arith; asks = sym c.asked_of.ensures.is ∙ c.in-Word.is })
+    absurd (not_busy g.met.M.Manager.laws _ _ c.config.result c.args.call c.args.number
+    c.in-Word.page c.in-Word.word
+    (record {
+      same = c.self.view_is;
+      sound = c.self.invariant;
+      config = c.config.ensures;
+      idle = no_call _ _ c.self.view_is c.is_some.ensures c.if-is_some.false;
+      legal = c.requires.width;
+      least = c.requires.number;
+      most = omega arith;
+      asks = sym c.asked_of.ensures.is ∙ c.in-Word.is;
+    })
     c.in_ok-out-in-Word.field-0 c.in_ok-out-in-Word.ensures.need c.in-Busy.is)

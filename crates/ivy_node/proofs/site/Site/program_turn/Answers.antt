@@ -6,40 +6,68 @@ use Rattle.ivy_node.proofs.site.Site.program_turn.Goals as goal
 
 pub returns-in-Ended-clause-done : goal.returns-in-Ended-clause-done
 returns-in-Ended-clause-done g c =
-    ended_turn _ _ c.self.view_is c.in_ok-next.field-0 c.next.new.self c.reserve.new.self.items _ (sym c.asked.ensures ∙ c.in_default.is) c.in_ok-next.ensures.step c.in-Ended.is c.in_ok-reserve.ensures.items c.in_ok-reserve-2.ensures.same
+    ended_turn _ _ c.self.view_is c.in_ok-next.field-0 c.next.new.self c.reserve.new.self.items _
+    (sym c.asked.ensures ∙ c.in_default.is) c.in_ok-next.ensures.step c.in-Ended.is
+    c.in_ok-reserve.ensures.items c.in_ok-reserve-2.ensures.same
 
 pub returns-in-Local-clause-done : goal.returns-in-Local-clause-done
 returns-in-Local-clause-done g c =
-    local_turn _ _ c.self.view_is c.in_ok-next.field-0 c.next.new.self c.reserve.new.self.items _ (sym c.asked.ensures ∙ c.in_default.is) c.in_ok-next.ensures.step c.in-Local.is c.in_ok-reserve.ensures.items
+    local_turn _ _ c.self.view_is c.in_ok-next.field-0 c.next.new.self c.reserve.new.self.items _
+    (sym c.asked.ensures ∙ c.in_default.is) c.in_ok-next.ensures.step c.in-Local.is
+    c.in_ok-reserve.ensures.items
     (c.push_turn-in-Local.ensures ∙ ap (λ ms. ms ++ Turn ∷ []) c.in_ok-reserve-2.ensures.same)
 
 pub returns-in_err-began-in-Call-clause-spent : goal.returns-in_err-began-in-Call-clause-spent
 returns-in_err-began-in-Call-clause-spent g c =
-    err_there c.from_residual-in_err-began-in-Call.result _ _ c.from_residual-in_err-began-in-Call.ensures.1
+    err_there c.from_residual-in_err-began-in-Call.result _ _
+    c.from_residual-in_err-began-in-Call.ensures.1
     (spent_turn _ _ c.self.view_is c.next.new.self c.reserve.new.self.items _
-    (record { process = makes_call _ c.in-Call.call c.in_ok-next.field-0 c.next.new.self c.in_ok-next.ensures.step c.in-Call.is; history = c.in_ok-reserve.ensures.items })
+    (record {
+      process =
+          makes_call _ c.in-Call.call c.in_ok-next.field-0 c.next.new.self c.in_ok-next.ensures.step
+          c.in-Call.is;
+      history = c.in_ok-reserve.ensures.items;
+    })
     c.in_err-began-in-Call.ensures.spent)
 
 pub returns-then-not-began-clause-done : goal.returns-then-not-began-clause-done
 returns-then-not-began-clause-done g c =
     idle_turn _ _ c.self.view_is c.next.new.self c.reserve.new.self.items _ c.begin.new.outbox _
     (record {
-      rests = (record { process = makes_call _ c.in-Call.call c.in_ok-next.field-0 c.next.new.self c.in_ok-next.ensures.step c.in-Call.is; history = c.in_ok-reserve.ensures.items });
-      after = not_turned c.in_ok-began-in-Call.began (search rules) _ _ _ _ c.in_ok-began-in-Call.ensures.ok;
+      rests = (record {
+        process =
+            makes_call _ c.in-Call.call c.in_ok-next.field-0 c.next.new.self c.in_ok-next.ensures.step
+            c.in-Call.is;
+        history = c.in_ok-reserve.ensures.items;
+      });
+      after = not_turned c.in_ok-began-in-Call.began (search rules) _ _ _ _
+          c.in_ok-began-in-Call.ensures.ok;
     })
     c.in_ok-reserve-2.ensures.same
 
 pub invariant_of-self-in-Call : goal.invariant_of-self-in-Call
 invariant_of-self-in-Call g c =
     called_site _ c.next.new.self c.reserve.new.self.items _ c.begin.new.outbox _ _ c.self.invariant
-    (record { process = makes_call _ c.in-Call.call c.in_ok-next.field-0 c.next.new.self c.in_ok-next.ensures.step c.in-Call.is; history = c.in_ok-reserve.ensures.items })
-    (has_turned c.in_ok-began-in-Call.began (search rules) _ _ _ _ c.in_ok-began-in-Call.ensures.ok) c.in_ok-reserve-2.ensures.same c.push_turn-in-Call.ensures
+    (record {
+      process =
+          makes_call _ c.in-Call.call c.in_ok-next.field-0 c.next.new.self c.in_ok-next.ensures.step
+          c.in-Call.is;
+      history = c.in_ok-reserve.ensures.items;
+    })
+    (has_turned c.in_ok-began-in-Call.began (search rules) _ _ _ _ c.in_ok-began-in-Call.ensures.ok)
+    c.in_ok-reserve-2.ensures.same c.push_turn-in-Call.ensures
 
 pub returns-else-not-began-clause-done : goal.returns-else-not-began-clause-done
 returns-else-not-began-clause-done g c =
     called_turn _ _ c.self.view_is c.next.new.self c.reserve.new.self.items _ c.begin.new.outbox _ _
-    (record { process = makes_call _ c.in-Call.call c.in_ok-next.field-0 c.next.new.self c.in_ok-next.ensures.step c.in-Call.is; history = c.in_ok-reserve.ensures.items })
-    (has_turned c.in_ok-began-in-Call.began (search rules) _ _ _ _ c.in_ok-began-in-Call.ensures.ok) c.in_ok-reserve-2.ensures.same c.push_turn-in-Call.ensures
+    (record {
+      process =
+          makes_call _ c.in-Call.call c.in_ok-next.field-0 c.next.new.self c.in_ok-next.ensures.step
+          c.in-Call.is;
+      history = c.in_ok-reserve.ensures.items;
+    })
+    (has_turned c.in_ok-began-in-Call.began (search rules) _ _ _ _ c.in_ok-began-in-Call.ensures.ok)
+    c.in_ok-reserve-2.ensures.same c.push_turn-in-Call.ensures
 
 pub returns-in_err-changed-clause-spent : goal.returns-in_err-changed-clause-spent
 returns-in_err-changed-clause-spent g c =
@@ -50,7 +78,8 @@ returns-in_err-changed-clause-spent g c =
 
 pub returns-then-not-changed-clause-done : goal.returns-then-not-changed-clause-done
 returns-then-not-changed-clause-done g c =
-    idle_turn _ _ c.self.view_is c.self.inside.machine c.reserve.new.self.items _ c.poll.new.outbox _
+    idle_turn _ _ c.self.view_is c.self.inside.machine c.reserve.new.self.items _ c.poll.new.outbox
+    _
     (record {
       rests = (record { process = refl; history = c.in_ok-reserve.ensures.items });
       after = not_turned c.in_ok-changed.changed (search rules) _ _ _ _ c.in_ok-changed.ensures.ok;
@@ -59,17 +88,23 @@ returns-then-not-changed-clause-done g c =
 
 pub invariant_of-self-in-Some : goal.invariant_of-self-in-Some
 invariant_of-self-in-Some g c =
-    called_site _ c.self.inside.machine c.reserve.new.self.items _ c.poll.new.outbox _ _ c.self.invariant
+    called_site _ c.self.inside.machine c.reserve.new.self.items _ c.poll.new.outbox _ _
+    c.self.invariant
     (record { process = refl; history = c.in_ok-reserve.ensures.items })
-    (has_turned c.in_ok-changed.changed (search rules) _ _ _ _ c.in_ok-changed.ensures.ok) c.in_ok-reserve-2.ensures.same c.push_turn.ensures
+    (has_turned c.in_ok-changed.changed (search rules) _ _ _ _ c.in_ok-changed.ensures.ok)
+    c.in_ok-reserve-2.ensures.same c.push_turn.ensures
 
 pub returns-in-Some-clause-done : goal.returns-in-Some-clause-done
 returns-in-Some-clause-done g c =
-    called_turn _ _ c.self.view_is c.self.inside.machine c.reserve.new.self.items _ c.poll.new.outbox _ _
+    called_turn _ _ c.self.view_is c.self.inside.machine c.reserve.new.self.items _
+    c.poll.new.outbox _ _
     (record { process = refl; history = c.in_ok-reserve.ensures.items })
-    (has_turned c.in_ok-changed.changed (search rules) _ _ _ _ c.in_ok-changed.ensures.ok) c.in_ok-reserve-2.ensures.same c.push_turn.ensures
+    (has_turned c.in_ok-changed.changed (search rules) _ _ _ _ c.in_ok-changed.ensures.ok)
+    c.in_ok-reserve-2.ensures.same c.push_turn.ensures
 
 pub invariant_of-self-in-Local : goal.invariant_of-self-in-Local
 invariant_of-self-in-Local g c =
-    local_site _ c.in_ok-next.field-0 c.next.new.self c.reserve.new.self.items _ c.self.invariant (sym c.asked.ensures ∙ c.in_default.is) c.in_ok-next.ensures.step c.in-Local.is c.in_ok-reserve.ensures.items
+    local_site _ c.in_ok-next.field-0 c.next.new.self c.reserve.new.self.items _ c.self.invariant
+    (sym c.asked.ensures ∙ c.in_default.is) c.in_ok-next.ensures.step c.in-Local.is
+    c.in_ok-reserve.ensures.items
     (c.push_turn-in-Local.ensures ∙ ap (λ ms. ms ++ Turn ∷ []) c.in_ok-reserve-2.ensures.same)

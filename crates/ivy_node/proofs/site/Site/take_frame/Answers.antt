@@ -6,4 +6,5 @@ invariant_of-self g c = take_site _ c.take.result c.take.new.self c.self.invaria
 
 pub returns-clause-sent : goal.returns-clause-sent
 returns-clause-sent g c =
-    take_sent c.args.self.now _ c.self.view_is c.take.result c.take.new.self c.self.invariant c.take.ensures
+    take_sent c.args.self.now _ c.self.view_is c.take.result c.take.new.self c.self.invariant
+    c.take.ensures

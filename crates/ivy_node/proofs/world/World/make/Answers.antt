@@ -4,24 +4,33 @@ use Rattle.ivy_node.proofs.Worlds.{running_spelled, runs_on}
 use Rattle.ivy_node.proofs.world.World.make.Goals as goal
 
 -- the fault that a result has
-err_is : {A E : Type 0} (r : Result A E) (e x : E) → IsErrAnd r (λ y. y ≡ e) → ◌≡◌ {A = Result A E} (Err e) (Err x) → r ≡ Err x
+err_is : {A E : Type 0} (r : Result A E) (e x : E) → IsErrAnd r (λ y. y ≡ e)
+    → ◌≡◌ {A = Result A E} (Err e) (Err x) → r ≡ Err x
 err_is (Ok a) e x h k = absurd h
 err_is (Err y) e x h k = ap Err h ∙ k
 
 pub make-requires-clause-spelled : goal.make-requires-clause-spelled
-make-requires-clause-spelled g c = running_spelled c.self.inside.config c.self.inside.sites.items c.self.inside.sent.items c.self.invariant
+make-requires-clause-spelled g c =
+    running_spelled c.self.inside.config c.self.inside.sites.items c.self.inside.sent.items
+    c.self.invariant
 
 pub returns-in_err-make-clause-cause : goal.returns-in_err-make-clause-cause
 returns-in_err-make-clause-cause g c =
-    rw (← c.self.view_is) (err_there c.from_residual.result _ _ c.from_residual.ensures.1 c.in_err-make.ensures.cause)
+    rw (← c.self.view_is)
+    (err_there c.from_residual.result _ _ c.from_residual.ensures.1 c.in_err-make.ensures.cause)
 
 pub returns-in_err-make-clause-named : goal.returns-in_err-make-clause-named
 returns-in_err-make-clause-named g c =
-    rw (← c.self.view_is) (λ n. err_is c.from_residual.result _ _ c.from_residual.ensures.1 (c.in_err-make.ensures.named n))
+    rw (← c.self.view_is)
+    (λ n. err_is c.from_residual.result _ _ c.from_residual.ensures.1
+    (c.in_err-make.ensures.named n))
 
 pub invariant_of-self-2 : goal.invariant_of-self-2
 invariant_of-self-2 g c =
-    runs_on c.self.inside.config c.self.inside.sites.items c.make.new.sites.items c.self.inside.sent.items c.make.new.sent.items c.args.step c.self.invariant c.in_ok-make.ensures.sites c.in_ok-make.ensures.each c.in_ok-make.ensures.programs c.in_ok-make.ensures.ok
+    runs_on c.self.inside.config c.self.inside.sites.items c.make.new.sites.items
+    c.self.inside.sent.items c.make.new.sent.items c.args.step c.self.invariant
+    c.in_ok-make.ensures.sites c.in_ok-make.ensures.each c.in_ok-make.ensures.programs
+    c.in_ok-make.ensures.ok
 
 pub returns-clause-named : goal.returns-clause-named
 returns-clause-named g c = rw (← c.self.view_is) c.in_ok-make.ensures.named

@@ -11,12 +11,22 @@ use Rattle.ivy_node.proofs.world.World.make_each.Goals as goal
 
 pub loop-place-preserved : goal.loop-place-preserved
 loop-place-preserved g c =
-    let made = subst (λ x. Moves (host_rules managed_ops) x c.loop-place.self.world (get_or c.args.moves.now c.loop-place.place (Turn 0)) c.make.new.self.world) c.loop-place.invariant.config c.in_default.ensures.ok in record {
+    let made =
+    subst (λ x. Moves (host_rules managed_ops) x c.loop-place.self.world
+    (get_or c.args.moves.now c.loop-place.place (Turn 0)) c.make.new.self.world)
+    c.loop-place.invariant.config c.in_default.ensures.ok in record {
       config = search rules;
       programs = search rules;
-      led = rw (take_more c.args.moves.now c.loop-place.place (Turn 0) c.loop-place-test.true) (leads_one (host_rules managed_ops) c.args.self.now.config _ _ _ _ _ c.loop-place.invariant.led made);
+      led = rw (take_more c.args.moves.now c.loop-place.place (Turn 0) c.loop-place-test.true)
+          (leads_one (host_rules managed_ops) c.args.self.now.config _ _ _ _ _
+          c.loop-place.invariant.led made);
     }
 
 pub returns-in-Err-clause-named : goal.returns-in-Err-clause-named
 returns-in-Err-clause-named g c =
-    rw c.in-Err.ensures.err (named_exactly c.loop-place.self.config c.loop-place.self.world c.in-Err.fault (slice_get c.args.moves.now c.loop-place.place) (get_or c.args.moves.now c.loop-place.place (Turn 0)) (slice_get-get_or c.args.moves.now c.loop-place.place (Turn 0) c.loop-place-test.true) c.in-Err.ensures.cause c.in-Err.ensures.named)
+    rw c.in-Err.ensures.err
+    (named_exactly c.loop-place.self.config c.loop-place.self.world c.in-Err.fault
+    (slice_get c.args.moves.now c.loop-place.place)
+    (get_or c.args.moves.now c.loop-place.place (Turn 0))
+    (slice_get-get_or c.args.moves.now c.loop-place.place (Turn 0) c.loop-place-test.true)
+    c.in-Err.ensures.cause c.in-Err.ensures.named)

@@ -7,7 +7,15 @@ use Rattle.ivy_pagetable.proofs.node_set.NodeSet.nodes.Goals as goal
 use Rattle.ivy_pagetable.proofs.node_set.NodeSet.nodes.Goals.{then-has, else-has}
 
 pub push-requires : goal.push-requires
-push-requires c = (omega arith, omega (arith, c.loop-node.invariant, ap length c.loop-node.invariant, passing_few (set.contains c.args.self.now) c.loop-node.node))
+push-requires c = (
+  omega arith,
+  omega (
+    arith,
+    c.loop-node.invariant,
+    ap length c.loop-node.invariant,
+    passing_few (set.contains c.args.self.now) c.loop-node.node,
+  ),
+)
 
 pub loop-node-preserved : goal.loop-node-preserved
 loop-node-preserved c =
@@ -16,13 +24,18 @@ loop-node-preserved c =
     elim c.if-has.branch [
       | then-has w ↦ ap (λ v. v.items) w.nodes-is ∙ w.push.ensures.items
           ∙ (λ i. c.loop-node.invariant i ++ c.loop-node.node ∷ [])
-          ∙ sym (passing_more has c.loop-node.node ∙ ap (λ b. passing has c.loop-node.node ++ cond b (c.loop-node.node ∷ []) []) (sym is ∙ w.if-has.true))
+          ∙ sym (passing_more has c.loop-node.node
+          ∙ ap (λ b. passing has c.loop-node.node ++ cond b (c.loop-node.node ∷ []) [])
+          (sym is ∙ w.if-has.true))
       | else-has w ↦ ap (λ v. v.items) w.nodes-is ∙ c.loop-node.invariant
-          ∙ sym (passing_more has c.loop-node.node ∙ ap (λ b. passing has c.loop-node.node ++ cond b (c.loop-node.node ∷ []) []) (sym is ∙ w.if-has.false) ∙ append-nil _)
+          ∙ sym (passing_more has c.loop-node.node
+          ∙ ap (λ b. passing has c.loop-node.node ++ cond b (c.loop-node.node ∷ []) [])
+          (sym is ∙ w.if-has.false) ∙ append-nil _)
     ]
 
 pub returns : goal.returns
 returns c =
     let low = subst (IsBelow 8) c.self.view_is (with_below 8 c.self.inside.bits c.self.invariant) in
     let all : c.loop-node.node ≡ 8 = omega arith in
-    c.loop-node.invariant ∙ ap (passing (set.contains c.args.self.now)) all ∙ nodes_below c.args.self.now low
+    c.loop-node.invariant ∙ ap (passing (set.contains c.args.self.now)) all
+    ∙ nodes_below c.args.self.now low

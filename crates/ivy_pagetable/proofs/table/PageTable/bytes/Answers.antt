@@ -5,5 +5,6 @@ use Rattle.ivy_pagetable.proofs.table.PageTable.bytes.Goals as goal
 
 pub returns : goal.returns
 returns g c =
-    c.deref.ensures.value ∙ sym (pages_joined c.self.inside.page_size _ c.self.inside.region.items c.self.invariant)
+    c.deref.ensures.value
+    ∙ sym (pages_joined c.self.inside.page_size _ c.self.inside.region.items c.self.invariant)
     ∙ ap (λ t. concat t.pages) c.self.view_is

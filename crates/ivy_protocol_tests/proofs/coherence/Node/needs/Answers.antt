@@ -8,5 +8,6 @@ invariant_of-self-2 c =
     let same = begun-same fixed_ops c.self.inside.coherence c.args.page c.args.word c.args.call in (
       ap (λ x. x.config) c.in_ok-need.ensures.ok ∙ same.config ∙ c.self.invariant.0,
       ap (λ p. p.0) c.in_ok-need.ensures.posted ∙ c.self.invariant.1,
-      ap (λ p. p.1) c.in_ok-need.ensures.posted ∙ c.self.invariant.2 ∙ sym same.me ∙ sym (ap (λ x. x.me) c.in_ok-need.ensures.ok),
+      ap (λ p. p.1) c.in_ok-need.ensures.posted ∙ c.self.invariant.2 ∙ sym same.me
+          ∙ sym (ap (λ x. x.me) c.in_ok-need.ensures.ok),
     )

@@ -11,11 +11,13 @@ invariant_of-self g c =
       | in-Ok w ↦ (
         ap (λ x. x.coherence.config) w.in-Ok.ensures.ok ∙ same.config ∙ c.self.invariant.0,
         ap (λ p. p.0) w.in-Ok.ensures.posted ∙ c.self.invariant.1,
-        ap (λ p. p.1) w.in-Ok.ensures.posted ∙ c.self.invariant.2 ∙ sym same.me ∙ sym (ap (λ x. x.coherence.me) w.in-Ok.ensures.ok),
+        ap (λ p. p.1) w.in-Ok.ensures.posted ∙ c.self.invariant.2 ∙ sym same.me
+            ∙ sym (ap (λ x. x.coherence.me) w.in-Ok.ensures.ok),
       )
       | in-Err w ↦ (
         ap (λ x. x.coherence.config) w.in-Err.ensures.err ∙ c.self.invariant.0,
         ap (λ p. p.0) w.in-Err.ensures.fault.1 ∙ c.self.invariant.1,
-        ap (λ p. p.1) w.in-Err.ensures.fault.1 ∙ c.self.invariant.2 ∙ sym (ap (λ x. x.coherence.me) w.in-Err.ensures.err),
+        ap (λ p. p.1) w.in-Err.ensures.fault.1 ∙ c.self.invariant.2
+            ∙ sym (ap (λ x. x.coherence.me) w.in-Err.ensures.err),
       )
     ]

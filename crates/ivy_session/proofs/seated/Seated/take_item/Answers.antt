@@ -12,5 +12,6 @@ returns-clause-took g c =
 
 pub invariant_of-self : goal.invariant_of-self
 invariant_of-self g c =
-    take_seated g.S.Setup.config g.S.Setup.programs _ c.take.result c.self.inside.site c.self.inside.pass c.take.new.pass _
+    take_seated g.S.Setup.config g.S.Setup.programs _ c.take.result c.self.inside.site
+    c.self.inside.pass c.take.new.pass _
     c.event_list.ensures.is c.take.ensures.pass c.take.ensures.known c.self.invariant
