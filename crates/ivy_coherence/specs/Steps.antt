@@ -140,7 +140,8 @@ module _ {S : Type 0} (ops : Ops S) where
 
   -- the page itself comes with the nodes that have a copy: they give it up before the word is
   -- carried out
-  abbrev pub owned_with : Coherent S → ℕ → ℕ → ℕ → Nodes → List ℕ → WaitingState → CoherenceEffect S
+  abbrev pub owned_with : Coherent S → ℕ → ℕ → ℕ → Nodes → List ℕ → WaitingState
+      → CoherenceEffect S
   owned_with c from call page copies bytes s =
       if is_none copies
       then unlocked c from page owning (Some true) bytes s
