@@ -10,24 +10,24 @@ use Rattle.ivy_events.specs.Worlds.{World}
 use Rattle.ivy_events.proofs.GoingOn.{parts_go_on}
 use Rattle.ivy_events.proofs.Parts.{runs_are_their_parts}
 use Rattle.ivy_events.proofs.Splitting.{IsSplit, all-split, same-effect, part-sent}
-use Rattle.ivy_ether.specs.Going.{GoesOn, Sends, AreFurther, ListsGoOn}
+use Rattle.ivy_ether.specs.Going.{ListGoesOn, Sends, AreFurther, ListsGoOn}
 
 module _ {C : Type 0} (rules : Core C) (c : Config) (opening : World C) where
   -- the events that a list goes on by
   abbrev more_by : (i : ℕ) (old new : List Mark) (strings : List (List ℕ))
-      → GoesOn rules c opening i old strings new ⊎ (new ≡ old) → List Mark
+      → ListGoesOn rules c opening i old strings new ⊎ (new ≡ old) → List Mark
   more_by i old new strings (inl on) = on.more
   more_by i old new strings (inr same) = []
 
   whole : (i : ℕ) (old new : List Mark) (strings : List (List ℕ))
-      (on : GoesOn rules c opening i old strings new ⊎ (new ≡ old))
+      (on : ListGoesOn rules c opening i old strings new ⊎ (new ≡ old))
       → old ++ more_by i old new strings on ≡ new
   whole i old new strings (inl on) = sym on.is
   whole i old new strings (inr same) = append-nil old ∙ sym same
 
   -- a node of the run goes on by them
   further : (end : World C) (parts : ℕ → List Mark) (i : ℕ) (new : List Mark)
-      (on : GoesOn rules c opening i (parts i) end.sent new ⊎ (new ≡ parts i)) (n : Node C)
+      (on : ListGoesOn rules c opening i (parts i) end.sent new ⊎ (new ≡ parts i)) (n : Node C)
       → AreParts rules c opening parts end → slice_get end.nodes i ≡ Some n
       → (e : Effect C) × AllHappen rules c n (more_by i (parts i) new end.sent on) e
   further end parts i new (inr same) n run there = (stays n, refl)
@@ -44,7 +44,7 @@ module _ {C : Type 0} (rules : Core C) (c : Config) (opening : World C) where
       (split.rest, subst (λ x. AllHappen rules c x on.more split.rest) node split.go_on)
 
   can_further : (end : World C) (parts : ℕ → List Mark) (i : ℕ) (new : List Mark)
-      (on : GoesOn rules c opening i (parts i) end.sent new ⊎ (new ≡ parts i))
+      (on : ListGoesOn rules c opening i (parts i) end.sent new ⊎ (new ≡ parts i))
       → length end.nodes ≡ length opening.nodes
       → AllCanBeMade end.sent (length end.nodes) i (more_by i (parts i) new end.sent on)
   can_further end parts i new (inr same) count = tt
@@ -52,7 +52,7 @@ module _ {C : Type 0} (rules : Core C) (c : Config) (opening : World C) where
       subst (λ k. AllCanBeMade end.sent k i on.more) (sym count) on.can
 
   none_further : (end : World C) (parts : ℕ → List Mark) (i : ℕ) (new : List Mark)
-      (on : GoesOn rules c opening i (parts i) end.sent new ⊎ (new ≡ parts i))
+      (on : ListGoesOn rules c opening i (parts i) end.sent new ⊎ (new ≡ parts i))
       → length end.nodes ≡ length opening.nodes → length end.nodes ≤ i
       → more_by i (parts i) new end.sent on ≡ []
   none_further end parts i new (inr same) count past = refl

@@ -20,9 +20,9 @@ use Rattle.ivy_events.proofs.Splitting.{none-in, can-more}
 use Rattle.ivy_ether.specs.Data.{Item}
 use Rattle.ivy_ether.specs.declared.item.Item.TheVariants.{Seat, Frame, Report}
 use Rattle.ivy_ether.specs.Views.{View, newcomer, beginner, with_events, with_taken, with_report, with_issued, with_seat, with_told}
-use Rattle.ivy_ether.specs.Items.{strings_in, after_seat, after_told}
-use Rattle.ivy_ether.specs.Going.{GoesOn, Sends, AreFurther}
-use Rattle.ivy_ether.specs.Rule.{total, one_if, is_number, sits, seat_in, times, Reported, Fits, FitsItem, IsKept, Kept, MayGive, SendsFrom, Told}
+use Rattle.ivy_ether.specs.Items.{strings_in, after_seat, view_after_told}
+use Rattle.ivy_ether.specs.Going.{ListGoesOn, Sends, AreFurther}
+use Rattle.ivy_ether.specs.Rule.{total, one_if, is_number, sits, seat_in, times, Reported, FitsRun, FitsItem, RuleHolds, RuleKept, RuleAllows, ListSends, RuleTold}
 use Rattle.ivy_ether.proofs.Further.{lists_go_on}
 use Rattle.ivy_ether.proofs.Totals.{total_set, total-append, total_one, total_two, in_list}
 
@@ -119,13 +119,13 @@ module _ {C : Type 0} (rules : Core C) (c : Config) (opening : World C) where
     fresh : (j : ℕ) → total (sits j) (set views p w) ≡ 0 → parts j ≡ []
     stays : (j : ℕ) (l : List Mark) → Reported views j l → Reported (set views p w) j l
     fits : (q : ℕ) (u : View) → get_elem? (set views p w) q ≡ some u
-        → Fits rules c opening starter issued parts end (set views p w) q u
+        → FitsRun rules c opening starter issued parts end (set views p w) q u
 
   advance : (items : List Item) (views : List View) (starter : ℕ) (issued : List ℕ)
       (parts : ℕ → List Mark) (end : World C) (p : ℕ) (v : View) (es : List Mark)
       (took : List (List ℕ)) (rep : Bool)
-      (k : IsKept rules c opening items views starter issued parts end)
-      (at : get_elem? views p ≡ some v) (may : MayGive rules c opening v es)
+      (k : RuleHolds rules c opening items views starter issued parts end)
+      (at : get_elem? views p ≡ some v) (may : RuleAllows rules c opening v es)
       → ((s : List ℕ) → Contains took s → Contains end.sent s)
       → Advanced views starter issued end p (gave v es took rep) may.node es
   advance items views starter issued parts end p v es took rep k at may took_sent = record {
@@ -139,7 +139,7 @@ module _ {C : Type 0} (rules : Core C) (c : Config) (opening : World C) where
     fresh = λ j none. list_else parts i j es (apart_from j none)
         ∙ k.fresh j (sym (seats_ j) ∙ none);
     stays = stays_;
-    fits = fits_set (λ q u. Fits rules c opening starter issued parts_ law.0 views' q u) views p w
+    fits = fits_set (λ q u. FitsRun rules c opening starter issued parts_ law.0 views' q u) views p w
         (λ q u n e. let f = k.fits q u e in record {
           starts = f.starts;
           sitting = λ j node. (
@@ -171,16 +171,16 @@ module _ {C : Type 0} (rules : Core C) (c : Config) (opening : World C) where
       parts_ : ℕ → List Mark
       parts_ = with_list parts i es
 
-      mine : Fits rules c opening starter issued parts end views p v
+      mine : FitsRun rules c opening starter issued parts end views p v
       mine = k.fits p v at
 
       sit : (i < length opening.nodes) × (parts i ≡ v.events)
       sit = mine.sitting i may.sits
 
-      on : GoesOn rules c opening i v.events v.took es
+      on : ListGoesOn rules c opening i v.events v.took es
       on = may.goes_on
 
-      goes : GoesOn rules c opening i (parts i) end.sent es
+      goes : ListGoesOn rules c opening i (parts i) end.sent es
       goes = record {
         more = on.more;
         is = on.is ∙ ap (λ l. l ++ on.more) (sym sit.1);
@@ -189,10 +189,10 @@ module _ {C : Type 0} (rules : Core C) (c : Config) (opening : World C) where
         can = can-more v.took end.sent (length opening.nodes) i on.more mine.took on.can;
       }
 
-      each : (j : ℕ) → GoesOn rules c opening j (parts j) end.sent (parts_ j) ⊎ (parts_ j ≡ parts j)
+      each : (j : ℕ) → ListGoesOn rules c opening j (parts j) end.sent (parts_ j) ⊎ (parts_ j ≡ parts j)
       each j = elim (cases_eq i j) [
-        | inl same ↦ inl (subst (λ x. GoesOn rules c opening x (parts x) end.sent (parts_ x)) same
-            (subst (λ l. GoesOn rules c opening i (parts i) end.sent l)
+        | inl same ↦ inl (subst (λ x. ListGoesOn rules c opening x (parts x) end.sent (parts_ x)) same
+            (subst (λ l. ListGoesOn rules c opening i (parts i) end.sent l)
             (sym (list_here parts i i es refl)) goes))
         | inr apart ↦ inr (list_else parts i j es apart)
       ]
@@ -227,8 +227,8 @@ module _ {C : Type 0} (rules : Core C) (c : Config) (opening : World C) where
 
   -- a frame that the events send, or that the pass took, joins
   pub puts : (n p : ℕ) (v : View) (b : List ℕ) (es : List Mark)
-      → MayGive rules c opening v es → SendsFrom rules c opening v es b ⊎ Contains v.took b
-      → Pushes (Kept rules c opening) n p v (Frame b) (λ w. w ≡ with_events v es)
+      → RuleAllows rules c opening v es → ListSends rules c opening v es b ⊎ Contains v.took b
+      → Pushes (RuleKept rules c opening) n p v (Frame b) (λ w. w ≡ with_events v es)
   puts n p v b es may from items views room k at =
       let kept = k.4 in
       let mine = kept.fits p v at in
@@ -273,8 +273,8 @@ module _ {C : Type 0} (rules : Core C) (c : Config) (opening : World C) where
   string_sent end views (Report i es) h s contained = absurd (none-in s contained)
 
   -- an item leaves
-  pub takes : (p : ℕ) (v : View) (es : List Mark) → MayGive rules c opening v es
-      → Pops (Kept rules c opening) p v (λ x w. w ≡ with_taken v es (strings_in x))
+  pub takes : (p : ℕ) (v : View) (es : List Mark) → RuleAllows rules c opening v es
+      → Pops (RuleKept rules c opening) p v (λ x w. w ≡ with_taken v es (strings_in x))
   takes p v es may x items views k at =
       let kept = k.4 in
       let mine = kept.fits p v at in
@@ -307,9 +307,9 @@ module _ {C : Type 0} (rules : Core C) (c : Config) (opening : World C) where
 
   -- a report joins
   pub reports : (n p : ℕ) (v : View) (i : ℕ) (es : Listed)
-      (may : MayGive rules c opening v es.marks)
+      (may : RuleAllows rules c opening v es.marks)
       → i ≡ may.node
-      → Pushes (Kept rules c opening) n p v (Report i es) (λ w. w ≡ with_report v es.marks)
+      → Pushes (RuleKept rules c opening) n p v (Report i es) (λ w. w ≡ with_report v es.marks)
   reports n p v i es may is items views room k at =
       let kept = k.4 in
       let mine = kept.fits p v at in
@@ -349,7 +349,7 @@ module _ {C : Type 0} (rules : Core C) (c : Config) (opening : World C) where
   -- a seat is issued
   pub issues : (n p : ℕ) (v : View) (i : ℕ) → v.starts ≡ true → i < length opening.nodes
       → times i v.issued ≡ 0
-      → Pushes (Kept rules c opening) n p v (Seat i) (λ w. w ≡ with_issued v i)
+      → Pushes (RuleKept rules c opening) n p v (Seat i) (λ w. w ≡ with_issued v i)
   issues n p v i starts within new items views room k at =
       let kept = k.4 in
       let mine = kept.fits p v at in
@@ -382,7 +382,7 @@ module _ {C : Type 0} (rules : Core C) (c : Config) (opening : World C) where
               | inr d ↦ let b : one_if (i == j) ≡ 0 = ap one_if (ne_eqb i j d) in omega arith
             ];
             fresh = λ j z. kept.fresh j (sym (same j) ∙ z);
-            fits = fits_set (λ q u. Fits rules c opening k.0 issued' k.2 k.3 views' q u) views p w
+            fits = fits_set (λ q u. FitsRun rules c opening k.0 issued' k.2 k.3 views' q u) views p w
                 (λ q u n e. let f = kept.fits q u e in record {
                   starts = λ s. absurd (n ((f.starts s).0 ∙ sym here.0));
                   sitting = f.sitting;
@@ -406,11 +406,11 @@ module _ {C : Type 0} (rules : Core C) (c : Config) (opening : World C) where
 
   -- an item leaves and the view stays
   leaves : (p : ℕ) (v : View) (x : Item) (items : List Item) (views : List View)
-      → Kept rules c opening (x ∷ items) views → get_elem? views p ≡ some v
-      → Kept rules c opening items (set views p v)
+      → RuleKept rules c opening (x ∷ items) views → get_elem? views p ≡ some v
+      → RuleKept rules c opening items (set views p v)
   leaves p v x items views k at =
       let kept = k.4 in
-      subst (λ (l : List View). Kept rules c opening items l) (sym (set_again views p v at)) (
+      subst (λ (l : List View). RuleKept rules c opening items l) (sym (set_again views p v at)) (
         k.0,
         k.1,
         k.2,
@@ -427,7 +427,7 @@ module _ {C : Type 0} (rules : Core C) (c : Config) (opening : World C) where
 
   -- a seat is taken
   pub seats : (p : ℕ) (v : View) → v.node ≡ None
-      → Pops (Kept rules c opening) p v (λ x w. w ≡ after_seat v x)
+      → Pops (RuleKept rules c opening) p v (λ x w. w ≡ after_seat v x)
   seats p v none (Frame b) items views k at = (v, leaves p v (Frame b) items views k at, refl)
   seats p v none (Report i es) items views k at =
       (v, leaves p v (Report i es) items views k at, refl)
@@ -456,7 +456,7 @@ module _ {C : Type 0} (rules : Core C) (c : Config) (opening : World C) where
             seats = λ j. let y = kept.seats j in let d = changed j in omega arith;
             once = kept.once;
             fresh = λ j z. let d = changed j in kept.fresh j (omega arith);
-            fits = fits_set (λ q u. Fits rules c opening k.0 k.1 k.2 k.3 views' q u) views p w
+            fits = fits_set (λ q u. FitsRun rules c opening k.0 k.1 k.2 k.3 views' q u) views p w
                 (λ q u n e. let f = kept.fits q u e in record {
                   starts = f.starts;
                   sitting = f.sitting;
@@ -479,7 +479,7 @@ module _ {C : Type 0} (rules : Core C) (c : Config) (opening : World C) where
       )
 
   -- the starter takes a report
-  pub tells : (p : ℕ) (v : View) → Pops (Kept rules c opening) p v (λ x w. w ≡ after_told v x)
+  pub tells : (p : ℕ) (v : View) → Pops (RuleKept rules c opening) p v (λ x w. w ≡ view_after_told v x)
   tells p v (Frame b) items views k at = (v, leaves p v (Frame b) items views k at, refl)
   tells p v (Seat i) items views k at = (v, leaves p v (Seat i) items views k at, refl)
   tells p v (Report i es) items views k at =
@@ -503,7 +503,7 @@ module _ {C : Type 0} (rules : Core C) (c : Config) (opening : World C) where
             seats = λ j. let x = same j in let y = kept.seats j in omega arith;
             once = kept.once;
             fresh = λ j z. kept.fresh j (sym (same j) ∙ z);
-            fits = fits_set (λ q u. Fits rules c opening k.0 k.1 k.2 k.3 views' q u) views p w
+            fits = fits_set (λ q u. FitsRun rules c opening k.0 k.1 k.2 k.3 views' q u) views p w
                 (λ q u n e. let f = kept.fits q u e in record {
                   starts = f.starts;
                   sitting = f.sitting;
@@ -530,7 +530,7 @@ module _ {C : Type 0} (rules : Core C) (c : Config) (opening : World C) where
 
   -- what the starter's reports tell
   pub learns : (p : ℕ) (v : View)
-      → Learns (Kept rules c opening) p v (λ items. Told rules c opening v)
+      → Learns (RuleKept rules c opening) p v (λ items. RuleTold rules c opening v)
   learns p v items views k at =
       let kept = k.4 in
       let mine = kept.fits p v at in
@@ -544,7 +544,7 @@ module _ {C : Type 0} (rules : Core C) (c : Config) (opening : World C) where
       }
 
   fits_newcomer : (starter : ℕ) (issued : List ℕ) (parts : ℕ → List Mark) (end : World C)
-      (views : List View) (q : ℕ) → Fits rules c opening starter issued parts end views q newcomer
+      (views : List View) (q : ℕ) → FitsRun rules c opening starter issued parts end views q newcomer
   fits_newcomer starter issued parts end views q = record {
     starts = λ e. absurd (off e);
     sitting = λ i e. absurd (none-some i e);
@@ -553,7 +553,7 @@ module _ {C : Type 0} (rules : Core C) (c : Config) (opening : World C) where
   }
 
   -- a newcomer
-  pub forks : (p : ℕ) (v : View) → Forks (Kept rules c opening) p v v newcomer
+  pub forks : (p : ℕ) (v : View) → Forks (RuleKept rules c opening) p v v newcomer
   forks p v items views k at =
       let kept = k.4 in
       let now : List View = set views p v in
@@ -570,7 +570,7 @@ module _ {C : Type 0} (rules : Core C) (c : Config) (opening : World C) where
       }) in
       let sums : (j : ℕ) → total (sits j) views' ≡ total (sits j) views =
       (λ j. let t = total-append (sits j) views (newcomer ∷ []) in omega arith) in
-      subst (λ (l : List View). Kept rules c opening items (l ++ newcomer ∷ [])) (sym same) (
+      subst (λ (l : List View). RuleKept rules c opening items (l ++ newcomer ∷ [])) (sym same) (
         k.0,
         k.1,
         k.2,
@@ -587,7 +587,7 @@ module _ {C : Type 0} (rules : Core C) (c : Config) (opening : World C) where
               took = f.took;
               reports = λ j l contained. stays j l (f.reports j l contained);
             }
-            | inr is ↦ subst (λ (x : View). Fits rules c opening k.0 k.1 k.2 k.3 views' q x) is
+            | inr is ↦ subst (λ (x : View). FitsRun rules c opening k.0 k.1 k.2 k.3 views' q x) is
                 (fits_newcomer k.0 k.1 k.2 k.3 views' q)
           ];
           holds = λ x contained. item_stays k.3 k.3 views views' (λ s h. h) stays x
@@ -596,8 +596,8 @@ module _ {C : Type 0} (rules : Core C) (c : Config) (opening : World C) where
       )
 
   first_view : (q : ℕ) (u : View) → get_elem? (beginner ∷ []) q ≡ some u
-      → Fits rules c opening 0 [] (λ i. []) opening (beginner ∷ []) q u
-  first_view zero u e = subst (Fits rules c opening 0 [] (λ i. []) opening (beginner ∷ []) 0)
+      → FitsRun rules c opening 0 [] (λ i. []) opening (beginner ∷ []) q u
+  first_view zero u e = subst (FitsRun rules c opening 0 [] (λ i. []) opening (beginner ∷ []) 0)
       (some-injective beginner u e)
       record {
         starts = λ _. (refl, refl);
@@ -607,7 +607,7 @@ module _ {C : Type 0} (rules : Core C) (c : Config) (opening : World C) where
       }
   first_view (suc q) u e = absurd (some-ne-none u (sym e))
 
-  pub begins : Kept rules c opening [] (beginner ∷ [])
+  pub begins : RuleKept rules c opening [] (beginner ∷ [])
   begins = (
     0,
     [],

@@ -26,7 +26,7 @@ module _ {C : Type 0} (rules : Core C) (c : Config) (opening : World C) where
   -- node i's list goes on, from the old one to the new; what it delivers meanwhile is among these
   -- strings, and its
   -- pulses go to other nodes
-  pub record GoesOn (i : ℕ) (old : List Mark) (strings : List (List ℕ)) (new : List Mark) : Type 0
+  pub record ListGoesOn (i : ℕ) (old : List Mark) (strings : List (List ℕ)) (new : List Mark) : Type 0
     where
       pub more : List Mark
       pub is : new ≡ old ++ more
@@ -44,7 +44,7 @@ module _ {C : Type 0} (rules : Core C) (c : Config) (opening : World C) where
   -- the law: each of the lists goes on from its part, with what was sent, or is that part
   abbrev pub ListsGoOn : Type 0
   ListsGoOn = (end : World C) (parts lists : ℕ → List Mark) → AreParts rules c opening parts end
-      → ((i : ℕ) → GoesOn i (parts i) end.sent (lists i) ⊎ (lists i ≡ parts i))
+      → ((i : ℕ) → ListGoesOn i (parts i) end.sent (lists i) ⊎ (lists i ≡ parts i))
       → (further : World C) × AreFurther end lists further
 
 -- so it is whatever the rules of the core, and whatever the opening

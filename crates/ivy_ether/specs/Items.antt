@@ -27,7 +27,7 @@ after_seat v (Seat i) = with_seat v i
 after_seat v (Frame b) = v
 after_seat v (Report i es) = v
 
-abbrev pub after_told : View → Item → View
-after_told v (Seat i) = v
-after_told v (Frame b) = v
-after_told v (Report i es) = with_told v i es.marks
+abbrev pub view_after_told : View → Item → View
+view_after_told v (Seat i) = v
+view_after_told v (Frame b) = v
+view_after_told v (Report i es) = with_told v i es.marks

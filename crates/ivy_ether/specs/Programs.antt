@@ -20,13 +20,13 @@ module _ (c : Config) (programs : List (List Instruction)) where
   beginning = opening managed_ops c programs
 
   abbrev pub Kept : List Item → List View → Type 0
-  Kept = rule.Kept (host_rules managed_ops) c beginning
+  Kept = rule.RuleKept (host_rules managed_ops) c beginning
 
   abbrev pub MayGive : View → List Mark → Type 0
-  MayGive = rule.MayGive (host_rules managed_ops) c beginning
+  MayGive = rule.RuleAllows (host_rules managed_ops) c beginning
 
   abbrev pub SendsFrom : View → List Mark → List ℕ → Type 0
-  SendsFrom = rule.SendsFrom (host_rules managed_ops) c beginning
+  SendsFrom = rule.ListSends (host_rules managed_ops) c beginning
 
   abbrev pub Told : View → Type 0
-  Told = rule.Told (host_rules managed_ops) c beginning
+  Told = rule.RuleTold (host_rules managed_ops) c beginning

@@ -9,7 +9,7 @@ use Rattle.ivy_events.specs.Parts.{AreParts}
 use Rattle.ivy_events.specs.Worlds.{World}
 use Rattle.ivy_ether.specs.Data.{Item}
 use Rattle.ivy_ether.specs.declared.item.Item.TheVariants.{Seat, Frame, Report}
-use Rattle.ivy_ether.specs.Going.{GoesOn, Sends}
+use Rattle.ivy_ether.specs.Going.{ListGoesOn, Sends}
 use Rattle.ivy_ether.specs.Views.{View}
 
 -- the sum of f over a list
@@ -52,7 +52,7 @@ module _ {C : Type 0} (rules : Core C) (c : Config) (opening : World C) where
   -- what is known of one view: who is the starter, and what it issued; that a site's list is its
   -- part of the run; that
   -- what the pass took was sent; that what the starter was told was reported
-  pub record Fits (starter : ℕ) (issued : List ℕ) (parts : ℕ → List Mark) (end : World C)
+  pub record FitsRun (starter : ℕ) (issued : List ℕ) (parts : ℕ → List Mark) (end : World C)
       (views : List View) (pass : ℕ) (v : View) : Type 0 where
     pub starts : v.starts ≡ true → (pass ≡ starter) × (v.issued ≡ issued)
     pub sitting : (i : ℕ) → v.node ≡ Some i → (i < length opening.nodes) × (parts i ≡ v.events)
@@ -70,38 +70,38 @@ module _ {C : Type 0} (rules : Core C) (c : Config) (opening : World C) where
   -- seats of each node,
   -- in the ether and in views, are no more than were issued, which is one at most; and each view
   -- and item fits
-  pub record IsKept (items : List Item) (views : List View) (starter : ℕ) (issued : List ℕ)
+  pub record RuleHolds (items : List Item) (views : List View) (starter : ℕ) (issued : List ℕ)
       (parts : ℕ → List Mark) (end : World C) : Type 0 where
     pub run : AreParts rules c opening parts end
     pub seats : (i : ℕ) → total (seat_in i) items + total (sits i) views ≤ times i issued
     pub once : (i : ℕ) → times i issued ≤ 1
     pub fresh : (i : ℕ) → total (sits i) views ≡ 0 → parts i ≡ []
     pub fits : (p : ℕ) (v : View) → get_elem? views p ≡ some v
-        → Fits starter issued parts end views p v
+        → FitsRun starter issued parts end views p v
     pub holds : (x : Item) → Contains items x → FitsItem end views x
 
   -- the rule
-  abbrev pub Kept : List Item → List View → Type 0
-  Kept items views = (starter : ℕ) × (issued : List ℕ) × (parts : ℕ → List Mark) × (end : World C)
-      × IsKept items views starter issued parts end
+  abbrev pub RuleKept : List Item → List View → Type 0
+  RuleKept items views = (starter : ℕ) × (issued : List ℕ) × (parts : ℕ → List Mark) × (end : World C)
+      × RuleHolds items views starter issued parts end
 
   -- a step with this list may be made: the pass took a seat and has not reported, and the list goes
   -- on from what it
   -- gave before, by deliveries of strings that it took
-  pub record MayGive (v : View) (es : List Mark) : Type 0 where
+  pub record RuleAllows (v : View) (es : List Mark) : Type 0 where
     pub node : ℕ
     pub sits : v.node ≡ Some node
     pub unreported : v.reported ≡ false
-    pub goes_on : GoesOn rules c opening node v.events v.took es
+    pub goes_on : ListGoesOn rules c opening node v.events v.took es
 
   -- the events of the pass's node send the string
-  pub record SendsFrom (v : View) (es : List Mark) (bytes : List ℕ) : Type 0 where
+  pub record ListSends (v : View) (es : List Mark) (bytes : List ℕ) : Type 0 where
     pub node : ℕ
     pub sits : v.node ≡ Some node
     pub sends : Sends rules c opening node es bytes
 
   -- the reports that the starter took are of parts of one run
-  pub record Told (v : View) : Type 0 where
+  pub record RuleTold (v : View) : Type 0 where
     pub parts : ℕ → List Mark
     pub end : World C
     pub run : AreParts rules c opening parts end

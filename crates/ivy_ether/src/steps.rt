@@ -107,9 +107,9 @@ pub struct Tells;
 
 impl<A: Allocator> Outcome<Wired<A>, View> for Tells {
     ghost use Rattle.std.specs.Prelude.{◌≡◌};
-    ghost use Rattle.ivy_ether.specs.Items.{after_told};
+    ghost use Rattle.ivy_ether.specs.Items.{view_after_told};
 
-    ghost then = { λ v x w. w ≡ after_told v x };
+    ghost then = { λ v x w. w ≡ view_after_told v x };
 }
 
 impl<A: Allocator> Lesson<Wired<A>, View> for Tells {

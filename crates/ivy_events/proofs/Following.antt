@@ -27,7 +27,7 @@ use Rattle.ivy_events.specs.declared.moves.Move.{Move}
 use Rattle.ivy_events.specs.declared.moves.Move.TheVariants.{Turn, Deliver, Pulse}
 use Rattle.ivy_events.specs.Cores.{Core, Outcome}
 use Rattle.ivy_events.specs.Nodes.{Node, Effect, stays, accepting, turned, turned_to, served_next, received, received_as, verdict_of, delivered, delivered_as, pulsing}
-use Rattle.ivy_events.specs.Worlds.{World, early_of, gone_on, goes_on, remembered, remembering, is_named, turn_of, delivery_of, pulse_of, made_by, moved}
+use Rattle.ivy_events.specs.Worlds.{World, early_of, gone_on, world_goes_on, remembered, remembering, is_named, turn_of, delivery_of, pulse_of, made_by, moved}
 use Rattle.ivy_events.specs.Ordered.{rests, turns, delivers, one_more}
 use Rattle.ivy_events.specs.Following.{links_of, ordered_of, IsString, Follows, IsTame, FollowsStep}
 use Rattle.ivy_events.proofs.Places.{guarded, read-either, set-cases, set-same, set-there, link-of, core-of, more-here, more-other_source, more-other_dest}
@@ -313,13 +313,13 @@ module _ {C : Type 0} where
         sent = map spelling (frames_of n.link ps);
       }
 
-  pub went : (w : World C) (i : ℕ) (o : Option (Effect C)) (w' : World C) → goes_on w i o ≡ Some w'
+  pub went : (w : World C) (i : ℕ) (o : Option (Effect C)) (w' : World C) → world_goes_on w i o ≡ Some w'
       → (e : Effect C) × (o ≡ Some e) × (gone_on w i e ≡ w')
   went w i None w' eq = absurd (none-some w' eq)
   went w i (Some e) w' eq = (e, refl, same_Some (gone_on w i e) w' eq)
 
   pub remembered-went : (w : World C) (i : ℕ) (v : Verdict) (bytes : List ℕ) (o : Option (Effect C))
-      (w' : World C) → remembering v i bytes (goes_on w i o) ≡ Some w'
+      (w' : World C) → remembering v i bytes (world_goes_on w i o) ≡ Some w'
       → (e : Effect C) × (o ≡ Some e)
       × (record (gone_on w i e) { early = remembered v w.early i bytes } ≡ w')
   remembered-went w i v bytes None w' eq = absurd (none-some w' eq)

@@ -16,7 +16,7 @@ use Rattle.ivy_events.specs.declared.moves.Move.TheVariants as move
 use Rattle.ivy_events.specs.Cores.{Core, Outcome}
 use Rattle.ivy_events.specs.Marks.{Mark, Turn, Delivery, Pulse}
 use Rattle.ivy_events.specs.Nodes.{Node, Effect, stays, turned, verdict_of, delivered, pulsing}
-use Rattle.ivy_events.specs.Worlds.{World, gone_on, goes_on, remembered, remembering, turn_of, delivery_of, pulse_of, made_by, moved, MayGoOn, Moves, Leads}
+use Rattle.ivy_events.specs.Worlds.{World, gone_on, world_goes_on, remembered, remembering, turn_of, delivery_of, pulse_of, made_by, moved, MayGoOn, Moves, Leads}
 use Rattle.ivy_events.specs.Parts.{followed_by, delivery_marks, pulse_marks, CanBeMade}
 use Rattle.ivy_events.specs.Parts.{AllCanBeMade, Happens, AllHappen, turn_marks, turn_given}
 use Rattle.ivy_events.specs.Parts.{delivery_given, pulse_given, given_by, given_after, given_at}
@@ -125,7 +125,7 @@ module _ {C : Type 0} (rules : Core C) (c : Config) where
       lt-ltb k (length v.nodes) (slice_get_within v.nodes k n there) in
       let made : moved rules c v (move.Turn k) ≡ Some mid =
       ap (λ b. if b then made_by rules c v (move.Turn k) else None) named
-      ∙ ap (turn_of rules c v k) there ∙ ap (goes_on v k) h.1 in
+      ∙ ap (turn_of rules c v k) there ∙ ap (world_goes_on v k) h.1 in
       let given : given_by rules c v (move.Turn k) ≡ Turn ∷ [] =
       ap (turn_given rules c) there ∙ ap (turn_marks rules c) h.0.1 in
       record {
@@ -158,7 +158,7 @@ module _ {C : Type 0} (rules : Core C) (c : Config) where
       ap (λ b. if b then made_by rules c v m else None) named
       ∙ ap (λ o. delivery_of rules c v k o (slice_get v.sent index)) there
       ∙ ap (delivery_of rules c v k (Some n)) string
-      ∙ ap (λ o. remembering (verdict_of c n bytes) k bytes (goes_on v k o)) h.1 in
+      ∙ ap (λ o. remembering (verdict_of c n bytes) k bytes (world_goes_on v k o)) h.1 in
       let given : given_by rules c v m ≡ Delivery bytes ∷ [] =
       ap (λ o. delivery_given rules c o (slice_get v.sent index)) there
       ∙ ap (delivery_given rules c (Some n)) string

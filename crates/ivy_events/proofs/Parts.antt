@@ -19,7 +19,7 @@ use Rattle.ivy_events.specs.declared.moves.Move.TheVariants as move
 use Rattle.ivy_events.specs.Cores.{Core, Outcome}
 use Rattle.ivy_events.specs.Marks.{Mark, Turn, Delivery, Pulse}
 use Rattle.ivy_events.specs.Nodes.{Node, Effect, stays, turned, turned_to, verdict_as, verdict_of, received, received_as, delivered, delivered_as, pulsing}
-use Rattle.ivy_events.specs.Worlds.{World, gone_on, goes_on, remembered, is_named, turn_of, delivery_of, pulse_of, made_by, moved, GoesOnWith, MayGoOn, Moves, Leads}
+use Rattle.ivy_events.specs.Worlds.{World, gone_on, world_goes_on, remembered, is_named, turn_of, delivery_of, pulse_of, made_by, moved, GoesOnWith, MayGoOn, Moves, Leads}
 use Rattle.ivy_events.specs.Parts.{followed_by, delivery_marks, pulse_marks, node_of, sent_from}
 use Rattle.ivy_events.specs.Parts.{Happens, AllHappen, turn_marks, turn_given, delivery_given}
 use Rattle.ivy_events.specs.Parts.{pulse_given, given_by, given_further, given_after, given_at}

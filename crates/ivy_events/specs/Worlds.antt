@@ -38,9 +38,9 @@ module _ {C : Type 0} where
   gone_on w i e =
       record { nodes = slice_set w.nodes i e.after; sent = w.sent ++ e.sent; early = w.early }
 
-  abbrev pub goes_on : World C → ℕ → Option (Effect C) → Option (World C)
-  goes_on w i None = None
-  goes_on w i (Some e) = Some (gone_on w i e)
+  abbrev pub world_goes_on : World C → ℕ → Option (Effect C) → Option (World C)
+  world_goes_on w i None = None
+  world_goes_on w i (Some e) = Some (gone_on w i e)
 
   abbrev pub remembering : Verdict → ℕ → List ℕ → Option (World C) → Option (World C)
   remembering v i bytes None = None
@@ -56,13 +56,13 @@ module _ {C : Type 0} where
 module _ {C : Type 0} (rules : Core C) (c : Config) where
   abbrev pub turn_of : World C → ℕ → Option (Node C) → Option (World C)
   turn_of w i None = None
-  turn_of w i (Some n) = goes_on w i (turned rules n)
+  turn_of w i (Some n) = world_goes_on w i (turned rules n)
 
   abbrev pub delivery_of : World C → ℕ → Option (Node C) → Option (List ℕ) → Option (World C)
   delivery_of w i None s = None
   delivery_of w i (Some n) None = None
   delivery_of w i (Some n) (Some s) =
-      remembering (verdict_of c n s) i s (goes_on w i (delivered rules c n s))
+      remembering (verdict_of c n s) i s (world_goes_on w i (delivered rules c n s))
 
   abbrev pub pulse_of : World C → ℕ → ℕ → Option (Node C) → Option (World C)
   pulse_of w i to None = None
@@ -99,7 +99,7 @@ module _ {C : Type 0} (rules : Core C) (c : Config) where
     pub made : moved w move ≡ Some mid
     -- the strings that the node goes on with
     pub more : List (List ℕ)
-    pub goes_on : MayGoOn mid move more end
+    pub world_goes_on : MayGoOn mid move more end
 
   -- there is no world after the move
   abbrev pub HasNoneAfter : World C → Move → Type 0

@@ -24,7 +24,7 @@ use Rattle.ivy_order.proofs.Places.{written-here, served, freed}
 use Rattle.ivy_order.proofs.Parcels.{IsThe, IsNone, IsOrder, answer_step, ask_step, orders_step, free_step, stay_step}
 use Rattle.ivy_order.proofs.Kept.{orderly-kept}
 use Rattle.ivy_order.proofs.Both.{both-kept}
-use Rattle.ivy_explain.specs.Copied.{HasBytes, Carries, IsCopied}
+use Rattle.ivy_explain.specs.Copied.{HasBytes, CarriesCurrent, IsCopied}
 use Rattle.ivy_explain.proofs.CopiedSteps.{step_copied, bytes_copied, aside_copied, taken_copied, dropped_copied}
 use Rattle.ivy_explain.proofs.CopiedWords.{word_copied}
 
@@ -55,7 +55,7 @@ module _ (c : Config) (n : Net) (f : ℕ → List ℕ) (h : IsCopied c n f) wher
       (dest : ℕ) (body : Content)
       → ((k : ℕ) (q : PutOff) → slice_get (put_offs z) k ≡ Some q
       → slice_get (put_offs (at r.state)) k ≡ Some q)
-      → (HasBytes z → n.page r.node r.page ≡ f r.page) → Carries f body
+      → (HasBytes z → n.page r.node r.page ≡ f r.page) → CarriesCurrent f body
       → IsCopied c
       (goes_on n r.node r.page z r.rest (parcel_to r.node dest r.origin r.call body ∷ [])) f
   answered {at = at} {ask = ask} r z dest body same has carries =
@@ -63,7 +63,7 @@ module _ (c : Config) (n : Net) (f : ℕ → List ℕ) (h : IsCopied c n f) wher
       (IsThe (Underway x dest (length (n.posted x dest))) (letter x dest origin call body))
       (answer_step n x p (at s) z (letter from x origin call (ask p)) rest dest origin call body is
       loose same) f (λ i q. refl) has
-      (λ a l it. subst (λ (m : Letter). Carries f m.message.content) (sym it.1) carries) h
+      (λ a l it. subst (λ (m : Letter). CarriesCurrent f m.message.content) (sym it.1) carries) h
     where
       open r use {node as x, page as p, from, origin, call, state as s, rest, loose, is}
 
@@ -72,7 +72,7 @@ module _ (c : Config) (n : Net) (f : ℕ → List ℕ) (h : IsCopied c n f) wher
 
   -- a word begins to wait, and asks
   asked : (r : Begins c n) (z : Entry) (hop : ℕ) (body : Content) → put_offs z ≡ []
-      → (HasBytes z → HasBytes (entry.Idle r.state)) → Carries f body
+      → (HasBytes z → HasBytes (entry.Idle r.state)) → CarriesCurrent f body
       → IsCopied c (goes_on n r.node r.page z [] (parcel_to r.node hop r.node r.call body ∷ [])) f
   asked r z hop body none has carries =
       step_copied c n (goes_on n x p z [] (parcel_to x hop x call body ∷ [])) x p (entry.Idle s) z
@@ -81,7 +81,7 @@ module _ (c : Config) (n : Net) (f : ℕ → List ℕ) (h : IsCopied c n f) wher
       (λ k q there. absurd (none-some q (ap (λ v. slice_get v k) (sym none) ∙ there)))) f
       (λ i q. refl)
       (λ there. h.had x p (subst HasBytes (sym is) (has there)))
-      (λ a l it. subst (λ (m : Letter). Carries f m.message.content) (sym it.1) carries) h
+      (λ a l it. subst (λ (m : Letter). CarriesCurrent f m.message.content) (sym it.1) carries) h
     where
       open r use {node as x, page as p, call, state as s, loose, is}
 
@@ -95,7 +95,7 @@ module _ (c : Config) (n : Net) (f : ℕ → List ℕ) (h : IsCopied c n f) wher
       step_copied c n (goes_on n x p z [] (invalidations x p call nodes)) x p e z served
       (IsOrder n x p call nodes)
       (orders_step n x p e z call nodes is same) f (λ i q. refl) has
-      (λ a l it. subst (λ (m : Letter). Carries f m.message.content) (sym it.3) tt) h
+      (λ a l it. subst (λ (m : Letter). CarriesCurrent f m.message.content) (sym it.3) tt) h
 
   -- what was put off is loose
   freed_copied : (x p : ℕ) (e z : Entry) → n.entry x p ≡ e → put_offs z ≡ []
@@ -120,7 +120,7 @@ module _ (c : Config) (n : Net) (f : ℕ → List ℕ) (h : IsCopied c n f) wher
 
   -- the bytes that come are the flat memory's, and the node has them then
   module _ {T : Type 0} {at : T → Entry} {bring : ℕ → Content} (r : Comes c n at bring)
-      (bytes : List ℕ) (brings : Carries f (bring r.page) → bytes ≡ f r.page) where
+      (bytes : List ℕ) (brings : CarriesCurrent f (bring r.page) → bytes ≡ f r.page) where
     open r use {node as x, page as p, from, call, state as s, inside, loose, is}
 
     same_bytes : bytes ≡ f p
@@ -137,7 +137,7 @@ module _ (c : Config) (n : Net) (f : ℕ → List ℕ) (h : IsCopied c n f) wher
 -- what was put off is loose, or orders go out, at a node that has the bytes that came
 module _ (c : Config) (n : Net) (f : ℕ → List ℕ) (h : IsCopied c n f) {T : Type 0} {at : T → Entry}
     {bring : ℕ → Content} (r : Comes c n at bring) (bytes : List ℕ)
-    (brings : Carries f (bring r.page) → bytes ≡ f r.page) where
+    (brings : CarriesCurrent f (bring r.page) → bytes ≡ f r.page) where
   open r use {node as x, page as p, call, state as s, is}
 
   freed_with : (z : Entry) → put_offs z ≡ []

@@ -12,13 +12,13 @@ use Rattle.ivy_order.specs.Rows.{taken, dropped}
 use Rattle.ivy_order.proofs.Places.{written-here, written-other, same_or_other, served}
 use Rattle.ivy_order.proofs.Steps.{IsStep, either_entry}
 use Rattle.ivy_order.proofs.Parcels.{rest_told, is_step}
-use Rattle.ivy_explain.specs.Copied.{HasBytes, Carries, IsCopied}
+use Rattle.ivy_explain.specs.Copied.{HasBytes, CarriesCurrent, IsCopied}
 
 -- a page that another memory has too
 pub carries_on : (f f' : ℕ → List ℕ) (m : Content)
     → ((q : ℕ) (bytes : List ℕ) → m ≡ content.ReadRep q bytes → f' q ≡ f q)
-    → ((q bits : ℕ) (bytes : List ℕ) → m ≡ content.WriteRep q bits bytes → f' q ≡ f q) → Carries f m
-    → Carries f' m
+    → ((q bits : ℕ) (bytes : List ℕ) → m ≡ content.WriteRep q bits bytes → f' q ≡ f q) → CarriesCurrent f m
+    → CarriesCurrent f' m
 carries_on f f' (content.ReadReq q) read write h = tt
 carries_on f f' (content.WriteReq q) read write h = tt
 carries_on f f' (content.ReadRep q bytes) read write h = h ∙ sym (read q bytes refl)
@@ -31,7 +31,7 @@ carries_on f f' (content.FreeReq addr) read write h = tt
 carries_on f f' (content.FreeRep code) read write h = tt
 
 -- a request carries no page
-pub request_carries : (f : ℕ → List ℕ) (kind : Request) (p : ℕ) → Carries f (content_of kind p)
+pub request_carries : (f : ℕ → List ℕ) (kind : Request) (p : ℕ) → CarriesCurrent f (content_of kind p)
 request_carries f request.Read p = tt
 request_carries f request.Write p = tt
 request_carries f request.Invalidate p = tt
@@ -40,7 +40,7 @@ request_carries f request.Invalidate p = tt
 pub step_copied : (c : Config) (n n' : Net) (x p : ℕ) (e z : Entry) (now : Place → Place)
     (New : Place → Letter → Type 0) → IsStep n n' x p e z now New
     → (f : ℕ → List ℕ) → ((i q : ℕ) → n'.page i q ≡ n.page i q) → (HasBytes z → n.page x p ≡ f p)
-    → ((a : Place) (l : Letter) → New a l → Carries f l.message.content)
+    → ((a : Place) (l : Letter) → New a l → CarriesCurrent f l.message.content)
     → IsCopied c n f → IsCopied c n' f
 step_copied c n n' x p e z now New step f pages here news h = record {
   had = λ i q has. pages i q
@@ -72,7 +72,7 @@ module _ (c : Config) (n : Net) (f : ℕ → List ℕ) (h : IsCopied c n f) wher
   }
     where
       letters : (a : Place) (l : Letter) → IsAt (installs n x p bytes) a l
-          → Carries f l.message.content
+          → CarriesCurrent f l.message.content
       letters (Underway i j k) l at = h.carried (Underway i j k) l at
       letters (Aside i q k) l at = h.carried (Aside i q k) l at
       letters (Loose k) l at = h.carried (Loose k) l at
@@ -89,7 +89,7 @@ module _ (c : Config) (n : Net) (f : ℕ → List ℕ) (h : IsCopied c n f) wher
         loose = rest_told n x p e z old rest loose;
         posts = λ i j k m there. absurd (none-some m there);
       })) f (λ i q. refl) (λ there. h.had x p (subst HasBytes (sym is) (has there)))
-      (λ a l new. subst (Carries f) (sym new.1) (request_carries f new.0 p)) h
+      (λ a l new. subst (CarriesCurrent f) (sym new.1) (request_carries f new.0 p)) h
     where
       New : Place → Letter → Type 0
       New a l = (kind : Request) × (l.message.content ≡ content_of kind p)
@@ -108,13 +108,13 @@ module _ (c : Config) (n : Net) (f : ℕ → List ℕ) (h : IsCopied c n f) wher
       first_letter = record { source = s; dest = x; message = m }
 
       only : (k : ℕ) (l : Letter) → slice_get (first_letter ∷ []) k ≡ Some l
-          → Carries f l.message.content
+          → CarriesCurrent f l.message.content
       only zero l at =
-          subst (λ (y : Letter). Carries f y.message.content) (same_Some first_letter l at)
+          subst (λ (y : Letter). CarriesCurrent f y.message.content) (same_Some first_letter l at)
           (h.carried (Underway s x (n.delivered s x)) first_letter (omega arith, first, refl, refl))
       only (suc k) l at = absurd (none-some l at)
 
-      letters : (a : Place) (l : Letter) → IsAt (taken n s x m) a l → Carries f l.message.content
+      letters : (a : Place) (l : Letter) → IsAt (taken n s x m) a l → CarriesCurrent f l.message.content
       letters (Underway i j k) l at =
           h.carried (Underway i j k) l
           (more_counted (i == s && j == x) (n.delivered i j) k at.0, at.1, at.2, at.3)
@@ -127,7 +127,7 @@ module _ (c : Config) (n : Net) (f : ℕ → List ℕ) (h : IsCopied c n f) wher
   dropped_copied x old rest loose =
       record { had = h.had; carried = letters; flat_sized = h.flat_sized; sized = h.sized }
     where
-      letters : (a : Place) (l : Letter) → IsAt (dropped n x rest) a l → Carries f l.message.content
+      letters : (a : Place) (l : Letter) → IsAt (dropped n x rest) a l → CarriesCurrent f l.message.content
       letters (Underway i j k) l at = h.carried (Underway i j k) l at
       letters (Aside i q k) l at = h.carried (Aside i q k) l at
       letters (Loose k) l at =

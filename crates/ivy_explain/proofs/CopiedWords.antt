@@ -21,10 +21,10 @@ use Rattle.ivy_pagetable.proofs.Words.{length-carried_out}
 use Rattle.ivy_coherence.specs.Faults.{suffices}
 use Rattle.ivy_order.specs.Letters.{Letter, Net, Place, Underway, Aside, Loose, IsAt, installs}
 use Rattle.ivy_order.specs.Orderly.{AwaitsCopy, HasCopy, reads, comes, At, IsExpectedAs, IsOrderly}
-use Rattle.ivy_order.specs.Rows.{with_page}
+use Rattle.ivy_order.specs.Rows.{with_flat_page}
 use Rattle.ivy_order.proofs.Places.{written-here, written-other, same_or_other}
 use Rattle.ivy_order.proofs.Sole.{fits_as, no_other_owner, no_page_comes}
-use Rattle.ivy_explain.specs.Copied.{HasBytes, Carries, IsCopied}
+use Rattle.ivy_explain.specs.Copied.{HasBytes, CarriesCurrent, IsCopied}
 use Rattle.ivy_explain.proofs.CopiedSteps.{carries_on}
 
 -- who may write may read, and a word writes or leaves the bytes as they are
@@ -52,11 +52,11 @@ writes_or_reads (word.Advance offset) bytes = inr refl
 writes_or_reads (word.Await offset least) bytes = inl refl
 
 pub with_page-here : (f : ℕ → List ℕ) (p : ℕ) (bytes : List ℕ) (q : ℕ) → q ≡ p
-    → with_page f p bytes q ≡ bytes
+    → with_flat_page f p bytes q ≡ bytes
 with_page-here f p bytes q same = ap (λ (b : Bool). if b then bytes else f q) (eq-eqb q p same)
 
 pub with_page-other : (f : ℕ → List ℕ) (p : ℕ) (bytes : List ℕ) (q : ℕ) → q ≢ p
-    → with_page f p bytes q ≡ f q
+    → with_flat_page f p bytes q ≡ f q
 with_page-other f p bytes q ne = ap (λ (b : Bool). if b then bytes else f q) (ne_eqb q p ne)
 
 module _ (c : Config) (n : Net) (f : ℕ → List ℕ) (x p : ℕ) (s : IdleState) (w : Word)
@@ -106,7 +106,7 @@ module _ (c : Config) (n : Net) (f : ℕ → List ℕ) (x p : ℕ) (s : IdleStat
     same_now = ap (λ b. (carried_out w b).bytes) (bytes_there h)
 
     -- the flat memory's bytes of a page that another has are those before
-    flat_same : (q : ℕ) → (q ≡ p → needs_write w ≡ true → ⊥) → with_page f p flat_now q ≡ f q
+    flat_same : (q : ℕ) → (q ≡ p → needs_write w ≡ true → ⊥) → with_flat_page f p flat_now q ≡ f q
     flat_same q none = elim (cases_eq q p) [
       | inr ne ↦ with_page-other f p flat_now q ne
       | inl same ↦ with_page-here f p flat_now q same ∙ elim (writes_or_reads w (f p)) [
@@ -123,7 +123,7 @@ module _ (c : Config) (n : Net) (f : ℕ → List ℕ) (x p : ℕ) (s : IdleStat
     ]
 
     had : (i q : ℕ) → HasBytes (n.entry i q)
-        → (installs n x p now).page i q ≡ with_page f p flat_now q
+        → (installs n x p now).page i q ≡ with_flat_page f p flat_now q
     had i q has = elim (same_or_other i q x p) [
       | inl same ↦
           written-here n.page x p now i q same.0 same.1 ∙ same_now
@@ -134,8 +134,8 @@ module _ (c : Config) (n : Net) (f : ℕ → List ℕ) (x p : ℕ) (s : IdleStat
     ]
 
     carried : (a : Place) (l : Letter) → IsAt n a l
-        → Carries (with_page f p flat_now) l.message.content
-    carried a l at = carries_on f (with_page f p flat_now) l.message.content
+        → CarriesCurrent (with_flat_page f p flat_now) l.message.content
+    carried a l at = carries_on f (with_flat_page f p flat_now) l.message.content
         (λ q bytes body. flat_same q
         (λ same write. no_copy_comes o write a l bytes at
         (body ∙ ap (λ r. content.ReadRep r bytes) same)))
@@ -145,7 +145,7 @@ module _ (c : Config) (n : Net) (f : ℕ → List ℕ) (x p : ℕ) (s : IdleStat
         (h.carried a l at)
 
     letters : (a : Place) (l : Letter) → IsAt (installs n x p now) a l
-        → Carries (with_page f p flat_now) l.message.content
+        → CarriesCurrent (with_flat_page f p flat_now) l.message.content
     letters (Underway i j k) l at = carried (Underway i j k) l at
     letters (Aside i q k) l at = carried (Aside i q k) l at
     letters (Loose k) l at = carried (Loose k) l at
@@ -155,7 +155,7 @@ module _ (c : Config) (n : Net) (f : ℕ → List ℕ) (x p : ℕ) (s : IdleStat
         let long : length (f p) ≡ c.page_size = h.flat_sized p inside in
         length-carried_out w (f p) (subst (λ k. IsWord k w) (sym long) lies) ∙ long
 
-    pub word_copied : IsCopied c (installs n x p now) (with_page f p flat_now)
+    pub word_copied : IsCopied c (installs n x p now) (with_flat_page f p flat_now)
     word_copied = record {
       had = had;
       carried = letters;

@@ -45,7 +45,7 @@ use Rattle.ivy_host.proofs.Pages.{page_serving}
 use Rattle.ivy_host.specs.Sound.{IsSoundHost}
 use Rattle.ivy_order.specs.Letters.{Net}
 use Rattle.ivy_order.specs.Orderly.{IsOrderly}
-use Rattle.ivy_order.specs.Rows.{with_page}
+use Rattle.ivy_order.specs.Rows.{with_flat_page}
 use Rattle.ivy_worlds.proofs.LiftedEvents.{WaitsAt, Carries, Tells, quiet, answers as is_answered, Starts, busy, hits, waits}
 use Rattle.ivy_worlds.proofs.HostTurns.{asks as access, HostTurn, answers, tries_again, goes_on, refuses, asks_for, serves_heap, asks_heap, without_call}
 use Rattle.ivy_worlds.proofs.LiftedHosts.{TurnTells}
@@ -76,14 +76,14 @@ one_word (entry.AwaitWrite s) w v j k a b = sym a.0 ∙ b.0
 one_word (entry.AwaitAcks s) w v j k a b = sym a.0 ∙ b.0
 
 with_page-same : (f g : ℕ → List ℕ) (p q : ℕ) (b d : List ℕ) → b ≡ d → f q ≡ g q
-    → with_page f p b q ≡ with_page g p d q
+    → with_flat_page f p b q ≡ with_flat_page g p d q
 with_page-same f g p q b d e h =
     ap (λ z. if q == p then z else f q) e ∙ ap (λ z. if q == p then d else z) h
 
 -- the pages after a call that one page's bytes came to
 served_pages : (c : Config) (old : model.Memory) (called : Call) (page : ℕ) (came : Carried)
     (s : IsServed c old called page came) (q : ℕ) → q < c.pages
-    → flat_page c s.new q ≡ with_page (flat_page c old) page came.bytes q
+    → flat_page c s.new q ≡ with_flat_page (flat_page c old) page came.bytes q
 served_pages c old called page came s q inside = elim (cases_eq q page) [
   | inl same ↦
       ap (flat_page c s.new) same ∙ s.here

@@ -33,7 +33,7 @@ use Rattle.ivy_memory.specs.Memories.{NodeMemory, memory_handled, memory_told}
 use Rattle.ivy_host.specs.Hosts.{Host, host_rules, serving}
 use Rattle.ivy_node.specs.Outboxes.{Outbox, HasNumbers, IsRefused, holding_of, with_holding, posted_by}
 use Rattle.ivy_node.specs.Shown.{Shown, after_hearing, after_delivery}
-use Rattle.ivy_node.specs.Sites.{early_at, Delivers, CameEarlyAs, IsSpentDelivery, IsSite}
+use Rattle.ivy_node.specs.Sites.{early_at, SiteDelivers, CameEarlyAs, IsSpentDelivery, IsSite}
 use Rattle.ivy_node.proofs.Boxes.{as_many}
 use Rattle.ivy_events.specs.Early.{early_as}
 use Rattle.ivy_node.proofs.Made.{delivery_made, delivery_early}
@@ -93,9 +93,9 @@ spent_reading n v same k bytes e Q config why spent =
 
 -- a frame for another node
 pub not_mine : (n v : Shown) → v ≡ n → (k : Config) (f : Frame) (bytes : List ℕ) (w : Verdict)
-    → IsRead v k f bytes w → w ≡ verdict.NotMine → Delivers bytes w n n
+    → IsRead v k f bytes w → w ≡ verdict.NotMine → SiteDelivers bytes w n n
 not_mine n v same k f bytes w r not =
-    subst (λ x. Delivers bytes w x x) same
+    subst (λ x. SiteDelivers bytes w x x) same
     (record {
       frame = f;
       spelled = spelled_here v k f bytes w r;
@@ -298,11 +298,11 @@ pub heard_delivers : (n v : Shown) → v ≡ n → (k : Config) (f : Frame) (byt
     → IsRead v k f bytes w → (w ≡ verdict.NotMine → ⊥)
     → (h : H) (box new : Outbox) (events : List Mark) → IsHeard v f w h box
     → new ≡ with_holding box (holding.accepted_at (holding_of box) f)
-    → events ≡ v.events ++ Delivery bytes ∷ [] → Delivers bytes w n (shown_of h new events)
+    → events ≡ v.events ++ Delivery bytes ∷ [] → SiteDelivers bytes w n (shown_of h new events)
 heard_delivers n v same k f bytes w r ne h box new events x is listed =
     let e : Effect H =
     record { after = record { core = h; link = accepted x.link f }; sent = x.sent } in
-    subst (λ y. Delivers bytes w y (shown_of h new events)) same
+    subst (λ y. SiteDelivers bytes w y (shown_of h new events)) same
     (record {
       frame = f;
       spelled = spelled_here v k f bytes w r;
@@ -331,7 +331,7 @@ pub heard_site : (v : Shown) (k : Config) (f : Frame) (bytes : List ℕ) (w : Ve
 heard_site v k f bytes w fits r ne h box new events site x is listed =
     let same = after_heard v f w h box new r.is x is in
     let limits : IsConfig v.config = subst IsConfig r.config r.limits in
-    let d : Delivers bytes w v (shown_of h new events) =
+    let d : SiteDelivers bytes w v (shown_of h new events) =
     heard_delivers v v refl k f bytes w r ne h box new events x is listed in
     record {
       config = x.config ∙ site.config ∙ sym (ap (λ (b : Outbox). b.config) same);

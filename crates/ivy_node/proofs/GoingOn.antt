@@ -18,7 +18,7 @@ use Rattle.ivy_events.specs.Worlds as worlds
 use Rattle.ivy_events.proofs.Kept.{stays-there}
 use Rattle.ivy_events.proofs.Places.{set-there}
 use Rattle.ivy_node.specs.Shown.{Shown}
-use Rattle.ivy_node.specs.Sites.{early_at, IsMadeByEvents, Delivers, without_ready, GoesOnOnce, GoesOn, Follows, AfterDelivery}
+use Rattle.ivy_node.specs.Sites.{early_at, IsMadeByEvents, SiteDelivers, without_ready, GoesOnOnce, SiteGoesOn, FollowsDelivery, AfterDelivery}
 use Rattle.ivy_node.specs.WorldSites.{programs_of, world_of, AreSites}
 use Rattle.ivy_node.proofs.Made.{delivery_made, delivery_early, all_taken}
 use Rattle.ivy_node.proofs.Making.{IsGone, Went, node_there, quiet, changed_world, changed_are, same_map, delivery_gone, delivered_went}
@@ -67,7 +67,7 @@ later a b c x y =
     }
 
 pub delivered_later : (bytes : List ℕ) (v : Verdict) (old new : Shown) → IsConfig old.config
-    → IsMadeByEvents old → Delivers bytes v old new → IsLater old new
+    → IsMadeByEvents old → SiteDelivers bytes v old new → IsLater old new
 delivered_later bytes v old new limits made d =
     let gone : IsGone old new d.effect = delivery_gone old new bytes v limits d in
     record {
@@ -119,7 +119,7 @@ module _ (c : Config) (limits : IsConfig c) (sites : List Shown) (sent : List (L
       → worlds.delivery_of (host_rules managed_ops) c (world_with old) i
       (slice_get (world_with old).nodes i) (Some bytes) ≡ Some (world_with mid)
   goes_once source bytes old mid config made once =
-      let d : Delivers bytes verdict.Next (without_ready old source) mid = once.next in
+      let d : SiteDelivers bytes verdict.Next (without_ready old source) mid = once.next in
       let well : IsConfig old.config = subst IsConfig (sym config) limits in
       let ready : IsMadeByEvents (without_ready old source) =
       same_made old (without_ready old source).held made in
@@ -147,9 +147,9 @@ module _ (c : Config) (limits : IsConfig c) (sites : List Shown) (sent : List (L
       ap (λ o. worlds.delivery_of (host_rules managed_ops) c w i o (Some bytes))
       (node_there c (sites_with old) (sent ++ old.waiting) i (record old { waiting = [] })
       (site_there old))
-      ∙ (ap (λ o. worlds.remembering (verdict_of c old.node bytes) i bytes (worlds.goes_on w i o))
+      ∙ (ap (λ o. worlds.remembering (verdict_of c old.node bytes) i bytes (worlds.world_goes_on w i o))
       given
-      ∙ (ap (λ v. worlds.remembering v i bytes (worlds.goes_on w i (Some d.effect))) said
+      ∙ (ap (λ v. worlds.remembering v i bytes (worlds.world_goes_on w i (Some d.effect))) said
       ∙ ap Some (changed ∙ same)))
 
   -- and with one after another
@@ -158,7 +158,7 @@ module _ (c : Config) (limits : IsConfig c) (sites : List Shown) (sent : List (L
     goes : worlds.GoesOnWith (host_rules managed_ops) c (world_with old) i more (world_with new)
 
   goes_all : (source : ℕ) (more : List (List ℕ)) (old new : Shown) → old.config ≡ c
-      → IsMadeByEvents old → GoesOn source more old new → HasGone more old new
+      → IsMadeByEvents old → SiteGoesOn source more old new → HasGone more old new
   goes_all source [] old new config made same = record {
     later = record {
       config = ap (λ (s : Shown). s.config) same;
@@ -201,7 +201,7 @@ module _ (c : Config) (limits : IsConfig c) (sites : List Shown) (sent : List (L
   }
 
   followed : (v : Verdict) (f : Frame) (bytes : List ℕ) (mid new : Shown) → mid.config ≡ c
-      → IsMadeByEvents mid → Follows v f bytes mid new → HasFollowed mid new
+      → IsMadeByEvents mid → FollowsDelivery v f bytes mid new → HasFollowed mid new
   followed verdict.NotMine f bytes mid new config made same = stays mid new mid.held made same
   followed verdict.Repeat f bytes mid new config made same = stays mid new mid.held made same
   followed verdict.Ahead f bytes mid new config made same = stays mid new _ made same

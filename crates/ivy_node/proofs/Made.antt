@@ -26,9 +26,9 @@ use Rattle.ivy_events.proofs.Parts.{all-append, single, pulsing-marks}
 use Rattle.ivy_node.specs.declared.turn.Turn as turn
 use Rattle.ivy_node.specs.declared.turn.Turn.TheVariants.{Idle, Moved, Ended}
 use Rattle.ivy_node.proofs.Programs.{turned-program, posting-core, delivered-program}
-use Rattle.ivy_node.specs.Outboxes.{Outbox, Takes}
+use Rattle.ivy_node.specs.Outboxes.{Outbox, TakesFirst}
 use Rattle.ivy_node.specs.Shown.{Shown, after_hearing, after_delivery, after_pulse_to}
-use Rattle.ivy_node.specs.Sites.{early_at, IsSite, HoldsEarly, IsMadeByEvents, AfterTurn, Delivers, first_shown, IsSentBy}
+use Rattle.ivy_node.specs.Sites.{early_at, IsSite, HoldsEarly, IsMadeByEvents, AfterTurn, SiteDelivers, first_shown, IsSentBy}
 
 abbrev rules : Core (Host Managed)
 rules = host_rules managed_ops
@@ -86,7 +86,7 @@ turn_made Moved old new h after =
 
 -- a delivery
 delivered_made : (bytes : List ℕ) (v : Verdict) (old new : Shown) → IsMadeByEvents old
-    → (d : Delivers bytes v old new) → v ≢ verdict.NotMine
+    → (d : SiteDelivers bytes v old new) → v ≢ verdict.NotMine
     → verdict_of old.config old.node bytes ≡ v → IsConfig old.config → (w : Verdict)
     → new ≡ after_hearing old bytes w d.frame.source d.effect → IsMadeByEvents new
 delivered_made bytes v old new h d mine is limits w after =
@@ -101,14 +101,14 @@ delivered_made bytes v old new h d mine is limits w after =
 
 -- the verdict is what the definitions say of the string
 read_verdict : (bytes : List ℕ) (v : Verdict) (old new : Shown) → IsConfig old.config
-    → (d : Delivers bytes v old new) → verdict_of old.config old.node bytes ≡ v
+    → (d : SiteDelivers bytes v old new) → verdict_of old.config old.node bytes ≡ v
 read_verdict bytes v old new limits d =
     let once = spelled_once old.config d.frame bytes limits d.spelled in
     ap (λ r. verdict_as r old.node bytes) once.0 ∙ ap (λ f. offered old.node.link f) once.1
     ∙ sym d.is
 
 made_as : (bytes : List ℕ) (v : Verdict) (old new : Shown) → IsConfig old.config
-    → IsMadeByEvents old → (d : Delivers bytes v old new) → (w : Verdict) → v ≡ w
+    → IsMadeByEvents old → (d : SiteDelivers bytes v old new) → (w : Verdict) → v ≡ w
     → IsMadeByEvents new
 made_as bytes v old new limits h d verdict.NotMine is =
     unchanged old new h (d.after ∙ ap (λ x. after_delivery old bytes x d.frame.source d.effect) is)
@@ -129,7 +129,7 @@ made_as bytes v old new limits h d verdict.Ahead is =
     (d.after ∙ ap (λ x. after_delivery old bytes x d.frame.source d.effect) is)
 
 pub delivery_made : (bytes : List ℕ) (v : Verdict) (old new : Shown) → IsConfig old.config
-    → IsMadeByEvents old → (d : Delivers bytes v old new) → IsMadeByEvents new
+    → IsMadeByEvents old → (d : SiteDelivers bytes v old new) → IsMadeByEvents new
 delivery_made bytes v old new limits h d = made_as bytes v old new limits h d v refl
 
 -- the first site
@@ -208,7 +208,7 @@ boxed v box =
     }
 
 pub take_site : (v : Shown) (bytes : Option (List ℕ)) (box : Outbox) → IsSite v
-    → Takes bytes (box_of v) box → IsSite (boxed v box)
+    → TakesFirst bytes (box_of v) box → IsSite (boxed v box)
 take_site v None box s takes = subst (λ b. IsSite (boxed v b)) (sym takes.1) s
 take_site v (Some bytes) box s takes =
     let same : box
@@ -310,7 +310,7 @@ pulse_early to old new h after =
 
 -- by a delivery a string that came too early
 delivered_early : (bytes : List ℕ) (v : Verdict) (old new : Shown) → IsConfig old.config
-    → IsMadeByEvents old → (d : Delivers bytes v old new) (w : Verdict)
+    → IsMadeByEvents old → (d : SiteDelivers bytes v old new) (w : Verdict)
     → new ≡ after_hearing old bytes w d.frame.source d.effect
     → verdict_of old.config old.node bytes ≡ v
     → early_at new ≡ early_at old ++ early_as v bytes
@@ -325,7 +325,7 @@ delivered_early bytes v old new limits h d w after is =
     ∙ ap (λ w. early_at old ++ early_as w bytes) is
 
 early_after : (bytes : List ℕ) (v : Verdict) (old new : Shown) → IsConfig old.config
-    → IsMadeByEvents old → (d : Delivers bytes v old new) → (w : Verdict) → v ≡ w
+    → IsMadeByEvents old → (d : SiteDelivers bytes v old new) → (w : Verdict) → v ≡ w
     → early_at new ≡ early_at old ++ early_as w bytes
 early_after bytes v old new limits h d verdict.NotMine is =
     early_same old new (d.after ∙ ap (λ x. after_delivery old bytes x d.frame.source d.effect) is)
@@ -343,14 +343,14 @@ early_after bytes v old new limits h d verdict.Ahead is =
     (read_verdict bytes v old new limits d) ∙ ap (λ w. early_at old ++ early_as w bytes) is
 
 pub delivery_early : (bytes : List ℕ) (v : Verdict) (old new : Shown) → IsConfig old.config
-    → IsMadeByEvents old → (d : Delivers bytes v old new)
+    → IsMadeByEvents old → (d : SiteDelivers bytes v old new)
     → (verdict_of old.config old.node bytes ≡ v) × (early_at new ≡ early_at old ++ early_as v bytes)
 delivery_early bytes v old new limits h d =
     (read_verdict bytes v old new limits d, early_after bytes v old new limits h d v refl)
 
 -- which its events sent
 pub take_sent : (n v : Shown) → v ≡ n → (bytes : Option (List ℕ)) (box : Outbox) → IsSite v
-    → Takes bytes (box_of v) box → IfSome bytes (IsSentBy n)
+    → TakesFirst bytes (box_of v) box → IfSome bytes (IsSentBy n)
 take_sent n v same None box s takes = tt
 take_sent n v same (Some bytes) box s takes =
     let whole : s.made.effect.sent ≡ s.made.taken ++ bytes ∷ box.waiting =

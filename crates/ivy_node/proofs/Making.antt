@@ -28,7 +28,7 @@ use Rattle.ivy_host.specs.Hosts.{Host, host_rules}
 use Rattle.ivy_host.specs.Holding.{AllSpell}
 use Rattle.ivy_node.specs.Runs.{IsRefusedBy}
 use Rattle.ivy_node.specs.Shown.{Shown, after_pulse_to, after_delivery}
-use Rattle.ivy_node.specs.Sites.{early_at, IsMadeByEvents, AfterTurn, IsSpentTurn, Delivers, IsSpentDelivery}
+use Rattle.ivy_node.specs.Sites.{early_at, IsMadeByEvents, AfterTurn, IsSpentTurn, SiteDelivers, IsSpentDelivery}
 use Rattle.ivy_node.specs.WorldSites.{programs_of, world_of, AreSites}
 use Rattle.ivy_events.specs.Early.{early_as}
 use Rattle.ivy_events.proofs.Places.{set-cases}
@@ -176,7 +176,7 @@ module _ (c : Config) (sites : List Shown) (sent : List (List ℕ)) (i : ℕ) (o
       (slice_get_within (map (λ (s : Shown). s.node) sites) i old.node node_there)
 
   turn_is : worlds.moved (host_rules managed_ops) c (world_of sites sent) (move.Turn i)
-      ≡ worlds.goes_on (world_of sites sent) i (turned (host_rules managed_ops) old.node)
+      ≡ worlds.world_goes_on (world_of sites sent) i (turned (host_rules managed_ops) old.node)
   unfolding worlds.moved
   turn_is =
       ap (λ b. if b
@@ -198,7 +198,7 @@ turn_went c sites sent i old done site t step more h there after is same added =
     (turn_made t old done (h.made i old there) after)
     (quiet sites i old (record done { waiting = [] }) there
     (turn_early t old done (h.made i old there) after))
-    (turn_is c sites sent i old there ∙ ap (worlds.goes_on (world_of sites sent) i) gone.1))))
+    (turn_is c sites sent i old there ∙ ap (worlds.world_goes_on (world_of sites sent) i) gone.1))))
 
 pub turn_refused : (c : Config) (sites : List Shown) (sent : List (List ℕ)) (i : ℕ) (old : Shown)
     (step : Move) (fault : Fault)
@@ -208,7 +208,7 @@ turn_refused c sites sent i old step fault there is spent want =
     rw is (⊎_elim (λ m. rw m tt)
     (λ s. rw s
     (none-after (host_rules managed_ops) c (world_of sites sent) (move.Turn i)
-    (turn_is c sites sent i old there ∙ ap (worlds.goes_on (world_of sites sent) i) (spent s))))
+    (turn_is c sites sent i old there ∙ ap (worlds.world_goes_on (world_of sites sent) i) (spent s))))
     want)
 
 pulse_gone : (old new : Shown) (to : ℕ) → new ≡ after_pulse_to old to (pulsing old.node to)
@@ -282,7 +282,7 @@ after_gone verdict.Ahead old new f bytes e after is =
     (received-program verdict.Ahead old.node f e is)
 
 pub delivery_gone : (old new : Shown) (bytes : List ℕ) (v : Verdict) → IsConfig old.config
-    → (h : Delivers bytes v old new) → IsGone old new h.effect
+    → (h : SiteDelivers bytes v old new) → IsGone old new h.effect
 delivery_gone old new bytes v config h =
     after_gone v old new h.frame bytes h.effect h.after
     (ap (λ x. received_as (host_rules managed_ops) x old.node h.frame) h.is
@@ -292,7 +292,7 @@ delivery_is : (c : Config) (sites : List Shown) (sent : List (List ℕ)) (index 
     (bytes : List ℕ) → slice_get sites i ≡ Some old → slice_get sent index ≡ Some bytes
     → worlds.moved (host_rules managed_ops) c (world_of sites sent) (move.Deliver index i)
     ≡ worlds.remembering (verdict_of c old.node bytes) i bytes
-    (worlds.goes_on (world_of sites sent) i (delivered (host_rules managed_ops) c old.node bytes))
+    (worlds.world_goes_on (world_of sites sent) i (delivered (host_rules managed_ops) c old.node bytes))
 unfolding worlds.moved
 delivery_is c sites sent index i old bytes there found =
     let nodes = map (λ (s : Shown). s.node) sites in
@@ -311,7 +311,7 @@ delivery_is c sites sent index i old bytes there found =
 pub delivered_went : (c : Config) (sites : List Shown) (sent : List (List ℕ)) (index i : ℕ)
     (old done : Shown) (bytes : List ℕ) (v : Verdict)
     → IsConfig c → AreSites c sites → slice_get sites i ≡ Some old
-    → slice_get sent index ≡ Some bytes → Delivers bytes v old done
+    → slice_get sent index ≡ Some bytes → SiteDelivers bytes v old done
     → Went c sites (set sites i (record done { waiting = [] })) sent (sent ++ done.waiting)
     (move.Deliver index i)
 delivered_went c sites sent index i old done bytes v limits h there found d =
@@ -330,9 +330,9 @@ delivered_went c sites sent index i old done bytes v limits h there found d =
     (early-set sites i old (record done { waiting = [] }) v bytes there early.1)
     (delivery_is c sites sent index i old bytes there found
     ∙ ap (λ o. worlds.remembering (verdict_of c old.node bytes) i bytes
-    (worlds.goes_on (world_of sites sent) i o)) given
+    (worlds.world_goes_on (world_of sites sent) i o)) given
     ∙ ap (λ w. worlds.remembering w i bytes
-    (worlds.goes_on (world_of sites sent) i (Some d.effect))) said)
+    (worlds.world_goes_on (world_of sites sent) i (Some d.effect))) said)
 
 contains_at : (xs : List (List ℕ)) (i : ℕ) (x : List ℕ) → slice_get xs i ≡ Some x → Contains xs x
 contains_at xs i x found = (i, slice_get_within xs i x found, get_or_from_slice_get xs i x x found)
@@ -356,6 +356,6 @@ delivery_refused c sites sent index i old bytes step fault Is limits h spell the
     (none-after (host_rules managed_ops) c (world_of sites sent) (move.Deliver index i)
     (delivery_is c sites sent index i old bytes there found
     ∙ ap (λ o. worlds.remembering (verdict_of c old.node bytes) i bytes
-    (worlds.goes_on (world_of sites sent) i o))
+    (worlds.world_goes_on (world_of sites sent) i o))
     (subst (λ k. delivered (host_rules managed_ops) k old.node bytes ≡ None) config
     (spent s))))) want)

@@ -22,9 +22,9 @@ use Rattle.ivy_link.specs.Windows.{with_string}
 use Rattle.ivy_link.specs.Holding.{Holding, link_of, window_at, can_hold_frame, place_in, after_hold, after_taking, ready_of}
 use Rattle.ivy_node.specs.Outboxes.{Outbox, holding_of, with_holding}
 use Rattle.ivy_node.specs.Shown.{Shown, holding_at, after_delivery}
-use Rattle.ivy_node.specs.Sites.{early_at, IsSite, IsHeld, Delivers, CameEarlyAs, Holds}
+use Rattle.ivy_node.specs.Sites.{early_at, IsSite, IsHeld, SiteDelivers, CameEarlyAs, Holds}
 use Rattle.ivy_node.specs.Sites.{HoldsString, Hears, Receives, holding_in, without_ready}
-use Rattle.ivy_node.specs.Sites.{GoesOnOnce, GoesOn, WentOnOnce, WentOn, Follows, AfterDelivery}
+use Rattle.ivy_node.specs.Sites.{GoesOnOnce, SiteGoesOn, WentOnOnce, SiteWentOn, FollowsDelivery, AfterDelivery}
 use Rattle.ivy_node.proofs.HeldStrings.{CameEarly, IsNextOf, holding-holds, taking-holds, put-back-same}
 use Rattle.ivy_node.proofs.Boxes.{link-kept}
 
@@ -167,7 +167,7 @@ nothing_held verdict.Ahead f bytes mid ne = absurd (ne refl)
 
 pub hears : (bytes : List ℕ) (w : Verdict) (from : ℕ) (early : Option (List ℕ)) (old new : Shown)
     → IsConfig old.config → (f : Frame) → Spells old.config f bytes → f.source ≡ from
-    → Delivers bytes w old new → CameEarlyAs w bytes new
+    → SiteDelivers bytes w old new → CameEarlyAs w bytes new
     → MatchOption early (w ≢ verdict.Ahead) (λ string. (string ≡ bytes) × (w ≡ verdict.Ahead))
     → Hears bytes w from early old new
 hears bytes w from None old new limits f spelled source d came early = record {
@@ -263,8 +263,8 @@ went_once old new from source bytes w limits ready h r =
     ∙ (ap (offered old.node.link) (sym one)
     ∙ offered-next old from h.frame (next_of old from bytes h)) in
     let same : new ≡ r.mid = subst (λ x. Holds x r.first.frame bytes r.mid new) next r.holds in
-    let d : Delivers bytes verdict.Next (without_ready old from) new =
-    subst (λ x. Delivers bytes verdict.Next (without_ready old from) x) (sym same) (record {
+    let d : SiteDelivers bytes verdict.Next (without_ready old from) new =
+    subst (λ x. SiteDelivers bytes verdict.Next (without_ready old from) x) (sym same) (record {
       frame = r.first.frame;
       spelled = r.first.spelled;
       is = sym next ∙ r.first.is;
@@ -296,18 +296,18 @@ held_again old mid new from bytes ready h is held =
 
 -- one string more
 goes_more : (from : ℕ) (more : List (List ℕ)) (a b d : Shown) (bytes : List ℕ)
-    → GoesOn from more a b → GoesOnOnce from bytes b d → GoesOn from (more ++ bytes ∷ []) a d
+    → SiteGoesOn from more a b → GoesOnOnce from bytes b d → SiteGoesOn from (more ++ bytes ∷ []) a d
 goes_more from [] a b d bytes same once =
     (d, subst (λ x. GoesOnOnce from bytes x d) same once, refl)
 goes_more from (x ∷ more) a b d bytes on once =
     (on.0, on.1, goes_more from more on.0 b d bytes on.2 once)
 
-pub went_more : (from : ℕ) (a b d : Shown) → WentOn from a b → WentOnOnce from b d → WentOn from a d
+pub went_more : (from : ℕ) (a b d : Shown) → SiteWentOn from a b → WentOnOnce from b d → SiteWentOn from a d
 went_more from a b d on once = (on.0 ++ once.0 ∷ [], goes_more from on.0 a b d once.0 on.1 once.1)
 
 -- a delivery
 rests : (w : Verdict) (f : Frame) (bytes : List ℕ) (mid new : Shown) → w ≢ verdict.Next
-    → Holds w f bytes mid new → Follows w f bytes mid new
+    → Holds w f bytes mid new → FollowsDelivery w f bytes mid new
 rests verdict.NotMine f bytes mid new ne h = h
 rests verdict.Next f bytes mid new ne h = absurd (ne refl)
 rests verdict.Repeat f bytes mid new ne h = h
@@ -323,13 +323,13 @@ after_rest bytes w from old new ne r =
     }
 
 pub after_next : (bytes : List ℕ) (w : Verdict) (from : ℕ) (old mid new : Shown) → w ≡ verdict.Next
-    → Receives bytes w from old mid → WentOn from mid new → AfterDelivery bytes w old new
+    → Receives bytes w from old mid → SiteWentOn from mid new → AfterDelivery bytes w old new
 after_next bytes w from old mid new next r on =
     let same : mid ≡ r.mid = subst (λ x. Holds x r.first.frame bytes r.mid mid) next r.holds in
-    let went : WentOn r.first.frame.source r.mid new =
-    subst (λ i. WentOn i r.mid new) (sym r.from) (subst (λ x. WentOn from x new) same on) in
+    let went : SiteWentOn r.first.frame.source r.mid new =
+    subst (λ i. SiteWentOn i r.mid new) (sym r.from) (subst (λ x. SiteWentOn from x new) same on) in
     record {
       mid = r.mid;
       first = r.first;
-      follows = subst (λ x. Follows x r.first.frame bytes r.mid new) (sym next) went;
+      follows = subst (λ x. FollowsDelivery x r.first.frame bytes r.mid new) (sym next) went;
     }

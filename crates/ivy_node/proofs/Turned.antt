@@ -13,7 +13,7 @@ use Rattle.ivy_memory.specs.Memories.{NodeMemory}
 use Rattle.ivy_host.specs.Hosts.{Host, turn_of}
 use Rattle.ivy_node.specs.Outboxes.{Outbox}
 use Rattle.ivy_node.specs.Shown.{Shown}
-use Rattle.ivy_node.specs.Sites.{Turns, HasTurn, AfterHostTurn, HasNoNumbers, IsSpentTurn, IsMadeByEvents, IsSite, host_of}
+use Rattle.ivy_node.specs.Sites.{SiteTurns, HasTurn, AfterHostTurn, HasNoNumbers, IsSpentTurn, IsMadeByEvents, IsSite, host_of}
 use Rattle.ivy_host.proofs.Same.{turn-same}
 use Rattle.ivy_host.proofs.Tame.{IsAskingHost, turn-asking}
 use Rattle.ivy_node.specs.declared.turn.Turn.TheVariants as turn
@@ -90,7 +90,7 @@ pub local_turn : (n v : Shown) → v ≡ n
     → (x : Next) (p : Process) (hs : List Record) (events : List Mark)
     → v.node.core.memory.asked ≡ None → TellsStep x v.node.core.process p → x ≡ next.Local
     → hs ≡ v.node.core.history → events ≡ v.events ++ Turn ∷ []
-    → Turns n (with_core v (host_of v.node.core.memory p hs) events)
+    → SiteTurns n (with_core v (host_of v.node.core.memory p hs) events)
 local_turn n v same x p hs events idle steps is history listed =
     let s : TellsStep next.Local v.node.core.process p =
     subst (λ y. TellsStep y v.node.core.process p) is steps in
@@ -98,7 +98,7 @@ local_turn n v same x p hs events idle steps is history listed =
     host_of v.node.core.memory (at_state v.node.core.process p.state) v.node.core.history in
     let so : host_of v.node.core.memory p hs ≡ h =
     hosts v.node.core.memory v.node.core.memory p h.process hs h.history refl s.1 history in
-    subst (λ y. Turns n (with_core v y events)) (sym so)
+    subst (λ y. SiteTurns n (with_core v y events)) (sym so)
     (moved_quietly n v same h events (turn_steps v.node.core (Local p.state) idle s.0) listed)
 
 -- the program and the history are as they were, as the code has them
@@ -127,14 +127,14 @@ spent_turn n v same p hs f k cannot =
 pub called_turn : (n v : Shown) → v ≡ n
     → (p : Process) (hs : List Record) (h : H) (box : Outbox) (reserved events : List Mark)
     → IsAtRest v p hs → HasTurn (host_of v.node.core.memory p hs) (box_of v) h box
-    → reserved ≡ v.events → events ≡ reserved ++ Turn ∷ [] → Turns n (with_box h box events)
+    → reserved ≡ v.events → events ≡ reserved ++ Turn ∷ [] → SiteTurns n (with_box h box events)
 called_turn n v same p hs h box reserved events k b room listed =
     moved_by_call n v same h box events
     (subst (λ x. HasTurn x (box_of v) h box) (resting_host v p hs k) b)
     (listed ∙ ap (λ es. es ++ Turn ∷ []) room)
 
 -- a turn delivers nothing
-turns_quietly : (old new : Shown) → IsMadeByEvents old → Turns old new → IsQuiet old new
+turns_quietly : (old new : Shown) → IsMadeByEvents old → SiteTurns old new → IsQuiet old new
 turns_quietly old new made t =
     let link : t.effect.after.link ≡ after_sends old.node.link t.outcome.posted =
     posting-link old.node t.outcome.after t.outcome.posted t.effect t.sent in

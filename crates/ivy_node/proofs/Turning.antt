@@ -13,7 +13,7 @@ use Rattle.ivy_events.specs.Nodes.{Node, Effect, posting, turned, turned_to}
 use Rattle.ivy_host.specs.Hosts.{Host, host_rules, turn_of, turned_at, steps, quietly}
 use Rattle.ivy_node.specs.Outboxes.{Outbox}
 use Rattle.ivy_node.specs.Shown.{Shown}
-use Rattle.ivy_node.specs.Sites.{Turns, HasTurn, HasNoNumbers, IsSpentTurn}
+use Rattle.ivy_node.specs.Sites.{SiteTurns, HasTurn, HasNoNumbers, IsSpentTurn}
 
 abbrev H : Type 0
 H = Host Managed
@@ -29,7 +29,7 @@ turn_steps h t idle is = ap (turned_at managed_ops h) idle ∙ ap (steps managed
 -- a turn that posts nothing
 pub moved_quietly : (n v : Shown) → v ≡ n → (h : H) (events : List Mark)
     → turn v.node.core ≡ Some (quietly h) → events ≡ v.events ++ Turn ∷ []
-    → Turns n
+    → SiteTurns n
     (record {
       config = v.config;
       me = v.me;
@@ -39,7 +39,7 @@ pub moved_quietly : (n v : Shown) → v ≡ n → (h : H) (events : List Mark)
       held = v.held;
     })
 moved_quietly n v same h events is listed =
-    subst (λ x. Turns x
+    subst (λ x. SiteTurns x
     (record {
       config = v.config;
       me = v.me;
@@ -95,7 +95,7 @@ box_of v =
 pub moved_by_call : (n v : Shown) → v ≡ n → (h : H) (box : Outbox) (events : List Mark)
     → HasTurn v.node.core (box_of v) h box
     → events ≡ v.events ++ Turn ∷ []
-    → Turns n
+    → SiteTurns n
     (record {
       config = box.config;
       me = box.me;
@@ -111,7 +111,7 @@ moved_by_call n v same h box events b listed =
       after = record { core = b.outcome.after; link = s.after };
       sent = map spelling s.frames;
     } in
-    subst (λ x. Turns x
+    subst (λ x. SiteTurns x
     (record {
       config = box.config;
       me = box.me;

@@ -89,13 +89,13 @@ IsRefused Memory o parcels = parcels ≢ []
 IsRefused NumbersSpent o parcels = has_numbers o.link parcels ≡ false
 IsRefused f o parcels = ⊥
 
-abbrev pub Refuses : Outbox → List Parcel → Fault → Type 0
-Refuses o parcels f = IsRefused f o parcels
+abbrev pub RefusesParcels : Outbox → List Parcel → Fault → Type 0
+RefusesParcels o parcels f = IsRefused f o parcels
 
 -- the first string is taken, if one waits
-abbrev pub Takes : Option (List ℕ) → Outbox → Outbox → Type 0
-Takes None old new = (old.waiting ≡ []) × (new ≡ old)
-Takes (Some bytes) old new =
+abbrev pub TakesFirst : Option (List ℕ) → Outbox → Outbox → Type 0
+TakesFirst None old new = (old.waiting ≡ []) × (new ≡ old)
+TakesFirst (Some bytes) old new =
     (old.waiting ≡ bytes ∷ new.waiting) × (new.config ≡ old.config) × (new.me ≡ old.me)
     × (new.link ≡ old.link) × (new.held ≡ old.held)
 
@@ -112,7 +112,7 @@ after_none o =
     ap (λ w. record { config = o.config; me = o.me; link = o.link; waiting = w; held = o.held })
     (append-nil o.waiting)
 
-pub refuses_none : (o : Outbox) (f : Fault) → Refuses o [] f → ⊥
+pub refuses_none : (o : Outbox) (f : Fault) → RefusesParcels o [] f → ⊥
 refuses_none o Memory why = why refl
 refuses_none o NumbersSpent why = absurd cc
 refuses_none o f why = why

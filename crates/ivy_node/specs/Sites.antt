@@ -50,7 +50,7 @@ abbrev pub IsSameNode : Shown → Shown → Type 0
 IsSameNode old new = (new.config ≡ old.config) × (new.me ≡ old.me)
 
 -- the turn has an outcome: it is the turn of the definitions
-pub record Turns (old new : Shown) : Type 0 where
+pub record SiteTurns (old new : Shown) : Type 0 where
   pub outcome : Outcome (Host Managed)
   pub turn : turn_of managed_ops old.node.core ≡ Some outcome
   pub effect : Effect (Host Managed)
@@ -59,13 +59,13 @@ pub record Turns (old new : Shown) : Type 0 where
 
 abbrev pub AfterTurn : turn.Turn → Shown → Shown → Type 0
 AfterTurn Idle old new = (turn_of managed_ops old.node.core ≡ None) × (new ≡ old)
-AfterTurn Moved old new = Turns old new
+AfterTurn Moved old new = SiteTurns old new
 AfterTurn Ended old new =
     HasEnded old.node.core.process × (turn_of managed_ops old.node.core ≡ None) × (new ≡ old)
 
 -- the string spells a frame, which is what the verdict says, and the delivery is that of the
 -- definitions
-pub record Delivers (bytes : List ℕ) (verdict : Verdict) (old new : Shown) : Type 0 where
+pub record SiteDelivers (bytes : List ℕ) (verdict : Verdict) (old new : Shown) : Type 0 where
   pub frame : Frame
   pub spelled : Spells old.config frame bytes
   pub is : verdict ≡ offered old.node.link frame
@@ -103,7 +103,7 @@ Holds verdict.Ahead f bytes mid new = new ≡ holding_in mid f bytes
 -- also the source, and the string again where it came too early
 pub record Hears (bytes : List ℕ) (answer : Verdict) (source : ℕ) (again : Option (List ℕ))
     (old new : Shown) : Type 0 where
-  pub first : Delivers bytes answer old new
+  pub first : SiteDelivers bytes answer old new
   pub from : first.frame.source ≡ source
   pub early : MatchOption again (answer ≢ verdict.Ahead)
       (λ string. (string ≡ bytes) × Contains (early_at new) string × (answer ≡ verdict.Ahead))
@@ -111,7 +111,7 @@ pub record Hears (bytes : List ℕ) (answer : Verdict) (source : ℕ) (again : O
 pub record Receives (bytes : List ℕ) (verdict : Verdict) (source : ℕ) (old new : Shown) : Type 0
   where
     pub mid : Shown
-    pub first : Delivers bytes verdict old mid
+    pub first : SiteDelivers bytes verdict old mid
     pub from : first.frame.source ≡ source
     pub holds : Holds verdict first.frame bytes mid new
 
@@ -120,33 +120,33 @@ pub record Receives (bytes : List ℕ) (verdict : Verdict) (source : ℕ) (old n
 pub record GoesOnOnce (source : ℕ) (bytes : List ℕ) (old new : Shown) : Type 0 where
   pub ready : ready_of (holding_at old) source ≡ Some bytes
   pub early : Contains (early_at old) bytes
-  pub next : Delivers bytes verdict.Next (without_ready old source) new
+  pub next : SiteDelivers bytes verdict.Next (without_ready old source) new
   pub from : next.frame.source ≡ source
 
 -- one after another
-abbrev pub GoesOn : ℕ → List (List ℕ) → Shown → Shown → Type 0
-GoesOn source [] old new = new ≡ old
-GoesOn source (bytes ∷ more) old new =
-    (mid : Shown) × GoesOnOnce source bytes old mid × GoesOn source more mid new
+abbrev pub SiteGoesOn : ℕ → List (List ℕ) → Shown → Shown → Type 0
+SiteGoesOn source [] old new = new ≡ old
+SiteGoesOn source (bytes ∷ more) old new =
+    (mid : Shown) × GoesOnOnce source bytes old mid × SiteGoesOn source more mid new
 
 abbrev pub WentOnOnce : ℕ → Shown → Shown → Type 0
 WentOnOnce source old new = (bytes : List ℕ) × GoesOnOnce source bytes old new
 
-abbrev pub WentOn : ℕ → Shown → Shown → Type 0
-WentOn source old new = (more : List (List ℕ)) × GoesOn source more old new
+abbrev pub SiteWentOn : ℕ → Shown → Shown → Type 0
+SiteWentOn source old new = (more : List (List ℕ)) × SiteGoesOn source more old new
 
 -- after the delivery of a frame that is the next one the site may go on, and one that came too
 -- early is held
-abbrev pub Follows : Verdict → Frame → List ℕ → Shown → Shown → Type 0
-Follows verdict.NotMine f bytes mid new = new ≡ mid
-Follows verdict.Next f bytes mid new = WentOn f.source mid new
-Follows verdict.Repeat f bytes mid new = new ≡ mid
-Follows verdict.Ahead f bytes mid new = new ≡ holding_in mid f bytes
+abbrev pub FollowsDelivery : Verdict → Frame → List ℕ → Shown → Shown → Type 0
+FollowsDelivery verdict.NotMine f bytes mid new = new ≡ mid
+FollowsDelivery verdict.Next f bytes mid new = SiteWentOn f.source mid new
+FollowsDelivery verdict.Repeat f bytes mid new = new ≡ mid
+FollowsDelivery verdict.Ahead f bytes mid new = new ≡ holding_in mid f bytes
 
 pub record AfterDelivery (bytes : List ℕ) (verdict : Verdict) (old new : Shown) : Type 0 where
   pub mid : Shown
-  pub first : Delivers bytes verdict old mid
-  pub follows : Follows verdict first.frame bytes mid new
+  pub first : SiteDelivers bytes verdict old mid
+  pub follows : FollowsDelivery verdict first.frame bytes mid new
 
 -- message numbers are at an end: the turn, or the delivery, is no event
 abbrev pub IsSpentTurn : Shown → Fault → Type 0

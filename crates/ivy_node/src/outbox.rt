@@ -9,7 +9,7 @@ ghost use Rattle.ivy_link.specs.Fitting.{FitsLink};
 ghost use Rattle.ivy_link.specs.Windows.{first_window};
 ghost use Rattle.ivy_link.specs.Holding.{link_of, accepted_at, after_hold, ready_of, after_taking};
 ghost use Rattle.ivy_link.specs.Pulsed.{frames_again, pulsed};
-ghost use Rattle.ivy_node.specs.Outboxes.{holding_of, with_holding, with_waiting, with_sending, Takes, most_sent, next_dest};
+ghost use Rattle.ivy_node.specs.Outboxes.{holding_of, with_holding, with_waiting, with_sending, TakesFirst, most_sent, next_dest};
 
 use ivy_link::{Link, Verdict};
 use ivy_model::{Config, Fault};
@@ -120,7 +120,7 @@ impl<A: Allocator + Copy> Outbox<A> {
 
     /// The first string that waits.
     pub(crate) fn take(&mut self) -> Option<Bytes<A>>
-        ensures { Takes result self.old self.new }
+        ensures { TakesFirst result self.old self.new }
     {
         self.waiting.pop_front()
     }
@@ -237,7 +237,7 @@ impl<A: Allocator + Copy> Outbox<A> {
 
 impl<A: Allocator + Copy> Post for Outbox<A> {
     ghost use Rattle.std.specs.Prelude.{refl};
-    ghost use Rattle.ivy_node.specs.Outboxes.{HasNumbers, posted_by, Refuses, takes_none, after_none, refuses_none};
+    ghost use Rattle.ivy_node.specs.Outboxes.{HasNumbers, posted_by, RefusesParcels, takes_none, after_none, refuses_none};
 
     ghost config = { λ o. o.config };
 
@@ -247,7 +247,7 @@ impl<A: Allocator + Copy> Post for Outbox<A> {
 
     ghost after = { posted_by };
 
-    ghost refuses = { Refuses };
+    ghost refuses = { RefusesParcels };
 
     ghost after_refusal = { λ o parcels fault. o };
 

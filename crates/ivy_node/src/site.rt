@@ -11,7 +11,7 @@ ghost use Rattle.ivy_link.specs.Holding.{ready_of};
 ghost use Rattle.ivy_node.specs.Outboxes.{most_sent, most_delivered, next_dest};
 ghost use Rattle.ivy_node.specs.Shown.{holding_at, after_pulse_to};
 ghost use Rattle.ivy_node.specs.Runs.{IsOfRun};
-ghost use Rattle.ivy_node.specs.Sites.{first_shown, host_of, AfterHostTurn, HasNoNumbers, AfterTurn, AfterDelivery, Hears, Receives, WentOnOnce, WentOn, IsHeld, early_at, HoldsString, without_ready, IsSpentTurn, IsSpentDelivery, TakesFrame, IsSameNode, IsMadeByEvents, IsSentBy};
+ghost use Rattle.ivy_node.specs.Sites.{first_shown, host_of, AfterHostTurn, HasNoNumbers, AfterTurn, AfterDelivery, Hears, Receives, WentOnOnce, SiteWentOn, IsHeld, early_at, HoldsString, without_ready, IsSpentTurn, IsSpentDelivery, TakesFrame, IsSameNode, IsMadeByEvents, IsSentBy};
 ghost use Rattle.ivy_events.specs.Marks.{marks};
 ghost use Rattle.ivy_model.specs.Legal.{HasWidth};
 
@@ -369,7 +369,7 @@ impl<A: Allocator + Copy> Site<A> {
     fn go_on(&mut self, from: u8)
         requires from { from < self.old.config.nodes }
         ensures same { IsSameNode self.old self.new }
-        ensures done { WentOn from self.old self.new }
+        ensures done { SiteWentOn from self.old self.new }
         ensures few { length self.new.waiting ≤ length self.old.waiting + 256 }
     {
         for _ in 0..MOST_AHEAD {

@@ -5,7 +5,7 @@ use Rattle.std.proofs.Common.{◌≡◌, ◌<◌, ℕ, Bool, true, false, List, 
 use Rattle.ivy_model.specs.declared.Config.{Config}
 use Rattle.ivy_pagetable.specs.Manager.{Ops}
 use Rattle.ivy_order.specs.Letters.{Net}
-use Rattle.ivy_order.specs.Rows.{Notice, Silent, Asked, Forwarded, Given, Replied, Invalidated, Claim, IsOf, IsKept, noticed, told}
+use Rattle.ivy_order.specs.Rows.{Notice, Silent, Asked, Forwarded, Given, Replied, Invalidated, Claim, IsOf, IsKept, noticed, with_manager}
 
 -- the calls of a manager of the large kind, where it is one of the small kind
 pub record Embeds {S T : Type 0} (small : Ops S) (large : Ops T) (embed : S → T) : Type 0 where
@@ -34,7 +34,7 @@ module _ {S T : Type 0} {small : Ops S} {large : Ops T} (embed : S → T)
   -- one of them is told something
   told_within : (x : ℕ) → x < c.nodes → (ask : T → T) (answer : S → S)
       → ((v : S) → ask (embed v) ≡ embed (answer v))
-      → AreWithin embed c (told s x (answer (s x))) (told m x (ask (m x)))
+      → AreWithin embed c (with_manager s x (answer (s x))) (with_manager m x (ask (m x)))
   told_within x here ask answer same i below =
       if_within embed (i == x) (answer (s x)) (s i) (ask (m x)) (m i)
       (ap ask (within x here) ∙ same (s x)) (within i below)

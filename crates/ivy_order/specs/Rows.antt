@@ -56,12 +56,12 @@ dropped n x rest = record {
 }
 
 -- the flat memory's pages, one of which changed
-abbrev pub with_page : (ℕ → List ℕ) → ℕ → List ℕ → ℕ → List ℕ
-with_page flat p bytes q = if q == p then bytes else flat q
+abbrev pub with_flat_page : (ℕ → List ℕ) → ℕ → List ℕ → ℕ → List ℕ
+with_flat_page flat p bytes q = if q == p then bytes else flat q
 
 -- the managers, one of which changed
-abbrev pub told : {S : Type 0} → (ℕ → S) → ℕ → S → ℕ → S
-told m x s i = if i == x then s else m i
+abbrev pub with_manager : {S : Type 0} → (ℕ → S) → ℕ → S → ℕ → S
+with_manager m x s i = if i == x then s else m i
 
 -- what the manager of a node is asked, or told, in a step
 pub data Notice : Type 0 where
@@ -77,10 +77,10 @@ module _ {S : Type 0} (ops : Ops S) where
   abbrev pub noticed : (ℕ → S) → Notice → ℕ → S
   noticed m Silent = m
   noticed m (Asked x p hop) = m
-  noticed m (Forwarded x p write origin hop) = told m x (ops.on_forward (m x) p write origin)
-  noticed m (Given x p to) = told m x (ops.on_given (m x) p to)
-  noticed m (Replied x p write from) = told m x (ops.on_replied (m x) p write from)
-  noticed m (Invalidated x p by) = told m x (ops.on_invalidated (m x) p by)
+  noticed m (Forwarded x p write origin hop) = with_manager m x (ops.on_forward (m x) p write origin)
+  noticed m (Given x p to) = with_manager m x (ops.on_given (m x) p to)
+  noticed m (Replied x p write from) = with_manager m x (ops.on_replied (m x) p write from)
+  noticed m (Invalidated x p by) = with_manager m x (ops.on_invalidated (m x) p by)
 
   -- the node is one of the nodes, and the hop is the one that its manager names
   abbrev pub IsOf : Config → (ℕ → S) → Notice → Type 0
@@ -220,7 +220,7 @@ pub data Row (c : Config) (n : Net) (f : ℕ → List ℕ) : Notice → Net → 
   -- a word is carried out where access suffices
   carries : (r : Carries c n) → Row c n f Silent
       (installs n r.node r.page (carried_out r.word (n.page r.node r.page)).bytes)
-      (with_page f r.page (carried_out r.word (f r.page)).bytes)
+      (with_flat_page f r.page (carried_out r.word (f r.page)).bytes)
   -- a letter is taken; one that fits no rule is dropped
   takes : (r : Takes n) → Row c n f Silent (taken n r.source r.dest r.message) f
   drops : (r : Drops c n) → Row c n f Silent (dropped n r.node r.rest) f

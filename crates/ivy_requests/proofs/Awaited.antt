@@ -9,7 +9,7 @@ use Rattle.ivy_order.specs.Letters.{Letter, Net, Place, IsAt}
 use Rattle.ivy_order.specs.Orderly.{AwaitsCopy, AwaitsPage, Collects, Own, Order, key_as, IsExpectedAs, IsOrderly}
 use Rattle.ivy_order.proofs.Opening.{IsFirst}
 use Rattle.ivy_requests.specs.Sending.{comes}
-use Rattle.ivy_requests.specs.Waiting.{IsReading, asks_copy, gets_copy, IsWriting, asks_page, gets_page, IsGivingUp, ordered, gave_up, IsAwaited}
+use Rattle.ivy_requests.specs.Waiting.{IsReadPending, asks_copy, gets_copy, IsWritePending, asks_page, gets_page, IsRecallPending, ordered, gave_up, IsAwaited}
 use Rattle.ivy_requests.proofs.Remaining.{HasKey}
 use Rattle.ivy_requests.proofs.Owed.{Wants, IsOwed}
 
@@ -76,7 +76,7 @@ module _ (c : Config) (n : Net) (node page : ℕ) where
   reading_as : (call : ℕ) → AwaitsCopy (n.entry node page) call
       → (a : Place) (l : Letter) (m : Content) → IsAt n a l → l.message.content ≡ m
       → IsExpectedAs c n l m
-      → key_as l m ≡ Own node page → IsReading n node page
+      → key_as l m ≡ Own node page → IsReadPending n node page
   reading_as call waits a l (content.ReadReq q) at is fit key = asks_copy l.dest (record {
     at = a;
     letter = l;
@@ -111,7 +111,7 @@ module _ (c : Config) (n : Net) (node page : ℕ) where
   writing_as : (call : ℕ) → AwaitsPage (n.entry node page) call
       → (a : Place) (l : Letter) (m : Content) → IsAt n a l → l.message.content ≡ m
       → IsExpectedAs c n l m
-      → key_as l m ≡ Own node page → IsWriting n node page
+      → key_as l m ≡ Own node page → IsWritePending n node page
   writing_as call waits a l (content.WriteReq q) at is fit key = asks_page l.dest (record {
     at = a;
     letter = l;
@@ -140,7 +140,7 @@ module _ (c : Config) (n : Net) (node page : ℕ) where
   -- where another node is to give its copy up
   giving_up_as : (target : ℕ) (a : Place) (l : Letter) (m : Content) → IsAt n a l
       → l.message.content ≡ m → IsExpectedAs c n l m
-      → key_as l m ≡ Order node target page → IsGivingUp n node target page
+      → key_as l m ≡ Order node target page → IsRecallPending n node target page
   giving_up_as target a l (content.Inval q) at is fit key = ordered (record {
     at = a;
     letter = l;

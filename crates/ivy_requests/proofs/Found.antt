@@ -14,7 +14,7 @@ use Rattle.ivy_order.proofs.Sole.{fits_as}
 use Rattle.ivy_requests.specs.Descending.{IsAsked, GoDown}
 use Rattle.ivy_requests.specs.Sending.{IsSent, HasPage, owns, comes}
 use Rattle.ivy_requests.specs.Managing.{claims}
-use Rattle.ivy_requests.specs.Waiting.{IsWriting, asks_page, gets_page, IsAwaited}
+use Rattle.ivy_requests.specs.Waiting.{IsWritePending, asks_page, gets_page, IsAwaited}
 use Rattle.ivy_requests.specs.Routing.{IsAway, IsRoute, follows, hops, receives, LeadAlong, LeadTo, AreRoutes, AreManaged}
 use Rattle.ivy_requests.proofs.Claims.{writer_claims, page_claimed}
 use Rattle.ivy_requests.proofs.Moves.{both}
@@ -69,7 +69,7 @@ module _ (c : Config) (n : Net) (page : ℕ) (hop : ℕ → ℕ) where
           λ at k. both (claims (n.entry node page)) (writer_claims c n order page node at k) plain;
     }
 
-  away_writes : (node : ℕ) → IsAway c n page node → IsWriting n node page → ⊥
+  away_writes : (node : ℕ) → IsAway c n page node → IsWritePending n node page → ⊥
   away_writes node away (asks_page at k) = away.silent at k
   away_writes node away (gets_page h) = away.without h
 
@@ -110,7 +110,7 @@ module _ (c : Config) (n : Net) (page : ℕ) (hop : ℕ → ℕ) where
     asked_below at node k = subst (λ v. v < c.nodes) k.dest (inside.letters k.at k.letter k.there)
 
     -- from a node that awaits the page
-    writing : (node : ℕ) → IsWriting n node page
+    writing : (node : ℕ) → IsWritePending n node page
         → ((at : ℕ) → IsAsked n (content.WriteReq page) node at → IsFound at) → IsFound node
     writing node (gets_page h) on = (node, h, ([], refl))
     writing node (asks_page at k) on = after_route node at (follows k) (on at k)

@@ -4,7 +4,7 @@ use Rattle.std.proofs.Common.{◌≡◌, ◌≢◌, ◌⊎◌, ◌<◌, ◌%◌,
 use Rattle.std.proofs.lemmas.Bool.{cases_eq, eq-eqb, ne_eqb}
 use Rattle.ivy_pagetable.specs.Manager.{Ops, KeepsElsewhere}
 use Rattle.ivy_fixed.specs.Fixed.{Owners, manages, owner_kept, hop_of}
-use Rattle.ivy_order.specs.Rows.{told}
+use Rattle.ivy_order.specs.Rows.{with_manager}
 
 -- of the managers, that of one node may have changed, at one page
 pub record IsTold {S : Type 0} (ops : Ops S) (m m' : ℕ → S) (x p : ℕ) : Type 0 where
@@ -34,14 +34,14 @@ module _ {S : Type 0} (ops : Ops S) where
   ]
 
 module _ {S : Type 0} (m : ℕ → S) (x : ℕ) where
-  pub told_here : (s : S) (i : ℕ) → i ≡ x → told m x s i ≡ s
+  pub told_here : (s : S) (i : ℕ) → i ≡ x → with_manager m x s i ≡ s
   told_here s i same = ap (λ (b : Bool). if b then s else m i) (eq-eqb i x same)
 
-  pub told_else : (s : S) (i : ℕ) → i ≢ x → told m x s i ≡ m i
+  pub told_else : (s : S) (i : ℕ) → i ≢ x → with_manager m x s i ≡ m i
   told_else s i ne = ap (λ (b : Bool). if b then s else m i) (ne_eqb i x ne)
 
   -- told what changes nothing
-  pub told_itself : (i : ℕ) → told m x (m x) i ≡ m i
+  pub told_itself : (i : ℕ) → with_manager m x (m x) i ≡ m i
   told_itself i =
       elim (cases_eq i x) [
         | inl same ↦ told_here (m x) i same ∙ ap m (sym same)
@@ -50,13 +50,13 @@ module _ {S : Type 0} (m : ℕ → S) (x : ℕ) where
       ]
 
   pub one_told : (ops : Ops S) (s : S) (p : ℕ) → KeepsElsewhere ops (m x) p s
-      → IsTold ops m (told m x s) x p
+      → IsTold ops m (with_manager m x s) x p
   one_told ops s p k = record {
     keeps = λ i. elim (cases_eq i x) [
       | inl same ↦
           subst (λ v. KeepsElsewhere ops (m i) p v) (sym (told_here s i same))
           (subst (λ j. KeepsElsewhere ops (m j) p s) (sym same) k)
-      | inr ne ↦ same_keeps ops (m i) (told m x s i) p (told_else s i ne)
+      | inr ne ↦ same_keeps ops (m i) (with_manager m x s i) p (told_else s i ne)
     ];
     elsewhere = told_else s;
   }

@@ -4,7 +4,7 @@
 -- w manages the page.
 use Rattle.std.proofs.Common.{◌≡◌, ◌≢◌, ◌⊎◌, ℕ, Bool, true, false, sym, ap, ◌∙◌, subst, inl, inr}
 use Rattle.std.proofs.lemmas.Bool.{cases_eq}
-use Rattle.ivy_requests.specs.Managing.{IsRouted}
+use Rattle.ivy_requests.specs.Managing.{IsRoutedByManaging}
 
 module _ (a b : ℕ → Bool) (W V R Q : ℕ → ℕ → Type 0) (w k h : ℕ) where
   -- requests may go; the managing node may keep another owner while it claims the page
@@ -95,8 +95,8 @@ pub data Move (a b : ℕ → Bool) (W V R Q : ℕ → ℕ → Type 0) (w k h : �
 pub both : (v : Bool) → v ≡ true → v ≡ false → ⊥
 both v is isnt = let f : true ≡ false = sym is ∙ isnt in cc
 
-module _ (a b : ℕ → Bool) (W V R Q : ℕ → ℕ → Type 0) (w k h : ℕ) (r : IsRouted a W R w k) where
-  calm_routed : IsCalm a b W V R Q w k h → IsRouted b V Q w h
+module _ (a b : ℕ → Bool) (W V R Q : ℕ → ℕ → Type 0) (w k h : ℕ) (r : IsRoutedByManaging a W R w k) where
+  calm_routed : IsCalm a b W V R Q w k h → IsRoutedByManaging b V Q w h
   calm_routed c = record {
     claimed = λ o y ne v. c.claims y ∙ r.claimed o y ne (c.writes o y v);
     one_writer = λ o q y ne v u. r.one_writer o q y ne (c.writes o y v) (c.writes q y u);
@@ -127,8 +127,8 @@ module _ (a b : ℕ → Bool) (W V R Q : ℕ → ℕ → Type 0) (w k h : ℕ) (
         | inr own ↦ absurd (both (a w) own.0 (sym (c.claims w) ∙ f))
       ]
 
-  read_sent_routed : (o hop : ℕ) → IsReadSent a b W V R Q w k h o hop → IsRouted b V Q w h
-  read_sent_routed o hop c = subst (IsRouted b V Q w) (sym c.kept) (record {
+  read_sent_routed : (o hop : ℕ) → IsReadSent a b W V R Q w k h o hop → IsRoutedByManaging b V Q w h
+  read_sent_routed o hop c = subst (IsRoutedByManaging b V Q w) (sym c.kept) (record {
     claimed = λ i y ne v. c.claims y ∙ r.claimed i y ne (c.writes i y v);
     one_writer = λ i q y ne v u. r.one_writer i q y ne (c.writes i y v) (c.writes q y u);
     kept_away = λ f. r.kept_away (sym (c.claims w) ∙ f);
@@ -157,8 +157,8 @@ module _ (a b : ℕ → Bool) (W V R Q : ℕ → ℕ → Type 0) (w k h : ℕ) (
     ];
   })
 
-  write_sent_routed : (o : ℕ) → IsWriteSent a b W V R Q w k h o → IsRouted b V Q w h
-  write_sent_routed o c = subst (IsRouted b V Q w) (sym c.kept) (record {
+  write_sent_routed : (o : ℕ) → IsWriteSent a b W V R Q w k h o → IsRoutedByManaging b V Q w h
+  write_sent_routed o c = subst (IsRoutedByManaging b V Q w) (sym c.kept) (record {
     claimed = λ i y ne v. c.claims y ∙ elim (c.writes i y v) [
       | inl old ↦ r.claimed i y ne old.0
       | inr new ↦ ap a new.1 ∙ r.kept_claims c.plain
@@ -205,8 +205,8 @@ module _ (a b : ℕ → Bool) (W V R Q : ℕ → ℕ → Type 0) (w k h : ℕ) (
     manager_reads = λ y v. absurd (c.unread y (c.reads w y v));
   })
 
-  given_here_routed : (o : ℕ) → IsGivenHere a b W V R Q w k h o → IsRouted b V Q w h
-  given_here_routed o c = subst (IsRouted b V Q w) (sym c.kept) (record {
+  given_here_routed : (o : ℕ) → IsGivenHere a b W V R Q w k h o → IsRoutedByManaging b V Q w h
+  given_here_routed o c = subst (IsRoutedByManaging b V Q w) (sym c.kept) (record {
     claimed = λ i y ne v. c.claims y ne ∙ r.claimed i y ne (c.writes i y v).0;
     one_writer = λ i q y ne v u. r.one_writer i q y ne (c.writes i y v).0 (c.writes q y u).0;
     kept_away = λ f. r.writer_away o w c.asked;
@@ -223,8 +223,8 @@ module _ (a b : ℕ → Bool) (W V R Q : ℕ → ℕ → Type 0) (w k h : ℕ) (
     manager_reads = λ y v. absurd (c.unread y (c.reads w y v));
   })
 
-  given_elsewhere_routed : (x o : ℕ) → IsGivenElsewhere a b W V R Q w k h x o → IsRouted b V Q w h
-  given_elsewhere_routed x o c = subst (IsRouted b V Q w) (sym c.kept) (record {
+  given_elsewhere_routed : (x o : ℕ) → IsGivenElsewhere a b W V R Q w k h x o → IsRoutedByManaging b V Q w h
+  given_elsewhere_routed x o c = subst (IsRoutedByManaging b V Q w) (sym c.kept) (record {
     claimed = λ i y ne v. elim (cases_eq y x) [
       | inl here ↦
           absurd ((c.writes i y v).1
@@ -254,8 +254,8 @@ module _ (a b : ℕ → Bool) (W V R Q : ℕ → ℕ → Type 0) (w k h : ℕ) (
       was : b w ≡ false → a w ≡ false
       was f = sym (c.claims w (λ same. c.away (sym same))) ∙ f
 
-  asked_here_routed : IsAskedHere a b W V R Q w k h → IsRouted b V Q w h
-  asked_here_routed c = subst (IsRouted b V Q w) (sym c.kept) (record {
+  asked_here_routed : IsAskedHere a b W V R Q w k h → IsRoutedByManaging b V Q w h
+  asked_here_routed c = subst (IsRoutedByManaging b V Q w) (sym c.kept) (record {
     claimed = λ i y ne v. c.claims y ne ∙ elim (c.writes i y v) [
       | inl old ↦ r.claimed i y ne old
       | inr new ↦ ap a new.1 ∙ r.kept_claims c.plain
@@ -296,8 +296,8 @@ module _ (a b : ℕ → Bool) (W V R Q : ℕ → ℕ → Type 0) (w k h : ℕ) (
     manager_reads = λ y v. r.manager_reads y (c.reads w y v);
   })
 
-  asked_elsewhere_routed : (x : ℕ) → IsAskedElsewhere a b W V R Q w k h x → IsRouted b V Q w h
-  asked_elsewhere_routed x c = subst (IsRouted b V Q w) (sym c.kept) (record {
+  asked_elsewhere_routed : (x : ℕ) → IsAskedElsewhere a b W V R Q w k h x → IsRoutedByManaging b V Q w h
+  asked_elsewhere_routed x c = subst (IsRoutedByManaging b V Q w) (sym c.kept) (record {
     claimed = λ i y ne v. elim (c.writes i y v) [
       | inl old ↦ still y (r.claimed i y ne old)
       | inr new ↦ absurd (ne new.1)
@@ -356,7 +356,7 @@ module _ (a b : ℕ → Bool) (W V R Q : ℕ → ℕ → Type 0) (w k h : ℕ) (
           ]
 
 pub move_routed : (a b : ℕ → Bool) (W V R Q : ℕ → ℕ → Type 0) (w k h : ℕ) → Move a b W V R Q w k h
-    → IsRouted a W R w k → IsRouted b V Q w h
+    → IsRoutedByManaging a W R w k → IsRoutedByManaging b V Q w h
 move_routed a b W V R Q w k h (Calm c) r = calm_routed a b W V R Q w k h r c
 move_routed a b W V R Q w k h (ReadSent o hop c) r = read_sent_routed a b W V R Q w k h r o hop c
 move_routed a b W V R Q w k h (WriteSent o c) r = write_sent_routed a b W V R Q w k h r o c

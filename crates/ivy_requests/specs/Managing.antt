@@ -28,7 +28,7 @@ pub data IsReader (n : Net) (page origin node : ℕ) : Type 0 where
 -- One page: which nodes claim it; of which node a request to write is at which, and which reads
 -- from
 -- which; the managing node, and the owner that it keeps.
-pub record IsRouted (claiming : ℕ → Bool) (Writes Reads : ℕ → ℕ → Type 0) (manager kept : ℕ)
+pub record IsRoutedByManaging (claiming : ℕ → Bool) (Writes Reads : ℕ → ℕ → Type 0) (manager kept : ℕ)
     : Type 0 where
   -- elsewhere than at the managing node, requests to write are at nodes that claim the page, and
   -- one
@@ -59,13 +59,13 @@ pub record IsRouted (claiming : ℕ → Bool) (Writes Reads : ℕ → ℕ → Ty
 -- or gives the page: the last number of each node, the latest of all, and the nodes whose request
 -- it
 -- has not sent on yet.
-pub record Turns : Type 0 where
+pub record WriteTurns : Type 0 where
   pub turn : ℕ → ℕ
   pub latest : ℕ
   pub queued : ℕ → Bool
 
 pub record HasTurns (claiming : ℕ → Bool) (Writes Reads : ℕ → ℕ → Type 0) (manager kept : ℕ)
-    (t : Turns) : Type 0 where
+    (t : WriteTurns) : Type 0 where
   pub bounded : (node : ℕ) → t.turn node ≤ t.latest
   -- a node that asks another one to write has a later turn than that one, the kept owner the latest
   pub writer_later : (origin node : ℕ) → node ≢ manager → origin ≢ manager → Writes origin node
@@ -87,9 +87,9 @@ pub record IsManaged (c : Config) (m : ℕ → Owners) (n : Net) : Type 0 where
   pub nodes : (i : ℕ) → i < c.nodes → (m i).nodes ≡ c.nodes
   pub size : (i : ℕ) → i < c.nodes → length (m i).owners ≡ c.pages
   pub counted : (i j : ℕ) → n.delivered i j ≤ length (n.posted i j)
-  pub routed : (p : ℕ) → p < c.pages → IsRouted (λ y. claims (n.entry y p))
+  pub routed : (p : ℕ) → p < c.pages → IsRoutedByManaging (λ y. claims (n.entry y p))
       (IsAsked n (content.WriteReq p)) (IsReader n p) (p % c.nodes)
       (hop_of (m (p % c.nodes)) p)
-  pub turns : (p : ℕ) → p < c.pages → (t : Turns) × HasTurns (λ y. claims (n.entry y p))
+  pub turns : (p : ℕ) → p < c.pages → (t : WriteTurns) × HasTurns (λ y. claims (n.entry y p))
       (IsAsked n (content.WriteReq p)) (IsReader n p) (p % c.nodes)
       (hop_of (m (p % c.nodes)) p) t

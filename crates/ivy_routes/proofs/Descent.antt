@@ -8,12 +8,12 @@ use Rattle.ivy_wire.specs.declared.Content.TheVariants as content
 use Rattle.ivy_fixed.specs.Fixed.{Owners, hop_of}
 use Rattle.ivy_order.specs.Letters.{Net}
 use Rattle.ivy_order.specs.Orderly.{IsOrderly}
-use Rattle.ivy_requests.specs.Managing.{claims, IsReader, asking, IsRouted, Turns, HasTurns, IsManaged}
+use Rattle.ivy_requests.specs.Managing.{claims, IsReader, asking, IsRoutedByManaging, WriteTurns, HasTurns, IsManaged}
 use Rattle.ivy_requests.specs.Descending.{IsAsked, Descends}
 use Rattle.ivy_requests.proofs.Asked.{reader_inside, writer_inside}
 use Rattle.ivy_requests.proofs.Claims.{reader_unclaimed, writer_claims}
 
-module _ (a : ℕ → Bool) (W R : ℕ → ℕ → Type 0) (w k : ℕ) (r : IsRouted a W R w k) (t : Turns)
+module _ (a : ℕ → Bool) (W R : ℕ → ℕ → Type 0) (w k : ℕ) (r : IsRoutedByManaging a W R w k) (t : WriteTurns)
     (has : HasTurns a W R w k t) where
   abbrev claimer : ℕ → ℕ
   claimer y = if t.queued y then t.latest + 2 else t.turn y

@@ -21,7 +21,7 @@ use Rattle.ivy_coherence.proofs.Keeping.{owner_put}
 use Rattle.ivy_dynamic.specs.Dynamic.{Hints, hint_of, hinted, dynamic_ops}
 use Rattle.ivy_order.specs.Letters.{Letter, Net, Place, Loose, content_of, letter_of, goes_on, installs}
 use Rattle.ivy_order.specs.Orderly.{IsExpectedAs, IsOrderly}
-use Rattle.ivy_order.specs.Rows.{Served, Comes, Begins, PutsOff, Notice, Row, IsOf, noticed, letter, told}
+use Rattle.ivy_order.specs.Rows.{Served, Comes, Begins, PutsOff, Notice, Row, IsOf, noticed, letter, with_manager}
 use Rattle.ivy_order.proofs.Needs.{page_of, collects_owner}
 use Rattle.ivy_order.proofs.Places.{served, freed}
 use Rattle.ivy_order.proofs.Sole.{fits_as}
@@ -154,7 +154,7 @@ module _ (c : Config) (m m' : ℕ → Hints) (n n' : Net) (hints : IsHinted c m 
 -- the node is told of another one
 hints_at : (c : Config) (m : ℕ → Hints) (n : Net) → IsHinted c m n → (x p : ℕ) → x < c.nodes
     → p < c.pages
-    → (o : ℕ) (g : ℕ → ℕ) → g o < g x → g (hint_of (told m x (hinted (m x) p o) x) p) < g x
+    → (o : ℕ) (g : ℕ → ℕ) → g o < g x → g (hint_of (with_manager m x (hinted (m x) p o) x) p) < g x
 hints_at c m n hints x p here page o g lt =
     subst (λ v. g v < g x)
     (sym (hint_now m x p o (subst (λ k. p < k) (sym (hints.size x here)) page))) lt
@@ -203,14 +203,14 @@ module _ (c : Config) (m : ℕ → Hints) (n : Net) (order : IsOrderly c n) (hin
           (λ g was h. no_more (sym h))
 
       read_sent_hinted : s.owner ≡ false
-          → IsHinted c (told m x (m x))
+          → IsHinted c (with_manager m x (m x))
           (goes_on n x p (entry.Idle s) rest
           (parcel_to x (hint_of (m x) p) o call (content.ReadReq p) ∷ []))
       read_sent_hinted plain =
-          one_hinted c m (told m x (m x)) n _ hints x p (entry.Idle s) (entry.Idle s) served _ _
+          one_hinted c m (with_manager m x (m x)) n _ hints x p (entry.Idle s) (entry.Idle s) served _ _
           (answer_step n x p (entry.Idle s) (entry.Idle s) _ rest (hint_of (m x) p) o call
           (content.ReadReq p) is loose (λ k q h. h))
-          (none_told dynamic_ops m (told m x (m x)) x p (told_itself m x))
+          (none_told dynamic_ops m (with_manager m x (m x)) x p (told_itself m x))
           refl (λ b v h. cc)
           (λ g was h. (
           let lower : g (hint_of (m x) p) < g x = was.hints x here (ap claims is ∙ plain) in
@@ -227,11 +227,11 @@ module _ (c : Config) (m : ℕ → Hints) (n : Net) (order : IsOrderly c n) (hin
     ended_hinted : {T : Type 0} {at : T → Entry} (r : Served c n at content.Inval) (z : Entry)
         → ((k : ℕ) (q : PutOff) → slice_get (put_offs z) k ≡ Some q
         → slice_get (put_offs (at r.state)) k ≡ Some q) → is_owner z ≡ false
-        → IsHinted c (told m r.node (hinted (m r.node) r.page r.origin))
+        → IsHinted c (with_manager m r.node (hinted (m r.node) r.page r.origin))
         (goes_on n r.node r.page z r.rest
         (parcel_to r.node r.origin r.origin r.call (content.InvalAck r.page) ∷ []))
     ended_hinted {at = at} r z still unowned =
-        quiet_hinted c m (told m x (hinted (m x) p o)) n _ hints x p (at s) z served (IsThe _ _)
+        quiet_hinted c m (with_manager m x (hinted (m x) p o)) n _ hints x p (at s) z served (IsThe _ _)
         (answer_step n x p (at s) z _ rest o o call (content.InvalAck p) is loose still)
         (told_hint m x p o)
         (λ a l it. ap (λ (v : Letter). page_of v.message.content) it.1)
@@ -281,11 +281,11 @@ module _ (c : Config) (m : ℕ → Hints) (n : Net) (order : IsOrderly c n) (hin
 
     -- a copy comes
     copied_hinted : (bytes : List ℕ) (r : Comes c n entry.AwaitRead (λ q. content.ReadRep q bytes))
-        → IsHinted c (told m r.node (hinted (m r.node) r.page r.from))
+        → IsHinted c (with_manager m r.node (hinted (m r.node) r.page r.from))
         (goes_on n r.node r.page (entry.Idle copying)
         (map (letter_of r.node r.page) r.state.put_off) [])
     copied_hinted bytes r =
-        quiet_hinted c m (told m x (hinted (m x) p from)) n _ hints x p (entry.AwaitRead w)
+        quiet_hinted c m (with_manager m x (hinted (m x) p from)) n _ hints x p (entry.AwaitRead w)
         (entry.Idle copying) (freed x p) IsNone
         (free_step n x p (entry.AwaitRead w) (entry.Idle copying) w.put_off is refl refl)
         (told_hint m x p from) (λ a l none. absurd none) (λ a l none on. none)

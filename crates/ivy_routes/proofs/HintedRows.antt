@@ -12,7 +12,7 @@ use Rattle.ivy_serving.specs.Serving.{parcel_to}
 use Rattle.ivy_dynamic.specs.Dynamic.{Hints, hint_of, hinted, dynamic_ops}
 use Rattle.ivy_order.specs.Letters.{Letter, Net, Place, Underway, Loose, IsAt, goes_on}
 use Rattle.ivy_order.specs.Orderly.{AwaitsPage, Own, key_as, IsExpectedAs, IsOrderly}
-use Rattle.ivy_order.specs.Rows.{Served, letter, told}
+use Rattle.ivy_order.specs.Rows.{Served, letter, with_manager}
 use Rattle.ivy_order.proofs.Needs.{page_of}
 use Rattle.ivy_order.proofs.Places.{served}
 use Rattle.ivy_order.proofs.Sole.{fits_as, first_alone, no_other_owner, no_page_comes}
@@ -55,7 +55,7 @@ module _ (c : Config) (m : ℕ → Hints) (n : Net) (order : IsOrderly c n) (hin
   }
 
   abbrev now_told : ℕ → Hints
-  now_told = told m x (hinted (m x) p o)
+  now_told = with_manager m x (hinted (m x) p o)
 
   abbrev first : Letter
   first = letter from x o call (content.WriteReq p)

@@ -17,7 +17,7 @@ use Rattle.ivy_fixed.specs.Fixed.{Owners, owner_kept, hop_of, fixed_ops}
 use Rattle.ivy_fixed.specs.FixedLaws.{fixed_laws}
 use Rattle.ivy_order.specs.Letters.{Letter, Net, goes_on, installs, Loose, content_of, letter_of}
 use Rattle.ivy_order.specs.Orderly.{IsOrderly}
-use Rattle.ivy_order.specs.Rows.{Served, Comes, PutsOff, Takes, Notice, Row, IsOf, noticed, told, taken, letter}
+use Rattle.ivy_order.specs.Rows.{Served, Comes, PutsOff, Takes, Notice, Row, IsOf, noticed, with_manager, taken, letter}
 use Rattle.ivy_order.proofs.Places.{served, freed}
 use Rattle.ivy_order.proofs.Parcels.{IsNone, IsOrder, answer_step, orders_step, free_step, stay_step}
 use Rattle.ivy_order.proofs.Fitting.{IsRequest}
@@ -43,15 +43,15 @@ module _ (c : Config) (m : ℕ → Owners) (n : Net) (order : IsOrderly c n) (ma
         calm_managed c m m n n' 0 0 (none_told fixed_ops m m 0 0 (λ i. refl)) order calm (inl refl)
         managed
 
-    told_managed : (x : ℕ) (n' : Net) → IsCalmed n n' → IsManaged c (told m x (m x)) n'
+    told_managed : (x : ℕ) (n' : Net) → IsCalmed n n' → IsManaged c (with_manager m x (m x)) n'
     told_managed x n' calm =
-        calm_managed c m (told m x (m x)) n n' 0 0
-        (none_told fixed_ops m (told m x (m x)) 0 0 (told_itself m x)) order calm
+        calm_managed c m (with_manager m x (m x)) n n' 0 0
+        (none_told fixed_ops m (with_manager m x (m x)) 0 0 (told_itself m x)) order calm
         (inl (ap (λ v. hop_of v 0) (told_itself m x (0 % c.nodes)))) managed
 
     -- a node that waited for the page is told that it came
     came_managed : (x p : ℕ) (s : AwaitWriteState) (n' : Net) → n.entry x p ≡ entry.AwaitWrite s
-        → IsCalmed n n' → IsManaged c (told m x (owner_kept (m x) p (m x).me)) n'
+        → IsCalmed n n' → IsManaged c (with_manager m x (owner_kept (m x) p (m x).me)) n'
     came_managed x p s n' is calm =
         calm_managed c m m' n n' x p
         (one_told m x fixed_ops (owner_kept (m x) p (m x).me) p
@@ -62,7 +62,7 @@ module _ (c : Config) (m : ℕ → Owners) (n : Net) (order : IsOrderly c n) (ma
         ]) managed
       where
         m' : ℕ → Owners
-        m' = told m x (owner_kept (m x) p (m x).me)
+        m' = with_manager m x (owner_kept (m x) p (m x).me)
 
 -- bytes are installed
 bytes_calmed : (n : Net) (x p : ℕ) (bytes : List ℕ) → IsCalmed n (installs n x p bytes)

@@ -9,7 +9,7 @@ use Rattle.ivy_dynamic.specs.Dynamic.{Hints, hint_of}
 use Rattle.ivy_order.specs.Letters.{Net}
 use Rattle.ivy_order.specs.Orderly.{IsOrderly}
 use Rattle.ivy_requests.specs.Descending.{IsAsked}
-use Rattle.ivy_requests.specs.Managing.{claims, IsReader, asking, getting, IsRouted, Turns, HasTurns, IsManaged}
+use Rattle.ivy_requests.specs.Managing.{claims, IsReader, asking, getting, IsRoutedByManaging, WriteTurns, HasTurns, IsManaged}
 use Rattle.ivy_requests.specs.Hinting.{LeadDown, IsHinted}
 use Rattle.ivy_requests.specs.Waiting.{IsAwaited}
 use Rattle.ivy_requests.specs.Routing.{follows, hops, LeadTo, AreRoutes, AreManaged}
@@ -29,11 +29,11 @@ module _ (c : Config) (limits : IsConfig c) (m : ℕ → Owners) (n : Net) (orde
   abbrev claiming : ℕ → Bool
   claiming y = claims (n.entry y page)
 
-  routed : IsRouted claiming (IsAsked n (content.WriteReq page)) (IsReader n page) manager
+  routed : IsRoutedByManaging claiming (IsAsked n (content.WriteReq page)) (IsReader n page) manager
       (next manager)
   routed = managed.routed page lt
 
-  abbrev turns : Turns
+  abbrev turns : WriteTurns
   turns = (managed.turns page lt).0
 
   has_turns : HasTurns claiming (IsAsked n (content.WriteReq page)) (IsReader n page) manager

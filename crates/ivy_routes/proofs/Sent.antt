@@ -17,12 +17,12 @@ use Rattle.ivy_fixed.specs.Fixed.{Owners, owner_kept, hop_of, fixed_ops}
 use Rattle.ivy_fixed.specs.FixedLaws.{fixed_laws}
 use Rattle.ivy_order.specs.Letters.{Letter, Net, Place, Underway, Loose, goes_on}
 use Rattle.ivy_order.specs.Orderly.{IsOrderly}
-use Rattle.ivy_order.specs.Rows.{Served, Begins, letter, told}
+use Rattle.ivy_order.specs.Rows.{Served, Begins, letter, with_manager}
 use Rattle.ivy_order.proofs.Places.{served}
 use Rattle.ivy_order.proofs.Steps.{IsStep}
 use Rattle.ivy_order.proofs.Parcels.{IsThe, answer_step, ask_step}
 use Rattle.ivy_requests.specs.Descending.{IsAsked}
-use Rattle.ivy_requests.specs.Managing.{claims, IsReader, asking, IsRouted, IsManaged}
+use Rattle.ivy_requests.specs.Managing.{claims, IsReader, asking, IsRoutedByManaging, IsManaged}
 use Rattle.ivy_requests.proofs.Moves.{ReadSent, WriteSent, GivenHere, GivenElsewhere, AskedHere, AskedElsewhere, both}
 use Rattle.ivy_requests.proofs.Managers.{IsTold, none_told, one_told, told_here, told_else, told_itself, hop_elsewhere, hop_kept}
 use Rattle.ivy_requests.proofs.Asked.{IsOther, idle_unread, other_asker, asked_or_new, asked_others}
@@ -77,7 +77,7 @@ module _ (c : Config) (m : ℕ → Owners) (n : Net) (order : IsOrderly c n) (ma
 
   abbrev Routed : Type 0
   Routed =
-      IsRouted (λ y. claims (n.entry y p)) (IsAsked n (content.WriteReq p)) (IsReader n p) manager
+      IsRoutedByManaging (λ y. claims (n.entry y p)) (IsAsked n (content.WriteReq p)) (IsReader n p) manager
       kept_owner
 
   routed : Routed
@@ -94,7 +94,7 @@ module _ (c : Config) (m : ℕ → Owners) (n : Net) (order : IsOrderly c n) (ma
   hop_there ne = hop_elsewhere (m x) x c.nodes p (managed.me x here) (managed.nodes x here) ne
 
   -- once the managing node is told of an owner, it keeps that one
-  kept_told : (o : ℕ) → x ≡ manager → hop_of (told m x (owner_kept (m x) p o) manager) p ≡ o
+  kept_told : (o : ℕ) → x ≡ manager → hop_of (with_manager m x (owner_kept (m x) p o) manager) p ≡ o
   kept_told o same = ap (λ v. hop_of v p) (told_here m x (owner_kept (m x) p o) manager (sym same))
       ∙ hop_kept (m x) p o
       (ap (λ k. p % k) (managed.nodes x here) ∙ sym same ∙ sym (managed.me x here))
@@ -254,11 +254,11 @@ module _ (c : Config) (m : ℕ → Owners) (n : Net) (order : IsOrderly c n) (ma
     -- the rows: a request to read is sent on; a word begins to wait for a copy; for the page
     pub sent_on_read : (from o call : ℕ) (rest : List Letter)
         → n.loose ≡ letter from x o call (content.ReadReq p) ∷ rest
-        → IsManaged c (told m x (m x))
+        → IsManaged c (with_manager m x (m x))
         (goes_on n x p (entry.Idle s) rest
         (parcel_to x (hop_of (m x) p) o call (content.ReadReq p) ∷ []))
     sent_on_read from o call rest loose =
-        read_moved (told m x (m x)) _ (entry.Idle s) _ x o call
+        read_moved (with_manager m x (m x)) _ (entry.Idle s) _ x o call
         (none_told fixed_ops m _ x p (told_itself m x))
         (ap (λ v. hop_of v p) (told_itself m x manager))
         (answer_step n x p (entry.Idle s) (entry.Idle s) _ rest (hop_of (m x) p) o call
@@ -339,15 +339,15 @@ module _ (c : Config) (m : ℕ → Owners) (n : Net) (order : IsOrderly c n) (ma
         other_asker c n order (letter from x o call (content.WriteReq p)) rest p i y
         (content.WriteReq p) loose refl (λ l. refl) other
 
-    t : IsTold fixed_ops m (told m x (owner_kept (m x) p o)) x p
+    t : IsTold fixed_ops m (with_manager m x (owner_kept (m x) p o)) x p
     t = one_told m x fixed_ops (owner_kept (m x) p o) p (fixed_laws.keeps_given (m x) p o)
 
     -- by another node than the owner: it is the managing one
     pub sent_on_write : s.owner ≡ false
-        → IsManaged c (told m x (owner_kept (m x) p o))
+        → IsManaged c (with_manager m x (owner_kept (m x) p o))
         (goes_on n x p (entry.Idle s) rest
         (parcel_to x (hop_of (m x) p) o call (content.WriteReq p) ∷ []))
-    sent_on_write plain = page_managed c m (told m x (owner_kept (m x) p o)) n n' x p t order
+    sent_on_write plain = page_managed c m (with_manager m x (owner_kept (m x) p o)) n n' x p t order
         (still_counted n x p (entry.Idle s) rest
         (parcel_to x (hop_of (m x) p) o call (content.WriteReq p) ∷ []) managed.counted)
         (λ y q ne. claims_same n n' x p (entry.Idle s) (entry.Idle s) served (IsThe at new) step
@@ -427,10 +427,10 @@ module _ (c : Config) (m : ℕ → Owners) (n : Net) (order : IsOrderly c n) (ma
 
     -- by the owner, which gives the page
     pub given : s.owner ≡ true → (bits : ℕ) (bytes : List ℕ)
-        → IsManaged c (told m x (owner_kept (m x) p o))
+        → IsManaged c (with_manager m x (owner_kept (m x) p o))
         (goes_on n x p (entry.Idle without) rest
         (parcel_to x o o call (content.WriteRep p bits bytes) ∷ []))
-    given owner bits bytes = page_managed c m (told m x (owner_kept (m x) p o)) n n' x p t order
+    given owner bits bytes = page_managed c m (with_manager m x (owner_kept (m x) p o)) n n' x p t order
         (still_counted n x p (entry.Idle without) rest
         (parcel_to x o o call (content.WriteRep p bits bytes) ∷ []) managed.counted)
         (λ y q ne. claims_else n n' x p (entry.Idle s) (entry.Idle without) served (IsThe at new)
@@ -479,7 +479,7 @@ module _ (c : Config) (m : ℕ → Owners) (n : Net) (order : IsOrderly c n) (ma
             (parcel_to x o o call (content.WriteRep p bits bytes) ∷ []) is
             (letter from x o call (content.WriteReq p)) loose (λ j r h. h)
 
-        move : MoveAt c m (told m x (owner_kept (m x) p o)) n n' p
+        move : MoveAt c m (with_manager m x (owner_kept (m x) p o)) n n' p
         move = elim (cases_eq x manager) [
           | inl same ↦ GivenHere o (record {
             claims = λ y ne. other_claims y (λ h. ne (h ∙ same));

@@ -1,7 +1,7 @@
 -- The turns that the managing node gives, once the requests for its page have moved.
 use Rattle.std.proofs.Common.{◌≡◌, ◌≢◌, ◌⊎◌, ◌<◌, ◌≤◌, ◌+◌, ℕ, Bool, true, false, refl, sym, ap, ◌∙◌, subst, inl, inr, arith, if◌then◌else◌, ◌==◌}
 use Rattle.std.proofs.lemmas.Bool.{cases_eq, eq-eqb, ne_eqb}
-use Rattle.ivy_requests.specs.Managing.{IsRouted, Turns, HasTurns}
+use Rattle.ivy_requests.specs.Managing.{IsRoutedByManaging, WriteTurns, HasTurns}
 use Rattle.ivy_requests.proofs.Moves.{IsCalm, IsReadSent, IsWriteSent, IsGivenHere}
 use Rattle.ivy_requests.proofs.Moves.{IsGivenElsewhere, IsAskedHere, IsAskedElsewhere, Move, Calm}
 use Rattle.ivy_requests.proofs.Moves.{ReadSent, WriteSent, GivenHere, GivenElsewhere, AskedHere}
@@ -18,7 +18,7 @@ but-other : {X : Type 0} (f : ℕ → X) (o : ℕ) (v : X) (y : ℕ) → y ≢ o
 but-other f o v y ne = ap (λ (b : Bool). if b then v else f y) (ne_eqb y o ne)
 
 -- a node has the next turn; a node is queued
-abbrev next_turn : Turns → ℕ → Turns
+abbrev next_turn : WriteTurns → ℕ → WriteTurns
 next_turn t o =
     record {
       turn = but t.turn o (t.latest + 1);
@@ -26,11 +26,11 @@ next_turn t o =
       queued = but t.queued o false;
     }
 
-abbrev queues : Turns → ℕ → Turns
+abbrev queues : WriteTurns → ℕ → WriteTurns
 queues t x = record { turn = t.turn; latest = t.latest; queued = but t.queued x true }
 
-module _ (a b : ℕ → Bool) (W V R Q : ℕ → ℕ → Type 0) (w k h : ℕ) (r : IsRouted a W R w k)
-    (t : Turns) (has : HasTurns a W R w k t) where
+module _ (a b : ℕ → Bool) (W V R Q : ℕ → ℕ → Type 0) (w k h : ℕ) (r : IsRoutedByManaging a W R w k)
+    (t : WriteTurns) (has : HasTurns a W R w k t) where
   calm_turns : IsCalm a b W V R Q w k h → HasTurns b V Q w h t
   calm_turns c = record {
     bounded = has.bounded;
@@ -235,7 +235,7 @@ module _ (a b : ℕ → Bool) (W V R Q : ℕ → ℕ → Type 0) (w k h : ℕ) (
       was f = sym (c.claims w (λ same. c.away (sym same))) ∙ f
 
   pub move_turns : Move a b W V R Q w k h → ((i y : ℕ) → R i y → a i ≡ false)
-      → (u : Turns) × HasTurns b V Q w h u
+      → (u : WriteTurns) × HasTurns b V Q w h u
   move_turns (Calm c) idle = (t, calm_turns c)
   move_turns (ReadSent o hop c) idle = (t, read_sent_turns o hop c)
   move_turns (WriteSent o c) idle = (next_turn t o, write_sent_turns o c idle)

@@ -26,14 +26,14 @@ use Rattle.ivy_host.specs.Hosts.{Host, host_rules}
 use Rattle.ivy_host.specs.Managers.{Managed, managed_ops}
 use Rattle.ivy_host.specs.Openings.{first_node, first_nodes}
 use Rattle.ivy_host.proofs.Tame.{first_length}
-use Rattle.ivy_ether.specs.Going.{IsListOf, GoesOn, Sends}
+use Rattle.ivy_ether.specs.Going.{IsListOf, ListGoesOn, Sends}
 use Rattle.ivy_ether.specs.Held.{Held, held}
 use Rattle.ivy_ether.specs.Programs.{beginning, MayGive, SendsFrom}
 use Rattle.ivy_ether.specs.Views.{View, newcomer, with_seat, with_events, with_taken}
 use Rattle.ivy_node.specs.declared.turn.Turn as turn
 use Rattle.ivy_node.specs.declared.turn.Turn.TheVariants.{Idle, Moved, Ended}
 use Rattle.ivy_node.specs.Shown.{Shown, after_hearing, after_delivery, after_pulse_to}
-use Rattle.ivy_node.specs.Sites.{first_shown, IsMadeByEvents, IsSentBy, AfterTurn, AfterDelivery, Delivers, without_ready, GoesOnOnce, Follows}
+use Rattle.ivy_node.specs.Sites.{first_shown, IsMadeByEvents, IsSentBy, AfterTurn, AfterDelivery, SiteDelivers, without_ready, GoesOnOnce, FollowsDelivery}
 use Rattle.ivy_node.specs.Sites as sites
 use Rattle.ivy_node.proofs.Programs.{turned-program, posting-core, delivered-program}
 use Rattle.ivy_program.specs.Steps.{HasEnded}
@@ -188,7 +188,7 @@ module _ (c : Config) (programs : List (List Instruction)) where
   -- after a delivery of a string that the pass took
   listed : (bytes : List ℕ) (v w : Verdict) (s s' : Shown) (took : List (List ℕ))
       → IsConfig s.config
-      → Contains took bytes → (d : Delivers bytes v s s')
+      → Contains took bytes → (d : SiteDelivers bytes v s s')
       → s' ≡ after_hearing s bytes w d.frame.source d.effect → StaysAt s s' took
   listed bytes v w s s' took limits there d after = record {
     me = ap (λ (x : Shown). x.me) after;
@@ -201,7 +201,7 @@ module _ (c : Config) (programs : List (List Instruction)) where
   }
 
   delivery_as : (bytes : List ℕ) (v w : Verdict) (s s' : Shown) (took : List (List ℕ)) → v ≡ w
-      → IsConfig s.config → Contains took bytes → (d : Delivers bytes v s s')
+      → IsConfig s.config → Contains took bytes → (d : SiteDelivers bytes v s s')
       → StaysAt s s' took
   delivery_as bytes v verdict.NotMine s s' took is limits there d =
       stays_same s s' took (d.after ∙ ap (λ x. after_delivery s bytes x d.frame.source d.effect) is)
@@ -237,7 +237,7 @@ module _ (c : Config) (programs : List (List Instruction)) where
 
   all_stay : (source : ℕ) (more : List (List ℕ)) (s s' : Shown) (took : List (List ℕ))
       → IsConfig s.config → AllCanBeMade took (length programs) s.me s.events
-      → sites.GoesOn source more s s' → StaysAt s s' took
+      → sites.SiteGoesOn source more s s' → StaysAt s s' took
   all_stay source [] s s' took limits before same = stays_same s s' took same
   all_stay source (bytes ∷ more) s s' took limits before on =
       let x : StaysAt s on.0 took = once_stays source bytes s on.0 took limits before on.1 in
@@ -258,7 +258,7 @@ module _ (c : Config) (programs : List (List Instruction)) where
 
   follows_stay : (v : Verdict) (f : Frame) (bytes : List ℕ) (s s' : Shown) (took : List (List ℕ))
       → IsConfig s.config → AllCanBeMade took (length programs) s.me s.events
-      → Follows v f bytes s s' → StaysAt s s' took
+      → FollowsDelivery v f bytes s s' → StaysAt s s' took
   follows_stay verdict.NotMine f bytes s s' took limits before same = stays_same s s' took same
   follows_stay verdict.Repeat f bytes s s' took limits before same = stays_same s s' took same
   follows_stay verdict.Ahead f bytes s s' took limits before same =

@@ -34,7 +34,7 @@ use Rattle.ivy_ether.specs.Rule.{times, one_if}
 use Rattle.ivy_ether.specs.Views.{View, with_told, with_issued, beginner}
 use Rattle.ivy_ether.specs.Words.{IsNewcomer, AreFresh}
 use Rattle.ivy_ether.proofs.Totals.{total-append}
-use Rattle.ivy_session.specs.Reports.{NodeReport, report_of, IsOf, IsDone, ExplainsWhole, IsReport}
+use Rattle.ivy_session.specs.Reports.{NodeReport, report_of, IsNodeReport, IsDone, ExplainsWhole, IsReport}
 use Rattle.ivy_session.specs.Told.{AreTold}
 
 -- the order at the end of a run
@@ -173,7 +173,7 @@ module _ (c : Config) (programs : List (List Instruction)) (limits : IsConfig c)
     pub reported_as : IsReport c programs (map report_of sites)
     reported_as = record {
       all = length-map sites report_of ∙ count;
-      each = λ i n there. subst (IsOf c programs i) (site_of i n there).is
+      each = λ i n there. subst (IsNodeReport c programs i) (site_of i n there).is
           (site_of i n there).done.of;
       parts = parts;
       lists = λ i n there. (site_of i n there).list

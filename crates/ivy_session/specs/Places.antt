@@ -11,7 +11,7 @@ use Rattle.ivy_node.specs.Sites.{first_shown}
 use Rattle.ivy_ether.specs.Held.{Held}
 use Rattle.ivy_ether.specs.Views.{newcomer, with_seat}
 
-pub record Place : Type 0 where
+pub record SeatedState : Type 0 where
   pub site : Shown
   pub pass : Held
 
@@ -36,7 +36,7 @@ pub record IsSeated (wire : TableId) (c : Config) (programs : List (List Instruc
   pub given : HasGiven (length programs) s p
   pub took : AllCanBeMade p.known.took (length programs) s.me s.events
 
-abbrev pub place : Shown → Held → Place
+abbrev pub place : Shown → Held → SeatedState
 place s p = record { site = s; pass = p }
 
 -- a site of the node's program as it begins, and a pass of this ether that took the node's seat

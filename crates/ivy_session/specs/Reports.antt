@@ -33,7 +33,7 @@ report_of s = record {
 
 module _ (c : Config) (programs : List (List Instruction)) where
   -- history and output are those that node i's events give, by the definitions, for this list
-  pub record IsOf (i : ℕ) (n : NodeReport) : Type 0 where
+  pub record IsNodeReport (i : ℕ) (n : NodeReport) : Type 0 where
     pub effect : Effect (Host Managed)
     pub list : IsListOf (host_rules managed_ops) c (beginning c programs) i n.events effect
     pub history : n.history ≡ effect.after.core.history
@@ -41,7 +41,7 @@ module _ (c : Config) (programs : List (List Instruction)) where
 
   -- a site of node i whose program has ended
   pub record IsDone (i : ℕ) (s : Shown) : Type 0 where
-    pub of : IsOf i (report_of s)
+    pub of : IsNodeReport i (report_of s)
     pub ended : HasEnded of.effect.after.core.process
 
   -- the order is legal, and each node's part of it is exactly its history
@@ -57,7 +57,7 @@ module _ (c : Config) (programs : List (List Instruction)) where
   -- that fits no rule
   pub record IsReport (nodes : List NodeReport) : Type 0 where
     pub all : length nodes ≡ length programs
-    pub each : (i : ℕ) (n : NodeReport) → slice_get nodes i ≡ Some n → IsOf i n
+    pub each : (i : ℕ) (n : NodeReport) → slice_get nodes i ≡ Some n → IsNodeReport i n
     pub parts : ℕ → List Mark
     pub lists : (i : ℕ) (n : NodeReport) → slice_get nodes i ≡ Some n → parts i ≡ n.events
     pub end : World (Host Managed)

@@ -5,7 +5,7 @@ use Rattle.ivy_link.specs.declared.Verdict.{Verdict}
 use Rattle.ivy_link.specs.declared.Verdict.TheVariants as verdict
 use Rattle.ivy_node.specs.Shown.{Shown}
 use Rattle.ivy_node.specs.Sites.{AfterDelivery}
-use Rattle.ivy_session.specs.Places.{Place}
+use Rattle.ivy_session.specs.Places.{SeatedState}
 use Rattle.ivy_session.specs.declared.wire_turn.WireTurn.{WireTurn}
 use Rattle.ivy_session.specs.declared.wire_turn.WireTurn.TheVariants.{Sent, Lost, Empty, Served, Returned, Dropped}
 
@@ -16,7 +16,7 @@ pub record Leaves (old new : Shown) : Type 0 where
   pub same : new ≡ record old { waiting = new.waiting }
 
 -- a string that the pass took is delivered to its site
-pub record Serves (v : Verdict) (old new : Place) : Type 0 where
+pub record ServesString (v : Verdict) (old new : SeatedState) : Type 0 where
   pub none : old.site.waiting ≡ []
   pub bytes : List ℕ
   pub took : Contains new.pass.known.took bytes
@@ -24,14 +24,14 @@ pub record Serves (v : Verdict) (old new : Place) : Type 0 where
   pub delivered : AfterDelivery bytes v old.site new.site
 
 -- nothing waited, and the site is as it was
-abbrev pub Rests : Place → Place → Type 0
+abbrev pub Rests : SeatedState → SeatedState → Type 0
 Rests old new = (old.site.waiting ≡ []) × (new.site ≡ old.site)
 
-abbrev pub AfterWire : WireTurn → Place → Place → Type 0
+abbrev pub AfterWire : WireTurn → SeatedState → SeatedState → Type 0
 AfterWire Sent old new = Leaves old.site new.site
 AfterWire Lost old new = Leaves old.site new.site
 AfterWire Empty old new = Rests old new
-AfterWire (Served v) old new = Serves v old new
+AfterWire (Served v) old new = ServesString v old new
 AfterWire Returned old new = Rests old new
 AfterWire Dropped old new = Rests old new
 

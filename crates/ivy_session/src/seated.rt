@@ -35,9 +35,9 @@ pub struct Seated<'e, S: Setup, A: Allocator> {
 }
 
 impl<'e, S: Setup, A: Allocator> Model for Seated<'e, S, A> {
-    ghost use Rattle.ivy_session.specs.Places.{Place, place, IsSeated};
+    ghost use Rattle.ivy_session.specs.Places.{SeatedState, place, IsSeated};
 
-    ghost Value = { Place };
+    ghost Value = { SeatedState };
 
     ghost use Rattle.std.specs.Coded.{codes};
     ghost use Rattle.ivy_pagetable.specs.NodeSets.{nodes_code};

@@ -19,7 +19,7 @@ use Rattle.ivy_coherence.specs.declared.need.Need.TheVariants as need
 use Rattle.ivy_coherence.specs.Coherent.{Coherent}
 use Rattle.ivy_coherence.specs.Faults.{suffices}
 use Rattle.ivy_order.specs.Letters.{Letter, Net, written}
-use Rattle.ivy_order.specs.Rows.{with_page, IsKept}
+use Rattle.ivy_order.specs.Rows.{with_flat_page, IsKept}
 use Rattle.ivy_order.proofs.Alike.{alike_holds}
 use Rattle.ivy_worlds.proofs.LiftedNets.{Stands, written-here, written-page, written-node}
 
@@ -66,7 +66,7 @@ pub record Carries {S : Type 0} (P : (ℕ → S) → Net → (ℕ → List ℕ) 
   pub idle : net.entry x page ≡ entry.Idle state
   pub enough : suffices state.access word ≡ true
   pub gives : out ≡ (carried_out word (net.page x page)).out
-  pub after : flat ≡ with_page f page (carried_out word (f page)).bytes
+  pub after : flat ≡ with_flat_page f page (carried_out word (f page)).bytes
 
 -- What a message did to the flat memory's pages, where it led node x from one coherence to another:
 -- nothing, and what

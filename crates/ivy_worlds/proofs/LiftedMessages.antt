@@ -35,7 +35,7 @@ use Rattle.ivy_coherence.proofs.Changing.{entry_with, page_with, place}
 use Rattle.ivy_coherence.proofs.Keeping.{entry_is, idle-start, copy-start, page-start, last-start}
 use Rattle.ivy_order.specs.Letters.{Letter, Net, content_of, letter_of}
 use Rattle.ivy_order.specs.Orderly.{AwaitsCopy, AwaitsPage, Collects}
-use Rattle.ivy_order.specs.Rows.{letter, told, with_page as with_flat, IsFull, Misfits, Comes, Row, IsKept}
+use Rattle.ivy_order.specs.Rows.{letter, with_manager, with_flat_page as with_flat, IsFull, Misfits, Comes, Row, IsKept}
 use Rattle.ivy_worlds.proofs.LiftedNets.{told-again, reached, Stands, written-here}
 use Rattle.ivy_worlds.proofs.LiftedRows.{goes, goes_quietly, comes, comes_quietly, carried_at, dropped_at}
 use Rattle.ivy_worlds.proofs.LiftedServing.{served-at, all_served-at}
@@ -350,7 +350,7 @@ module _ {S : Type 0} {ops : Ops S} {P : (ℕ → S) → Net → (ℕ → List �
             after),
         answers p w.word w.call (carried_out w.word bytes).out (sound.others p lock) waits refl refl
             (record {
-              managers = told m k.me s;
+              managers = with_manager m k.me s;
               net = reached n k.me p (entry.Idle i) bytes k.breaches []
                   (map (letter_of k.me p) w.put_off);
               state = i;

@@ -9,7 +9,7 @@ use Rattle.ivy_link.specs.Paired.{posted, extended}
 use Rattle.ivy_pagetable.specs.declared.Entry.{Entry}
 use Rattle.ivy_serving.specs.Serving.{counted}
 use Rattle.ivy_order.specs.Letters.{Letter, Net, written, goes_on, installs}
-use Rattle.ivy_order.specs.Rows.{told, dropped}
+use Rattle.ivy_order.specs.Rows.{with_manager, dropped}
 use Rattle.ivy_order.proofs.Alike.{AreAlike}
 
 -- the node's count is written, and so on
@@ -27,7 +27,7 @@ reached n x p e bytes broken ps rest = record {
 pub record Stands {S : Type 0} (P : (ℕ → S) → Net → (ℕ → List ℕ) → Type 0) (m : ℕ → S) (n : Net)
     (x p : ℕ) (f : ℕ → List ℕ) (e : Entry) (bytes : List ℕ) (s : S) (broken : ℕ) (ps : List Parcel)
     (rest : List Letter) : Type 0 where
-  pub holds : P (told m x s) (reached n x p e bytes broken ps rest) f
+  pub holds : P (with_manager m x s) (reached n x p e bytes broken ps rest) f
 
 -- what is written, read back
 twice : {X : Type 0} (b : Bool) (u v old : X)
@@ -54,18 +54,18 @@ written-twice : {X : Type 0} (g : ℕ → ℕ → X) (x p : ℕ) (u v : X) (i q 
     → written (written g x p u) x p v i q ≡ written g x p v i q
 written-twice g x p u v i q = twice (i == x && q == p) u v (g i q)
 
-pub told-here : {S : Type 0} (m : ℕ → S) (x : ℕ) (s : S) → told m x s x ≡ s
+pub told-here : {S : Type 0} (m : ℕ → S) (x : ℕ) (s : S) → with_manager m x s x ≡ s
 told-here m x s = ap (λ b. if b then s else m x) (eq-eqb x x refl)
 
-pub told-node : {S : Type 0} (m : ℕ → S) (x : ℕ) (s : S) (i : ℕ) → i ≢ x → told m x s i ≡ m i
+pub told-node : {S : Type 0} (m : ℕ → S) (x : ℕ) (s : S) (i : ℕ) → i ≢ x → with_manager m x s i ≡ m i
 told-node m x s i ne = ap (λ b. if b then s else m i) (ne_eqb i x ne)
 
 -- a manager is told again, by what it is
 pub told-again : {S : Type 0} (m : ℕ → S) (x : ℕ) (s : S) (g : S → S) (i : ℕ)
-    → told m x (g s) i ≡ told (told m x s) x (g (told m x s x)) i
+    → with_manager m x (g s) i ≡ with_manager (with_manager m x s) x (g (with_manager m x s x)) i
 told-again m x s g i =
-    ap (λ z. told m x (g z) i) (sym (told-here m x s))
-    ∙ sym (twice (i == x) s (g (told m x s x)) (m i))
+    ap (λ z. with_manager m x (g z) i) (sym (told-here m x s))
+    ∙ sym (twice (i == x) s (g (with_manager m x s x)) (m i))
 
 one_posted : (b : Bool) (message : Message) (whole front back : List Message)
     → whole ≡ front ++ back
@@ -91,12 +91,12 @@ pub extended-none : (sent : ℕ → ℕ → List Message) (ps : List Parcel) (i 
 extended-none sent ps i j = sym (append-nil (extended sent ps i j))
 
 module _ {S : Type 0} (m M : ℕ → S) (n : Net) (x p : ℕ) (s : S)
-    (managers : (i : ℕ) → told m x s i ≡ M i) where
+    (managers : (i : ℕ) → with_manager m x s i ≡ M i) where
   -- an entry is written, and parcels are posted
   pub goes-alike : (e z : Entry) (bytes : List ℕ) (broken : ℕ) (ps qs now : List Parcel)
       (before rest : List Letter)
       → ((i j : ℕ) → extended n.posted now i j ≡ extended (extended n.posted ps) qs i j)
-      → AreAlike M (told m x s) (goes_on (reached n x p e bytes broken ps before) x p z rest qs)
+      → AreAlike M (with_manager m x s) (goes_on (reached n x p e bytes broken ps before) x p z rest qs)
       (reached n x p z bytes broken now rest)
   goes-alike e z bytes broken ps qs now before rest sent = record {
     managers = managers;
@@ -112,7 +112,7 @@ module _ {S : Type 0} (m M : ℕ → S) (n : Net) (x p : ℕ) (s : S)
   pub comes-alike : (e z : Entry) (old bytes : List ℕ) (broken : ℕ) (ps qs now : List Parcel)
       (before rest : List Letter)
       → ((i j : ℕ) → extended n.posted now i j ≡ extended (extended n.posted ps) qs i j)
-      → AreAlike M (told m x s)
+      → AreAlike M (with_manager m x s)
       (installs (goes_on (reached n x p e old broken ps before) x p z rest qs) x p bytes)
       (reached n x p z bytes broken now rest)
   comes-alike e z old bytes broken ps qs now before rest sent = record {
@@ -128,7 +128,7 @@ module _ {S : Type 0} (m M : ℕ → S) (n : Net) (x p : ℕ) (s : S)
   -- the page's bytes alone are
   pub installs-alike : (e : Entry) (old bytes : List ℕ) (broken : ℕ) (ps : List Parcel)
       (rest : List Letter)
-      → AreAlike M (told m x s) (installs (reached n x p e old broken ps rest) x p bytes)
+      → AreAlike M (with_manager m x s) (installs (reached n x p e old broken ps rest) x p bytes)
       (reached n x p e bytes broken ps rest)
   installs-alike e old bytes broken ps rest = record {
     managers = managers;
@@ -143,7 +143,7 @@ module _ {S : Type 0} (m M : ℕ → S) (n : Net) (x p : ℕ) (s : S)
   -- a letter is dropped
   pub drops-alike : (e : Entry) (bytes : List ℕ) (broken : ℕ) (ps : List Parcel)
       (before rest : List Letter)
-      → AreAlike M (told m x s) (dropped (reached n x p e bytes broken ps before) x rest)
+      → AreAlike M (with_manager m x s) (dropped (reached n x p e bytes broken ps before) x rest)
       (reached n x p e bytes (counted broken) ps rest)
   drops-alike e bytes broken ps before rest = record {
     managers = managers;

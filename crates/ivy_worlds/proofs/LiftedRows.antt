@@ -11,7 +11,7 @@ use Rattle.ivy_pagetable.specs.Manager.{Ops}
 use Rattle.ivy_serving.specs.Serving.{counted}
 use Rattle.ivy_coherence.specs.Faults.{suffices}
 use Rattle.ivy_order.specs.Letters.{Letter, Net, goes_on, installs}
-use Rattle.ivy_order.specs.Rows.{Notice, Row, Claim, Misfits, IsKept, IsOf, noticed, told, with_page}
+use Rattle.ivy_order.specs.Rows.{Notice, Row, Claim, Misfits, IsKept, IsOf, noticed, with_manager, with_flat_page}
 use Rattle.ivy_order.proofs.Alike.{alike_holds}
 use Rattle.ivy_worlds.proofs.LiftedNets.{reached, Stands, written-here, told-here, extended-on, extended-none, goes-alike, comes-alike, installs-alike, drops-alike}
 
@@ -23,8 +23,8 @@ module _ {S : Type 0} {ops : Ops S} {P : Claim S} {c : Config} (kept : IsKept op
   abbrev Now : Net
   Now = reached n x p e b broken ps before
 
-  module _ {notice : Notice} (of : IsOf ops c (told m x s) notice) (after : S)
-      (managers : (i : ℕ) → told m x after i ≡ noticed ops (told m x s) notice i) where
+  module _ {notice : Notice} (of : IsOf ops c (with_manager m x s) notice) (after : S)
+      (managers : (i : ℕ) → with_manager m x after i ≡ noticed ops (with_manager m x s) notice i) where
     -- the node's entry is written, these letters are left, and parcels are posted
     pub goes : (z : Entry) (qs : List Parcel) (rest : List Letter)
         → Row c Now f notice (goes_on Now x p z rest qs) f
@@ -73,16 +73,16 @@ pub carried_at : {S : Type 0} {ops : Ops S} {P : Claim S} {c : Config} → IsKep
     {broken : ℕ} {ps : List Parcel} {rest : List Letter}
     → Stands P m n x p f (entry.Idle i) b s broken ps rest → x < c.nodes → p < c.pages → (w : Word)
     → IsWord c.page_size w → suffices i.access w ≡ true
-    → Stands P m n x p (with_page f p (carried_out w (f p)).bytes) (entry.Idle i)
+    → Stands P m n x p (with_flat_page f p (carried_out w (f p)).bytes) (entry.Idle i)
     (carried_out w b).bytes s broken ps rest
 carried_at {P = P} kept {m} {n} {x} {p} {f} {i} {b} {s} {broken} {ps} {rest} h here inside w word
     enough = record {
       holds = alike_holds _ _ _ _
-          (installs-alike m (told m x s) n x p s (λ j. refl) (entry.Idle i) b (carried_out w b).bytes
+          (installs-alike m (with_manager m x s) n x p s (λ j. refl) (entry.Idle i) b (carried_out w b).bytes
           broken ps rest) P _
-          (subst (λ d. P (told m x s)
+          (subst (λ d. P (with_manager m x s)
           (installs (reached n x p (entry.Idle i) b broken ps rest) x p (carried_out w d).bytes)
-          (with_page f p (carried_out w (f p)).bytes)) (written-here n.page x p b)
+          (with_flat_page f p (carried_out w (f p)).bytes)) (written-here n.page x p b)
           (kept.by (Row.carries (record {
             node = x;
             page = p;
@@ -106,7 +106,7 @@ pub dropped_at : {S : Type 0} {ops : Ops S} {P : Claim S} {c : Config} → IsKep
 dropped_at {P = P} kept {m} {n} {x} {p} {f} {e} {b} {s} {broken} {ps} {l} {rest} h here dest why =
     record {
       holds = alike_holds _ _ _ _
-          (drops-alike m (told m x s) n x p s (λ j. refl) e b broken ps (l ∷ rest) rest) P f
+          (drops-alike m (with_manager m x s) n x p s (λ j. refl) e b broken ps (l ∷ rest) rest) P f
           (kept.by
           (Row.drops
           (record {
@@ -122,5 +122,5 @@ dropped_at {P = P} kept {m} {n} {x} {p} {f} {e} {b} {s} {broken} {ps} {l} {rest}
 
 -- the next hop of the manager that the node has
 pub hop_here : {S : Type 0} (ops : Ops S) (m : ℕ → S) (x : ℕ) (s : S) (p : ℕ)
-    → ops.next_hop s p ≡ ops.next_hop (told m x s x) p
+    → ops.next_hop s p ≡ ops.next_hop (with_manager m x s x) p
 hop_here ops m x s p = ap (λ z. ops.next_hop z p) (sym (told-here m x s))

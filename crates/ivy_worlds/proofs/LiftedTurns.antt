@@ -21,7 +21,7 @@ use Rattle.ivy_coherence.specs.Sound.{IsSound}
 use Rattle.ivy_coherence.proofs.Changing.{entry_with, page_with}
 use Rattle.ivy_coherence.proofs.Keeping.{entry_is}
 use Rattle.ivy_order.specs.Letters.{Net, written}
-use Rattle.ivy_order.specs.Rows.{told, with_page as with_flat, IsHop, Begins, Row, IsKept}
+use Rattle.ivy_order.specs.Rows.{with_manager, with_flat_page as with_flat, IsHop, Begins, Row, IsKept}
 use Rattle.ivy_worlds.proofs.LiftedNets.{reached, Stands, written-here, written-page}
 use Rattle.ivy_worlds.proofs.LiftedRows.{goes, carried_at, hop_here}
 use Rattle.ivy_worlds.proofs.LiftedEvents.{IsNode, ComesTo, WaitsAt, Starts, busy as is_busy, hits, waits, Ended, stands-first, ended-leads}
@@ -84,7 +84,7 @@ module _ {S : Type 0} {ops : Ops S} {P : (ℕ → S) → Net → (ℕ → List �
         },
         hits (carried_out w old).out refl refl refl
             (record {
-              managers = told m k.me k.manager;
+              managers = with_manager m k.me k.manager;
               net = reached n k.me p (entry.Idle i) old k.breaches [] [];
               state = i;
               holds = (first i is).holds;

@@ -21,7 +21,7 @@ use Rattle.ivy_host.proofs.Tame.{tame, opening_is}
 use Rattle.ivy_order.specs.Letters.{Letter, Net, Place, Underway, Aside, Loose, IsAt}
 use Rattle.ivy_order.specs.Rows.{IsKept}
 use Rattle.ivy_worlds.specs.Nets.{entry_of, manager_of, net_of, managers_of}
-use Rattle.ivy_worlds.specs.Runs.{first_ordered, IsRun, IsReachedInOrder, FollowsInOrder}
+use Rattle.ivy_worlds.specs.Runs.{first_ordered, IsOrderedRun, IsReachedInOrder, FollowsInOrder}
 use Rattle.ivy_worlds.proofs.Filtered.{filtered_from}
 use Rattle.ivy_worlds.proofs.Led.{HasOrder, order_led}
 use Rattle.ivy_worlds.proofs.LiftedWorlds.{IsSoundWorld, steps_sound}
@@ -34,7 +34,7 @@ module _ {S : Type 0} {ops : Ops S} {P : (ℕ → S) → Net → (ℕ → List �
     (first : P (managers_of spare (first_ordered ops c programs))
     (net_of (first_ordered ops c programs)) f) where
   run_holds : (before : List (Ordered (Host S))) (o : Ordered (Host S))
-      → IsRun ops c programs before o → Holds ops c P spare o
+      → IsOrderedRun ops c programs before o → Holds ops c P spare o
   run_holds [] o is =
       subst (Holds ops c P spare) (sym is) (sound_opening laws c limits programs many, (f, first))
   run_holds (last ∷ before) o run =

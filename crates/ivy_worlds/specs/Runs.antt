@@ -16,12 +16,12 @@ module _ {S : Type 0} (ops : Ops S) (c : Config) (programs : List (List Instruct
   first_ordered = ordered_of (opening ops c programs) (λ i j. [])
 
   -- moves of the ordered world lead to it from the opening, by these worlds, the latest first
-  abbrev pub IsRun : List (Ordered (Host S)) → Ordered (Host S) → Type 0
-  IsRun [] end = end ≡ first_ordered
-  IsRun (last ∷ before) end = IsRun before last × Steps (host_rules ops) last end
+  abbrev pub IsOrderedRun : List (Ordered (Host S)) → Ordered (Host S) → Type 0
+  IsOrderedRun [] end = end ≡ first_ordered
+  IsOrderedRun (last ∷ before) end = IsOrderedRun before last × Steps (host_rules ops) last end
 
   abbrev pub IsReachedInOrder : Ordered (Host S) → Type 0
-  IsReachedInOrder o = (before : List (Ordered (Host S))) × IsRun before o
+  IsReachedInOrder o = (before : List (Ordered (Host S))) × IsOrderedRun before o
 
   -- the world follows an ordered one that is reached, in which these messages were posted
   pub record FollowsInOrder (w : World (Host S)) : Type 0 where

@@ -1,11 +1,11 @@
 use Rattle.std.proofs.Common.{◌≤◌, ◌+◌, ◌*◌, length}
-use Rattle.ivy_node.specs.Sites.{IsSameNode, WentOn}
+use Rattle.ivy_node.specs.Sites.{IsSameNode, SiteWentOn}
 use Rattle.ivy_node.proofs.site.Site.go_on.Given as goal
 
 -- the site went on so far, by so many strings at most
 abbrev pub invariant-loop : goal.invariant-loop
 invariant-loop g l = record {
   same : IsSameNode l.initial.self l.self;
-  on : WentOn l.from l.initial.self l.self;
+  on : SiteWentOn l.from l.initial.self l.self;
   few : length l.self.waiting ≤ length l.initial.self.waiting + 8 * l.counter;
 }

@@ -4,7 +4,7 @@ use Rattle.ivy_ether.specs.Held.{Held}
 use Rattle.ivy_ether.specs.Items.{strings_in}
 use Rattle.ivy_node.specs.Shown.{Shown}
 use Rattle.ivy_node.specs.Sites.{AfterDelivery}
-use Rattle.ivy_session.specs.Places.{Place}
+use Rattle.ivy_session.specs.Places.{SeatedState}
 use Rattle.ivy_session.proofs.seated.Seated.wire_turn.Goals as goal
 
 pub give_back-requires : goal.give_back-requires
@@ -24,7 +24,7 @@ returns-in-Ok g c =
     (subst (λ i. Contains (strings_in i) c.in-Frame.frame) (sym c.in-Frame.is)
     (0, omega arith, refl)) in
     let site =
-    c.in-Some-take_item.ensures.site ∙ ap (λ (p : Place). p.site) c.in_default.ensures.done.0 in
+    c.in-Some-take_item.ensures.site ∙ ap (λ (p : SeatedState). p.site) c.in_default.ensures.done.0 in
     let apart : c.in-Ok.verdict ≢ verdict.NotMine = search rules in
     record {
       done = record {
