@@ -48,7 +48,15 @@ impl<M: Manager, A: Allocator> Model for Coherence<M, A> {
 
     ghost view = { λ c. record { config = c.config; me = c.me; table = c.table; manager = c.manager; locked = c.locked; done = c.done; breaches = c.breaches } };
 
-    ghost invariant = { λ c. IsSound M.ops (record { config = c.config; me = c.me; table = c.table; manager = c.manager; locked = c.locked; done = c.done; breaches = c.breaches }) × (length c.spare ≡ c.config.page_size) };
+    ghost invariant = { λ c. IsSound M.ops (record {
+      config = c.config;
+      me = c.me;
+      table = c.table;
+      manager = c.manager;
+      locked = c.locked;
+      done = c.done;
+      breaches = c.breaches;
+    }) × (length c.spare ≡ c.config.page_size) };
 }
 
 /// Whether a word can be carried out at once where this is the access.

@@ -11,7 +11,8 @@ ghost use Rattle.ivy_serving.specs.Sound.{CanBeServed, AreOthers};
 ghost use Rattle.ivy_serving.specs.Limits.{most_posted};
 ghost use Rattle.ivy_serving.specs.Outcomes.{HasRefused};
 ghost use Rattle.ivy_coherence.specs.Outcomes.{IsStep};
-ghost use Rattle.ivy_coherence.specs.Steps.{IsWaiting, IsCollecting, is_none, unlocked_as, unlocked_by_reply, unlocked_by_last, put_aside_at, given_up, asked_at, copy_came_at, owned_with, page_came_at, left_with, acknowledged_at, handled};
+ghost use Rattle.ivy_coherence.specs.Steps.{IsWaiting, IsCollecting, is_none, unlocked_as, unlocked_by_reply, unlocked_by_last};
+ghost use Rattle.ivy_coherence.specs.Steps.{put_aside_at, given_up, asked_at, copy_came_at, owned_with, page_came_at, left_with, acknowledged_at, handled};
 
 use crate::coherence::Coherence;
 use ivy_model::Fault;

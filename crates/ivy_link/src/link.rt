@@ -5,7 +5,8 @@ ghost use Rattle.ivy_model.specs.declared.Fault.TheVariants.{Memory, NumbersSpen
 ghost use Rattle.ivy_wire.specs.Lent.{owned_message, owned_parcel, owned_frame};
 ghost use Rattle.ivy_link.specs.Linked.{peer_at};
 ghost use Rattle.ivy_link.specs.Pulsed.{repeated};
-ghost use Rattle.ivy_link.specs.Holding.{link_of, first_holding, offered_at, accepted_at, after_sending, frames_for, has_numbers_for, AreToPeers, frames_repeated, after_pulsing, after_hold, given_back, ready_of, after_taking};
+ghost use Rattle.ivy_link.specs.Holding.{link_of, first_holding, offered_at, accepted_at, after_sending, frames_for, has_numbers_for};
+ghost use Rattle.ivy_link.specs.Holding.{AreToPeers, frames_repeated, after_pulsing, after_hold, given_back, ready_of, after_taking};
 
 use crate::keeping::{count_to, keep_each, reserve};
 use crate::lent::{add, again, copied, copies};

@@ -8,7 +8,8 @@ ghost use Rattle.ivy_serving.specs.Serving.{parcel_to};
 ghost use Rattle.ivy_serving.specs.Outcomes.{HasRefused};
 ghost use Rattle.ivy_memory.specs.declared.answer.Answer.TheVariants as answers;
 ghost use Rattle.ivy_memory.specs.declared.heap_side.HeapCall.TheVariants as kinds;
-ghost use Rattle.ivy_memory.specs.HeapCalls.{first_side, closed, IsGrowth, IsGrowthPosted, told_of, after_told, request, answer_to, block_told, end_told, reply_in, heap_begun, served_at, learns, heap_told, reply_told};
+ghost use Rattle.ivy_memory.specs.HeapCalls.{first_side, closed, IsGrowth, IsGrowthPosted, told_of, after_told, request, answer_to};
+ghost use Rattle.ivy_memory.specs.HeapCalls.{block_told, end_told, reply_in, heap_begun, served_at, learns, heap_told, reply_told};
 
 use crate::answer::Answer;
 use ivy_alloc::Heap;
@@ -155,7 +156,13 @@ fn give_block<A: Allocator + Copy, P: Post>(
     ensures posted { OnOk result (post.new ≡ P.after post.old (parcel_to me from from number (answer_to (kinds.Alloc size) (told_of heap.old (kinds.Alloc size)).reply) ∷ [])) }
     ensures took { OnOk result (P.takes post.old (parcel_to me from from number (answer_to (kinds.Alloc size) (told_of heap.old (kinds.Alloc size)).reply) ∷ [])) }
     ensures err { OnErr result (heap.new ≡ heap.old) }
-    ensures fault { IfErr result (λ fault. (IsGrowth (answers.Given (told_of heap.old (kinds.Alloc size)).reply) fault × (post.new ≡ post.old)) ⊎ HasRefused P.refuses P.after_refusal post.old post.new (parcel_to me from from number (answer_to (kinds.Alloc size) (told_of heap.old (kinds.Alloc size)).reply) ∷ []) fault) }
+    ensures fault { IfErr result (λ fault.
+        (IsGrowth (answers.Given (told_of heap.old (kinds.Alloc size)).reply) fault
+        × (post.new ≡ post.old))
+        ⊎ HasRefused P.refuses P.after_refusal post.old post.new
+        (parcel_to me from from number
+        (answer_to (kinds.Alloc size) (told_of heap.old (kinds.Alloc size)).reply) ∷ [])
+        fault) }
     ensures want { IfErr result IsWant }
 {
     match heap.alloc(size) {
@@ -200,7 +207,9 @@ fn end_block<A: Allocator + Copy, P: Post>(
     ensures posted { OnOk result (post.new ≡ P.after post.old (parcel_to me from from number (answer_to (kinds.Free addr) (told_of heap.old (kinds.Free addr)).reply) ∷ [])) }
     ensures took { OnOk result (P.takes post.old (parcel_to me from from number (answer_to (kinds.Free addr) (told_of heap.old (kinds.Free addr)).reply) ∷ [])) }
     ensures err { OnErr result (heap.new ≡ heap.old) }
-    ensures fault { IfErr result (HasRefused P.refuses P.after_refusal post.old post.new (parcel_to me from from number (answer_to (kinds.Free addr) (told_of heap.old (kinds.Free addr)).reply) ∷ [])) }
+    ensures fault { IfErr result (HasRefused P.refuses P.after_refusal post.old post.new
+        (parcel_to me from from number
+        (answer_to (kinds.Free addr) (told_of heap.old (kinds.Free addr)).reply) ∷ [])) }
     ensures want { IfErr result IsWant }
 {
     let code = if heap.is_block(addr) { 0 } else { NOT_A_BLOCK };
@@ -245,7 +254,11 @@ impl<A: Allocator + Copy> HeapSide<A> {
         ensures posted { OnOk result (post.new ≡ P.after post.old (heap_begun me self.old call number).posted) }
         ensures took { OnOk result (P.takes post.old (heap_begun me self.old call number).posted) }
         ensures err { OnErr result (self.new ≡ self.old) }
-        ensures fault { IfErr result (λ fault. (IsGrowth (heap_begun me self.old call number).answer fault × (post.new ≡ post.old)) ⊎ HasRefused P.refuses P.after_refusal post.old post.new (heap_begun me self.old call number).posted fault) }
+        ensures fault { IfErr result (λ fault.
+            (IsGrowth (heap_begun me self.old call number).answer fault
+            × (post.new ≡ post.old))
+            ⊎ HasRefused P.refuses P.after_refusal post.old post.new
+            (heap_begun me self.old call number).posted fault) }
         ensures want { IfErr result IsWant }
     {
         if let Some(heap) = &mut self.heap {
@@ -275,7 +288,11 @@ impl<A: Allocator + Copy> HeapSide<A> {
         ensures posted { OnOk result (post.new ≡ P.after post.old (served_at me self.old from number call self.old.heap).posted) }
         ensures took { OnOk result (P.takes post.old (served_at me self.old from number call self.old.heap).posted) }
         ensures err { OnErr result (self.new ≡ self.old) }
-        ensures fault { IfErr result (λ fault. (IsGrowthPosted (served_at me self.old from number call self.old.heap).posted fault × (post.new ≡ post.old)) ⊎ HasRefused P.refuses P.after_refusal post.old post.new (served_at me self.old from number call self.old.heap).posted fault) }
+        ensures fault { IfErr result (λ fault.
+            (IsGrowthPosted (served_at me self.old from number call self.old.heap).posted fault
+            × (post.new ≡ post.old))
+            ⊎ HasRefused P.refuses P.after_refusal post.old post.new
+            (served_at me self.old from number call self.old.heap).posted fault) }
         ensures want { IfErr result IsWant }
     {
         let Some(heap) = &mut self.heap else {
@@ -334,7 +351,11 @@ impl<A: Allocator + Copy> HeapSide<A> {
         ensures posted { OnOk result (post.new ≡ P.after post.old (heap_told me self.old from (owned_message message.now)).posted) }
         ensures took { OnOk result (P.takes post.old (heap_told me self.old from (owned_message message.now)).posted) }
         ensures err { OnErr result (self.new ≡ self.old) }
-        ensures fault { IfErr result (λ fault. (IsGrowthPosted (heap_told me self.old from (owned_message message.now)).posted fault × (post.new ≡ post.old)) ⊎ HasRefused P.refuses P.after_refusal post.old post.new (heap_told me self.old from (owned_message message.now)).posted fault) }
+        ensures fault { IfErr result (λ fault.
+            (IsGrowthPosted (heap_told me self.old from (owned_message message.now)).posted fault
+            × (post.new ≡ post.old))
+            ⊎ HasRefused P.refuses P.after_refusal post.old post.new
+            (heap_told me self.old from (owned_message message.now)).posted fault) }
         ensures want { IfErr result IsWant }
     {
         let call = match &message.content {

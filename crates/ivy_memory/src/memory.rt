@@ -116,8 +116,15 @@ impl<M: Manager, A: Allocator + Copy> Memory<M, A> {
         ensures posted { OnOk result (post.new ≡ P.after post.old (call_begun M.ops self.old call number).posted) }
         ensures took { OnOk result (P.takes post.old (call_begun M.ops self.old call number).posted) }
         ensures err { OnErr result (self.new ≡ self.old) }
-        ensures fault { self.old.asked ≡ None → IfErr result (λ fault. (IsOfHeap (asked_of self.old.coherence.config call) × IsGrowth (call_begun M.ops self.old call number).answer fault × (post.new ≡ post.old)) ⊎ HasRefused P.refuses P.after_refusal post.old post.new (call_begun M.ops self.old call number).posted fault) }
-        ensures sure { self.old.asked ≡ None → OnErr result (CallHasToAsk self.old.coherence call ⊎ MayBeRefused (asked_of self.old.coherence.config call) (call_begun M.ops self.old call number).answer) }
+        ensures fault { self.old.asked ≡ None → IfErr result (λ fault.
+            (IsOfHeap (asked_of self.old.coherence.config call)
+            × IsGrowth (call_begun M.ops self.old call number).answer fault
+            × (post.new ≡ post.old))
+            ⊎ HasRefused P.refuses P.after_refusal post.old post.new
+            (call_begun M.ops self.old call number).posted fault) }
+        ensures sure { self.old.asked ≡ None → OnErr result (CallHasToAsk self.old.coherence call
+            ⊎ MayBeRefused (asked_of self.old.coherence.config call)
+            (call_begun M.ops self.old call number).answer) }
         ensures want { self.old.asked ≡ None → IfErr result IsWant }
     {
         if self.asked.is_some() {
@@ -229,7 +236,12 @@ impl<M: Manager, A: Allocator + Copy> Memory<M, A> {
         ensures posted { OnOk result (post.new ≡ P.after post.old (memory_handled M.ops self.old from (owned_message message.entry)).posted) }
         ensures took { OnOk result (P.takes post.old (memory_handled M.ops self.old from (owned_message message.entry)).posted) }
         ensures err { OnErr result (self.new ≡ self.old) }
-        ensures fault { IfErr result (λ fault. (IsGrowthPosted (memory_handled M.ops self.old from (owned_message message.entry)).posted fault × (post.new ≡ post.old)) ⊎ HasRefused P.refuses P.after_refusal post.old post.new (memory_handled M.ops self.old from (owned_message message.entry)).posted fault) }
+        ensures fault { IfErr result (λ fault.
+            (IsGrowthPosted
+            (memory_handled M.ops self.old from (owned_message message.entry)).posted fault
+            × (post.new ≡ post.old))
+            ⊎ HasRefused P.refuses P.after_refusal post.old post.new
+            (memory_handled M.ops self.old from (owned_message message.entry)).posted fault) }
         ensures want { IfErr result IsWant }
     {
         if self.side.handle(self.coherence.me(), from, &message, post)? {

@@ -1,5 +1,6 @@
 //! One node: its program, its memory, its link, and the strings that wait to be put on the wire.
-ghost use Rattle.std.specs.Prelude.{◌≡◌, ◌↔◌, ◌≢◌, ◌+◌, ◌<◌, ◌≤◌, ◌++◌, ◌∷◌, [], None, Some, Err, length, vec_len, vec_capacity, IsTrue, IfOk, IfErr, OnOk, OnErr, IfSome, IsOkUnless, MatchBool, MatchResult, MatchOption, Contains};
+ghost use Rattle.std.specs.Prelude.{◌≡◌, ◌↔◌, ◌≢◌, ◌+◌, ◌<◌, ◌≤◌, ◌++◌, ◌∷◌, [], None, Some, Err, length, vec_len, vec_capacity};
+ghost use Rattle.std.specs.Prelude.{IsTrue, IfOk, IfErr, OnOk, OnErr, IfSome, IsOkUnless, MatchBool, MatchResult, MatchOption, Contains};
 ghost use Rattle.ivy_model.specs.Config.{IsConfig};
 ghost use Rattle.ivy_model.specs.Wants.{IsWant};
 ghost use Rattle.ivy_wire.specs.Faults.{checked};
@@ -11,7 +12,8 @@ ghost use Rattle.ivy_link.specs.Holding.{ready_of};
 ghost use Rattle.ivy_node.specs.Outboxes.{most_sent, most_delivered, next_dest};
 ghost use Rattle.ivy_node.specs.Shown.{holding_at, after_pulse_to};
 ghost use Rattle.ivy_node.specs.Runs.{IsOfRun};
-ghost use Rattle.ivy_node.specs.Sites.{first_shown, host_of, AfterHostTurn, HasNoNumbers, AfterTurn, AfterDelivery, Hears, Receives, WentOnOnce, SiteWentOn, IsHeld, early_at, HoldsString, without_ready, IsSpentTurn, IsSpentDelivery, TakesFrame, IsSameNode, IsMadeByEvents, IsSentBy};
+ghost use Rattle.ivy_node.specs.Sites.{first_shown, host_of, AfterHostTurn, HasNoNumbers, AfterTurn, AfterDelivery, Hears, Receives};
+ghost use Rattle.ivy_node.specs.Sites.{WentOnOnce, SiteWentOn, IsHeld, early_at, HoldsString, without_ready, IsSpentTurn, IsSpentDelivery, TakesFrame, IsSameNode, IsMadeByEvents, IsSentBy};
 ghost use Rattle.ivy_events.specs.Marks.{marks};
 ghost use Rattle.ivy_model.specs.Legal.{HasWidth};
 
@@ -50,9 +52,37 @@ impl<A: Allocator> Model for Site<A> {
 
     ghost coded = { Prim.hlevel (codes, nodes_code, heap_state_code) };
 
-    ghost view = { λ s. record { config = s.outbox.config; me = s.outbox.me; node = record { core = record { memory = s.memory; process = s.machine; history = s.history.items }; link = s.outbox.link }; events = s.events.marks; waiting = s.outbox.waiting; held = s.outbox.held } };
+    ghost view = { λ s. record {
+      config = s.outbox.config;
+      me = s.outbox.me;
+      node = record {
+        core = record {
+          memory = s.memory;
+          process = s.machine;
+          history = s.history.items;
+        };
+        link = s.outbox.link;
+      };
+      events = s.events.marks;
+      waiting = s.outbox.waiting;
+      held = s.outbox.held;
+    } };
 
-    ghost invariant = { λ s. IsSite (record { config = s.outbox.config; me = s.outbox.me; node = record { core = record { memory = s.memory; process = s.machine; history = s.history.items }; link = s.outbox.link }; events = s.events.marks; waiting = s.outbox.waiting; held = s.outbox.held }) };
+    ghost invariant = { λ s. IsSite (record {
+      config = s.outbox.config;
+      me = s.outbox.me;
+      node = record {
+        core = record {
+          memory = s.memory;
+          process = s.machine;
+          history = s.history.items;
+        };
+        link = s.outbox.link;
+      };
+      events = s.events.marks;
+      waiting = s.outbox.waiting;
+      held = s.outbox.held;
+    }) };
 }
 
 /// The string once more, where its frame came before its turn.

@@ -264,7 +264,11 @@ impl<A: Allocator + Copy> World<A> {
         // Whatever moves led from the opening to the world before the call, those made lead on, and at each
         // moment of all of them one order of records explains what the nodes were answered, growing from move to
         // move.
-        ensures explained { (before : List Move) → IsLedTo self.old.config (opening_of self.old) before self.old.world → IsLedTo self.old.config (opening_of self.old) (before ++ made_of result moves.now) self.new.world × IsExplainedAlong self.old (before ++ made_of result moves.now) }
+        ensures explained { (before : List Move)
+            → IsLedTo self.old.config (opening_of self.old) before self.old.world
+            → IsLedTo self.old.config (opening_of self.old)
+            (before ++ made_of result moves.now) self.new.world
+            × IsExplainedAlong self.old (before ++ made_of result moves.now) }
 
         // And what is promised at every moment holds: `reached`, `exclusive`, `runs`, `no_breach`, `spelled`,
         // `ordered`, `waits`, `routes` and `explained`.

@@ -55,7 +55,12 @@ impl AwaitAcks {
 
     pub(crate) fn try_put_off(&mut self, message: PutOff) -> bool
         ensures done { result ≡ nat_lt (length self.old.waiting.put_off) most_put_off }
-        ensures kept { self.new ≡ record { left = self.old.left; waiting = if nat_lt (length self.old.waiting.put_off) most_put_off then with_one_put_off self.old.waiting message else self.old.waiting } }
+        ensures kept { self.new ≡ record {
+          left = self.old.left;
+          waiting = if nat_lt (length self.old.waiting.put_off) most_put_off
+              then with_one_put_off self.old.waiting message
+              else self.old.waiting;
+        } }
     {
         self.waiting.try_put_off(message)
     }
