@@ -18,9 +18,9 @@ use Rattle.ivy_host.specs.Hosts.{Host, host_rules, answered_by}
 use Rattle.ivy_host.specs.Sound.{IsSoundHost}
 use Rattle.ivy_host.specs.Openings.{opening}
 use Rattle.ivy_host.specs.Holding.{IsExclusive, AreRuns, HasNoBreach, AllSpell}
-use Rattle.ivy_explain.proofs.FaithfulWorlds.{opening_explained, opening_runs}
-use Rattle.ivy_worlds.proofs.Runs.{led_in_order}
-use Rattle.ivy_worlds.proofs.Worlds.{exclusive_led}
+use Rattle.ivy_explaining.proofs.FaithfulWorlds.{opening_explained, opening_runs}
+use Rattle.ivy_lifting.proofs.Runs.{led_in_order}
+use Rattle.ivy_lifting.proofs.Worlds.{exclusive_led}
 use Rattle.ivy_routes.proofs.EitherRoutes.{either_awaited, either_routed}
 use Rattle.ivy_routes.proofs.EitherWorlds.{either_no_breach}
 use Rattle.ivy_node.specs.RunState.{Run}

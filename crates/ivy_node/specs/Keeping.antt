@@ -3,7 +3,7 @@ use Rattle.std.specs.Prelude.{List}
 use Rattle.ivy_events.specs.declared.Move.{Move}
 use Rattle.ivy_host.specs.Holding.{IsExclusive, AreRuns, HasNoBreach, AllSpell}
 use Rattle.ivy_host.specs.Managers.{managed_ops}
-use Rattle.ivy_worlds.specs.Runs.{FollowsInOrder}
+use Rattle.ivy_lifting.specs.Runs.{FollowsInOrder}
 use Rattle.ivy_routes.specs.RoutedRuns.{AllAwaited, AllRouted}
 use Rattle.ivy_node.specs.RunState.{Run}
 use Rattle.ivy_node.specs.Runs.{IsLedTo, IsReached, IsExplainedAlong, opening_of}

@@ -6,18 +6,18 @@ use Rattle.ivy_wire.specs.Data.{Content}
 use Rattle.ivy_pagetable.specs.declared.Entry.{Entry}
 use Rattle.ivy_pagetable.specs.declared.Entry.TheVariants as entry
 use Rattle.ivy_pagetable.specs.States.{IdleState}
-use Rattle.ivy_order.specs.Letters.{Letter, Net, Place, Loose, IsAt}
-use Rattle.ivy_order.specs.Orderly.{AwaitsCopy, AwaitsPage, Own, key_of, key_as, IsExpectedAs, IsOrderly}
-use Rattle.ivy_order.proofs.Needs.{page_of}
-use Rattle.ivy_order.proofs.Sole.{fits_as, first_alone}
-use Rattle.ivy_order.proofs.Steps.{IsStep}
-use Rattle.ivy_order.proofs.Parcels.{IsThe}
-use Rattle.ivy_order.proofs.Fitting.{IsRequest}
+use Rattle.ivy_rows.specs.Letters.{Letter, Net, Place, Loose, IsAt}
+use Rattle.ivy_rows.specs.Orderly.{AwaitsCopy, AwaitsPage, Own, key_of, key_as, IsExpectedAs, IsOrderly}
+use Rattle.ivy_rows.proofs.Needs.{page_of}
+use Rattle.ivy_rows.proofs.Sole.{fits_as, first_alone}
+use Rattle.ivy_rows.proofs.Steps.{IsStep}
+use Rattle.ivy_rows.proofs.Parcels.{IsThe}
+use Rattle.ivy_rows.proofs.Fitting.{IsRequest}
 use Rattle.ivy_requests.specs.Descending.{IsAsked}
 use Rattle.ivy_requests.specs.Sending.{IsSent}
-use Rattle.ivy_requests.specs.Managing.{IsReader, asking, getting}
+use Rattle.ivy_requests.specs.Claiming.{IsReader, asking, getting}
 use Rattle.ivy_requests.proofs.Remaining.{Remain, IsOnly, IsNothing}
-use Rattle.ivy_order.specs.Rows.{letter}
+use Rattle.ivy_rows.specs.Rows.{letter}
 
 -- who asks waits, for a page that there is
 module _ (c : Config) (n : Net) (order : IsOrderly c n) (q i y : ℕ) where

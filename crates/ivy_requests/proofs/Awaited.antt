@@ -5,9 +5,9 @@ use Rattle.ivy_wire.specs.declared.Content.TheVariants as content
 use Rattle.ivy_wire.specs.Data.{Content}
 use Rattle.ivy_pagetable.specs.declared.Entry.{Entry}
 use Rattle.ivy_pagetable.specs.declared.Entry.TheVariants as entry
-use Rattle.ivy_order.specs.Letters.{Letter, Net, Place, IsAt}
-use Rattle.ivy_order.specs.Orderly.{AwaitsCopy, AwaitsPage, Collects, Own, Order, key_as, IsExpectedAs, IsOrderly}
-use Rattle.ivy_order.proofs.Opening.{IsFirst}
+use Rattle.ivy_rows.specs.Letters.{Letter, Net, Place, IsAt}
+use Rattle.ivy_rows.specs.Orderly.{AwaitsCopy, AwaitsPage, Collects, Own, Order, key_as, IsExpectedAs, IsOrderly}
+use Rattle.ivy_rows.proofs.Opening.{IsFirst}
 use Rattle.ivy_requests.specs.Sending.{comes}
 use Rattle.ivy_requests.specs.Waiting.{IsReadPending, asks_copy, gets_copy, IsWritePending, asks_page, gets_page, IsRecallPending, ordered, gave_up, IsAwaited}
 use Rattle.ivy_requests.proofs.Remaining.{HasKey}

@@ -6,14 +6,14 @@ use Rattle.ivy_pagetable.specs.declared.Entry.{Entry}
 use Rattle.ivy_pagetable.specs.declared.Entry.TheVariants as entry
 use Rattle.ivy_pagetable.specs.declared.PutOff.{PutOff}
 use Rattle.ivy_pagetable.specs.Entries.{with_put_off}
-use Rattle.ivy_order.specs.Letters.{Letter, Net, Place, written}
-use Rattle.ivy_order.specs.Orderly.{AwaitsCopy, AwaitsPage, IsOrderly}
-use Rattle.ivy_order.proofs.Places.{written-here, written-other, same_or_other}
-use Rattle.ivy_order.proofs.Steps.{IsStep}
-use Rattle.ivy_order.proofs.Parcels.{IsThe}
-use Rattle.ivy_order.proofs.Fitting.{IsRequest}
+use Rattle.ivy_rows.specs.Letters.{Letter, Net, Place, written}
+use Rattle.ivy_rows.specs.Orderly.{AwaitsCopy, AwaitsPage, IsOrderly}
+use Rattle.ivy_rows.proofs.Places.{written-here, written-other, same_or_other}
+use Rattle.ivy_rows.proofs.Steps.{IsStep}
+use Rattle.ivy_rows.proofs.Parcels.{IsThe}
+use Rattle.ivy_rows.proofs.Fitting.{IsRequest}
 use Rattle.ivy_requests.specs.Descending.{IsAsked}
-use Rattle.ivy_requests.specs.Managing.{claims, IsReader}
+use Rattle.ivy_requests.specs.Claiming.{claims, IsReader}
 use Rattle.ivy_requests.proofs.Asked.{reader_awaits, writer_awaits, AreOld, then_old, step_old, answer_old, AreReaders, AreStill, reading_awaits, step_readers, answer_readers}
 use Rattle.ivy_requests.proofs.Remaining.{IsCounted}
 

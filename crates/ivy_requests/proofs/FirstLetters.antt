@@ -3,8 +3,8 @@ use Rattle.std.proofs.Common.{ℕ, slice_get, sym, ap, ◌∙◌, inl, inr}
 use Rattle.std.proofs.lemmas.Option.{none-some}
 use Rattle.ivy_wire.specs.Data.{Content}
 use Rattle.ivy_pagetable.specs.Entries.{put_offs}
-use Rattle.ivy_order.specs.Letters.{Letter, Net, Place, Underway, Aside, Loose, IsAt}
-use Rattle.ivy_order.proofs.Opening.{IsFirst}
+use Rattle.ivy_rows.specs.Letters.{Letter, Net, Place, Underway, Aside, Loose, IsAt}
+use Rattle.ivy_rows.proofs.Opening.{IsFirst}
 use Rattle.ivy_requests.specs.Descending.{IsAsked}
 
 module _ (n : Net) (first : IsFirst n) where

@@ -2,22 +2,21 @@
 -- on to the page from
 -- everywhere, as whoever waits has its message.
 use Rattle.std.proofs.Common.{◌≡◌, ◌⊎◌, ◌<◌, ◌%◌, ℕ, zero, suc, true, false, List, [], ◌∷◌, ◌++◌, refl, sym, ◌∙◌, subst, inl, inr, arith}
-use Rattle.std.proofs.lemmas.Bool.{cases_Bool}
+use Rattle.std.proofs.lemmas.Bool.{cases_Bool, both_ways}
 use Rattle.ivy_model.specs.declared.Config.{Config}
 use Rattle.ivy_wire.specs.declared.Content.TheVariants as content
 use Rattle.ivy_pagetable.specs.declared.Entry.{Entry}
 use Rattle.ivy_pagetable.specs.declared.Entry.TheVariants as entry
 use Rattle.ivy_pagetable.specs.Entries.{is_owner}
-use Rattle.ivy_order.specs.Letters.{Letter, Net, Place, IsAt}
-use Rattle.ivy_order.specs.Orderly.{AwaitsPage, IsExpectedAs, IsOrderly}
-use Rattle.ivy_order.proofs.Sole.{fits_as}
+use Rattle.ivy_rows.specs.Letters.{Letter, Net, Place, IsAt}
+use Rattle.ivy_rows.specs.Orderly.{AwaitsPage, IsExpectedAs, IsOrderly}
+use Rattle.ivy_rows.proofs.Sole.{fits_as}
 use Rattle.ivy_requests.specs.Descending.{IsAsked, GoDown}
 use Rattle.ivy_requests.specs.Sending.{IsSent, HasPage, owns, comes}
-use Rattle.ivy_requests.specs.Managing.{claims}
+use Rattle.ivy_requests.specs.Claiming.{claims}
 use Rattle.ivy_requests.specs.Waiting.{IsWritePending, asks_page, gets_page, IsAwaited}
 use Rattle.ivy_requests.specs.Routing.{IsAway, IsRoute, follows, hops, receives, LeadAlong, LeadTo, AreRoutes, AreManaged}
 use Rattle.ivy_requests.proofs.Claims.{writer_claims, page_claimed}
-use Rattle.ivy_requests.proofs.Moves.{both}
 
 -- who claims a page owns it, or awaits it
 claims_either : (e : Entry) → claims e ≡ true
@@ -64,9 +63,9 @@ module _ (c : Config) (n : Net) (page : ℕ) (hop : ℕ → ℕ) where
         → IsAway c n page node
     plain_away node below plain = record {
       below = below;
-      without = λ h. both (claims (n.entry node page)) (has_claims node h) plain;
+      without = λ h. both_ways (claims (n.entry node page)) plain (has_claims node h);
       silent =
-          λ at k. both (claims (n.entry node page)) (writer_claims c n order page node at k) plain;
+          λ at k. both_ways (claims (n.entry node page)) plain (writer_claims c n order page node at k);
     }
 
   away_writes : (node : ℕ) → IsAway c n page node → IsWritePending n node page → ⊥

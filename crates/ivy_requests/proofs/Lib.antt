@@ -3,7 +3,6 @@ pub mod Old
 pub mod NoBreach
 pub mod Quiet
 pub mod Claims
-pub mod Moves
 pub mod Managers
 pub mod FirstLetters
 pub mod Remaining

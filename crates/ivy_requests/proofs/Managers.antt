@@ -4,7 +4,7 @@ use Rattle.std.proofs.Common.{◌≡◌, ◌≢◌, ◌⊎◌, ◌<◌, ◌%◌,
 use Rattle.std.proofs.lemmas.Bool.{cases_eq, eq-eqb, ne_eqb}
 use Rattle.ivy_pagetable.specs.Manager.{Ops, KeepsElsewhere}
 use Rattle.ivy_fixed.specs.Fixed.{Owners, manages, owner_kept, hop_of}
-use Rattle.ivy_order.specs.Rows.{with_manager}
+use Rattle.ivy_rows.specs.Rows.{with_manager}
 
 -- of the managers, that of one node may have changed, at one page
 pub record IsTold {S : Type 0} (ops : Ops S) (m m' : ℕ → S) (x p : ℕ) : Type 0 where
@@ -60,22 +60,3 @@ module _ {S : Type 0} (m : ℕ → S) (x : ℕ) where
     ];
     elsewhere = told_else s;
   }
-
--- a node that does not manage the page asks the one that does
-pub hop_elsewhere : (s : Owners) (i nodes p : ℕ) → s.me ≡ i → s.nodes ≡ nodes → i ≢ p % nodes
-    → hop_of s p ≡ p % nodes
-hop_elsewhere s i nodes p me size ne =
-    ap (λ (b : Bool). if b then slice_index s.owners p else p % s.nodes) other
-    ∙ ap (λ k. p % k) size
-  where
-    other : manages s p ≡ false
-    other = ap (λ k. p % k == s.me) size ∙ ap (λ k. p % nodes == k) me
-        ∙ ne_eqb (p % nodes) i (λ h. ne (sym h))
-
--- the managing node asks the owner that it was told of
-pub hop_kept : (s : Owners) (p o : ℕ) → p % s.nodes ≡ s.me → p < length s.owners
-    → hop_of (owner_kept s p o) p ≡ o
-hop_kept s p o mine lt =
-    ap (λ (b : Bool). if b then slice_index (if b then slice_set s.owners p o else s.owners) p
-    else p % s.nodes) (eq-eqb (p % s.nodes) s.me mine)
-    ∙ get_or-set_same s.owners p o 0 lt

@@ -4,10 +4,10 @@ use Rattle.ivy_model.specs.declared.Config.{Config}
 use Rattle.ivy_model.specs.Config.{IsConfig}
 use Rattle.ivy_wire.specs.declared.Content.TheVariants as content
 use Rattle.ivy_wire.specs.Data.{Content}
-use Rattle.ivy_order.specs.Letters.{Letter, Net, Place, Loose, IsAt}
-use Rattle.ivy_order.specs.Orderly.{IsOrderly}
-use Rattle.ivy_order.specs.Rows.{Misfits}
-use Rattle.ivy_order.proofs.Fitting.{IsRequest, none_misfits}
+use Rattle.ivy_rows.specs.Letters.{Letter, Net, Place, Loose, IsAt}
+use Rattle.ivy_rows.specs.Orderly.{IsOrderly}
+use Rattle.ivy_rows.specs.Rows.{Misfits}
+use Rattle.ivy_rows.proofs.Fitting.{IsRequest, none_misfits}
 use Rattle.ivy_requests.specs.Descending.{Descends}
 
 module _ (n : Net) (down : Descends n) where

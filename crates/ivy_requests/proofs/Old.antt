@@ -10,14 +10,14 @@ use Rattle.ivy_pagetable.specs.declared.PutOff.{PutOff}
 use Rattle.ivy_pagetable.specs.declared.Request.{Request}
 use Rattle.ivy_pagetable.specs.declared.Request.TheVariants as request
 use Rattle.ivy_pagetable.specs.Entries.{put_offs, can_put_off, with_put_off}
-use Rattle.ivy_order.specs.Letters.{Letter, Net, Place, Underway, Aside, Loose, content_of, letter_of, IsAt, goes_on, installs}
-use Rattle.ivy_order.specs.Rows.{letter, taken}
-use Rattle.ivy_order.proofs.Places.{get_append, served, written-here}
-use Rattle.ivy_order.proofs.Parcels.{IsThe, rest_told, is_step}
-use Rattle.ivy_order.proofs.Steps.{IsStep}
+use Rattle.ivy_rows.specs.Letters.{Letter, Net, Place, Underway, Aside, Loose, content_of, letter_of, IsAt, goes_on, installs}
+use Rattle.ivy_rows.specs.Rows.{letter, taken}
+use Rattle.ivy_rows.proofs.Places.{get_append, served, written-here}
+use Rattle.ivy_rows.proofs.Parcels.{IsThe, rest_told, is_step}
+use Rattle.ivy_rows.proofs.Steps.{IsStep}
 use Rattle.ivy_requests.proofs.Asked.{AreOld, part_old, asked_or_new, AreReaders, all_readers, sent_either}
 use Rattle.ivy_requests.proofs.Remaining.{IsThere, StaysPutOff, get_first, get_second}
-use Rattle.ivy_requests.specs.Managing.{getting}
+use Rattle.ivy_requests.specs.Claiming.{getting}
 
 -- each letter is one of the net before
 pub installs_letters : (n : Net) (x p : ℕ) (bytes : List ℕ) (a : Place) (l : Letter)

@@ -6,11 +6,11 @@ use Rattle.ivy_pagetable.specs.declared.Entry.{Entry}
 use Rattle.ivy_pagetable.specs.declared.Entry.TheVariants as entry
 use Rattle.ivy_pagetable.specs.declared.PutOff.{PutOff}
 use Rattle.ivy_pagetable.specs.Entries.{with_put_off}
-use Rattle.ivy_order.specs.Letters.{Letter, Net, goes_on, installs}
-use Rattle.ivy_order.specs.Orderly.{Key, Own, Order, key_of}
-use Rattle.ivy_order.specs.Rows.{taken}
-use Rattle.ivy_order.proofs.Needs.{key_origin, key_page}
-use Rattle.ivy_order.proofs.Places.{written-here, written-other, same_or_other}
+use Rattle.ivy_rows.specs.Letters.{Letter, Net, goes_on, installs}
+use Rattle.ivy_rows.specs.Orderly.{Key, Own, Order, key_of}
+use Rattle.ivy_rows.specs.Rows.{taken}
+use Rattle.ivy_rows.proofs.Needs.{key_origin, key_page}
+use Rattle.ivy_rows.proofs.Places.{written-here, written-other, same_or_other}
 use Rattle.ivy_requests.proofs.Remaining.{HasKey, Remain, IsNothing, IsCounted, still_counted, installed_remain, taken_remain, taken_counted}
 
 -- a word that waits at this entry of the node waits for a letter with this key

@@ -1,7 +1,7 @@
 -- Whoever waits has its message, once more after each row. That no message is dropped rests on
 -- descent.
 use Rattle.std.proofs.Common.{◌≡◌, ◌<◌, ◌≤◌, ℕ, true, List, [], ◌∷◌, map, refl, sym, ap, ◌∙◌, subst, inl, inr, arith}
-use Rattle.std.proofs.lemmas.Bool.{cases_Bool}
+use Rattle.std.proofs.lemmas.Bool.{cases_Bool, both_ways}
 use Rattle.std.proofs.lemmas.Option.{none-some}
 use Rattle.std.specs.FinSet as set
 use Rattle.ivy_model.specs.declared.Config.{Config}
@@ -18,14 +18,13 @@ use Rattle.ivy_pagetable.specs.Entries.{put_offs, can_put_off, with_put_off, cop
 use Rattle.ivy_pagetable.specs.Manager.{Ops}
 use Rattle.ivy_serving.specs.Serving.{parcel_to, invalidations}
 use Rattle.ivy_coherence.specs.Faults.{waiting_from}
-use Rattle.ivy_order.specs.Letters.{Letter, Net, content_of, letter_of, goes_on}
-use Rattle.ivy_order.specs.Orderly.{Key, Order, key_of, IsOrderly}
-use Rattle.ivy_order.specs.Rows.{letter, Served, Comes, Begins, Notice, Row, Claim, IsKept}
-use Rattle.ivy_order.proofs.Both.{both-kept}
-use Rattle.ivy_order.proofs.Members.{without_itself, without_any}
-use Rattle.ivy_order.proofs.Needs.{key_origin, key_page}
+use Rattle.ivy_rows.specs.Letters.{Letter, Net, content_of, letter_of, goes_on}
+use Rattle.ivy_rows.specs.Orderly.{Key, Order, key_of, IsOrderly}
+use Rattle.ivy_rows.specs.Rows.{letter, Served, Comes, Begins, Notice, Row, Claim, IsKept}
+use Rattle.ivy_rows.proofs.Both.{both-kept}
+use Rattle.ivy_rows.proofs.Members.{without_itself, without_any}
+use Rattle.ivy_rows.proofs.Needs.{key_origin, key_page}
 use Rattle.ivy_requests.specs.Descending.{Descends}
-use Rattle.ivy_requests.proofs.Moves.{both}
 use Rattle.ivy_requests.proofs.NoBreach.{no_breach}
 use Rattle.ivy_requests.proofs.Old.{put_off_stays, put_off_there}
 use Rattle.ivy_requests.proofs.Remaining.{IsOnly, IsNothing, StaysPutOff, HasKey, served_remain, begun_remain, freed_remain, one_there, orders_there}
@@ -140,7 +139,7 @@ was_in s node q h =
     elim (cases_Bool (set.contains s q)) [
       | inl is ↦ is
       | inr isnt ↦
-          absurd (both (set.contains (set.remove s node) q) h (without_any s node q isnt))
+          absurd (both_ways (set.contains (set.remove s node) q) (without_any s node q isnt) h)
     ]
 
 -- the order to the node that is left out is another one
@@ -198,10 +197,10 @@ module _ (n : Net) (x p from : ℕ) (s : AwaitAcksState) (is : n.entry x p ≡ e
         ))
         (λ k w. inl (
           (w.0, was_in s.left from w.0 w.1, w.2),
-          λ l gone same. both (set.contains (set.remove s.left from) w.0) w.1
-              (ap (λ v. set.contains (set.remove s.left from) v)
+          λ l gone same. both_ways (set.contains (set.remove s.left from) w.0) (ap (λ v. set.contains (set.remove s.left from) v)
               (sym (other_order x p from w.0 k (sym key ∙ ap key_of (sym gone) ∙ same) w.2))
-              ∙ without_itself s.left from),
+              ∙ without_itself s.left from)
+              w.1,
         ))
 
 module _ (c : Config) (config : IsConfig c) where

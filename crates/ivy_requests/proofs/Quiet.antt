@@ -4,10 +4,10 @@ use Rattle.std.proofs.Common.{◌≡◌, ℕ, List, refl, ◌∙◌}
 use Rattle.ivy_model.specs.declared.Config.{Config}
 use Rattle.ivy_model.specs.Config.{IsConfig}
 use Rattle.ivy_pagetable.specs.Manager.{Ops}
-use Rattle.ivy_order.specs.Letters.{Net}
-use Rattle.ivy_order.specs.Orderly.{IsOrderly}
-use Rattle.ivy_order.specs.Rows.{Notice, Row, Claim, IsOf, IsKept, noticed}
-use Rattle.ivy_order.proofs.Kept.{orderly_by}
+use Rattle.ivy_rows.specs.Letters.{Net}
+use Rattle.ivy_rows.specs.Orderly.{IsOrderly}
+use Rattle.ivy_rows.specs.Rows.{Notice, Row, Claim, IsOf, IsKept, noticed}
+use Rattle.ivy_rows.proofs.OrderlyKept.{orderly_by}
 use Rattle.ivy_requests.specs.Descending.{Descends}
 use Rattle.ivy_requests.proofs.NoBreach.{no_breach}
 

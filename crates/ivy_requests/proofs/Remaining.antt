@@ -16,10 +16,10 @@ use Rattle.ivy_pagetable.specs.declared.PutOff.{PutOff}
 use Rattle.ivy_pagetable.specs.NodeSets.{Nodes, nodes_of}
 use Rattle.ivy_pagetable.specs.Entries.{put_offs}
 use Rattle.ivy_serving.specs.Serving.{parcel_to, invalidations}
-use Rattle.ivy_order.specs.Letters.{Letter, Net, Place, Underway, Aside, Loose, letter_of, IsAt, goes_on, installs}
-use Rattle.ivy_order.specs.Orderly.{Key, Order, key_of}
-use Rattle.ivy_order.specs.Rows.{letter, taken}
-use Rattle.ivy_order.proofs.Places.{written-here, written-other, same_or_other}
+use Rattle.ivy_rows.specs.Letters.{Letter, Net, Place, Underway, Aside, Loose, letter_of, IsAt, goes_on, installs}
+use Rattle.ivy_rows.specs.Orderly.{Key, Order, key_of}
+use Rattle.ivy_rows.specs.Rows.{letter, taken}
+use Rattle.ivy_rows.proofs.Places.{written-here, written-other, same_or_other}
 
 -- a letter is there
 abbrev pub IsThere : Net → Letter → Type 0

@@ -5,7 +5,7 @@
 use Rattle.std.specs.Prelude.{◌≡◌, ◌<◌, ℕ}
 use Rattle.ivy_wire.specs.declared.Content.TheVariants as content
 use Rattle.ivy_wire.specs.Data.{Content}
-use Rattle.ivy_order.specs.Letters.{Letter, Net, Place, IsAt}
+use Rattle.ivy_rows.specs.Letters.{Letter, Net, Place, IsAt}
 
 -- a request of `origin` is at a node: on its way there, put off there, or loose there
 pub record IsAsked (n : Net) (body : Content) (origin node : ℕ) : Type 0 where

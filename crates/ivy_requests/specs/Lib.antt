@@ -1,6 +1,5 @@
 pub mod Descending
 pub mod Sending
 pub mod Waiting
-pub mod Managing
-pub mod Hinting
+pub mod Claiming
 pub mod Routing

@@ -6,7 +6,7 @@
 use Rattle.std.specs.Prelude.{◌≡◌, ◌≢◌, ◌<◌, ◌%◌, ℕ, List, [], ◌∷◌}
 use Rattle.ivy_model.specs.declared.Config.{Config}
 use Rattle.ivy_wire.specs.declared.Content.TheVariants as content
-use Rattle.ivy_order.specs.Letters.{Net}
+use Rattle.ivy_rows.specs.Letters.{Net}
 use Rattle.ivy_requests.specs.Descending.{IsAsked}
 use Rattle.ivy_requests.specs.Sending.{IsSent, HasPage}
 

@@ -3,7 +3,7 @@ use Rattle.std.specs.Prelude.{◌≡◌, ℕ, true, List}
 use Rattle.ivy_wire.specs.declared.Content.TheVariants as content
 use Rattle.ivy_wire.specs.Data.{Content}
 use Rattle.ivy_pagetable.specs.Entries.{is_owner}
-use Rattle.ivy_order.specs.Letters.{Letter, Net, Place, IsAt}
+use Rattle.ivy_rows.specs.Letters.{Letter, Net, Place, IsAt}
 
 -- a letter that says this went from one node to another
 pub record IsPosted (n : Net) (body : Content) (source node : ℕ) : Type 0 where

@@ -5,8 +5,8 @@
 -- for is ever lost.
 use Rattle.std.specs.Prelude.{ℕ}
 use Rattle.ivy_wire.specs.declared.Content.TheVariants as content
-use Rattle.ivy_order.specs.Letters.{Net}
-use Rattle.ivy_order.specs.Orderly.{AwaitsCopy, AwaitsPage, Collects}
+use Rattle.ivy_rows.specs.Letters.{Net}
+use Rattle.ivy_rows.specs.Orderly.{AwaitsCopy, AwaitsPage, Collects}
 use Rattle.ivy_requests.specs.Descending.{IsAsked}
 use Rattle.ivy_requests.specs.Sending.{IsPosted, IsSent, HasPage}
 

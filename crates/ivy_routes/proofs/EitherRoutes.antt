@@ -11,16 +11,17 @@ use Rattle.ivy_dynamic.specs.Dynamic.{hint_of}
 use Rattle.ivy_program.specs.declared.Instruction.{Instruction}
 use Rattle.ivy_host.specs.Managers.{Managed, managed_ops}
 use Rattle.ivy_host.specs.ManagedLaws.{managed_laws}
-use Rattle.ivy_order.specs.Letters.{Net}
-use Rattle.ivy_order.specs.Orderly.{IsOrderly}
+use Rattle.ivy_rows.specs.Letters.{Net}
+use Rattle.ivy_rows.specs.Orderly.{IsOrderly}
 use Rattle.ivy_requests.specs.Descending.{Descends}
 use Rattle.ivy_requests.specs.Waiting.{IsAwaited}
 use Rattle.ivy_requests.specs.Routing.{AreRoutes, AreManaged}
 use Rattle.ivy_routes.specs.RoutedRuns.{AllAwaited, AllRouted}
-use Rattle.ivy_routes.proofs.Descent.{descends}
-use Rattle.ivy_routes.proofs.HintedKept.{hinted_descends}
+use Rattle.ivy_managing.proofs.Descent.{descends}
+use Rattle.ivy_hinting.proofs.HintedKept.{hinted_descends}
 use Rattle.ivy_requests.proofs.Found.{IsInside, same_routes, same_besides, same_inside}
-use Rattle.ivy_routes.proofs.Routes.{manager_below, managed_routes, managed_besides, hinted_routes}
+use Rattle.ivy_managing.proofs.ManagedRoutes.{manager_below, managed_routes, managed_besides}
+use Rattle.ivy_hinting.proofs.HintedRoutes.{hinted_routes}
 use Rattle.ivy_routes.proofs.EitherWorlds.{RoutedBy, either-kept, either-first}
 use Rattle.ivy_routes.proofs.RoutedRuns.{runs_awaited, runs_routed}
 

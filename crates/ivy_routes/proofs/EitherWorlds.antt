@@ -17,16 +17,16 @@ use Rattle.ivy_host.specs.Holding.{HasNoBreach}
 use Rattle.ivy_host.specs.Managers.{Managed, Fixed, Dynamic, first_managed, managed_ops}
 use Rattle.ivy_host.specs.ManagedLaws.{managed_laws}
 use Rattle.ivy_host.specs.Openings.{opening}
-use Rattle.ivy_order.specs.Letters.{Net}
-use Rattle.ivy_order.specs.Rows.{IsKept}
-use Rattle.ivy_order.proofs.Opening.{IsFirst}
-use Rattle.ivy_requests.specs.Managing.{IsManaged}
-use Rattle.ivy_requests.specs.Hinting.{IsHinted}
-use Rattle.ivy_order.proofs.Embedded.{Embeds, AreWithin, embedded-kept}
-use Rattle.ivy_routes.proofs.FirstManaged.{managed_opening}
-use Rattle.ivy_routes.proofs.FirstHinted.{first_hinted}
-use Rattle.ivy_routes.proofs.Kept.{managed-routed}
-use Rattle.ivy_routes.proofs.HintedKept.{hinted-routed}
+use Rattle.ivy_rows.specs.Letters.{Net}
+use Rattle.ivy_rows.specs.Rows.{IsKept}
+use Rattle.ivy_rows.proofs.Opening.{IsFirst}
+use Rattle.ivy_managing.specs.Managing.{IsManaged}
+use Rattle.ivy_hinting.specs.Hinting.{IsHinted}
+use Rattle.ivy_rows.proofs.Embedded.{Embeds, AreWithin, embedded-kept}
+use Rattle.ivy_managing.proofs.FirstManaged.{managed_opening}
+use Rattle.ivy_hinting.proofs.FirstHinted.{first_hinted}
+use Rattle.ivy_managing.proofs.ManagedKept.{managed-routed}
+use Rattle.ivy_hinting.proofs.HintedKept.{hinted-routed}
 use Rattle.ivy_routes.proofs.QuietWorlds.{quiet_no_breach}
 use Rattle.ivy_requests.proofs.Quiet.{IsQuiet, quiet-kept}
 

@@ -1,16 +1,3 @@
-pub mod Turns
-pub mod Managed
-pub mod Sent
-pub mod Descent
-pub mod Kept
-pub mod FirstManaged
-pub mod HintedManagers
-pub mod HintedSteps
-pub mod HintedSunk
-pub mod HintedRows
-pub mod HintedKept
-pub mod FirstHinted
-pub mod Routes
 pub mod QuietWorlds
 pub mod EitherWorlds
 pub mod RoutedRuns

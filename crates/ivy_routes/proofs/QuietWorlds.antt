@@ -17,14 +17,14 @@ use Rattle.ivy_events.specs.Following.{ordered_of}
 use Rattle.ivy_host.specs.Hosts.{Host, host_rules, first_host}
 use Rattle.ivy_host.specs.Holding.{HasNoBreach}
 use Rattle.ivy_host.specs.Openings.{opening}
-use Rattle.ivy_order.specs.Letters.{Net}
-use Rattle.ivy_order.specs.Rows.{IsKept}
+use Rattle.ivy_rows.specs.Letters.{Net}
+use Rattle.ivy_rows.specs.Rows.{IsKept}
 use Rattle.ivy_requests.proofs.Quiet.{IsQuiet}
-use Rattle.ivy_worlds.proofs.Led.{HasOrder, core_there, first_count, opening_first}
-use Rattle.ivy_worlds.proofs.LiftedWorlds.{entry_of, breaches_of, manager_of, net_of, managers_of}
-use Rattle.ivy_worlds.proofs.LiftedRuns.{Holds}
-use Rattle.ivy_order.proofs.Opening.{IsFirst, orderly_opening}
-use Rattle.ivy_worlds.proofs.Worlds.{first_net, opening-led}
+use Rattle.ivy_errands.proofs.Led.{HasOrder, core_there, first_count, opening_first}
+use Rattle.ivy_lifting.proofs.LiftedWorlds.{entry_of, breaches_of, manager_of, net_of, managers_of}
+use Rattle.ivy_lifting.proofs.LiftedRuns.{Holds}
+use Rattle.ivy_rows.proofs.Opening.{IsFirst, orderly_opening}
+use Rattle.ivy_lifting.proofs.Worlds.{first_net, opening-led}
 
 -- the first net and its managers are so routed
 abbrev pub BeginsSo : {S : Type 0} → Ops S → Config → ((ℕ → S) → Net → Type 0) → Type 0

@@ -7,15 +7,15 @@ use Rattle.ivy_pagetable.specs.Manager.{Ops, Laws}
 use Rattle.ivy_program.specs.declared.Instruction.{Instruction}
 use Rattle.ivy_events.specs.Ordered.{Ordered}
 use Rattle.ivy_host.specs.Hosts.{Host}
-use Rattle.ivy_order.specs.Letters.{Net}
-use Rattle.ivy_order.specs.Orderly.{IsOrderly}
-use Rattle.ivy_order.specs.Rows.{IsKept}
-use Rattle.ivy_worlds.specs.Nets.{net_of, managers_of}
-use Rattle.ivy_worlds.specs.Runs.{first_ordered, IsReachedInOrder}
-use Rattle.ivy_worlds.proofs.Errands.{have_errands}
-use Rattle.ivy_worlds.proofs.LiftedRuns.{Holds}
-use Rattle.ivy_worlds.proofs.Runs.{reached_holds, letters_below, hops_below}
-use Rattle.ivy_worlds.proofs.Worlds.{first_net}
+use Rattle.ivy_rows.specs.Letters.{Net}
+use Rattle.ivy_rows.specs.Orderly.{IsOrderly}
+use Rattle.ivy_rows.specs.Rows.{IsKept}
+use Rattle.ivy_lifting.specs.Nets.{net_of, managers_of}
+use Rattle.ivy_lifting.specs.Runs.{first_ordered, IsReachedInOrder}
+use Rattle.ivy_lifting.proofs.Errands.{have_errands}
+use Rattle.ivy_lifting.proofs.LiftedRuns.{Holds}
+use Rattle.ivy_lifting.proofs.Runs.{reached_holds, letters_below, hops_below}
+use Rattle.ivy_lifting.proofs.Worlds.{first_net}
 use Rattle.ivy_requests.specs.Descending.{Descends}
 use Rattle.ivy_requests.specs.Waiting.{IsAwaited}
 use Rattle.ivy_routes.specs.RoutedRuns.{AllAwaited}

@@ -8,10 +8,10 @@ use Rattle.ivy_pagetable.specs.Manager.{Ops}
 use Rattle.ivy_program.specs.declared.Instruction.{Instruction}
 use Rattle.ivy_events.specs.Ordered.{Ordered}
 use Rattle.ivy_host.specs.Hosts.{Host}
-use Rattle.ivy_order.specs.Orderly.{IsOrderly}
-use Rattle.ivy_worlds.specs.Errands.{AreErrands, HaveErrands}
-use Rattle.ivy_worlds.specs.Nets.{net_of, managers_of}
-use Rattle.ivy_worlds.specs.Runs.{IsReachedInOrder}
+use Rattle.ivy_rows.specs.Orderly.{IsOrderly}
+use Rattle.ivy_errands.specs.Errands.{AreErrands, HaveErrands}
+use Rattle.ivy_lifting.specs.Nets.{net_of, managers_of}
+use Rattle.ivy_lifting.specs.Runs.{IsReachedInOrder}
 use Rattle.ivy_requests.specs.Waiting.{IsAwaited}
 use Rattle.ivy_requests.specs.Routing.{AreRoutes, AreManaged}
 

@@ -1,3 +1,3 @@
-//! Managing nodes, and hints: under each of them requests go down, so none comes to its own origin and no node meets a
-//! message that fits no rule; and so in each world of a configuration. Definitions and lemmas alone.
+//! In each world of a configuration, whichever manager it names: no message is a breach, whoever waits has its message,
+//! and routes lead to who has the page. Definitions and lemmas alone.
 #![tactic(auto)]

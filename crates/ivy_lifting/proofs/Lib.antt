@@ -1,0 +1,14 @@
+pub mod LiftedNets
+pub mod LiftedRows
+pub mod LiftedEvents
+pub mod LiftedServing
+pub mod LiftedMessages
+pub mod LiftedTurns
+pub mod LiftedWorlds
+pub mod LiftedSteps
+pub mod LiftedHosts
+pub mod LiftedRuns
+pub mod Opened
+pub mod Worlds
+pub mod Runs
+pub mod Errands

@@ -1,3 +1,0 @@
-//! The ordered world: the entries and letters of all nodes, what holds of them at every moment, and the steps that keep
-//! it. Definitions and lemmas alone, for every manager that keeps the laws.
-#![tactic(auto)]

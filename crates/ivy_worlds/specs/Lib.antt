@@ -1,3 +1,0 @@
-pub mod Nets
-pub mod Errands
-pub mod Runs
