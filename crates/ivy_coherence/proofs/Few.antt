@@ -1,6 +1,5 @@
 -- How many messages one event posts at most: one for each message that is served, and one to each
--- node that is told to give
--- its copy up.
+-- node that is told to give its copy up.
 use Rattle.std.proofs.Common.{◌≡◌, ℕ, ◌≤◌, Bool, true, false, List, [], ◌∷◌, length, Option, Some, None, subst, arith}
 use Rattle.ivy_wire.specs.Data.{Message}
 use Rattle.ivy_wire.specs.Spelling.{FitsContent, FitsMessage}

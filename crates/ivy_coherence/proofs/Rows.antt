@@ -1,6 +1,5 @@
 -- The table of events at one node, a row each: what holds of the node in that row, and what the
--- event comes to there. What
--- holds in each row holds of each message, and of each access.
+-- event comes to there. What holds in each row holds of each message, and of each access.
 use Rattle.std.proofs.Common.{◌≡◌, ◌≢◌, ℕ, ◌<◌, ◌≤◌, Bool, true, false, not, ◌&&◌, List, [], ◌∷◌, length, slice_set, Option, Some, None, refl, sym, ap, ◌∙◌, subst, if◌then◌else◌, ◌==◌}
 use Rattle.std.specs.FinSet as set
 use Rattle.std.specs.Ordering.{nat_cmp}

@@ -6,8 +6,7 @@ use Rattle.ivy_pagetable.specs.declared.Out.{Out}
 use Rattle.ivy_pagetable.specs.TableState.{Table}
 
 -- `locked` is the page whose entry a word waits at, `done` the answer of a word that faulted and
--- was carried
--- out since, `breaches` the number of messages that fitted no rule
+-- was carried out since, `breaches` the number of messages that fitted no rule
 pub record Coherent (S : Type 0) : Type 0 where
   pub config : Config
   pub me : ℕ

@@ -1,6 +1,5 @@
 -- What an access of this node's program comes to (Li and Hudak 1989): what the program is told, the
--- state after, and
--- what is posted, in order.
+-- state after, and what is posted, in order.
 use Rattle.std.specs.Prelude.{◌≡◌, ℕ, Bool, false, List, [], ◌∷◌, Option, Some, None, if◌then◌else◌}
 use Rattle.ivy_wire.specs.declared.Content.TheVariants as content
 use Rattle.ivy_wire.specs.Data.{Parcel}
@@ -67,8 +66,7 @@ module _ {S : Type 0} (ops : Ops S) where
       }
 
   -- A read fault: a copy is asked for where the owner is believed to be. A write fault: the owner
-  -- tells those that
-  -- have a copy to give it up, another node asks for the page.
+  -- tells those that have a copy to give it up, another node asks for the page.
   abbrev pub fault_posted : Coherent S → ℕ → Word → ℕ → IdleState → List Parcel
   fault_posted c page word call s =
       if needs_write word

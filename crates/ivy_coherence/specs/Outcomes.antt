@@ -1,7 +1,6 @@
 -- What a step of a node comes to: it did all that its definition says, or nothing changed but that
--- the post was
--- asked once. `takes`, `after`, `refuses` and `after_refusal` are words of the post, which was
--- `post` and is `then`.
+-- the post was asked once. `takes`, `after`, `refuses` and `after_refusal` are words of the post,
+-- which was `post` and is `then`.
 use Rattle.std.specs.Prelude.{◌≡◌, List, Result, OnOk, OnErr, IfErr}
 use Rattle.ivy_model.specs.declared.Fault.{Fault}
 use Rattle.ivy_model.specs.Wants.{IsWant}

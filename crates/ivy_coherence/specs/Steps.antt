@@ -185,8 +185,8 @@ module _ {S : Type 0} (ops : Ops S) where
   acknowledged_at c from call page = acknowledged c from call page (entry_at c.table page)
 
   -- What a message is about. No node asks itself; an order to give a copy up comes from the node
-  -- that is to write; a
-  -- reply comes to the node that asked. A message of the heap fits none of these rules.
+  -- that is to write; a reply comes to the node that asked. A message of the heap fits none of
+  -- these rules.
   abbrev pub handled_as : Coherent S → ℕ → ℕ → ℕ → Content → CoherenceEffect S
   handled_as c from origin call (content.ReadReq page) =
       if origin == c.me then breach c

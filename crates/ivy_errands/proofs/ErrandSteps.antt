@@ -39,8 +39,7 @@ use Rattle.ivy_errands.proofs.HeapDeliveries.{HeapDelivery, serves, learns}
 use Rattle.ivy_errands.proofs.HostTurns.{HostTurn, answers, tries_again, goes_on, refuses, asks_for, serves_heap, asks_heap, number_of, without_call, asked_posted, asked_side}
 
 -- What a turn of node x does to its errand: it posts about pages alone and leaves the errand, or
--- ends it, where no answer
--- is owed; or it asks node 0.
+-- ends it, where no answer is owed; or it asks node 0.
 data TurnErrand (x : ℕ) (before after : Option Errand) (ps : List Parcel) : Type 0 where
   leaves : All IsOfPages ps → after ≡ before → TurnErrand x before after ps
   closes : All IsOfPages ps → IsAtRest before → IsAtRest after → TurnErrand x before after ps

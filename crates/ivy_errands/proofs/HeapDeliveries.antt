@@ -1,6 +1,5 @@
 -- A message of the heap that is delivered fits a rule: node 0 serves a call of the node that asked,
--- or that node learns
--- the reply.
+-- or that node learns the reply.
 use Rattle.std.proofs.Common.{◌≡◌, ◌≢◌, ◌<◌, ℕ, false, List, [], ◌∷◌, length, slice_get, Option, Some, None, refl, sym, ap, ◌∙◌, subst, inl, inr, arith}
 use Rattle.std.proofs.lemmas.Bool.{cases_eq}
 use Rattle.std.proofs.lemmas.Option.{same_Some, none-some, slice_get_cases}
@@ -23,8 +22,7 @@ use Rattle.ivy_errands.specs.Errands.{heap_way, call_message, IsErrandAt, restin
 use Rattle.ivy_errands.proofs.HeapWays.{IsWithin, way_taken}
 
 -- what a message of the heap does: node 0 serves the request, and its answer is the one under way
--- from then on; or the
--- node that asked learns the reply
+-- from then on; or the node that asked learns the reply
 pub data HeapDelivery {S : Type 0} (ops : Ops S) (o : Ordered (Host S)) (source x : ℕ)
     (core : Host S) (m : Message) : Type 0 where
   serves : x ≡ 0 → source ≢ 0 → (asker : Host S) → slice_get o.cores source ≡ Some asker

@@ -50,11 +50,9 @@ abbrev pub without_call : {S : Type 0} → Host S → Host S
 without_call h = record h { memory = taken_out h.memory }
 
 -- The turns of a node: the reply of its call in progress is there; the word of that call is tried
--- again; the program goes
--- on by itself; its call is refused; it asks for a word; or it makes a call of the heap, which node
--- 0 serves at once, and
--- for which any other node asks node 0. Such a call in progress makes no turn before its reply is
--- there.
+-- again; the program goes on by itself; its call is refused; it asks for a word; or it makes a call
+-- of the heap, which node 0 serves at once, and for which any other node asks node 0. Such a call
+-- in progress makes no turn before its reply is there.
 pub data HostTurn {S : Type 0} (ops : Ops S) (c : Config) (h : Host S)
     (out : Outcome (Host S)) : Type 0 where
   answers : (called : Call) (r : Reply) → h.memory.asked ≡ Some called → reply_at h.memory ≡ Some r

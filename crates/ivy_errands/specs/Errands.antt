@@ -1,6 +1,5 @@
 -- The calls of the heap in an ordered world: the messages of the heap that are under way, and what
--- they tell of the
--- calls that node 0 was asked for.
+-- they tell of the calls that node 0 was asked for.
 use Rattle.std.specs.Prelude.{◌≡◌, ◌≢◌, ◌⊎◌, ◌<◌, ◌+◌, ℕ, length, not, List, [], ◌∷◌, drop, filter, slice_get}
 use Rattle.std.specs.Prelude.{Option, Some, None}
 use Rattle.ivy_model.specs.declared.Fault.TheVariants.{ZeroSize, NoRoom}
@@ -46,9 +45,8 @@ CanHave (Alloc size) (Refused code) =
 CanHave (Free addr) r = IsFreeReply r
 
 -- The messages of the heap under way from a node to node 0 and back, by the call that node 0 was
--- asked for: none where
--- no answer is owed; else the request alone, or the answer alone, which tells a reply that the call
--- can have.
+-- asked for: none where no answer is owed; else the request alone, or the answer alone, which tells
+-- a reply that the call can have.
 pub data IsErrandAt (node : ℕ) (e : Option Errand) (there back : List Message) : Type 0 where
   resting : IsAtRest e → there ≡ [] → back ≡ [] → IsErrandAt node e there back
   asking : (k : HeapCall) (number : ℕ) → e ≡ Some (errand.Asked k number)
@@ -80,8 +78,7 @@ IsErrandFor k number (Some (errand.Asked j n)) = (j ≡ k) × (n ≡ number)
 IsErrandFor k number (Some (errand.Told r)) = Unit {0}
 
 -- for each call of the heap that is in progress at a node, node 0 was asked, under the number of
--- the call, or has
--- answered; node 0 asks for none
+-- the call, or has answered; node 0 asks for none
 pub record HaveErrands {S : Type 0} (o : Ordered (Host S)) : Type 0 where
   pub each : (i : ℕ) (h : Host S) (k : HeapCall) → slice_get o.cores i ≡ Some h
       → IsInProgress h.memory.coherence.config h.memory.asked k

@@ -1,6 +1,5 @@
 -- Event lists of nodes that go on, and the law that threads rest on: lists that go on from the
--- parts of a run are the
--- parts of a run again.
+-- parts of a run are the parts of a run again.
 use Rattle.std.specs.Prelude.{◌≡◌, ◌⊎◌, ℕ, ◌<◌, List, [], ◌++◌, length, slice_get, Contains, Some}
 use Rattle.ivy_model.specs.declared.Config.{Config}
 use Rattle.ivy_events.specs.Cores.{Core}
@@ -24,8 +23,7 @@ module _ {C : Type 0} (rules : Core C) (c : Config) (opening : World C) where
     pub sent : Contains effect.sent bytes
 
   -- node i's list goes on, from the old one to the new; what it delivers meanwhile is among these
-  -- strings, and its
-  -- pulses go to other nodes
+  -- strings, and its pulses go to other nodes
   pub record ListGoesOn (i : ℕ) (old : List Mark) (strings : List (List ℕ)) (new : List Mark) : Type 0
     where
       pub more : List Mark

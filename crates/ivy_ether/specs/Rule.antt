@@ -50,8 +50,7 @@ pub record Reported (views : List View) (i : ℕ) (list : List Mark) : Type 0 wh
 
 module _ {C : Type 0} (rules : Core C) (c : Config) (opening : World C) where
   -- what is known of one view: who is the starter, and what it issued; that a site's list is its
-  -- part of the run; that
-  -- what the pass took was sent; that what the starter was told was reported
+  -- part of the run; that what the pass took was sent; that what the starter was told was reported
   pub record FitsRun (starter : ℕ) (issued : List ℕ) (parts : ℕ → List Mark) (end : World C)
       (views : List View) (pass : ℕ) (v : View) : Type 0 where
     pub starts : v.starts ≡ true → (pass ≡ starter) × (v.issued ≡ issued)
@@ -67,9 +66,8 @@ module _ {C : Type 0} (rules : Core C) (c : Config) (opening : World C) where
   FitsItem end views (Report i es) = Reported views i es.marks
 
   -- the lists of all views, an empty one for a node that has none, are the parts of a run; the
-  -- seats of each node,
-  -- in the ether and in views, are no more than were issued, which is one at most; and each view
-  -- and item fits
+  -- seats of each node, in the ether and in views, are no more than were issued, which is one at
+  -- most; and each view and item fits
   pub record RuleHolds (items : List Item) (views : List View) (starter : ℕ) (issued : List ℕ)
       (parts : ℕ → List Mark) (end : World C) : Type 0 where
     pub run : AreParts rules c opening parts end
@@ -86,8 +84,7 @@ module _ {C : Type 0} (rules : Core C) (c : Config) (opening : World C) where
       × RuleHolds items views starter issued parts end
 
   -- a step with this list may be made: the pass took a seat and has not reported, and the list goes
-  -- on from what it
-  -- gave before, by deliveries of strings that it took
+  -- on from what it gave before, by deliveries of strings that it took
   pub record RuleAllows (v : View) (es : List Mark) : Type 0 where
     pub node : ℕ
     pub sits : v.node ≡ Some node

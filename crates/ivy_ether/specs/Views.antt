@@ -8,8 +8,7 @@ pub record View : Type 0 where
   pub issued : List ℕ
   pub reports : List (ℕ × List Mark)
   -- of a site's pass: the node whose seat it took, that node's event list, the strings that the
-  -- pass took, and
-  -- whether it has reported
+  -- pass took, and whether it has reported
   pub node : Option ℕ
   pub events : List Mark
   pub took : List (List ℕ)

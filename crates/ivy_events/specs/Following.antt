@@ -23,8 +23,7 @@ module _ {C : Type 0} where
   }
 
 -- What is asked of a core: whatever it is told, it posts messages of its own node to others, which
--- have a
--- spelling. `Sound i` is what holds of node i's core.
+-- have a spelling. `Sound i` is what holds of node i's core.
 pub record IsTame {C : Type 0} (rules : Core C) (c : Config) (Sound : ℕ → C → Type 0) : Type 0 where
   pub turn : (i : ℕ) (core : C) (o : Outcome C) → Sound i core → rules.turn core ≡ Some o
       → Sound i o.after × All (FitsParcel c i) o.posted
@@ -39,8 +38,7 @@ IsString c posted bytes = (f : Frame) × Spells c f bytes × IsMade c.nodes post
 
 module _ {C : Type 0} (c : Config) (Sound : ℕ → C → Type 0) where
   -- the links belong together and have not run out of numbers, each string ever sent spells a frame
-  -- that one of the
-  -- links made, and the cores are sound
+  -- that one of the links made, and the cores are sound
   pub record Follows (w : World C) (posted : ℕ → ℕ → List Message) : Type 0 where
     pub nodes : length w.nodes ≡ c.nodes
     pub sound : (i : ℕ) (n : Node C) → slice_get w.nodes i ≡ Some n → Sound i n.core

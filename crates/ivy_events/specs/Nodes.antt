@@ -1,7 +1,6 @@
--- The events of a node over its core and its link: a turn, a string delivered, a pulse.
--- Each gives the node after it and the strings that it sends, in order; none where a message number
--- above
--- the greatest one would be needed, or the string is no frame: then nothing happens.
+-- The events of a node over its core and its link: a turn, a string delivered, a pulse. Each gives
+-- the node after it and the strings that it sends, in order; none where a message number above the
+-- greatest one would be needed, or the string is no frame: then nothing happens.
 use Rattle.std.specs.Prelude.{ℕ, List, [], map, Option, Some, None, Result, Ok, Err, if◌then◌else◌}
 use Rattle.ivy_model.specs.declared.Config.{Config}
 use Rattle.ivy_model.specs.declared.Fault.{Fault}

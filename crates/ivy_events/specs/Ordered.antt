@@ -1,6 +1,6 @@
 -- The ordered world: each ordered pair of nodes has the list of all messages ever posted between
--- them and the
--- number of those delivered, and the first that was not delivered yet may be delivered, once.
+-- them and the number of those delivered, and the first that was not delivered yet may be
+-- delivered, once.
 use Rattle.std.specs.Prelude.{◌≡◌, ℕ, ◌+◌, ◌==◌, ◌&&◌, List, slice_get, slice_set, Some, if◌then◌else◌}
 use Rattle.ivy_wire.specs.Data.{Message}
 use Rattle.ivy_link.specs.Paired.{extended}

@@ -1,8 +1,6 @@
 -- The parts of a run: the events of each node, in order, that its moves give. What a node's own
--- events make of it, and
--- the laws that threads rest on: each node of a run is what its part makes of it, and parts that go
--- on by further
--- events are parts of a run again.
+-- events make of it, and the laws that threads rest on: each node of a run is what its part makes
+-- of it, and parts that go on by further events are parts of a run again.
 use Rattle.std.specs.Prelude.{◌≡◌, ◌≢◌, ℕ, ◌<◌, ◌≤◌, ◌==◌, List, [], ◌∷◌, ◌++◌, length, slice_get, All, Contains, Option, Some, None, if◌then◌else◌}
 use Rattle.ivy_model.specs.declared.Config.{Config}
 use Rattle.ivy_link.specs.declared.Verdict.{Verdict}
@@ -44,8 +42,7 @@ sent_from j (i ∷ is) (s ∷ strings) =
     if i == j then s ∷ sent_from j is strings else sent_from j is strings
 
 -- what an event of node j needs: that the string that it delivers is one of these, and that its
--- pulse goes to another
--- of so many nodes
+-- pulse goes to another of so many nodes
 abbrev pub CanBeMade : List (List ℕ) → ℕ → ℕ → Mark → Type 0
 CanBeMade strings nodes j Turn = Unit {0}
 CanBeMade strings nodes j (Delivery bytes) = Contains strings bytes
@@ -58,8 +55,7 @@ AllCanBeMade strings nodes j (m ∷ ms) =
 
 module _ {C : Type 0} (rules : Core C) (c : Config) where
   -- the event happens at the node, with this effect: the turn has an outcome, the frame is for this
-  -- node, the pulse
-  -- gives a frame
+  -- node, the pulse gives a frame
   abbrev pub Happens : Node C → Mark → Effect C → Type 0
   Happens n Turn e =
       ((o : Outcome C) × (rules.turn n.core ≡ Some o)) × (turned rules n ≡ Some e)
@@ -68,8 +64,7 @@ module _ {C : Type 0} (rules : Core C) (c : Config) where
   Happens n (Pulse to) e = (e ≡ pulsing n to) × (e.sent ≢ [])
 
   -- the events happen one after another, with this effect together: so a node's state, and what it
-  -- sends, depend on its
-  -- own events alone
+  -- sends, depend on its own events alone
   abbrev pub AllHappen : Node C → List Mark → Effect C → Type 0
   AllHappen n [] e = e ≡ stays n
   AllHappen n (m ∷ ms) e = (first : Effect C) × Happens n m first
@@ -136,8 +131,7 @@ module _ {C : Type 0} (rules : Core C) (c : Config) where
       × (strings ≡ e.sent)
 
   -- each node is what its part makes of it, and the strings sent are those that the parts send:
-  -- each string has a
-  -- sender, and the strings of a sender, in the order sent, are those of its part
+  -- each string has a sender, and the strings of a sender, in the order sent, are those of its part
   pub record AreMadeByParts (w : World C) (parts : ℕ → List Mark) (end : World C) : Type 0 where
     pub strings : List (List ℕ)
     pub sent : end.sent ≡ w.sent ++ strings
@@ -155,8 +149,7 @@ module _ {C : Type 0} (rules : Core C) (c : Config) where
     pub none : (j : ℕ) → length w.nodes ≤ j → more j ≡ []
 
   -- the run went on by these further events: the lists with them are the parts of a run, each
-  -- string that was sent
-  -- before was sent in it too, and so was what the further events send
+  -- string that was sent before was sent in it too, and so was what the further events send
   pub record WentOn (w end : World C) (parts more : ℕ → List Mark) (further : World C) : Type 0
     where
       pub run : AreParts w (λ j. parts j ++ more j) further

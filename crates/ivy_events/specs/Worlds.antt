@@ -1,10 +1,8 @@
--- Worlds of nodes, over any core: their moves, and what a list of moves leads to.
--- Any string ever sent may be delivered to any node, in any order and however often: a wire that
--- loses,
--- repeats and reorders. A loss is a string that is never delivered. After a delivery the node may
--- go on, in the same
--- move, with strings that came to it too early before: so a move is a relation of worlds, and no
--- function.
+-- Worlds of nodes, over any core: their moves, and what a list of moves leads to. Any string ever
+-- sent may be delivered to any node, in any order and however often: a wire that loses, repeats and
+-- reorders. A loss is a string that is never delivered. After a delivery the node may go on, in the
+-- same move, with strings that came to it too early before: so a move is a relation of worlds, and
+-- no function.
 use Rattle.std.specs.Prelude.{◌≡◌, ℕ, ◌==◌, ◌&&◌, not, nat_lt, Bool, List, [], ◌∷◌, ◌++◌, length, slice_get, slice_index_or, slice_set, Contains, Option, Some, None, if◌then◌else◌}
 use Rattle.ivy_model.specs.declared.Config.{Config}
 use Rattle.ivy_events.specs.declared.moves.Move.{Move}
@@ -74,8 +72,7 @@ module _ {C : Type 0} (rules : Core C) (c : Config) where
   made_by w (Pulse from to) = pulse_of w from to (slice_get w.nodes from)
 
   -- the world after a move whose node does not go on; none where it can't be named, or where a
-  -- number above the
-  -- greatest one is needed: then there is no world after the move at all
+  -- number above the greatest one is needed: then there is no world after the move at all
   unfoldable pub moved : World C → Move → Option (World C)
   moved w move = if is_named w move then made_by w move else None
 

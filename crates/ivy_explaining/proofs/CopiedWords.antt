@@ -1,6 +1,5 @@
 -- A word that writes is carried out: no other node has a copy then, and none is on its way, so all
--- copies are those of
--- the flat memory after it.
+-- copies are those of the flat memory after it.
 use Rattle.std.proofs.Common.{◌≡◌, ◌≢◌, ◌⊎◌, ◌<◌, ℕ, Bool, true, false, List, length, refl, sym, ap, ◌∙◌, subst, inl, inr, if◌then◌else◌}
 use Rattle.std.proofs.lemmas.Bool.{cases_eq, eq-eqb, ne_eqb}
 use Rattle.std.specs.Ordering.{nat_cmp}

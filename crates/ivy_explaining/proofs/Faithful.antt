@@ -1,6 +1,5 @@
 -- The order explains each ordered world that is reached, and goes on from step to step. For every
--- manager that keeps the
--- laws.
+-- manager that keeps the laws.
 use Rattle.std.proofs.Common.{◌≡◌, ◌≢◌, ◌⊎◌, inl, inr, ◌<◌, ℕ, zero, suc, Option, List, [], ◌∷◌, ◌++◌, map, set, slice_get, Some, refl, ap, sym, subst, ◌∙◌, arith}
 use Rattle.std.proofs.lemmas.List.{append-nil}
 use Rattle.std.proofs.lemmas.Option.{same_Some, none-some}
@@ -26,8 +25,8 @@ use Rattle.ivy_explaining.specs.Copied.{IsCopied}
 use Rattle.ivy_explaining.proofs.Owing.{pending, owed-owed, IsRunning, GoOn, blocks_stay, blocks_change, Adds}
 
 -- The order is one that the flat memory leads through, all copies and the live blocks of the heap
--- are those of the memory
--- then, and each node's part of the order is its history and what is owed to it.
+-- are those of the memory then, and each node's part of the order is its history and what is owed
+-- to it.
 pub record IsFaithful {S : Type 0} (ops : Ops S) (c : Config) (o : Ordered (Host S))
     (order : List Record) : Type 0 where
   pub memory : model.Memory

@@ -1,6 +1,5 @@
 -- The order explains each world of strings that is reached, and goes on from move to move. For
--- every manager that keeps
--- the laws.
+-- every manager that keeps the laws.
 use Rattle.std.proofs.Common.{◌≡◌, ◌+◌, ℕ, zero, suc, List, [], ◌∷◌, ◌++◌, length, map, slice_get, Some, refl, ap, sym, subst, ◌∙◌, arith, append-nil, append_assoc}
 use Rattle.std.proofs.lemmas.Simd.{map-map}
 use Rattle.std.proofs.lemmas.Option.{same_Some, none-some}

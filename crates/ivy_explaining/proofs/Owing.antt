@@ -1,6 +1,5 @@
 -- The record that stands in the order of all records before its node has it, and what an event of a
--- node adds to the
--- order.
+-- node adds to the order.
 use Rattle.std.proofs.Common.{◌≡◌, ◌≢◌, ◌<◌, ℕ, List, [], ◌∷◌, ◌++◌, Option, Some, None, refl, ap, sym, ◌∙◌}
 use Rattle.std.proofs.lemmas.List.{append-nil}
 use Rattle.std.proofs.lemmas.Option.{none-some}
@@ -39,8 +38,7 @@ owed me (Some c) None = []
 owed me (Some c) (Some r) = record { node = me; call = c; reply = r } ∷ []
 
 -- The reply that the flat memory gave: node 0 was asked for it and has answered, with these
--- messages of the heap on their
--- way from there, or a word that waited was carried out.
+-- messages of the heap on their way from there, or a word that waited was carried out.
 abbrev pub reply_owed : Option Errand → List Message → Option Out → Option Reply
 reply_owed e ms d = first_reply (replied_by e ms) (reply_there d)
 
@@ -113,8 +111,7 @@ abbrev pub IsWordOf : Config → Call → ℕ → Word → Type 0
 IsWordOf c called page word = asked_of c called ≡ asked.Word page word
 
 -- What holds of a node beside its copies: its history is a run of its program, which makes the call
--- in progress, and the
--- word that waits is that call's.
+-- in progress, and the word that waits is that call's.
 pub record IsRunning {S : Type 0} (c : Config) (n : Host S) : Type 0 where
   pub run : IsRunTo n.process.program n.history n.process.state
   pub makes : (called : Call) → n.memory.asked ≡ Some called → step_of n.process ≡ Asks called
@@ -123,16 +120,14 @@ pub record IsRunning {S : Type 0} (c : Config) (n : Host S) : Type 0 where
       → WaitsAt (entry_at n.memory.coherence.table page) word number → IsWordOf c called page word
 
 -- The live blocks before and after an event, at the flat memory and at a node that has a heap: they
--- stay, or the heap served
--- a call.
+-- stay, or the heap served a call.
 pub data GoOn (blocks : Blocks) (heap heap' : Option HeapState) (blocks' : Blocks) : Type 0 where
   blocks_stay : blocks' ≡ blocks → heap' ≡ heap → GoOn blocks heap heap' blocks'
   blocks_change : (h : HeapState) (t : BlocksTold) → heap ≡ Some h → heap' ≡ Some (after_told h t)
       → blocks' ≡ t.blocks → GoOn blocks heap heap' blocks'
 
 -- What an event of node i comes to, with these messages of the heap on their way to it from node 0:
--- the flat memory makes
--- these records, all the node's own, and has these pages then.
+-- the flat memory makes these records, all the node's own, and has these pages then.
 pub record Adds {S : Type 0} (c : Config) (old : model.Memory) (i : ℕ) (n n' : Host S)
     (ms : List Message) (pages : ℕ → List ℕ) : Type 0 where
   pub more : List Record

@@ -1,6 +1,5 @@
 -- A node sinks directly below another one: the heights once a request of node o to write was served
--- at node x. All that
--- led down does so still.
+-- at node x. All that led down does so still.
 use Rattle.std.proofs.Common.{◌≡◌, ◌≢◌, ◌⊎◌, ◌<◌, ◌≤◌, ◌+◌, ◌*◌, ℕ, Bool, false, refl, sym, ap, ◌∙◌, subst, inl, inr, arith, if◌then◌else◌, ◌==◌}
 use Rattle.std.proofs.lemmas.Bool.{cases_eq, eq-eqb, ne_eqb}
 use Rattle.ivy_model.specs.declared.Config.{Config}
@@ -63,9 +62,8 @@ module _ (g : ℕ → ℕ) (x o : ℕ) where
         omega (arith, e, f, le)
 
 -- What such a step has to show of its page: of o nothing else is asked, nothing is on its way to it
--- but the page, and
--- it does not hint; x hints at o, and who has the page now is o, where x had it, or another node
--- than these two.
+-- but the page, and it does not hint; x hints at o, and who has the page now is o, where x had it,
+-- or another node than these two.
 module _ (c : Config) (m m' : ℕ → Hints) (n n' : Net) (p x o : ℕ) (g : ℕ → ℕ) where
   pub record IsSinking : Type 0 where
     pub asked : IsAsked n (content.WriteReq p) o x

@@ -1,6 +1,5 @@
 -- What a message does to a node: one about a page leaves the node's side of the heap as it is, and
--- posts messages about
--- pages alone.
+-- posts messages about pages alone.
 use Rattle.std.proofs.Common.{◌≡◌, ℕ, true, sym, ap, subst}
 use Rattle.std.specs.Prelude.{All}
 use Rattle.ivy_wire.specs.Data.{Message}

@@ -1,6 +1,5 @@
 -- What a node is but for its link: its memory, its program and the history of its calls; and what a
--- turn and a
--- message do to it.
+-- turn and a message do to it.
 use Rattle.std.specs.Prelude.{ℕ, ◌+◌, ◌^◌, List, [], ◌∷◌, ◌++◌, length, nat_lt, Option, Some, None, if◌then◌else◌}
 use Rattle.ivy_model.specs.declared.Config.{Config}
 use Rattle.ivy_model.specs.declared.Call.{Call}

@@ -52,8 +52,7 @@ WaitsAt (entry.AwaitWrite s) word call = (s.waiting.word ≡ word) × (s.waiting
 WaitsAt (entry.AwaitAcks s) word call = (s.waiting.word ≡ word) × (s.waiting.call ≡ call)
 
 -- A word of node x is carried out within an event, on its page there and on the flat memory's. Of
--- the net in between P
--- holds, and access suffices there.
+-- the net in between P holds, and access suffices there.
 pub record Carries {S : Type 0} (P : (ℕ → S) → Net → (ℕ → List ℕ) → Type 0) (c : Config) (x : ℕ)
     (f : ℕ → List ℕ) (page : ℕ) (word : Word) (out : Out) (flat : ℕ → List ℕ) : Type 0 where
   pub managers : ℕ → S
@@ -69,9 +68,8 @@ pub record Carries {S : Type 0} (P : (ℕ → S) → Net → (ℕ → List ℕ) 
   pub after : flat ≡ with_flat_page f page (carried_out word (f page)).bytes
 
 -- What a message did to the flat memory's pages, where it led node x from one coherence to another:
--- nothing, and what
--- waits waited before, for the same; or the word that waited was carried out, and its answer is
--- there.
+-- nothing, and what waits waited before, for the same; or the word that waited was carried out, and
+-- its answer is there.
 pub data Tells {S : Type 0} (P : (ℕ → S) → Net → (ℕ → List ℕ) → Type 0) (c : Config) (x : ℕ)
     (f : ℕ → List ℕ) (k k' : Coherent S) (flat : ℕ → List ℕ) : Type 0 where
   quiet : flat ≡ f → k'.done ≡ k.done → k'.locked ≡ k.locked

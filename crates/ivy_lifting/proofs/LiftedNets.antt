@@ -1,6 +1,5 @@
 -- A net within an event of one node, told from the net before it: what the node has of one page,
--- its manager and its
--- count now, what it posted since, and the letters left to serve.
+-- its manager and its count now, what it posted since, and the letters left to serve.
 use Rattle.std.proofs.Common.{◌≡◌, ◌≢◌, ℕ, Bool, true, false, List, [], ◌∷◌, ◌++◌, append_assoc, eq-eqb, refl, sym, ap, ◌∙◌, if◌then◌else◌, ◌==◌, ◌&&◌}
 use Rattle.std.proofs.lemmas.Bool.{ne_eqb}
 use Rattle.std.proofs.lemmas.List.{append-nil}

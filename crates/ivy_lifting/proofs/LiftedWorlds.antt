@@ -166,9 +166,8 @@ pub record IsSent (c : Config) (i j : ℕ) (m : Message) : Type 0 where
   pub fits : FitsMessage c m
 
 -- Each core is that of a sound node of this configuration, each message was sent by a node to
--- another one, no more was
--- delivered than was posted, and the messages of the heap are those of the calls that node 0 was
--- asked for.
+-- another one, no more was delivered than was posted, and the messages of the heap are those of the
+-- calls that node 0 was asked for.
 pub record IsSoundWorld {S : Type 0} (ops : Ops S) (c : Config) (o : Ordered (Host S)) : Type 0
   where
     pub count : length o.cores ≡ c.nodes

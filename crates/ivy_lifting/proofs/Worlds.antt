@@ -1,6 +1,5 @@
 -- Each world that moves lead to from an opening is orderly, so its pages are exclusive. For every
--- manager that keeps the
--- laws, whatever the programs.
+-- manager that keeps the laws, whatever the programs.
 use Rattle.std.proofs.Common.{◌≡◌, ◌⊎◌, ℕ, zero, suc, Bool, List, [], length, take, get_or, replicate, refl, ap, ◌∙◌, inl, inr, if◌then◌else◌}
 use Rattle.std.proofs.lemmas.Bool.{cases_eq, ne_eqb}
 use Rattle.std.proofs.lemmas.Option.{slice_get_cases}

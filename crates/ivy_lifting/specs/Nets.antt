@@ -1,6 +1,5 @@
 -- The entries, letters and managers of an ordered world. Of its messages those about pages are
--- letters; one of the heap
--- is none.
+-- letters; one of the heap is none.
 use Rattle.std.specs.Prelude.{ℕ, List, [], length, take, filter, slice_get, Option, Some, None}
 use Rattle.ivy_wire.specs.Data.{Message}
 use Rattle.ivy_pagetable.specs.declared.Entry.{Entry}

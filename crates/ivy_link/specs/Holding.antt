@@ -69,8 +69,7 @@ accepted_at h f =
     holding (accepting.accepted (link_of h) f) (moved_at (offered_at h f) h.held f.source)
 
 -- whether the string of a frame can be held: the frame is for this node and is the next one or
--- ahead, by at most 32,
--- and no string of its number is held
+-- ahead, by at most 32, and no string of its number is held
 abbrev pub can_hold_frame : {B : Type 0} → Holding → frame.Frame B → Bool
 can_hold_frame h f = f.dest == h.me
     && windows.can_hold (peer_at (link_of h) f.source).delivered (window_at h f.source) f.number

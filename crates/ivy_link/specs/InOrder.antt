@@ -23,8 +23,8 @@ pub data Action : Type 0 where
   Pulse : (node : ℕ) (to : ℕ) → Action
 
 -- a node sends parcels of its own to others as long as it has numbers, any frame ever made may come
--- to any node, at any
--- time and any number of times, and a node may send any other one again what it keeps
+-- to any node, at any time and any number of times, and a node may send any other one again what it
+-- keeps
 abbrev pub MayDo : LinkNet → Action → Type 0
 MayDo n (Send i ps) = (i < length n.links) × All (IsParcelOf (length n.links) i) ps
     × (has_numbers (link_at n.links i) ps ≡ true)

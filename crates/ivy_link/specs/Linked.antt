@@ -4,9 +4,8 @@ use Rattle.ivy_wire.specs.Data.{Message, Frame, Parcel}
 use Rattle.ivy_link.specs.Limits.{greatest_number}
 
 -- what a node knows of another one: how many messages it sent there, the last of them, which are
--- not acknowledged yet,
--- how many of the other's messages were delivered here, and whether it owes the other an
--- acknowledgement
+-- not acknowledged yet, how many of the other's messages were delivered here, and whether it owes
+-- the other an acknowledgement
 pub record Peer : Type 0 where
   pub sent : ℕ
   pub kept : List Message

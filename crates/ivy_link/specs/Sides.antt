@@ -1,6 +1,5 @@
 -- What contracts see of a link's side to one node: what it knows, for how many more messages it has
--- room, and the
--- strings that it holds.
+-- room, and the strings that it holds.
 use Rattle.std.specs.Prelude.{ℕ, ◌<◌, ◌≤◌, ◌==◌, List, length, map, slice_index_or, count_by}
 use Rattle.ivy_wire.specs.Data.{Message, Parcel}
 use Rattle.ivy_link.specs.Linked.{Peer, Linked, fresh}

@@ -1,6 +1,6 @@
 -- Under managing nodes requests go down. The managing node is above all nodes that claim its page
--- but the queued ones;
--- of the others that claim it, and of those that do not, the turns say who is above whom.
+-- but the queued ones; of the others that claim it, and of those that do not, the turns say who is
+-- above whom.
 use Rattle.std.proofs.Common.{◌≡◌, ◌≢◌, ◌<◌, ◌≤◌, ◌+◌, ◌-◌, ◌*◌, ◌%◌, ℕ, Bool, true, false, refl, sym, ap, ◌∙◌, subst, inl, inr, arith, if◌then◌else◌, ◌==◌}
 use Rattle.std.proofs.lemmas.Bool.{cases_Bool, cases_eq, cases_lt, eq-eqb, ne_eqb}
 use Rattle.ivy_model.specs.declared.Config.{Config}

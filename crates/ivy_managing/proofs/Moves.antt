@@ -1,7 +1,6 @@
 -- How the requests for one page may change at a step, and that they stay where the managing node
--- looks for them. Each
--- move goes from claims a, requests to write W and to read R and the kept owner k to b, V, Q and h;
--- w manages the page.
+-- looks for them. Each move goes from claims a, requests to write W and to read R and the kept
+-- owner k to b, V, Q and h; w manages the page.
 use Rattle.std.proofs.Common.{◌≡◌, ◌≢◌, ◌⊎◌, ℕ, Bool, true, false, sym, ap, ◌∙◌, subst, inl, inr}
 use Rattle.std.proofs.lemmas.Bool.{cases_eq, both_ways}
 use Rattle.ivy_managing.specs.Managing.{IsRoutedByManaging}

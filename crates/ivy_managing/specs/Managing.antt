@@ -1,8 +1,6 @@
 -- Where the requests for a page are under managing nodes. Node p mod N manages page p: while it
--- does
--- not claim the page itself, it asks the owner that it keeps, and sends requests on to it; the
--- others
--- ask the managing node. No request comes to its own origin.
+-- does not claim the page itself, it asks the owner that it keeps, and sends requests on to it; the
+-- others ask the managing node. No request comes to its own origin.
 use Rattle.std.specs.Prelude.{◌≡◌, ◌≢◌, ◌⊎◌, ◌<◌, ◌≤◌, ◌%◌, ℕ, Bool, true, false, length}
 use Rattle.ivy_model.specs.declared.Config.{Config}
 use Rattle.ivy_wire.specs.declared.Content.TheVariants as content
@@ -12,13 +10,11 @@ use Rattle.ivy_requests.specs.Descending.{IsAsked}
 use Rattle.ivy_requests.specs.Claiming.{claims, IsReader}
 
 -- One page: which nodes claim it; of which node a request to write is at which, and which reads
--- from
--- which; the managing node, and the owner that it keeps.
+-- from which; the managing node, and the owner that it keeps.
 pub record IsRoutedByManaging (claiming : ℕ → Bool) (Writes Reads : ℕ → ℕ → Type 0) (manager kept : ℕ)
     : Type 0 where
   -- elsewhere than at the managing node, requests to write are at nodes that claim the page, and
-  -- one
-  -- alone at each
+  -- one alone at each
   pub claimed : (origin node : ℕ) → node ≢ manager → Writes origin node → claiming node ≡ true
   pub one_writer : (origin other node : ℕ) → node ≢ manager → Writes origin node → Writes other node
       → origin ≡ other
@@ -32,8 +28,7 @@ pub record IsRoutedByManaging (claiming : ℕ → Bool) (Writes Reads : ℕ → 
   pub queued_unkept : (origin : ℕ) → Writes origin manager → claiming manager ≡ false
       → origin ≢ kept
   -- a node that asks another one to write is asked by one itself, or is the kept owner: so the
-  -- requests
-  -- to write lead on from the managing node
+  -- requests to write lead on from the managing node
   pub chained : (origin node : ℕ) → origin ≢ manager → node ≢ manager → Writes origin node
       → ((other : ℕ) × Writes other origin) ⊎ ((claiming manager ≡ false) × (origin ≡ kept))
   -- no request is at its origin, and the managing node reads from the kept owner
@@ -43,8 +38,7 @@ pub record IsRoutedByManaging (claiming : ℕ → Bool) (Writes Reads : ℕ → 
 
 -- The managing node of a page numbers the requests to write in the order in which it sends them on,
 -- or gives the page: the last number of each node, the latest of all, and the nodes whose request
--- it
--- has not sent on yet.
+-- it has not sent on yet.
 pub record WriteTurns : Type 0 where
   pub turn : ℕ → ℕ
   pub latest : ℕ

@@ -1,6 +1,5 @@
 -- A call by what it is to the memory of a node: its word, carried out on its page, is the call, and
--- what is refused the
--- flat memory refuses.
+-- what is refused the flat memory refuses.
 use Rattle.std.proofs.Common.{◌≡◌, ◌≤◌, ◌<◌, ℕ, ◌*◌, ◌/◌, ◌%◌, Bool, true, false, get_or, Option, Some, None, Ok, Err, nat_lt, refl, ap, subst, arith, if◌then◌else◌, slice_get}
 use Rattle.std.proofs.lemmas.Bool.{ltb-true, ltb-false}
 use Rattle.std.proofs.lemmas.Option.{slice_get-get_or, slice_get_past}

@@ -45,8 +45,7 @@ either P true x y h k = h
 either P false x y h k = k
 
 -- A message to the side of a node fits no rule, or is a call of another node that the heap is there
--- for, or is the answer
--- to the call that node 0 was asked for.
+-- for, or is the answer to the call that node 0 was asked for.
 pub record HeapRows (me : ℕ) (s : HeapSide) (from : ℕ) (m : Message) (P : HeapTold → Type 0) : Type
     0 where
   pub breach : P (misfit s)

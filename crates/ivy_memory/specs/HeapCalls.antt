@@ -113,8 +113,7 @@ pub record HeapBegun : Type 0 where
   pub posted : List Parcel
 
 -- Node 0 serves it at once. Any other node asks node 0, whatever will be refused; there is no
--- request with a number
--- that takes more than 8 bytes.
+-- request with a number that takes more than 8 bytes.
 abbrev pub heap_begun_at : ℕ → HeapSide → HeapCall → ℕ → Option HeapState → HeapBegun
 heap_begun_at me s k number (Some h) =
     let t = told_of h k in

@@ -38,10 +38,8 @@ pub record IsSoundSide (c : Config) (me : ℕ) (in_progress : Option Call) (s : 
     pub none : me ≡ 0 → s.errand ≡ None
 
 -- Without a call in progress no word waits, and none was carried out; nor does a word wait beside
--- one carried out, or
--- beside a call of the heap that node 0 was asked for. The call in progress has a width that the
--- memory knows, and a
--- number that a message can carry.
+-- one carried out, or beside a call of the heap that node 0 was asked for. The call in progress has
+-- a width that the memory knows, and a number that a message can carry.
 pub record IsSoundMemory {S : Type 0} (ops : Ops S) (m : NodeMemory S) : Type 0 where
   pub coherent : IsSound ops m.coherence
   pub done : m.asked ≡ None → m.coherence.done ≡ None

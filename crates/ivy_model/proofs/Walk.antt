@@ -21,8 +21,7 @@ use Rattle.ivy_model.proofs.Limits.{page_has_words}
 use Rattle.ivy_model.proofs.Blocks.{Misses, apart_from_all, all_from_apart, get_block}
 
 -- the walk has come to this address, and these blocks are left of all of them: no lower address
--- misses all, and
--- from here on one that misses what is left misses all
+-- misses all, and from here on one that misses what is left misses all
 pub record IsWalkedTo (c : Config) (all : List (ℕ × ℕ)) (size addr : ℕ) (left : List (ℕ × ℕ)) : Type
     0 where
   pub sorted : IsStrictlySortedBy nat_cmp (keys_of left)

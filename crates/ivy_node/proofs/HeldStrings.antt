@@ -1,6 +1,5 @@
 -- What a site holds came to it too early, and is of the numbers that its places stand for. This is
--- where what came too
--- early by the definitions and what a site holds meet.
+-- where what came too early by the definitions and what a site holds meet.
 use Rattle.std.proofs.Common.{◌≡◌, ℕ, suc, ◌+◌, ◌<◌, List, [], ◌∷◌, ◌++◌, length, Bool, true, false}
 use Rattle.std.proofs.Common.{nat_lt, ◌&&◌, ◌==◌, if◌then◌else◌, Some, None, Contains, refl, sym}
 use Rattle.std.proofs.Common.{ap, subst, ◌∙◌, inl, inr, arith}

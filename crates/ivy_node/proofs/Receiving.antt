@@ -1,6 +1,5 @@
 -- What a site does with a string that comes and with one that it held, from what its parts did. `v`
--- is what the fields are
--- seen as, `n` the value.
+-- is what the fields are seen as, `n` the value.
 use Rattle.std.proofs.Common.{◌≡◌, ◌≢◌, ℕ, ◌+◌, List, [], ◌∷◌, ◌++◌, true, false, Option, Some, None, Contains, Result, Ok, Err, MatchResult, MatchOption, refl, sym, ap, subst, ◌∙◌, arith}
 use Rattle.std.specs.Prelude.{IfSome}
 use Rattle.std.proofs.lemmas.Bool.{eq-eqb}

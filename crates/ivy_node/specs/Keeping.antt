@@ -20,15 +20,12 @@ pub record Keeps (r : Run) : Type 0 where
   -- each string ever sent spells a frame
   pub spelled : AllSpell r.config r.world
   -- it follows an ordered world, where each message is delivered once and in order, that moves led
-  -- to from the opening;
-  -- and in each ordered world that moves lead to from there, whoever waits has its message, and the
-  -- routes to each
-  -- page run in no circle and lead to the page from everywhere
+  -- to from the opening; and in each ordered world that moves lead to from there, whoever waits has
+  -- its message, and the routes to each page run in no circle and lead to the page from everywhere
   pub ordered : FollowsInOrder managed_ops r.config r.programs r.world
   pub waits : AllAwaited managed_ops r.config r.programs
   pub routes : AllRouted managed_ops r.config r.programs
   -- whatever moves led here from the opening: at each of them one order of records explains what
-  -- the nodes were
-  -- answered, growing from move to move
+  -- the nodes were answered, growing from move to move
   pub explained : (moves : List Move) → IsLedTo r.config (opening_of r) moves r.world
       → IsExplainedAlong r moves

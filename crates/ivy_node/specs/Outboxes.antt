@@ -82,8 +82,7 @@ abbrev pub posted_by : Outbox → List Parcel → Outbox
 posted_by o parcels = with_sending o (sends o.link parcels)
 
 -- why parcels were refused, of which there is one at least: memory, or one of them would need a
--- number above the
--- greatest one
+-- number above the greatest one
 abbrev pub IsRefused : Fault → Outbox → List Parcel → Type 0
 IsRefused Memory o parcels = parcels ≢ []
 IsRefused NumbersSpent o parcels = has_numbers o.link parcels ≡ false

@@ -56,8 +56,7 @@ pub record IsOfRun (s : Shown) : Type 0 where
   pub node : slice_get run.world.nodes s.me ≡ Some s.node
 
 -- at the opening no record explains what the nodes were answered, and after each of the moves an
--- order that goes on
--- from the one before does
+-- order that goes on from the one before does
 abbrev pub IsExplainedAlong : Run → List Move → Type 0
 IsExplainedAlong r moves =
     GoesOn (host_rules managed_ops) r.config answered_by (opening_of r) [] moves

@@ -1,6 +1,5 @@
 -- What contracts see of a site: the node, the events that it lists, the strings that wait to be put
--- on the wire, and
--- those that its link holds.
+-- on the wire, and those that its link holds.
 use Rattle.std.specs.Prelude.{ℕ, List, [], ◌∷◌, ◌++◌}
 use Rattle.ivy_model.specs.declared.Config.{Config}
 use Rattle.ivy_link.specs.declared.Verdict.{Verdict}

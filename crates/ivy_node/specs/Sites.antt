@@ -157,8 +157,7 @@ IsSpentDelivery old bytes fault =
     fault ≡ NumbersSpent → delivered (host_rules managed_ops) old.config old.node bytes ≡ None
 
 -- the node is what its events make of the first one of its program, and the strings that wait are
--- the last of those
--- that the events sent
+-- the last of those that the events sent
 pub record IsMadeByEvents (s : Shown) : Type 0 where
   pub effect : Effect (Host Managed)
   pub happen : AllHappen (host_rules managed_ops) s.config
@@ -173,8 +172,7 @@ pub record IsSentBy (s : Shown) (bytes : List ℕ) : Type 0 where
   pub sent : Contains made.effect.sent bytes
 
 -- a string that is held in this place of a node's window came too early, and spells the frame of
--- that number from the
--- node to this one
+-- that number from the node to this one
 pub record IsHeld (s : Shown) (from place : ℕ) (bytes : List ℕ) : Type 0 where
   pub early : Contains (early_at s) bytes
   pub frame : Frame

@@ -1,6 +1,5 @@
 -- The pages of a region: which bytes each has, what the region is with one of them written, and
--- that together they are the
--- region.
+-- that together they are the region.
 use Rattle.std.proofs.Common.{◌≡◌, ℕ, zero, suc, ◌+◌, ◌-◌, ◌*◌, ◌<◌, ◌≤◌, List, [], ◌∷◌, ◌++◌}
 use Rattle.std.proofs.Common.{length, get_or, set, take, drop, replicate, refl, sym, ap, ◌∙◌, arith}
 use Rattle.std.proofs.Common.{length-drop, eqb, eqb-true, inl, inr, if◌then◌else◌}

@@ -42,8 +42,7 @@ abbrev pub IsFaultSettled : List Part → Option ℕ → Type 0
 IsFaultSettled parts first = (first ≢ None) × (list_all finds_all parts ≡ true)
 
 -- what was read, up to the end of the text or to a fault that is settled, leads to these parts, and
--- the first line that
--- is out of order is this one
+-- the first line that is out of order is this one
 pub record IsTextReadAs (text : List ℕ) (parts : List Part) (first : Option ℕ) : Type 0 where
   pub read : List (Option Line)
   pub only : IsOnlyReading (take (length read) (lines text)) read
@@ -56,8 +55,7 @@ SpellsText text programs = (read : List (Option Line)) × IsOnlyReading (lines t
     × SpellsPrograms read programs
 
 -- memory was refused, or this is the least line of the text that is at fault, by what its first
--- lines say, whatever
--- the others say
+-- lines say, whatever the others say
 abbrev pub IsFaultOfText : List ℕ → Fault → Type 0
 IsFaultOfText text f = (f ≡ Memory)
     ⊎ ((read : List (Option Line)) × IsOnlyReading (take (length read) (lines text)) read

@@ -1,6 +1,5 @@
 -- Routes from heights: where requests, copies on their way and next hops all lead down, routes lead
--- on to the page from
--- everywhere, as whoever waits has its message.
+-- on to the page from everywhere, as whoever waits has its message.
 use Rattle.std.proofs.Common.{◌≡◌, ◌⊎◌, ◌<◌, ◌%◌, ℕ, zero, suc, true, false, List, [], ◌∷◌, ◌++◌, refl, sym, ◌∙◌, subst, inl, inr, arith}
 use Rattle.std.proofs.lemmas.Bool.{cases_Bool, both_ways}
 use Rattle.ivy_model.specs.declared.Config.{Config}

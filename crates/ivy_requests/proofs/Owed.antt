@@ -77,8 +77,8 @@ module _ (n : Net) (s x : ℕ) (m : Message)
       (taken_remain n s x m first none) o
 
 -- A node writes an entry, takes loose letters and posts parcels: what is waited for here was so
--- before, and is there, or is
--- there now; and the letter that is gone was waited for here, or another one takes its place.
+-- before, and is there, or is there now; and the letter that is gone was waited for here, or
+-- another one takes its place.
 module _ (n : Net) (x p : ℕ) (e z : Entry) (left : List Letter) (parcels : List Parcel)
     (is : n.entry x p ≡ e) (o : IsOwed n) (Gone : Letter → Type 0)
     (remain : Remain n (goes_on n x p z left parcels) Gone) where

@@ -1,6 +1,5 @@
 -- Which letters are there still once a node has taken a step. Letters under way stay, and so do
--- those put off elsewhere; a
--- letter that was served goes.
+-- those put off elsewhere; a letter that was served goes.
 use Rattle.std.proofs.Common.{◌≡◌, ◌≤◌, ◌<◌, ◌+◌, ℕ, zero, suc, Bool, true, List, [], ◌∷◌, ◌++◌}
 use Rattle.std.proofs.Common.{length, map, slice_get, Some, option_map, refl, sym, ap, ◌∙◌, inl}
 use Rattle.std.proofs.Common.{inr, arith, if◌then◌else◌, ◌==◌, ◌&&◌, cond, ◌⊎◌, subst}

@@ -1,6 +1,5 @@
 -- Which requests are where, under every manager, and that they go down: for each page the nodes
--- have
--- heights such that each request is at a node lower than its origin. So none comes back to its
+-- have heights such that each request is at a node lower than its origin. So none comes back to its
 -- origin, and no nodes wait for each other in a circle.
 use Rattle.std.specs.Prelude.{◌≡◌, ◌<◌, ℕ}
 use Rattle.ivy_wire.specs.declared.Content.TheVariants as content

@@ -1,8 +1,7 @@
 -- The routes to a page (Li and Hudak 1989: a request goes from one probable owner to the next).
--- From
--- a node that asked to write, to where its request is; from any other one that does not have the
--- page, to its next hop, and to who sends it a copy. Routes run in no circle, and lead from every
--- node to one that has the page.
+-- From a node that asked to write, to where its request is; from any other one that does not have
+-- the page, to its next hop, and to who sends it a copy. Routes run in no circle, and lead from
+-- every node to one that has the page.
 use Rattle.std.specs.Prelude.{◌≡◌, ◌≢◌, ◌<◌, ◌%◌, ℕ, List, [], ◌∷◌}
 use Rattle.ivy_model.specs.declared.Config.{Config}
 use Rattle.ivy_wire.specs.declared.Content.TheVariants as content
@@ -32,9 +31,8 @@ module _ (c : Config) (n : Net) (page : ℕ) (hop : ℕ → ℕ) where
   LeadTo node end = (nodes : List ℕ) × LeadAlong node nodes end
 
   -- Of one page: the nodes have heights such that each route leads to a lower node, so none runs in
-  -- a circle, and each
-  -- request to read is at a node lower than its origin. And from each node routes lead to one that
-  -- has the page.
+  -- a circle, and each request to read is at a node lower than its origin. And from each node
+  -- routes lead to one that has the page.
   pub record AreRoutes : Type 0 where
     pub height : ℕ → ℕ
     pub lower : (node next : ℕ) → IsRoute node next → height next < height node
@@ -44,8 +42,7 @@ module _ (c : Config) (n : Net) (page : ℕ) (hop : ℕ → ℕ) where
         → (holder : ℕ) × HasPage n holder page × LeadTo node holder
 
   -- Under managing nodes besides: a node that asks another one than the managing node to write lies
-  -- on the managing
-  -- node's route; and the managing node reads from its next hop alone.
+  -- on the managing node's route; and the managing node reads from its next hop alone.
   pub record AreManaged : Type 0 where
     pub on_route : (node at : ℕ) → node ≢ page % c.nodes → at ≢ page % c.nodes
         → IsAsked n (content.WriteReq page) node at → LeadTo (page % c.nodes) node

@@ -1,8 +1,6 @@
 -- Whoever waits has its message, under every manager (Li and Hudak 1989: each fault sends one
--- message,
--- and waits for what answers it): no request, copy, page, order or acknowledgement that somebody
--- waits
--- for is ever lost.
+-- message, and waits for what answers it): no request, copy, page, order or acknowledgement that
+-- somebody waits for is ever lost.
 use Rattle.std.specs.Prelude.{ℕ}
 use Rattle.ivy_wire.specs.declared.Content.TheVariants as content
 use Rattle.ivy_rows.specs.Letters.{Net}

@@ -1,6 +1,5 @@
 -- The worlds of a configuration under the manager that it names: whoever waits has its message, and
--- the routes lead to each
--- page.
+-- the routes lead to each page.
 use Rattle.std.proofs.Common.{◌≡◌, ◌<◌, ℕ, List, length, ap}
 use Rattle.ivy_model.specs.declared.Config.{Config}
 use Rattle.ivy_model.specs.declared.Kind.{Kind}

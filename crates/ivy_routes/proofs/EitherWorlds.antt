@@ -1,6 +1,5 @@
 -- The worlds of a configuration under the manager that it names, managing nodes or hints: no node
--- has met a message
--- that fits no rule.
+-- has met a message that fits no rule.
 use Rattle.std.proofs.Common.{◌≡◌, ◌<◌, ℕ, List, length, refl}
 use Rattle.ivy_model.specs.declared.Config.{Config}
 use Rattle.ivy_model.specs.declared.Kind.{Kind}

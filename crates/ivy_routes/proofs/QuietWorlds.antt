@@ -1,6 +1,5 @@
 -- In each world that moves lead to from an opening, no node has met a message that fits no rule,
--- where requests are
--- routed so that each row keeps it.
+-- where requests are routed so that each row keeps it.
 use Rattle.std.proofs.Common.{◌≡◌, ◌<◌, ℕ, List, [], length, slice_get, Some, sym, ap, ◌∙◌, inl, inr, arith}
 use Rattle.std.proofs.lemmas.List.{get_or-replicate}
 use Rattle.std.proofs.lemmas.Option.{slice_get_cases}

@@ -1,6 +1,5 @@
 -- What is promised of each ordered world that programs reach: whoever waits has its message, and
--- the
--- routes to each page.
+-- the routes to each page.
 use Rattle.std.specs.Prelude.{◌≡◌, ◌<◌, ℕ, List}
 use Rattle.ivy_model.specs.declared.Config.{Config}
 use Rattle.ivy_model.specs.declared.Kind.TheVariants as kind

@@ -1,6 +1,6 @@
 -- Managers of one kind within those of another: a step that managers of the wide kind follow is one
--- that those of the
--- narrow kind follow, and so what each step keeps for the narrow kind, it keeps for the wide one.
+-- that those of the narrow kind follow, and so what each step keeps for the narrow kind, it keeps
+-- for the wide one.
 use Rattle.std.proofs.Common.{◌≡◌, ◌<◌, ℕ, Bool, true, false, List, ap, ◌∙◌, if◌then◌else◌, ◌==◌}
 use Rattle.ivy_model.specs.declared.Config.{Config}
 use Rattle.ivy_pagetable.specs.Manager.{Ops}

@@ -127,8 +127,7 @@ module _ (n n' : Net) (x p : ℕ) (e z : Entry) (now : Place → Place) (New : P
   }
 
   -- A step after which the page has this owner, with these copies: before, no other node than that
-  -- of the step owned it,
-  -- and no letter that stays brought it.
+  -- of the step owned it, and no letter that stays brought it.
   pub record IsMove (owner : ℕ) (copies : Nodes) (seat : Seat) : Type 0 where
     pub nobody : (w : ℕ) → w ≢ x → is_owner (n.entry w p) ≡ true → ⊥
     pub no_page : (b : Place) (l : Letter) (bits : ℕ) (bytes : List ℕ) → IsAt n b l → b ≢ Loose 0

@@ -65,8 +65,8 @@ abbrev pub IsOld : Net → (Place → Place) → Place → Letter → Type 0
 IsOld n now a l = (b : Place) × IsAt n b l × (a ≡ now b) × (b ≢ Loose 0)
 
 -- The letters once an entry is written and parcels are posted: each is one of the net before or a
--- new one, if that is so
--- of those put off at the entry, of those that are loose and of those posted.
+-- new one, if that is so of those put off at the entry, of those that are loose and of those
+-- posted.
 pub record AreTold (n : Net) (x p : ℕ) (z : Entry) (left : List Letter) (parcels : List Parcel)
     (now : Place → Place) (New : Place → Letter → Type 0) : Type 0 where
   pub underway : (i j k : ℕ) → now (Underway i j k) ≡ Underway i j k

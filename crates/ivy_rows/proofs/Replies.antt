@@ -1,6 +1,5 @@
 -- A loose letter is served, and one new letter takes its place: a reply, an acknowledgement, or the
--- request sent on or put
--- off.
+-- request sent on or put off.
 use Rattle.std.proofs.Common.{◌≡◌, ◌≢◌, ℕ, true, List, ◌∷◌, slice_get, Some, sym, ap, ◌∙◌, subst}
 use Rattle.std.specs.FinSet as set
 use Rattle.ivy_model.specs.declared.Config.{Config}

@@ -1,6 +1,5 @@
 -- What follows in an orderly net where a node owns a page, or a letter brings it to one: nobody
--- else does. And which
--- letters cannot be there.
+-- else does. And which letters cannot be there.
 use Rattle.std.proofs.Common.{◌≡◌, ◌≢◌, ℕ, true, false, List, ◌∷◌, slice_get, refl, sym, ap, ◌∙◌, subst, inl, inr}
 use Rattle.std.proofs.lemmas.Bool.{cases_eq}
 use Rattle.ivy_model.specs.declared.Config.{Config}

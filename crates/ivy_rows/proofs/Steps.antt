@@ -1,6 +1,5 @@
 -- A step from one net to another: an entry is written, one loose letter may be served, and new
--- letters may come. What
--- has to be shown of it so that an orderly net stays so.
+-- letters may come. What has to be shown of it so that an orderly net stays so.
 use Rattle.std.proofs.Common.{◌≡◌, ◌≢◌, ◌⊎◌, ℕ, true, false, slice_get, Some, sym, ap, ◌∙◌, subst, inl, inr}
 use Rattle.std.specs.FinSet as set
 use Rattle.ivy_model.specs.declared.Config.{Config}

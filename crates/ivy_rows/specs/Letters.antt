@@ -1,6 +1,5 @@
 -- The entries of all nodes and the messages among them, wherever these are: under way, put off at
--- an entry, or
--- taken from there and not served yet.
+-- an entry, or taken from there and not served yet.
 use Rattle.std.specs.Prelude.{◌≡◌, ◌≤◌, ℕ, ◌==◌, ◌&&◌, List, slice_get, Some, if◌then◌else◌}
 use Rattle.ivy_wire.specs.declared.Content.TheVariants as content
 use Rattle.ivy_wire.specs.Data.{Content, Message, Parcel}
@@ -30,8 +29,7 @@ pub record Net : Type 0 where
   pub loose : List Letter
 
 -- where a letter is: the message of this number from one node to another, under way; the one of
--- this number that is
--- put off at a page of a node; or loose
+-- this number that is put off at a page of a node; or loose
 pub data Place : Type 0 where
   Underway : (source dest number : ℕ) → Place
   Aside : (node page number : ℕ) → Place

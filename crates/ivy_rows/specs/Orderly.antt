@@ -1,9 +1,7 @@
 -- What holds of the entries and letters of a world at every moment, under every manager (Li and
--- Hudak 1989): each
--- page has at most one owner, or is on its way to one node; who may read a page, or is about to, is
--- counted there; and
--- each word that waits has at most one letter of its own, or one for each node that is to give its
--- copy up.
+-- Hudak 1989): each page has at most one owner, or is on its way to one node; who may read a page,
+-- or is about to, is counted there; and each word that waits has at most one letter of its own, or
+-- one for each node that is to give its copy up.
 use Rattle.std.specs.Prelude.{◌≡◌, ◌≢◌, ◌<◌, ℕ, true, false, List, slice_get, Some}
 use Rattle.std.specs.FinSet as set
 use Rattle.ivy_model.specs.declared.Config.{Config}
@@ -65,8 +63,8 @@ IsOwned n page node copies (In at) =
     × (l.message.content ≡ content.WriteRep page bits bytes) × (copies ≡ nodes_with bits)
 
 -- whose letter it is: of the word that waits at a node for a page, or of the order from that node
--- to another to give
--- its copy up. A message of the heap is no letter, and its key is never looked at.
+-- to another to give its copy up. A message of the heap is no letter, and its key is never looked
+-- at.
 pub data Key : Type 0 where
   Own : (origin page : ℕ) → Key
   Order : (origin target page : ℕ) → Key

@@ -1,9 +1,7 @@
 -- The steps of which every event of a world is made, on managers, entries and letters alone: a
--- letter is taken, one
--- is served at an idle entry, put off, dropped; a copy, a page or an acknowledgement comes; a word
--- begins to wait.
--- What each of them keeps, every world keeps.
--- Beside them stand the pages of the flat memory, which change where a word is carried out.
+-- letter is taken, one is served at an idle entry, put off, dropped; a copy, a page or an
+-- acknowledgement comes; a word begins to wait. What each of them keeps, every world keeps. Beside
+-- them stand the pages of the flat memory, which change where a word is carried out.
 use Rattle.std.specs.Prelude.{◌≡◌, ◌≢◌, ◌⊎◌, ◌<◌, ◌≤◌, ℕ, Bool, true, false, List, [], ◌∷◌, map, slice_get, Some, if◌then◌else◌, ◌==◌}
 use Rattle.std.specs.FinSet as set
 use Rattle.ivy_model.specs.declared.Config.{Config}

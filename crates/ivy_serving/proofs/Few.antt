@@ -1,6 +1,5 @@
 -- How many messages are posted at most: one for each message that is served, and one to each node
--- that is told to give
--- its copy up.
+-- that is told to give its copy up.
 use Rattle.std.proofs.Common.{◌≡◌, inl, inr, ℕ, zero, suc, ◌+◌, ◌-◌, ◌<◌, ◌≤◌, Bool, true, false, List, [], ◌∷◌, ◌++◌, length, length-append, Option, arith}
 use Rattle.std.specs.Prelude.{if◌then◌else◌}
 use Rattle.std.specs.FinSet as set

@@ -1,6 +1,5 @@
 -- What is served at an idle entry keeps what holds of it, for every manager that keeps the laws,
--- and posts only what can be
--- sent.
+-- and posts only what can be sent.
 use Rattle.std.proofs.Common.{◌≡◌, ◌≢◌, ℕ, suc, ◌<◌, ◌≤◌, ◌^◌, inl, inr, eqb, Bool, true, false, not, ◌&&◌, ◌||◌, List, [], ◌∷◌, length, refl, sym, ap, ◌∙◌, subst, arith, if◌then◌else◌}
 use Rattle.std.specs.Prelude.{All}
 use Rattle.std.specs.FinSet as set

@@ -1,7 +1,6 @@
 -- What a call that posts comes to: it did all that its definition says, or nothing changed but that
--- the post was
--- asked once. `takes`, `after`, `refuses` and `after_refusal` are words of the post, which was
--- `post` and is `then`.
+-- the post was asked once. `takes`, `after`, `refuses` and `after_refusal` are words of the post,
+-- which was `post` and is `then`.
 use Rattle.std.specs.Prelude.{◌≡◌, ℕ, List, Result, OnOk, OnErr, IfOk, IfErr}
 use Rattle.ivy_model.specs.declared.Fault.{Fault}
 use Rattle.ivy_model.specs.Wants.{IsWant}
@@ -25,8 +24,7 @@ pub record HasPosted {P A : Type 0} (takes : P → List Parcel → Type 0) (afte
   pub want : IfErr r IsWant
 
 -- Messages were served, and what comes of that was posted: what the entry is then; the manager and
--- the count of
--- messages that fitted no rule, as they were and are.
+-- the count of messages that fitted no rule, as they were and are.
 pub record IsSettled {P S : Type 0} (takes : P → List Parcel → Type 0) (after : P → List Parcel → P)
     (refuses : P → List Parcel → Fault → Type 0) (after_refusal : P → List Parcel → Fault → P)
     (post then : P) (r : Result IdleState Fault) (old new : S) (count counted : ℕ)

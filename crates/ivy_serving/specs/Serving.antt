@@ -1,6 +1,5 @@
 -- Messages that are served at an idle entry, one after another (Li and Hudak 1989, the owner keeps
--- the copy set). The
--- bytes of the page stay as they are meanwhile.
+-- the copy set). The bytes of the page stay as they are meanwhile.
 use Rattle.std.specs.Prelude.{ℕ, ◌+◌, ◌-◌, ◌^◌, Bool, true, false, List, [], ◌∷◌, ◌++◌, Option, Some, None, if◌then◌else◌, nat_lt, map}
 use Rattle.std.specs.FinSet as set
 use Rattle.ivy_wire.specs.declared.Content.TheVariants as content
@@ -43,8 +42,7 @@ invalidations me page call nodes =
 
 module _ {S : Type 0} (ops : Ops S) (me page : ℕ) (bytes : List ℕ) where
   -- at the owner: a copy is given, and both read from now on; the page itself is given, with the
-  -- set of those that
-  -- have a copy; an owner is never told to give up a copy
+  -- set of those that have a copy; an owner is never told to give up a copy
   abbrev pub served_by_owner : Serving S → ℕ → ℕ → Request → Serving S
   served_by_owner v origin call request.Read = record {
     idle = sharing (set.insert v.idle.copies origin);

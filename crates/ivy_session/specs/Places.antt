@@ -22,8 +22,7 @@ pub record HasGiven (nodes : ℕ) (s : Shown) (p : Held) : Type 0 where
   pub can : AllCanBeMade p.known.took nodes s.me more
 
 -- the pass is of this ether, sits at the site's node and has not reported, and took each string
--- that was delivered to
--- the site; the site runs the node's program
+-- that was delivered to the site; the site runs the node's program
 pub record IsSeated (wire : TableId) (c : Config) (programs : List (List Instruction))
     (s : Shown) (p : Held) : Type 0 where
   pub limits : IsConfig c

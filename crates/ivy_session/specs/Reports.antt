@@ -50,11 +50,9 @@ module _ (c : Config) (programs : List (List Instruction)) where
     pub parts : (i : ℕ) (n : NodeReport) → slice_get nodes i ≡ Some n → part i order ≡ n.history
 
   -- each node's history and output are those of its event list; the lists are the parts of one run
-  -- of these programs;
-  -- each history is the whole run of its program, with that output; some order explains the
-  -- histories; at the end of
-  -- the run no page is writable at one node and readable at another, and no node has met a message
-  -- that fits no rule
+  -- of these programs; each history is the whole run of its program, with that output; some order
+  -- explains the histories; at the end of the run no page is writable at one node and readable at
+  -- another, and no node has met a message that fits no rule
   pub record IsReport (nodes : List NodeReport) : Type 0 where
     pub all : length nodes ≡ length programs
     pub each : (i : ℕ) (n : NodeReport) → slice_get nodes i ≡ Some n → IsNodeReport i n
