@@ -1,9 +1,7 @@
 -- The managers once one of them was told of a change, and whom managing nodes ask then.
-use Rattle.std.specs.Prelude.{slice_index, slice_set}
-use Rattle.std.proofs.Common.{◌≡◌, ◌≢◌, ◌⊎◌, ◌<◌, ◌%◌, ℕ, Bool, false, length, sym, ap, ◌∙◌, subst, inl, inr, if◌then◌else◌, ◌==◌, get_or-set_same}
+use Rattle.std.proofs.Common.{◌≡◌, ◌≢◌, ◌⊎◌, ◌<◌, ◌%◌, ℕ, Bool, sym, ap, ◌∙◌, subst, inl, inr, if◌then◌else◌, ◌==◌}
 use Rattle.std.proofs.lemmas.Bool.{cases_eq, eq-eqb, ne_eqb}
 use Rattle.ivy_pagetable.specs.Manager.{Ops, KeepsElsewhere}
-use Rattle.ivy_fixed.specs.Fixed.{Owners, manages, owner_kept, hop_of}
 use Rattle.ivy_rows.specs.Rows.{with_manager}
 
 -- of the managers, that of one node may have changed, at one page
