@@ -15,6 +15,7 @@ use Rattle.ivy_model.specs.Config.{IsConfig}
 use Rattle.ivy_wire.specs.declared.Content.TheVariants as content
 use Rattle.ivy_wire.specs.Data.{Message, Parcel}
 use Rattle.ivy_wire.specs.Spelling.{FitsContent, FitsMessage, FitsParcel}
+use Rattle.ivy_wire.specs.Posts.{parcel_to}
 use Rattle.ivy_pagetable.specs.declared.Entry.{Entry}
 use Rattle.ivy_pagetable.specs.declared.Entry.TheVariants as entry
 use Rattle.ivy_pagetable.specs.declared.Out.{Out}
@@ -33,7 +34,7 @@ use Rattle.ivy_pagetable.specs.Manager.{Ops, Laws}
 use Rattle.ivy_pagetable.proofs.Bits.{with_below}
 use Rattle.ivy_pagetable.proofs.Words.{length-carried_out}
 use Rattle.ivy_coherence.specs.Coherent.{Coherent}
-use Rattle.ivy_serving.specs.Serving.{Serving, serving, told, settled, parcel_to, invalidations}
+use Rattle.ivy_serving.specs.Serving.{Serving, serving, told, settled, invalidations}
 use Rattle.ivy_coherence.specs.Steps.{CoherenceEffect, collected, still_collecting, IsWaiting, IsCollecting, unlocked_as, breach, after_serving, unlocked, put_by, given_up, asked, handled}
 use Rattle.ivy_coherence.specs.Faults.{Begun, hit, faulted, waiting_from, begun, suffices}
 use Rattle.ivy_serving.specs.Sound.{CanBeServed, AreOthers, IsSoundIdle}

@@ -9,6 +9,7 @@ use Rattle.ivy_model.specs.declared.Config.{Config}
 use Rattle.ivy_wire.specs.declared.Content.TheVariants as content
 use Rattle.ivy_wire.specs.Data.{Content, Message}
 use Rattle.ivy_wire.specs.Spelling.{FitsContent}
+use Rattle.ivy_wire.specs.Posts.{parcel_to}
 use Rattle.ivy_pagetable.specs.declared.Entry.{Entry}
 use Rattle.ivy_pagetable.specs.declared.Entry.TheVariants as entry
 use Rattle.ivy_pagetable.specs.declared.Request.{Request}
@@ -24,7 +25,7 @@ use Rattle.ivy_pagetable.specs.Tables.{entry_at, page_at, with_entry}
 use Rattle.ivy_pagetable.specs.Words.{needs_write}
 use Rattle.ivy_pagetable.specs.Manager.{Ops}
 use Rattle.ivy_coherence.specs.Coherent.{Coherent}
-use Rattle.ivy_serving.specs.Serving.{serving, settled, counted, parcel_to, served_by_owner, served_by_other, invalidations}
+use Rattle.ivy_serving.specs.Serving.{serving, settled, counted, served_by_owner, served_by_other, invalidations}
 use Rattle.ivy_coherence.specs.Steps.{CoherenceEffect, collected, still_collecting, is_none}
 use Rattle.ivy_coherence.specs.Steps.{is_order, breach, after_serving, unlocked, put_aside, put_by}
 use Rattle.ivy_coherence.specs.Steps.{given_up, asked, copy_came, page_came, acknowledged, handled}

@@ -3,10 +3,10 @@ ghost use Rattle.std.specs.Prelude.{◌≡◌, ◌≢◌, ◌<◌, ◌≤◌, �
 ghost use Rattle.ivy_model.specs.Config.{IsConfig};
 ghost use Rattle.ivy_model.specs.Wants.{IsWant};
 ghost use Rattle.ivy_wire.specs.Spelling.{FitsMessage};
+ghost use Rattle.ivy_wire.specs.Posts.{IsPostOf, HasPosted, HasRefused};
 ghost use Rattle.ivy_pagetable.specs.Tables.{entry_at, page_at};
 ghost use Rattle.ivy_pagetable.specs.Words.{IsWord, needs_write};
 ghost use Rattle.ivy_coherence.specs.Faults.{suffices, IsIdleAt, HasToAsk, fault_entry, fault_posted, begun};
-ghost use Rattle.ivy_serving.specs.Outcomes.{HasPosted, HasRefused};
 ghost use Rattle.ivy_coherence.specs.Sound.{first_coherent, IsSound};
 
 use crate::need::Need;
@@ -14,8 +14,8 @@ use ivy_model::{Config, Fault};
 use ivy_pagetable::{
     Access, AwaitAcks, AwaitWrite, Entry, Idle, Manager, Out, Page, PageTable, Waiting, Word,
 };
-use ivy_serving::{invalidate, post_one};
-use ivy_wire::{Content, Post};
+use ivy_serving::invalidate;
+use ivy_wire::{Content, Post, post_one};
 use std::alloc::Allocator;
 use std::marker::Model;
 
@@ -155,10 +155,9 @@ impl<M: Manager, A: Allocator> Coherence<M, A> {
         requires idle { IsIdleAt self.now.table page idle.now }
         requires short { suffices idle.now.access word ≡ false }
         requires call { 1 ≤ call }
-        requires config { P.config post.old ≡ self.now.config }
-        requires node { P.node post.old ≡ self.now.me }
+        requires post { IsPostOf P.ops post.old self.now.config self.now.me }
         ensures entry { IfOk result (λ e. e ≡ fault_entry word call idle.now) }
-        ensures posted { HasPosted P.takes P.after P.refuses P.after_refusal post.old post.new result
+        ensures posted { HasPosted P.ops post.old post.new result
             (fault_posted M.ops self.now page word call idle.now) }
     {
         let waiting = Waiting::new(word, call);
@@ -200,16 +199,15 @@ impl<M: Manager, A: Allocator> Coherence<M, A> {
         requires page { page < self.old.config.pages }
         requires word { IsWord self.old.config.page_size word }
         requires call { 1 ≤ call }
-        requires config { P.config post.old ≡ self.old.config }
-        requires node { P.node post.old ≡ self.old.me }
+        requires post { IsPostOf P.ops post.old self.old.config self.old.me }
         ensures sure { OnErr result (HasToAsk self.old page word) }
         ensures need { IfOk result (λ need. need ≡ (begun M.ops self.old page word call).need) }
         ensures ok { OnOk result (self.new ≡ (begun M.ops self.old page word call).after) }
         ensures posted { OnOk result
-            (post.new ≡ P.after post.old (begun M.ops self.old page word call).posted) }
+            (post.new ≡ P.ops.after post.old (begun M.ops self.old page word call).posted) }
         ensures err { OnErr result (self.new ≡ self.old) }
-        ensures took { OnOk result (P.takes post.old (begun M.ops self.old page word call).posted) }
-        ensures fault { IfErr result (HasRefused P.refuses P.after_refusal post.old post.new
+        ensures took { OnOk result (P.ops.takes post.old (begun M.ops self.old page word call).posted) }
+        ensures fault { IfErr result (HasRefused P.ops post.old post.new
             (begun M.ops self.old page word call).posted) }
         ensures want { IfErr result IsWant }
     {

@@ -4,12 +4,12 @@ ghost use Rattle.std.specs.Prelude.{◌≡◌, ◌≢◌, ◌<◌, ◌≤◌, �
 ghost use Rattle.ivy_model.specs.Wants.{IsWant};
 ghost use Rattle.ivy_wire.specs.Lent.{owned_message};
 ghost use Rattle.ivy_wire.specs.Spelling.{FitsMessage};
+ghost use Rattle.ivy_wire.specs.Posts.{IsPostOf, HasRefused};
 ghost use Rattle.ivy_pagetable.specs.Entries.{owning};
 ghost use Rattle.ivy_pagetable.specs.Tables.{entry_at, page_at};
 ghost use Rattle.ivy_pagetable.specs.NodeSets.{IsBelow};
 ghost use Rattle.ivy_serving.specs.Sound.{CanBeServed, AreOthers};
 ghost use Rattle.ivy_serving.specs.Limits.{most_posted};
-ghost use Rattle.ivy_serving.specs.Outcomes.{HasRefused};
 ghost use Rattle.ivy_coherence.specs.Outcomes.{IsStep};
 ghost use Rattle.ivy_coherence.specs.Steps.{IsWaiting, IsCollecting, is_none, unlocked_as, unlocked_by_reply, unlocked_by_last};
 ghost use Rattle.ivy_coherence.specs.Steps.{put_aside_at, given_up, asked_at, copy_came_at, owned_with, page_came_at, left_with, acknowledged_at, handled};
@@ -19,8 +19,8 @@ use ivy_model::Fault;
 use ivy_pagetable::{
     Access, AwaitAcks, AwaitWrite, Entry, Idle, Manager, NodeSet, PutOff, Request, Waiting, Word,
 };
-use ivy_serving::{Place, count, invalidate, post_one, settle};
-use ivy_wire::{Content, Message, Post};
+use ivy_serving::{Place, count, invalidate, settle};
+use ivy_wire::{Content, Message, Post, post_one};
 use std::alloc::Allocator;
 
 /// The entry once the page, or a copy, came.
@@ -47,9 +47,8 @@ impl<M: Manager, A: Allocator> Coherence<M, A> {
     fn asked<P: Post>(&mut self, page: u32, message: PutOff, post: &mut P) -> Result<(), Fault>
         requires page { page < self.old.config.pages }
         requires message { CanBeServed self.old.config self.old.me message }
-        requires config { P.config post.old ≡ self.old.config }
-        requires node { P.node post.old ≡ self.old.me }
-        ensures { IsStep P.takes P.after P.refuses P.after_refusal post.old post.new result self.old self.new
+        requires post { IsPostOf P.ops post.old self.old.config self.old.me }
+        ensures { IsStep P.ops post.old post.new result self.old self.new
             (asked_at M.ops self.old page message) }
     {
         match self.table.entry(page) {
@@ -115,9 +114,8 @@ impl<M: Manager, A: Allocator> Coherence<M, A> {
         requires page { page < self.old.config.pages }
         requires message { CanBeServed self.old.config self.old.me message }
         requires waits { IsWaiting (entry_at self.old.table page) true waiting }
-        requires config { P.config post.old ≡ self.old.config }
-        requires node { P.node post.old ≡ self.old.me }
-        ensures { IsStep P.takes P.after P.refuses P.after_refusal post.old post.new result self.old self.new
+        requires post { IsPostOf P.ops post.old self.old.config self.old.me }
+        ensures { IsStep P.ops post.old post.new result self.old self.new
             (given_up M.ops self.old page waiting message) }
     {
         let PutOff { origin, call, .. } = message;
@@ -151,9 +149,8 @@ impl<M: Manager, A: Allocator> Coherence<M, A> {
         requires page { page < self.old.config.pages }
         requires sized { length bytes.now ≡ self.old.config.page_size }
         requires waits { IsWaiting (entry_at self.old.table page) write waiting.now }
-        requires config { P.config post.old ≡ self.old.config }
-        requires node { P.node post.old ≡ self.old.me }
-        ensures { IsStep P.takes P.after P.refuses P.after_refusal post.old post.new result self.old self.new
+        requires post { IsPostOf P.ops post.old self.old.config self.old.me }
+        ensures { IsStep P.ops post.old post.new result self.old self.new
             (unlocked_by_reply M.ops self.old from page write bytes.now waiting.now) }
     {
         self.spare.copy_from(bytes);
@@ -189,9 +186,8 @@ impl<M: Manager, A: Allocator> Coherence<M, A> {
         requires foreign { from ≢ self.old.me }
         requires page { page < self.old.config.pages }
         requires sized { length bytes.now ≡ self.old.config.page_size }
-        requires config { P.config post.old ≡ self.old.config }
-        requires node { P.node post.old ≡ self.old.me }
-        ensures { IsStep P.takes P.after P.refuses P.after_refusal post.old post.new result self.old self.new
+        requires post { IsPostOf P.ops post.old self.old.config self.old.me }
+        ensures { IsStep P.ops post.old post.new result self.old self.new
             (copy_came_at M.ops self.old from call page bytes.now) }
     {
         match self.table.entry(page) {
@@ -220,9 +216,8 @@ impl<M: Manager, A: Allocator> Coherence<M, A> {
         requires sized { length bytes.now ≡ self.old.config.page_size }
         requires call { 1 ≤ call }
         requires copies { IsBelow self.old.config.nodes copies }
-        requires config { P.config post.old ≡ self.old.config }
-        requires node { P.node post.old ≡ self.old.me }
-        ensures { IsStep P.takes P.after P.refuses P.after_refusal post.old post.new result self.old self.new
+        requires post { IsPostOf P.ops post.old self.old.config self.old.me }
+        ensures { IsStep P.ops post.old post.new result self.old self.new
             (page_came_at M.ops self.old from call page copies bytes.now) }
     {
         match self.table.entry(page) {
@@ -255,9 +250,8 @@ impl<M: Manager, A: Allocator> Coherence<M, A> {
         requires below { IsBelow self.old.config.nodes copies }
         requires apart { set.contains copies self.old.me ≡ false }
         requires waits { IsWaiting (entry_at self.old.table page) true waiting }
-        requires config { P.config post.old ≡ self.old.config }
-        requires node { P.node post.old ≡ self.old.me }
-        ensures { IsStep P.takes P.after P.refuses P.after_refusal post.old post.new result self.old self.new
+        requires post { IsPostOf P.ops post.old self.old.config self.old.me }
+        ensures { IsStep P.ops post.old post.new result self.old self.new
             (owned_with M.ops self.old from call page copies bytes.now waiting) }
     {
         if is_none(&copies) {
@@ -283,9 +277,8 @@ impl<M: Manager, A: Allocator> Coherence<M, A> {
         requires from { from < self.old.config.nodes }
         requires foreign { from ≢ self.old.me }
         requires page { page < self.old.config.pages }
-        requires config { P.config post.old ≡ self.old.config }
-        requires node { P.node post.old ≡ self.old.me }
-        ensures { IsStep P.takes P.after P.refuses P.after_refusal post.old post.new result self.old self.new
+        requires post { IsPostOf P.ops post.old self.old.config self.old.me }
+        ensures { IsStep P.ops post.old post.new result self.old self.new
             (acknowledged_at M.ops self.old from call page) }
     {
         match self.table.entry(page) {
@@ -315,9 +308,8 @@ impl<M: Manager, A: Allocator> Coherence<M, A> {
         requires page { page < self.old.config.pages }
         requires left { AreOthers self.old.config self.old.me left }
         requires waits { IsCollecting (entry_at self.old.table page) waiting }
-        requires config { P.config post.old ≡ self.old.config }
-        requires node { P.node post.old ≡ self.old.me }
-        ensures { IsStep P.takes P.after P.refuses P.after_refusal post.old post.new result self.old self.new
+        requires post { IsPostOf P.ops post.old self.old.config self.old.me }
+        ensures { IsStep P.ops post.old post.new result self.old self.new
             (left_with M.ops self.old from page left waiting) }
     {
         if is_none(&left) {
@@ -342,9 +334,8 @@ impl<M: Manager, A: Allocator> Coherence<M, A> {
         requires foreign { from ≢ self.old.me }
         requires page { page < self.old.config.pages }
         requires waits { IsCollecting (entry_at self.old.table page) waiting.now }
-        requires config { P.config post.old ≡ self.old.config }
-        requires node { P.node post.old ≡ self.old.me }
-        ensures { IsStep P.takes P.after P.refuses P.after_refusal post.old post.new result self.old self.new
+        requires post { IsPostOf P.ops post.old self.old.config self.old.me }
+        ensures { IsStep P.ops post.old post.new result self.old self.new
             (unlocked_by_last M.ops self.old from page waiting.now) }
     {
         let word = waiting.word();
@@ -397,17 +388,16 @@ impl<M: Manager, A: Allocator> Coherence<M, A> {
         requires from { from < self.old.config.nodes }
         requires foreign { from ≢ self.old.me }
         requires fits { FitsMessage self.old.config (owned_message message) }
-        requires config { P.config post.old ≡ self.old.config }
-        requires node { P.node post.old ≡ self.old.me }
+        requires post { IsPostOf P.ops post.old self.old.config self.old.me }
         ensures ok { OnOk result
             (self.new ≡ (handled M.ops self.old from (owned_message message.entry)).after) }
         ensures few { length (handled M.ops self.old from (owned_message message.entry)).posted ≤ most_posted }
         ensures posted { OnOk result
-            (post.new ≡ P.after post.old (handled M.ops self.old from (owned_message message.entry)).posted) }
+            (post.new ≡ P.ops.after post.old (handled M.ops self.old from (owned_message message.entry)).posted) }
         ensures err { OnErr result (self.new ≡ self.old) }
         ensures took { OnOk result
-            (P.takes post.old (handled M.ops self.old from (owned_message message.entry)).posted) }
-        ensures fault { IfErr result (HasRefused P.refuses P.after_refusal post.old post.new
+            (P.ops.takes post.old (handled M.ops self.old from (owned_message message.entry)).posted) }
+        ensures fault { IfErr result (HasRefused P.ops post.old post.new
             (handled M.ops self.old from (owned_message message.entry)).posted) }
         ensures want { IfErr result IsWant }
     {

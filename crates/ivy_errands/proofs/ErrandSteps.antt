@@ -9,9 +9,9 @@ use Rattle.ivy_model.specs.declared.Call.{Call}
 use Rattle.ivy_model.specs.declared.Reply.{Reply}
 use Rattle.ivy_model.specs.declared.Reply.TheVariants.{Value, Done, Refused}
 use Rattle.ivy_wire.specs.Data.{Message, Parcel}
+use Rattle.ivy_wire.specs.Posts.{parcel_to}
 use Rattle.ivy_link.specs.Paired.{posted, extended}
 use Rattle.ivy_pagetable.specs.Manager.{Ops}
-use Rattle.ivy_serving.specs.Serving.{parcel_to}
 use Rattle.ivy_serving.proofs.IdleServing.{all_none}
 use Rattle.ivy_alloc.specs.Heap.{HeapState}
 use Rattle.ivy_alloc.specs.Laws.{IsAllocReply}

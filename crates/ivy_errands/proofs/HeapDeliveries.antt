@@ -6,8 +6,8 @@ use Rattle.std.proofs.lemmas.Option.{same_Some, none-some, slice_get_cases}
 use Rattle.ivy_model.specs.declared.Config.{Config}
 use Rattle.ivy_model.specs.declared.Reply.{Reply}
 use Rattle.ivy_wire.specs.Data.{Message}
+use Rattle.ivy_wire.specs.Posts.{parcel_to}
 use Rattle.ivy_pagetable.specs.Manager.{Ops}
-use Rattle.ivy_serving.specs.Serving.{parcel_to}
 use Rattle.ivy_alloc.specs.Heap.{HeapState}
 use Rattle.ivy_events.specs.Ordered.{Ordered, Delivers}
 use Rattle.ivy_memory.specs.declared.HeapCall.{HeapCall}

@@ -8,8 +8,8 @@ use Rattle.std.proofs.lemmas.List.{append-nil, drop-append-le}
 use Rattle.std.proofs.lemmas.List.Elements.{All-weaker, filter-append}
 use Rattle.std.proofs.lemmas.Option.{slice_get_within}
 use Rattle.ivy_wire.specs.Data.{Content, Message, Parcel}
+use Rattle.ivy_wire.specs.Posts.{parcel_to}
 use Rattle.ivy_link.specs.Paired.{posted, extended}
-use Rattle.ivy_serving.specs.Serving.{parcel_to}
 use Rattle.ivy_events.specs.Cores.{Core}
 use Rattle.ivy_events.specs.Ordered.{Ordered, Delivers, one_more}
 use Rattle.ivy_memory.proofs.Pages.{is_of_pages, IsOfPages}

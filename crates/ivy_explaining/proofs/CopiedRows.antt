@@ -6,6 +6,7 @@ use Rattle.std.proofs.lemmas.Option.{none-some}
 use Rattle.ivy_model.specs.declared.Config.{Config}
 use Rattle.ivy_model.specs.Config.{IsConfig}
 use Rattle.ivy_wire.specs.Data.{Content, Parcel}
+use Rattle.ivy_wire.specs.Posts.{parcel_to}
 use Rattle.ivy_pagetable.specs.declared.Entry.{Entry}
 use Rattle.ivy_pagetable.specs.declared.Entry.TheVariants as entry
 use Rattle.ivy_pagetable.specs.declared.PutOff.{PutOff}
@@ -15,7 +16,7 @@ use Rattle.ivy_pagetable.specs.States.{IdleState}
 use Rattle.ivy_pagetable.specs.Accesses.{reads as can_read}
 use Rattle.ivy_pagetable.specs.Entries.{put_offs, readable, is_owner, with_put_off, without, copying, owning}
 use Rattle.ivy_pagetable.specs.Manager.{Ops}
-use Rattle.ivy_serving.specs.Serving.{parcel_to, invalidations}
+use Rattle.ivy_serving.specs.Serving.{invalidations}
 use Rattle.ivy_coherence.specs.Faults.{waiting_from}
 use Rattle.ivy_rows.specs.Letters.{Letter, Net, Place, Underway, Loose, letter_of, IsAt, goes_on, installs}
 use Rattle.ivy_rows.specs.Orderly.{IsOrderly}

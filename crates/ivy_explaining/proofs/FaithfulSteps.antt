@@ -10,9 +10,9 @@ use Rattle.ivy_model.specs.Config.{IsConfig}
 use Rattle.ivy_model.specs.Memory.{IsSized, first}
 use Rattle.ivy_model.proofs.Sizes.{first_sized, leads_sized}
 use Rattle.ivy_wire.specs.Data.{Content, Parcel}
+use Rattle.ivy_wire.specs.Posts.{parcel_to}
 use Rattle.ivy_link.specs.Paired.{posted}
 use Rattle.ivy_pagetable.specs.Manager.{Ops, Laws}
-use Rattle.ivy_serving.specs.Serving.{parcel_to}
 use Rattle.ivy_program.specs.declared.Instruction.{Instruction}
 use Rattle.ivy_events.specs.Cores.{Outcome}
 use Rattle.ivy_events.specs.Ordered.{Ordered, Steps, Delivers}

@@ -7,6 +7,7 @@ use Rattle.ivy_model.specs.declared.Config.{Config}
 use Rattle.ivy_model.specs.Config.{IsConfig}
 use Rattle.ivy_wire.specs.declared.Content.TheVariants as content
 use Rattle.ivy_wire.specs.Data.{Content}
+use Rattle.ivy_wire.specs.Posts.{parcel_to}
 use Rattle.ivy_pagetable.specs.declared.Entry.{Entry}
 use Rattle.ivy_pagetable.specs.declared.Entry.TheVariants as entry
 use Rattle.ivy_pagetable.specs.declared.PutOff.{PutOff}
@@ -15,7 +16,7 @@ use Rattle.ivy_pagetable.specs.declared.Request.TheVariants as request
 use Rattle.ivy_pagetable.specs.NodeSets.{Nodes, nodes_with}
 use Rattle.ivy_pagetable.specs.Accesses.{reads}
 use Rattle.ivy_pagetable.specs.Entries.{put_offs, is_owner, with_put_off, copying, owning, sharing}
-use Rattle.ivy_serving.specs.Serving.{parcel_to, invalidations}
+use Rattle.ivy_serving.specs.Serving.{invalidations}
 use Rattle.ivy_coherence.specs.Faults.{waiting_from}
 use Rattle.ivy_coherence.proofs.Keeping.{owner_put}
 use Rattle.ivy_dynamic.specs.Dynamic.{Hints, hint_of, hinted, dynamic_ops}

@@ -5,10 +5,10 @@ use Rattle.std.proofs.lemmas.Bool.{cases_eq, both_ways}
 use Rattle.ivy_model.specs.declared.Config.{Config}
 use Rattle.ivy_wire.specs.declared.Content.TheVariants as content
 use Rattle.ivy_wire.specs.Data.{Content}
+use Rattle.ivy_wire.specs.Posts.{parcel_to}
 use Rattle.ivy_pagetable.specs.declared.Entry.{Entry}
 use Rattle.ivy_pagetable.specs.declared.Entry.TheVariants as entry
 use Rattle.ivy_pagetable.specs.Entries.{is_owner, without}
-use Rattle.ivy_serving.specs.Serving.{parcel_to}
 use Rattle.ivy_dynamic.specs.Dynamic.{Hints, hint_of, hinted, dynamic_ops}
 use Rattle.ivy_rows.specs.Letters.{Letter, Net, Place, Underway, Loose, IsAt, goes_on}
 use Rattle.ivy_rows.specs.Orderly.{AwaitsPage, Own, key_as, IsExpectedAs, IsOrderly}

@@ -5,6 +5,7 @@ use Rattle.std.specs.FinSet as set
 use Rattle.ivy_model.specs.declared.Config.{Config}
 use Rattle.ivy_wire.specs.declared.Content.TheVariants as content
 use Rattle.ivy_wire.specs.Data.{Content}
+use Rattle.ivy_wire.specs.Posts.{parcel_to}
 use Rattle.ivy_pagetable.specs.declared.Entry.TheVariants as entry
 use Rattle.ivy_pagetable.specs.declared.PutOff.{PutOff}
 use Rattle.ivy_pagetable.specs.declared.Request.{Request}
@@ -12,7 +13,7 @@ use Rattle.ivy_pagetable.specs.declared.Request.TheVariants as request
 use Rattle.ivy_pagetable.specs.NodeSets.{bits_of}
 use Rattle.ivy_pagetable.specs.Entries.{is_owner, without, sharing}
 use Rattle.ivy_pagetable.specs.Manager.{Ops, Laws}
-use Rattle.ivy_serving.specs.Serving.{Serving, parcel_to, served, served_by_owner, served_by_other, all_served}
+use Rattle.ivy_serving.specs.Serving.{Serving, served, served_by_owner, served_by_other, all_served}
 use Rattle.ivy_serving.specs.Sound.{CanBeServed}
 use Rattle.ivy_serving.proofs.IdleServing.{IsServing, IsPlace, all_one, all_head, all_tail, all_served-keeps}
 use Rattle.ivy_rows.specs.Letters.{Letter, Net, content_of, letter_of}

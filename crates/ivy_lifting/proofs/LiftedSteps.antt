@@ -1,6 +1,7 @@
 -- What each row keeps, each event of an ordered world keeps.
 use Rattle.std.proofs.Common.{◌≡◌, ◌<◌, ◌≤◌, ℕ, true, false, List, [], ◌∷◌, Option, slice_set, refl, ap, ◌∙◌, subst, if◌then◌else◌}
 use Rattle.ivy_model.specs.declared.Config.{Config}
+use Rattle.ivy_wire.specs.Posts.{parcel_to}
 use Rattle.ivy_link.specs.Paired.{extended}
 use Rattle.ivy_pagetable.specs.declared.Out.{Out}
 use Rattle.ivy_pagetable.specs.declared.Word.{Word}
@@ -12,7 +13,6 @@ use Rattle.ivy_coherence.specs.Faults.{begun}
 use Rattle.ivy_coherence.proofs.Same.{handled-same}
 use Rattle.ivy_memory.proofs.Tame.{with_done-sound}
 use Rattle.ivy_events.specs.Ordered.{Ordered, Turns, Delivers, one_more}
-use Rattle.ivy_serving.specs.Serving.{parcel_to}
 use Rattle.ivy_memory.specs.HeapCalls.{told_of, answer_to}
 use Rattle.ivy_memory.proofs.Errands.{answer_heap}
 use Rattle.ivy_memory.proofs.Pages.{is_of_pages, handled-pages, begun-pages}

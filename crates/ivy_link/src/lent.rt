@@ -1,48 +1,11 @@
-//! Messages and frames whose pages are lent, lent again or copied.
+//! Messages and frames whose pages are lent or copied.
 ghost use Rattle.std.specs.Prelude.{◌≡◌, [], ◌∷◌, ◌++◌, length, map, IfOk, IsOk, OnOk};
-ghost use Rattle.ivy_wire.specs.Lent.{owned_message, owned_parcel, owned_frame};
+ghost use Rattle.ivy_wire.specs.Lent.{owned_parcel, owned_frame};
 ghost use Rattle.ivy_link.specs.Sides.{message_of};
 
-use ivy_wire::{Content, Frame, Message, Page, Parcel};
+use ivy_wire::{Frame, Message, Page, Parcel};
 use std::alloc::{AllocError, Allocator};
 use std::collections::VecDeque;
-
-/// The same message: what it lends is lent again.
-pub(crate) fn again<'p>(message: &Message<&'p [u8]>) -> Message<&'p [u8]>
-    ensures { owned_message result ≡ owned_message message.now }
-{
-    let content = match &message.content {
-        Content::ReadReq { page } => Content::ReadReq { page: *page },
-        Content::WriteReq { page } => Content::WriteReq { page: *page },
-        Content::ReadRep { page, bytes } => Content::ReadRep {
-            page: *page,
-            bytes: *bytes,
-        },
-        Content::WriteRep {
-            page,
-            copies,
-            bytes,
-        } => Content::WriteRep {
-            page: *page,
-            copies: *copies,
-            bytes: *bytes,
-        },
-        Content::Inval { page } => Content::Inval { page: *page },
-        Content::InvalAck { page } => Content::InvalAck { page: *page },
-        Content::AllocReq { size } => Content::AllocReq { size: *size },
-        Content::AllocRep { code, addr } => Content::AllocRep {
-            code: *code,
-            addr: *addr,
-        },
-        Content::FreeReq { addr } => Content::FreeReq { addr: *addr },
-        Content::FreeRep { code } => Content::FreeRep { code: *code },
-    };
-    Message {
-        origin: message.origin,
-        call: message.call,
-        content,
-    }
-}
 
 /// Adds a frame to those made.
 pub(crate) fn add<'p, A: Allocator>(

@@ -9,7 +9,7 @@ ghost use Rattle.ivy_link.specs.Holding.{link_of, first_holding, offered_at, acc
 ghost use Rattle.ivy_link.specs.Holding.{AreToPeers, frames_repeated, after_pulsing, after_hold, given_back, ready_of, after_taking};
 
 use crate::keeping::{count_to, keep_each, reserve};
-use crate::lent::{add, again, copied, copies};
+use crate::lent::{add, copied, copies};
 use crate::side::Side;
 use crate::verdict::Verdict;
 use ivy_model::Fault;
@@ -143,7 +143,7 @@ impl<A: Allocator + Copy> Link<A> {
             dest: parcel.dest,
             number: side.sent() + earlier as u64 + 1,
             ack: side.delivered(),
-            body: Some(again(&parcel.message)),
+            body: Some(parcel.message),
         }
     }
 

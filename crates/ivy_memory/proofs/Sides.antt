@@ -18,7 +18,7 @@ use Rattle.ivy_model.specs.Serves.{Serves, Refuses, Allocates, rounded}
 use Rattle.ivy_wire.specs.declared.Content.TheVariants as content
 use Rattle.ivy_wire.specs.Data.{Content, Message}
 use Rattle.ivy_wire.specs.Spelling.{FitsContent, FitsMessage, FitsParcel}
-use Rattle.ivy_serving.specs.Serving.{parcel_to}
+use Rattle.ivy_wire.specs.Posts.{parcel_to}
 use Rattle.ivy_serving.proofs.IdleServing.{all_none, all_one}
 use Rattle.ivy_alloc.specs.Heap.{HeapState, HasNoRoom, first_heap}
 use Rattle.ivy_alloc.specs.Laws.{IsAllocReply, IsFreeReply, with_blocks}

@@ -14,6 +14,7 @@ use Rattle.ivy_model.specs.Config.{IsConfig}
 use Rattle.ivy_model.specs.Legal.{HasWidth}
 use Rattle.ivy_wire.specs.Data.{Message, Parcel}
 use Rattle.ivy_wire.specs.Spelling.{FitsMessage, FitsParcel}
+use Rattle.ivy_wire.specs.Posts.{parcel_to}
 use Rattle.ivy_pagetable.specs.declared.Entry.{Entry}
 use Rattle.ivy_pagetable.specs.declared.Out.{Out}
 use Rattle.ivy_pagetable.specs.declared.Out.TheVariants as out
@@ -32,7 +33,6 @@ use Rattle.ivy_coherence.specs.Steps.{unlocked, handled}
 use Rattle.ivy_coherence.specs.Faults.{Begun, started, hit, begun}
 use Rattle.ivy_coherence.specs.Sound.{IsSound}
 use Rattle.ivy_coherence.proofs.Keeping.{handled-keeps, begun-keeps, first-sound}
-use Rattle.ivy_serving.specs.Serving.{parcel_to}
 use Rattle.ivy_alloc.specs.Heap.{HeapState}
 use Rattle.ivy_serving.proofs.IdleServing.{all_none, all_one}
 use Rattle.ivy_coherence.proofs.Rows.{Rows, AccessRows, handled-by_rows, begun-by_rows}

@@ -7,7 +7,7 @@ use Rattle.ivy_model.specs.declared.Fault.{Fault}
 use Rattle.ivy_model.specs.declared.Fault.TheVariants.{Memory}
 use Rattle.ivy_wire.specs.declared.Content.TheVariants as content
 use Rattle.ivy_wire.specs.Data.{Content, Message, Parcel}
-use Rattle.ivy_serving.specs.Serving.{parcel_to}
+use Rattle.ivy_wire.specs.Posts.{parcel_to}
 use Rattle.ivy_alloc.specs.Heap.{HeapState, first_heap}
 use Rattle.ivy_alloc.specs.Told.{BlocksTold, alloc_told, free_told}
 use Rattle.ivy_memory.specs.declared.answer.Answer.{Answer}

@@ -4,8 +4,7 @@ ghost use Rattle.ivy_model.specs.Config.{IsConfig};
 ghost use Rattle.ivy_model.specs.Wants.{IsWant};
 ghost use Rattle.ivy_wire.specs.Lent.{owned_content, owned_message};
 ghost use Rattle.ivy_wire.specs.Spelling.{FitsMessage};
-ghost use Rattle.ivy_serving.specs.Serving.{parcel_to};
-ghost use Rattle.ivy_serving.specs.Outcomes.{HasRefused};
+ghost use Rattle.ivy_wire.specs.Posts.{parcel_to, HasRefused};
 ghost use Rattle.ivy_memory.specs.declared.answer.Answer.TheVariants as answers;
 ghost use Rattle.ivy_memory.specs.declared.heap_side.HeapCall.TheVariants as kinds;
 ghost use Rattle.ivy_memory.specs.HeapCalls.{first_side, closed, IsGrowth, IsGrowthPosted, told_of, after_told, request, answer_to};
@@ -14,8 +13,7 @@ ghost use Rattle.ivy_memory.specs.HeapCalls.{block_told, end_told, reply_in, hea
 use crate::answer::Answer;
 use ivy_alloc::Heap;
 use ivy_model::{Config, Fault, Reply};
-use ivy_serving::post_one;
-use ivy_wire::{Content, Message, Post};
+use ivy_wire::{Content, Message, Post, post_one};
 use std::alloc::Allocator;
 use std::marker::Model;
 
@@ -148,18 +146,18 @@ fn give_block<A: Allocator + Copy, P: Post>(
     post: &mut P,
 ) -> Result<(), Fault>
     requires number { 1 ≤ number }
-    requires node { P.node post.old ≡ me }
-    requires here { me < (P.config post.old).nodes }
-    requires from { from < (P.config post.old).nodes }
+    requires node { P.ops.node post.old ≡ me }
+    requires here { me < (P.ops.config post.old).nodes }
+    requires from { from < (P.ops.config post.old).nodes }
     requires foreign { from ≢ me }
     ensures ok { OnOk result (heap.new ≡ after_told heap.old (told_of heap.old (kinds.Alloc size))) }
-    ensures posted { OnOk result (post.new ≡ P.after post.old (parcel_to me from from number (answer_to (kinds.Alloc size) (told_of heap.old (kinds.Alloc size)).reply) ∷ [])) }
-    ensures took { OnOk result (P.takes post.old (parcel_to me from from number (answer_to (kinds.Alloc size) (told_of heap.old (kinds.Alloc size)).reply) ∷ [])) }
+    ensures posted { OnOk result (post.new ≡ P.ops.after post.old (parcel_to me from from number (answer_to (kinds.Alloc size) (told_of heap.old (kinds.Alloc size)).reply) ∷ [])) }
+    ensures took { OnOk result (P.ops.takes post.old (parcel_to me from from number (answer_to (kinds.Alloc size) (told_of heap.old (kinds.Alloc size)).reply) ∷ [])) }
     ensures err { OnErr result (heap.new ≡ heap.old) }
     ensures fault { IfErr result (λ fault.
         (IsGrowth (answers.Given (told_of heap.old (kinds.Alloc size)).reply) fault
         × (post.new ≡ post.old))
-        ⊎ HasRefused P.refuses P.after_refusal post.old post.new
+        ⊎ HasRefused P.ops post.old post.new
         (parcel_to me from from number
         (answer_to (kinds.Alloc size) (told_of heap.old (kinds.Alloc size)).reply) ∷ [])
         fault) }
@@ -199,15 +197,15 @@ fn end_block<A: Allocator + Copy, P: Post>(
     post: &mut P,
 ) -> Result<(), Fault>
     requires number { 1 ≤ number }
-    requires node { P.node post.old ≡ me }
-    requires here { me < (P.config post.old).nodes }
-    requires from { from < (P.config post.old).nodes }
+    requires node { P.ops.node post.old ≡ me }
+    requires here { me < (P.ops.config post.old).nodes }
+    requires from { from < (P.ops.config post.old).nodes }
     requires foreign { from ≢ me }
     ensures ok { OnOk result (heap.new ≡ after_told heap.old (told_of heap.old (kinds.Free addr))) }
-    ensures posted { OnOk result (post.new ≡ P.after post.old (parcel_to me from from number (answer_to (kinds.Free addr) (told_of heap.old (kinds.Free addr)).reply) ∷ [])) }
-    ensures took { OnOk result (P.takes post.old (parcel_to me from from number (answer_to (kinds.Free addr) (told_of heap.old (kinds.Free addr)).reply) ∷ [])) }
+    ensures posted { OnOk result (post.new ≡ P.ops.after post.old (parcel_to me from from number (answer_to (kinds.Free addr) (told_of heap.old (kinds.Free addr)).reply) ∷ [])) }
+    ensures took { OnOk result (P.ops.takes post.old (parcel_to me from from number (answer_to (kinds.Free addr) (told_of heap.old (kinds.Free addr)).reply) ∷ [])) }
     ensures err { OnErr result (heap.new ≡ heap.old) }
-    ensures fault { IfErr result (HasRefused P.refuses P.after_refusal post.old post.new
+    ensures fault { IfErr result (HasRefused P.ops post.old post.new
         (parcel_to me from from number
         (answer_to (kinds.Free addr) (told_of heap.old (kinds.Free addr)).reply) ∷ [])) }
     ensures want { IfErr result IsWant }
@@ -245,19 +243,19 @@ impl<A: Allocator + Copy> HeapSide<A> {
         post: &mut P,
     ) -> Result<Answer, Fault>
         requires number { 1 ≤ number }
-        requires node { P.node post.old ≡ me }
-        requires here { me < (P.config post.old).nodes }
+        requires node { P.ops.node post.old ≡ me }
+        requires here { me < (P.ops.config post.old).nodes }
         requires away { self.old.heap ≡ None → me ≢ 0 }
         ensures begins { IfOk result (λ answer. answer ≢ Answer.Unserved) }
         ensures reply { IfOk result (λ answer. answer ≡ (heap_begun me self.old call number).answer) }
         ensures ok { OnOk result (self.new ≡ (heap_begun me self.old call number).after) }
-        ensures posted { OnOk result (post.new ≡ P.after post.old (heap_begun me self.old call number).posted) }
-        ensures took { OnOk result (P.takes post.old (heap_begun me self.old call number).posted) }
+        ensures posted { OnOk result (post.new ≡ P.ops.after post.old (heap_begun me self.old call number).posted) }
+        ensures took { OnOk result (P.ops.takes post.old (heap_begun me self.old call number).posted) }
         ensures err { OnErr result (self.new ≡ self.old) }
         ensures fault { IfErr result (λ fault.
             (IsGrowth (heap_begun me self.old call number).answer fault
             × (post.new ≡ post.old))
-            ⊎ HasRefused P.refuses P.after_refusal post.old post.new
+            ⊎ HasRefused P.ops post.old post.new
             (heap_begun me self.old call number).posted fault) }
         ensures want { IfErr result IsWant }
     {
@@ -279,19 +277,19 @@ impl<A: Allocator + Copy> HeapSide<A> {
         post: &mut P,
     ) -> Result<bool, Fault>
         requires number { 1 ≤ number }
-        requires node { P.node post.old ≡ me }
-        requires here { me < (P.config post.old).nodes }
-        requires from { from < (P.config post.old).nodes }
+        requires node { P.ops.node post.old ≡ me }
+        requires here { me < (P.ops.config post.old).nodes }
+        requires from { from < (P.ops.config post.old).nodes }
         requires foreign { from ≢ me }
         ensures fits { IfOk result (λ fits. fits ≡ (served_at me self.old from number call self.old.heap).fits) }
         ensures ok { OnOk result (self.new ≡ (served_at me self.old from number call self.old.heap).after) }
-        ensures posted { OnOk result (post.new ≡ P.after post.old (served_at me self.old from number call self.old.heap).posted) }
-        ensures took { OnOk result (P.takes post.old (served_at me self.old from number call self.old.heap).posted) }
+        ensures posted { OnOk result (post.new ≡ P.ops.after post.old (served_at me self.old from number call self.old.heap).posted) }
+        ensures took { OnOk result (P.ops.takes post.old (served_at me self.old from number call self.old.heap).posted) }
         ensures err { OnErr result (self.new ≡ self.old) }
         ensures fault { IfErr result (λ fault.
             (IsGrowthPosted (served_at me self.old from number call self.old.heap).posted fault
             × (post.new ≡ post.old))
-            ⊎ HasRefused P.refuses P.after_refusal post.old post.new
+            ⊎ HasRefused P.ops post.old post.new
             (served_at me self.old from number call self.old.heap).posted fault) }
         ensures want { IfErr result IsWant }
     {
@@ -340,21 +338,21 @@ impl<A: Allocator + Copy> HeapSide<A> {
         message: &Message<&[u8]>,
         post: &mut P,
     ) -> Result<bool, Fault>
-        requires node { P.node post.old ≡ me }
-        requires here { me < (P.config post.old).nodes }
-        requires from { from < (P.config post.old).nodes }
+        requires node { P.ops.node post.old ≡ me }
+        requires here { me < (P.ops.config post.old).nodes }
+        requires from { from < (P.ops.config post.old).nodes }
         requires foreign { from ≢ me }
-        requires fits { FitsMessage (P.config post.old) (owned_message message.now) }
+        requires fits { FitsMessage (P.ops.config post.old) (owned_message message.now) }
         ensures fits { IfOk result (λ fits. fits ≡ (heap_told me self.old from (owned_message message.now)).fits) }
         ensures misfit { IfOk result (λ fits. fits ≡ false → (self.new ≡ self.old) × (post.new ≡ post.old)) }
         ensures ok { OnOk result (self.new ≡ (heap_told me self.old from (owned_message message.now)).after) }
-        ensures posted { OnOk result (post.new ≡ P.after post.old (heap_told me self.old from (owned_message message.now)).posted) }
-        ensures took { OnOk result (P.takes post.old (heap_told me self.old from (owned_message message.now)).posted) }
+        ensures posted { OnOk result (post.new ≡ P.ops.after post.old (heap_told me self.old from (owned_message message.now)).posted) }
+        ensures took { OnOk result (P.ops.takes post.old (heap_told me self.old from (owned_message message.now)).posted) }
         ensures err { OnErr result (self.new ≡ self.old) }
         ensures fault { IfErr result (λ fault.
             (IsGrowthPosted (heap_told me self.old from (owned_message message.now)).posted fault
             × (post.new ≡ post.old))
-            ⊎ HasRefused P.refuses P.after_refusal post.old post.new
+            ⊎ HasRefused P.ops post.old post.new
             (heap_told me self.old from (owned_message message.now)).posted fault) }
         ensures want { IfErr result IsWant }
     {

@@ -5,7 +5,7 @@ ghost use Rattle.ivy_model.specs.Legal.{HasWidth};
 ghost use Rattle.ivy_model.specs.Wants.{IsWant};
 ghost use Rattle.ivy_wire.specs.Lent.{owned_content, owned_message};
 ghost use Rattle.ivy_wire.specs.Spelling.{FitsMessage};
-ghost use Rattle.ivy_serving.specs.Outcomes.{HasRefused};
+ghost use Rattle.ivy_wire.specs.Posts.{IsPostOf, HasRefused};
 ghost use Rattle.ivy_memory.specs.Asking.{CallHasToAsk, IsOfHeap, MayBeRefused, asked_of};
 ghost use Rattle.ivy_memory.specs.HeapCalls.{IsGrowth, IsGrowthPosted};
 ghost use Rattle.ivy_memory.specs.Memories.{first_memory, reply_of, reply_at, HasToAskAgain, call_begun, polled, memory_handled, memory_told};
@@ -105,22 +105,21 @@ impl<M: Manager, A: Allocator + Copy> Memory<M, A> {
     pub fn begin<P: Post>(&mut self, call: Call, number: u64, post: &mut P) -> Result<Answer, Fault>
         requires width { HasWidth call }
         requires number { 1 ≤ number }
-        requires config { P.config post.old ≡ self.old.coherence.config }
-        requires node { P.node post.old ≡ self.old.coherence.me }
+        requires post { IsPostOf P.ops post.old self.old.coherence.config self.old.coherence.me }
         ensures busy { IsErrOf result Fault.Busy ↔ IsSome self.old.asked }
         ensures unasked { IsSome self.old.asked → post.new ≡ post.old }
         ensures few { length (call_begun M.ops self.old call number).posted ≤ 8 }
         ensures begins { IfOk result (λ answer. answer ≢ Answer.Unserved) }
         ensures reply { IfOk result (λ answer. answer ≡ (call_begun M.ops self.old call number).answer) }
         ensures ok { OnOk result (self.new ≡ (call_begun M.ops self.old call number).after) }
-        ensures posted { OnOk result (post.new ≡ P.after post.old (call_begun M.ops self.old call number).posted) }
-        ensures took { OnOk result (P.takes post.old (call_begun M.ops self.old call number).posted) }
+        ensures posted { OnOk result (post.new ≡ P.ops.after post.old (call_begun M.ops self.old call number).posted) }
+        ensures took { OnOk result (P.ops.takes post.old (call_begun M.ops self.old call number).posted) }
         ensures err { OnErr result (self.new ≡ self.old) }
         ensures fault { self.old.asked ≡ None → IfErr result (λ fault.
             (IsOfHeap (asked_of self.old.coherence.config call)
             × IsGrowth (call_begun M.ops self.old call number).answer fault
             × (post.new ≡ post.old))
-            ⊎ HasRefused P.refuses P.after_refusal post.old post.new
+            ⊎ HasRefused P.ops post.old post.new
             (call_begun M.ops self.old call number).posted fault) }
         ensures sure { self.old.asked ≡ None → OnErr result (CallHasToAsk self.old.coherence call
             ⊎ MayBeRefused (asked_of self.old.coherence.config call)
@@ -176,15 +175,14 @@ impl<M: Manager, A: Allocator + Copy> Memory<M, A> {
     /// Where the word has no answer now either, and where no call is in progress, nothing changes. Only a word that
     /// other nodes have to be asked for is refused by a fault: else it takes no memory, and asks the post nothing.
     pub fn poll_reply<P: Post>(&mut self, post: &mut P) -> Result<Answer, Fault>
-        requires config { P.config post.old ≡ self.old.coherence.config }
-        requires node { P.node post.old ≡ self.old.coherence.me }
+        requires post { IsPostOf P.ops post.old self.old.coherence.config self.old.coherence.me }
         ensures few { length (polled M.ops self.old).posted ≤ 8 }
         ensures reply { IfOk result (λ answer. answer ≡ (polled M.ops self.old).answer) }
         ensures ok { OnOk result (self.new ≡ (polled M.ops self.old).after) }
-        ensures posted { OnOk result (post.new ≡ P.after post.old (polled M.ops self.old).posted) }
-        ensures took { OnOk result (P.takes post.old (polled M.ops self.old).posted) }
+        ensures posted { OnOk result (post.new ≡ P.ops.after post.old (polled M.ops self.old).posted) }
+        ensures took { OnOk result (P.ops.takes post.old (polled M.ops self.old).posted) }
         ensures err { OnErr result (self.new ≡ self.old) }
-        ensures fault { IfErr result (HasRefused P.refuses P.after_refusal post.old post.new (polled M.ops self.old).posted) }
+        ensures fault { IfErr result (HasRefused P.ops post.old post.new (polled M.ops self.old).posted) }
         ensures sure { OnErr result (HasToAskAgain self.old) }
         ensures want { IfErr result IsWant }
     {
@@ -229,18 +227,17 @@ impl<M: Manager, A: Allocator + Copy> Memory<M, A> {
         requires from { from < self.old.coherence.config.nodes }
         requires foreign { from ≢ self.old.coherence.me }
         requires fits { FitsMessage self.old.coherence.config (owned_message message) }
-        requires config { P.config post.old ≡ self.old.coherence.config }
-        requires node { P.node post.old ≡ self.old.coherence.me }
+        requires post { IsPostOf P.ops post.old self.old.coherence.config self.old.coherence.me }
         ensures few { length (memory_handled M.ops self.old from (owned_message message.entry)).posted ≤ 8 }
         ensures ok { OnOk result (self.new ≡ memory_told M.ops self.old from (owned_message message.entry)) }
-        ensures posted { OnOk result (post.new ≡ P.after post.old (memory_handled M.ops self.old from (owned_message message.entry)).posted) }
-        ensures took { OnOk result (P.takes post.old (memory_handled M.ops self.old from (owned_message message.entry)).posted) }
+        ensures posted { OnOk result (post.new ≡ P.ops.after post.old (memory_handled M.ops self.old from (owned_message message.entry)).posted) }
+        ensures took { OnOk result (P.ops.takes post.old (memory_handled M.ops self.old from (owned_message message.entry)).posted) }
         ensures err { OnErr result (self.new ≡ self.old) }
         ensures fault { IfErr result (λ fault.
             (IsGrowthPosted
             (memory_handled M.ops self.old from (owned_message message.entry)).posted fault
             × (post.new ≡ post.old))
-            ⊎ HasRefused P.refuses P.after_refusal post.old post.new
+            ⊎ HasRefused P.ops post.old post.new
             (memory_handled M.ops self.old from (owned_message message.entry)).posted fault) }
         ensures want { IfErr result IsWant }
     {

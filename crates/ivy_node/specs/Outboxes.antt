@@ -6,6 +6,7 @@ use Rattle.ivy_model.specs.Config.{IsConfig}
 use Rattle.ivy_model.specs.declared.Fault.{Fault}
 use Rattle.ivy_model.specs.declared.Fault.TheVariants.{Memory, NumbersSpent}
 use Rattle.ivy_wire.specs.Data.{Parcel}
+use Rattle.ivy_wire.specs.Posts.{PostOps, PostLaws}
 use Rattle.ivy_wire.specs.Spelling.{spelling}
 use Rattle.ivy_wire.specs.Destinations.{dest_of}
 use Rattle.ivy_link.specs.Linked.{Linked, Sending, sends, has_numbers}
@@ -115,3 +116,23 @@ pub refuses_none : (o : Outbox) (f : Fault) → RefusesParcels o [] f → ⊥
 refuses_none o Memory why = why refl
 refuses_none o NumbersSpent why = absurd cc
 refuses_none o f why = why
+
+-- the post that an outbox is: one that refused parcels is as it was
+abbrev pub outbox_ops : PostOps Outbox
+outbox_ops = record {
+  config = λ o. o.config;
+  node = λ o. o.me;
+  takes = HasNumbers;
+  after = posted_by;
+  refuses = RefusesParcels;
+  after_refusal = λ o parcels f. o;
+}
+
+pub outbox_laws : PostLaws outbox_ops
+outbox_laws = record {
+  takes_none = takes_none;
+  after_none = after_none;
+  refuses_none = refuses_none;
+  same_config = λ o parcels f. refl;
+  same_node = λ o parcels f. refl;
+}

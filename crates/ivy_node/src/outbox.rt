@@ -236,20 +236,11 @@ impl<A: Allocator + Copy> Outbox<A> {
 }
 
 impl<A: Allocator + Copy> Post for Outbox<A> {
-    ghost use Rattle.std.specs.Prelude.{refl};
-    ghost use Rattle.ivy_node.specs.Outboxes.{HasNumbers, posted_by, RefusesParcels, takes_none, after_none, refuses_none};
+    ghost use Rattle.ivy_node.specs.Outboxes.{outbox_ops, outbox_laws};
 
-    ghost config = { λ o. o.config };
+    ghost ops = { outbox_ops };
 
-    ghost node = { λ o. o.me };
-
-    ghost takes = { HasNumbers };
-
-    ghost after = { posted_by };
-
-    ghost refuses = { RefusesParcels };
-
-    ghost after_refusal = { λ o parcels fault. o };
+    ghost laws = { outbox_laws };
 
     fn post(&mut self, parcels: &[Parcel<&[u8]>]) -> Result<(), Fault> {
         if parcels.is_empty() {
@@ -265,14 +256,4 @@ impl<A: Allocator + Copy> Post for Outbox<A> {
         }
         Ok(())
     }
-
-    ghost takes_none = { takes_none };
-
-    ghost after_none = { after_none };
-
-    ghost refuses_none = { refuses_none };
-
-    ghost same_config = { λ o parcels fault. refl };
-
-    ghost same_node = { λ o parcels fault. refl };
 }

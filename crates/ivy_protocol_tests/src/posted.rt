@@ -77,17 +77,22 @@ impl Post for Posted {
     ghost use Rattle.std.proofs.Common.{ap, append-nil};
     ghost use Rattle.ivy_model.specs.declared.Fault.TheVariants.{Memory};
 
-    ghost config = { λ p. p.0 };
+    ghost ops = { record {
+      config = λ p. p.0;
+      node = λ p. p.1;
+      takes = λ p parcels. Unit {0};
+      after = λ p parcels. (p.0, p.1, p.2 ++ parcels);
+      refuses = λ p parcels fault. (parcels ≢ []) × (fault ≡ Memory);
+      after_refusal = λ p parcels fault. p;
+    } };
 
-    ghost node = { λ p. p.1 };
-
-    ghost takes = { λ p parcels. Unit {0} };
-
-    ghost after = { λ p parcels. (p.0, p.1, p.2 ++ parcels) };
-
-    ghost refuses = { λ p parcels fault. (parcels ≢ []) × (fault ≡ Memory) };
-
-    ghost after_refusal = { λ p parcels fault. p };
+    ghost laws = { record {
+      takes_none = λ p. tt;
+      after_none = λ p. ap (λ xs. (p.0, p.1, xs)) (append-nil p.2);
+      refuses_none = λ p fault why. why.0 refl;
+      same_config = λ p parcels fault. refl;
+      same_node = λ p parcels fault. refl;
+    } };
 
     fn post(&mut self, parcels: &[Parcel<&[u8]>]) -> Result<(), Fault> {
         if parcels.is_empty() {
@@ -107,16 +112,6 @@ impl Post for Posted {
         self.parcels.append(&mut taken)?;
         Ok(())
     }
-
-    ghost takes_none = { λ p. tt };
-
-    ghost after_none = { λ p. ap (λ xs. (p.0, p.1, xs)) (append-nil p.2) };
-
-    ghost refuses_none = { λ p fault why. why.0 refl };
-
-    ghost same_config = { λ p parcels fault. refl };
-
-    ghost same_node = { λ p parcels fault. refl };
 }
 
 /// Whether a parcel is this message of a node to another.

@@ -7,6 +7,7 @@ use Rattle.std.specs.FinSet as set
 use Rattle.ivy_model.specs.declared.Config.{Config}
 use Rattle.ivy_model.specs.Config.{IsConfig}
 use Rattle.ivy_wire.specs.Data.{Content, Parcel}
+use Rattle.ivy_wire.specs.Posts.{parcel_to}
 use Rattle.ivy_pagetable.specs.declared.Entry.{Entry}
 use Rattle.ivy_pagetable.specs.declared.Entry.TheVariants as entry
 use Rattle.ivy_pagetable.specs.declared.PutOff.{PutOff}
@@ -16,7 +17,7 @@ use Rattle.ivy_pagetable.specs.NodeSets.{Nodes, IsBelow, nodes_with}
 use Rattle.ivy_pagetable.specs.States.{IdleState, WaitingState, AwaitAcksState}
 use Rattle.ivy_pagetable.specs.Entries.{put_offs, can_put_off, with_put_off, copying, owning}
 use Rattle.ivy_pagetable.specs.Manager.{Ops}
-use Rattle.ivy_serving.specs.Serving.{parcel_to, invalidations}
+use Rattle.ivy_serving.specs.Serving.{invalidations}
 use Rattle.ivy_coherence.specs.Faults.{waiting_from}
 use Rattle.ivy_rows.specs.Letters.{Letter, Net, content_of, letter_of, goes_on}
 use Rattle.ivy_rows.specs.Orderly.{Key, Order, key_of, IsOrderly}

@@ -9,12 +9,13 @@ use Rattle.std.proofs.lemmas.Option.{same_Some, none-some, slice_get-map, slice_
 use Rattle.std.specs.FinSet as set
 use Rattle.ivy_wire.specs.declared.Content.TheVariants as content
 use Rattle.ivy_wire.specs.Data.{Content, Message, Parcel}
+use Rattle.ivy_wire.specs.Posts.{parcel_to}
 use Rattle.ivy_link.specs.Paired.{posted}
 use Rattle.ivy_pagetable.specs.declared.Entry.{Entry}
 use Rattle.ivy_pagetable.specs.declared.PutOff.{PutOff}
 use Rattle.ivy_pagetable.specs.NodeSets.{Nodes, nodes_of}
 use Rattle.ivy_pagetable.specs.Entries.{put_offs}
-use Rattle.ivy_serving.specs.Serving.{parcel_to, invalidations}
+use Rattle.ivy_serving.specs.Serving.{invalidations}
 use Rattle.ivy_rows.specs.Letters.{Letter, Net, Place, Underway, Aside, Loose, letter_of, IsAt, goes_on, installs}
 use Rattle.ivy_rows.specs.Orderly.{Key, Order, key_of}
 use Rattle.ivy_rows.specs.Rows.{letter, taken}

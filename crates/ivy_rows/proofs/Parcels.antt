@@ -7,12 +7,13 @@ use Rattle.std.proofs.lemmas.Option.{same_Some, none-some}
 use Rattle.std.specs.FinSet as set
 use Rattle.ivy_wire.specs.declared.Content.TheVariants as content
 use Rattle.ivy_wire.specs.Data.{Content, Message, Parcel}
+use Rattle.ivy_wire.specs.Posts.{parcel_to}
 use Rattle.ivy_link.specs.Paired.{posted}
 use Rattle.ivy_pagetable.specs.declared.Entry.{Entry}
 use Rattle.ivy_pagetable.specs.declared.PutOff.{PutOff}
 use Rattle.ivy_pagetable.specs.NodeSets.{Nodes, nodes_of}
 use Rattle.ivy_pagetable.specs.Entries.{put_offs}
-use Rattle.ivy_serving.specs.Serving.{parcel_to, invalidations}
+use Rattle.ivy_serving.specs.Serving.{invalidations}
 use Rattle.ivy_rows.specs.Letters.{Letter, Net, Place, Underway, Aside, Loose, letter_of, goes_on}
 use Rattle.ivy_rows.specs.Rows.{letter}
 use Rattle.ivy_rows.proofs.Places.{get_map, written-here, written-other, same_or_other, served, freed, IsOld, AreTold, told_letters}

@@ -6,13 +6,13 @@ use Rattle.std.specs.FinSet as set
 use Rattle.ivy_model.specs.declared.Config.{Config}
 use Rattle.ivy_wire.specs.declared.Content.TheVariants as content
 use Rattle.ivy_wire.specs.Data.{Content}
+use Rattle.ivy_wire.specs.Posts.{parcel_to}
 use Rattle.ivy_pagetable.specs.declared.Entry.{Entry}
 use Rattle.ivy_pagetable.specs.declared.Entry.TheVariants as entry
 use Rattle.ivy_pagetable.specs.declared.PutOff.{PutOff}
 use Rattle.ivy_pagetable.specs.declared.Request.{Request}
 use Rattle.ivy_pagetable.specs.declared.Request.TheVariants as request
 use Rattle.ivy_pagetable.specs.Entries.{put_offs, readable, writable, is_owner, copies_of, can_put_off, with_put_off, without}
-use Rattle.ivy_serving.specs.Serving.{parcel_to}
 use Rattle.ivy_rows.specs.Letters.{Letter, Net, Place, Underway, Aside, content_of, letter_of, goes_on}
 use Rattle.ivy_rows.specs.Orderly.{AwaitsCopy, AwaitsPage, Collects, CanWait, key_of, IsExpected, IsExpectedAs, IsOrderly}
 use Rattle.ivy_rows.specs.Rows.{letter, bare, Served, PutsOff}

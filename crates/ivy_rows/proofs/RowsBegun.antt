@@ -5,11 +5,12 @@ use Rattle.std.proofs.lemmas.Option.{none-some}
 use Rattle.ivy_model.specs.declared.Config.{Config}
 use Rattle.ivy_wire.specs.declared.Content.TheVariants as content
 use Rattle.ivy_wire.specs.Data.{Content}
+use Rattle.ivy_wire.specs.Posts.{parcel_to}
 use Rattle.ivy_pagetable.specs.declared.Entry.{Entry}
 use Rattle.ivy_pagetable.specs.declared.Entry.TheVariants as entry
 use Rattle.ivy_pagetable.specs.Accesses.{reads as can_read}
 use Rattle.ivy_pagetable.specs.Entries.{put_offs, readable, writable, is_owner}
-use Rattle.ivy_serving.specs.Serving.{parcel_to, invalidations}
+use Rattle.ivy_serving.specs.Serving.{invalidations}
 use Rattle.ivy_coherence.specs.Faults.{waiting_from}
 use Rattle.ivy_rows.specs.Letters.{Letter, Net, Place, Underway, goes_on}
 use Rattle.ivy_rows.specs.Orderly.{AwaitsCopy, AwaitsPage, reads, Own, key_of, IsExpected, IsOrderly}

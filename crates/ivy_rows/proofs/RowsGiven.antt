@@ -7,12 +7,12 @@ use Rattle.ivy_model.specs.declared.Config.{Config}
 use Rattle.ivy_model.specs.Config.{IsConfig}
 use Rattle.ivy_wire.specs.declared.Content.TheVariants as content
 use Rattle.ivy_wire.specs.Data.{Content}
+use Rattle.ivy_wire.specs.Posts.{parcel_to}
 use Rattle.ivy_pagetable.specs.declared.Entry.{Entry}
 use Rattle.ivy_pagetable.specs.declared.Entry.TheVariants as entry
 use Rattle.ivy_pagetable.specs.NodeSets.{Nodes, IsBelow, bits_of, nodes_with}
 use Rattle.ivy_pagetable.specs.Entries.{is_owner, copies_of, without, sharing}
 use Rattle.ivy_pagetable.proofs.Bits.{with_bits_of, remove_below}
-use Rattle.ivy_serving.specs.Serving.{parcel_to}
 use Rattle.ivy_rows.specs.Letters.{Letter, Net, Place, Underway, IsAt, goes_on}
 use Rattle.ivy_rows.specs.Orderly.{AwaitsCopy, AwaitsPage, Collects, HasCopy, At, In, IsExpectedAs, IsOrderly}
 use Rattle.ivy_rows.specs.Rows.{letter, Served}

@@ -7,6 +7,7 @@ use Rattle.std.specs.FinSet as set
 use Rattle.ivy_model.specs.declared.Config.{Config}
 use Rattle.ivy_wire.specs.declared.Content.TheVariants as content
 use Rattle.ivy_wire.specs.Data.{Content, Message}
+use Rattle.ivy_wire.specs.Posts.{parcel_to}
 use Rattle.ivy_pagetable.specs.declared.Entry.{Entry}
 use Rattle.ivy_pagetable.specs.declared.Entry.TheVariants as entry
 use Rattle.ivy_pagetable.specs.declared.PutOff.{PutOff}
@@ -18,7 +19,7 @@ use Rattle.ivy_pagetable.specs.Accesses.{reads}
 use Rattle.ivy_pagetable.specs.Entries.{is_locked, is_owner, can_put_off, with_put_off, without, copying, owning, sharing}
 use Rattle.ivy_pagetable.specs.Words.{IsWord, carried_out}
 use Rattle.ivy_pagetable.specs.Manager.{Ops}
-use Rattle.ivy_serving.specs.Serving.{parcel_to, counted, invalidations}
+use Rattle.ivy_serving.specs.Serving.{counted, invalidations}
 use Rattle.ivy_coherence.specs.Faults.{suffices, waiting_from}
 use Rattle.ivy_events.specs.Ordered.{one_more}
 use Rattle.ivy_rows.specs.Letters.{Letter, Net, content_of, letter_of, goes_on, installs}

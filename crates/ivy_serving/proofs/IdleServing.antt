@@ -11,6 +11,7 @@ use Rattle.ivy_model.specs.Config.{IsConfig}
 use Rattle.ivy_wire.specs.declared.Content.TheVariants as content
 use Rattle.ivy_wire.specs.Data.{Content}
 use Rattle.ivy_wire.specs.Spelling.{FitsContent, FitsParcel}
+use Rattle.ivy_wire.specs.Posts.{parcel_to}
 use Rattle.ivy_pagetable.specs.Entries.{without, copying, owning}
 use Rattle.ivy_pagetable.specs.declared.PutOff.{PutOff}
 use Rattle.ivy_pagetable.specs.declared.Request.{Request}
@@ -19,7 +20,7 @@ use Rattle.ivy_pagetable.specs.NodeSets.{Nodes, bits_of}
 use Rattle.ivy_pagetable.specs.Manager.{Ops, Laws, KeepsElsewhere}
 use Rattle.ivy_pagetable.proofs.Bits.{empty_below, insert_below, remove_below, bits_of_below}
 use Rattle.ivy_pagetable.proofs.NodeSets.{tied, untied}
-use Rattle.ivy_serving.specs.Serving.{Serving, parcel_to, served, served_by_owner, served_by_other, all_served}
+use Rattle.ivy_serving.specs.Serving.{Serving, served, served_by_owner, served_by_other, all_served}
 use Rattle.ivy_serving.specs.Sound.{CanBeServed, AreOthers, IsSoundIdle}
 use Rattle.ivy_serving.proofs.NextHop.{IsManaged, forwarded-node, given-node, invalidated-node, forwarded-away, given-away, invalidated-away}
 

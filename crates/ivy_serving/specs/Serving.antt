@@ -3,7 +3,8 @@
 use Rattle.std.specs.Prelude.{ℕ, ◌+◌, ◌-◌, ◌^◌, Bool, true, false, List, [], ◌∷◌, ◌++◌, Option, Some, None, if◌then◌else◌, nat_lt, map}
 use Rattle.std.specs.FinSet as set
 use Rattle.ivy_wire.specs.declared.Content.TheVariants as content
-use Rattle.ivy_wire.specs.Data.{Content, Parcel}
+use Rattle.ivy_wire.specs.Data.{Parcel}
+use Rattle.ivy_wire.specs.Posts.{parcel_to}
 use Rattle.ivy_pagetable.specs.declared.PutOff.{PutOff}
 use Rattle.ivy_pagetable.specs.declared.Request.{Request}
 use Rattle.ivy_pagetable.specs.declared.Request.TheVariants as request
@@ -27,13 +28,6 @@ serving idle manager breaches posted =
 -- a count that stays at its greatest value
 abbrev pub counted : ℕ → ℕ
 counted n = if nat_lt n (2 ^ 64 - 1) then n + 1 else n
-
-abbrev pub parcel_to : ℕ → ℕ → ℕ → ℕ → Content → Parcel
-parcel_to me dest origin call body = record {
-  source = me;
-  dest = dest;
-  message = record { origin = origin; call = call; content = body };
-}
 
 -- each of these nodes is told to give its copy up
 abbrev pub invalidations : ℕ → ℕ → ℕ → Nodes → List Parcel

@@ -7,4 +7,4 @@
 
 mod serving;
 
-pub use serving::{Place, count, invalidate, post_one, settle};
+pub use serving::{Place, count, invalidate, settle};

@@ -1,19 +1,20 @@
 //! Messages that are served at an idle entry, one after another, and posted together.
 ghost use Rattle.std.specs.Prelude.{◌≡◌, ◌+◌, ◌<◌, ◌≤◌, ◌++◌, ℕ, [], ◌∷◌, true, false, length, map, All, OnOk, OnErr, IfOk, IfErr};
 ghost use Rattle.ivy_model.specs.Wants.{IsWant};
-ghost use Rattle.ivy_wire.specs.Lent.{owned_content, owned_parcel};
+ghost use Rattle.ivy_wire.specs.Lent.{owned_parcel};
 ghost use Rattle.ivy_wire.specs.Spelling.{FitsParcel};
+ghost use Rattle.ivy_wire.specs.Posts.{parcel_to, HasPosted};
 ghost use Rattle.ivy_pagetable.specs.Limits.{most_nodes_in_a_set};
 ghost use Rattle.ivy_pagetable.specs.NodeSets.{nodes_of};
 ghost use Rattle.ivy_pagetable.specs.Manager.{brought_back};
-ghost use Rattle.ivy_serving.specs.Serving.{serving, settled, counted, parcel_to, served_by_owner, served_by_other, served, all_served, invalidations};
+ghost use Rattle.ivy_serving.specs.Serving.{serving, settled, counted, served_by_owner, served_by_other, served, all_served, invalidations};
 ghost use Rattle.ivy_serving.specs.Limits.{most_posted};
-ghost use Rattle.ivy_serving.specs.Outcomes.{HasPosted, IsSettled};
+ghost use Rattle.ivy_serving.specs.Outcomes.{IsSettled};
 
 use arrayvec::ArrayVec;
 use ivy_model::Fault;
 use ivy_pagetable::{Access, Idle, Manager, NodeSet, PutOff, Request};
-use ivy_wire::{Content, Message, Parcel, Post};
+use ivy_wire::{Content, Parcel, Post, parcel_to};
 
 /// How many messages a node posts in one event at most.
 const MOST_POSTED: usize = 8;
@@ -37,45 +38,6 @@ pub fn count(breaches: &mut u64)
     if *breaches < u64::MAX {
         *breaches += 1;
     }
-}
-
-fn parcel_to(source: u8, dest: u8, origin: u8, call: u64, content: Content<&[u8]>) -> Parcel<&[u8]>
-    ensures { owned_parcel result ≡ parcel_to source dest origin call (owned_content content.entry) }
-{
-    Parcel {
-        source,
-        dest,
-        message: Message {
-            origin,
-            call,
-            content,
-        },
-    }
-}
-
-/// Posts one message, or changes nothing [1, 17].
-pub fn post_one<P: Post>(
-    post: &mut P,
-    source: u8,
-    dest: u8,
-    origin: u8,
-    call: u64,
-    content: Content<&[u8]>,
-) -> Result<(), Fault>
-    requires fits { FitsParcel (P.config post.old) (P.node post.old)
-        (parcel_to source dest origin call (owned_content content)) }
-    ensures { HasPosted P.takes P.after P.refuses P.after_refusal post.old post.new result
-        (parcel_to source dest origin call (owned_content content.entry) ∷ []) }
-{
-    post.post(&[Parcel {
-        source,
-        dest,
-        message: Message {
-            origin,
-            call,
-            content,
-        },
-    }])
 }
 
 /// The owner serves a message: it gives a copy, or the page.
@@ -238,10 +200,10 @@ pub fn settle<M: Manager, P: Post>(
     requires mine { at.me ≡ M.ops.me manager.old }
     requires few { length messages.now ≤ most_posted }
     requires origins { All (λ q. q.origin < most_nodes_in_a_set) messages.now }
-    requires fits { All (FitsParcel (P.config post.old) (P.node post.old))
+    requires fits { All (FitsParcel (P.ops.config post.old) (P.ops.node post.old))
         (settled M.ops at.me at.from at.page at.bytes.now
         idle manager.old breaches.old reply messages.now).posted }
-    ensures { IsSettled P.takes P.after P.refuses P.after_refusal post.old post.new result
+    ensures { IsSettled P.ops post.old post.new result
         manager.old manager.new breaches.old breaches.new
         (settled M.ops at.entry.me at.entry.from at.entry.page at.entry.bytes.now
         idle manager.old breaches.old reply messages.now) }
@@ -278,9 +240,9 @@ pub fn invalidate<P: Post>(
     post: &mut P,
 ) -> Result<(), Fault>
     requires few { length (nodes_of nodes.now) ≤ most_posted }
-    requires fits { All (FitsParcel (P.config post.old) (P.node post.old))
+    requires fits { All (FitsParcel (P.ops.config post.old) (P.ops.node post.old))
         (invalidations me page call nodes.now) }
-    ensures { HasPosted P.takes P.after P.refuses P.after_refusal post.old post.new result
+    ensures { HasPosted P.ops post.old post.new result
         (invalidations me page call nodes.now) }
 {
     let mut parcels: Parcels = ArrayVec::new();

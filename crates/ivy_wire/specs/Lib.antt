@@ -6,6 +6,7 @@ pub mod Reading
 pub mod Destinations
 pub mod Grammar
 pub mod Lent
+pub mod Posts
 pub mod Texts
 pub use Rattle.ivy_model.specs.Config
 pub use Rattle.ivy_model.specs.Wants

@@ -60,7 +60,7 @@ pub(crate) const CALL_LEN: usize = 9;
 
 /// What a message says, beside whose call it is. `B` is what holds the bytes of a page: a
 /// [`Page`] that owns them, or a slice that is lent.
-#[derive(Clone, Debug, Drop, PartialEq, Eq)]
+#[derive(Clone, Copy, Debug, Drop, PartialEq, Eq)]
 pub enum Content<B> {
     /// Asks for a copy of a page, to read it.
     ReadReq { page: u32 },
@@ -85,7 +85,7 @@ pub enum Content<B> {
 }
 
 /// A message. It always belongs to a call that some node has in progress.
-#[derive(Clone, Debug, Drop, PartialEq, Eq)]
+#[derive(Clone, Copy, Debug, Drop, PartialEq, Eq)]
 pub struct Message<B> {
     /// The node whose call it is, in requests and in replies alike.
     pub origin: u8,
@@ -136,6 +136,35 @@ impl FrameKind {
             FrameKind::FreeRep => 10,
         }
     }
+}
+
+/// The same content with other bytes of its page, if it brings one: those that the expression makes of
+/// the ones that it has.
+macro_rules! with_page {
+    ($content:expr, $bytes:ident => $made:expr) => {
+        match $content {
+            Content::ReadReq { page } => Content::ReadReq { page: *page },
+            Content::WriteReq { page } => Content::WriteReq { page: *page },
+            Content::ReadRep { page, bytes: $bytes } => Content::ReadRep {
+                page: *page,
+                bytes: $made,
+            },
+            Content::WriteRep { page, copies, bytes: $bytes } => Content::WriteRep {
+                page: *page,
+                copies: *copies,
+                bytes: $made,
+            },
+            Content::Inval { page } => Content::Inval { page: *page },
+            Content::InvalAck { page } => Content::InvalAck { page: *page },
+            Content::AllocReq { size } => Content::AllocReq { size: *size },
+            Content::AllocRep { code, addr } => Content::AllocRep {
+                code: *code,
+                addr: *addr,
+            },
+            Content::FreeReq { addr } => Content::FreeReq { addr: *addr },
+            Content::FreeRep { code } => Content::FreeRep { code: *code },
+        }
+    };
 }
 
 impl Content<&[u8]> {
@@ -197,32 +226,7 @@ impl Content<&[u8]> {
     fn owned<A: Allocator>(&self, alloc: A) -> Result<Content<Page<A>>, AllocError>
         ensures { IfOk result (λ content. content ≡ owned_content self.now) }
     {
-        Ok(match self {
-            Content::ReadReq { page } => Content::ReadReq { page: *page },
-            Content::WriteReq { page } => Content::WriteReq { page: *page },
-            Content::ReadRep { page, bytes } => Content::ReadRep {
-                page: *page,
-                bytes: Page::new(alloc, *bytes)?,
-            },
-            Content::WriteRep {
-                page,
-                copies,
-                bytes,
-            } => Content::WriteRep {
-                page: *page,
-                copies: *copies,
-                bytes: Page::new(alloc, *bytes)?,
-            },
-            Content::Inval { page } => Content::Inval { page: *page },
-            Content::InvalAck { page } => Content::InvalAck { page: *page },
-            Content::AllocReq { size } => Content::AllocReq { size: *size },
-            Content::AllocRep { code, addr } => Content::AllocRep {
-                code: *code,
-                addr: *addr,
-            },
-            Content::FreeReq { addr } => Content::FreeReq { addr: *addr },
-            Content::FreeRep { code } => Content::FreeRep { code: *code },
-        })
+        Ok(with_page!(self, bytes => Page::new(alloc, *bytes)?))
     }
 }
 
@@ -308,32 +312,7 @@ impl<A: Allocator> Content<Page<A>> {
     fn lent(&self) -> Content<&[u8]>
         ensures { owned_content result ≡ self.now }
     {
-        match self {
-            Content::ReadReq { page } => Content::ReadReq { page: *page },
-            Content::WriteReq { page } => Content::WriteReq { page: *page },
-            Content::ReadRep { page, bytes } => Content::ReadRep {
-                page: *page,
-                bytes: bytes.bytes(),
-            },
-            Content::WriteRep {
-                page,
-                copies,
-                bytes,
-            } => Content::WriteRep {
-                page: *page,
-                copies: *copies,
-                bytes: bytes.bytes(),
-            },
-            Content::Inval { page } => Content::Inval { page: *page },
-            Content::InvalAck { page } => Content::InvalAck { page: *page },
-            Content::AllocReq { size } => Content::AllocReq { size: *size },
-            Content::AllocRep { code, addr } => Content::AllocRep {
-                code: *code,
-                addr: *addr,
-            },
-            Content::FreeReq { addr } => Content::FreeReq { addr: *addr },
-            Content::FreeRep { code } => Content::FreeRep { code: *code },
-        }
+        with_page!(self, bytes => bytes.bytes())
     }
 }
 

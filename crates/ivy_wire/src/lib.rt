@@ -20,6 +20,6 @@ pub use bytes::Bytes;
 pub use frame::{Content, Frame, FrameKind, Message};
 pub use grammar::grammar_is_prefix_free;
 pub use page::Page;
-pub use parcel::{Parcel, Post};
+pub use parcel::{Parcel, Post, parcel_to, post_one};
 pub use reading::{decode, destination, read};
 pub use writing::encode;

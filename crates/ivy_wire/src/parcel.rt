@@ -1,8 +1,9 @@
 //! Messages on their way to the link, and what takes them.
-ghost use Rattle.std.specs.Prelude.{◌≡◌, [], List, ℕ, map, All, IfOk, IfErr, OnOk};
+ghost use Rattle.std.specs.Prelude.{◌≡◌, [], ◌∷◌, map, All, IfErr, OnOk};
 ghost use Rattle.ivy_model.specs.Wants.{IsWant};
-ghost use Rattle.ivy_wire.specs.Lent.{owned_message, owned_parcel};
+ghost use Rattle.ivy_wire.specs.Lent.{owned_content, owned_parcel};
 ghost use Rattle.ivy_wire.specs.Spelling.{FitsParcel};
+ghost use Rattle.ivy_wire.specs.Posts.{parcel_to, HasPosted};
 
 use crate::frame::{Content, Message};
 use ivy_model::Fault;
@@ -23,53 +24,62 @@ pub struct Parcel<B> {
 /// That is all that the trait alone promises. It keeps no list of what was ever taken, since a link forgets
 /// a message once it was acknowledged: what `after` keeps of a list, each post says for itself.
 pub trait Post {
-    ghost use Rattle.ivy_model.specs.declared.Config.{Config};
-    ghost use Rattle.ivy_model.specs.declared.Fault.{Fault};
-    ghost use Rattle.ivy_wire.specs.Data.{Parcel};
+    ghost use Rattle.ivy_wire.specs.Posts.{PostOps, PostLaws};
 
-    /// The configuration of the nodes.
-    ghost config: { Self → Config };
-
-    /// The node whose messages it takes.
-    ghost node: { Self → ℕ };
-
-    /// That it has a place for a list, memory aside.
-    ghost takes: { Self → List Parcel → Type 0 };
-
-    /// What it is once it took a list.
-    ghost after: { Self → List Parcel → Self };
-
-    /// That it may refuse a list with a fault. Code that is generic in its post has such a fault from a
-    /// refusal alone.
-    ghost refuses: { Self → List Parcel → Fault → Type 0 };
-
-    /// What it is once it refused a list with a fault. Code that is generic in its post and refused has such a
-    /// post from asking once alone.
-    ghost after_refusal: { Self → List Parcel → Fault → Self };
+    /// What the calls are, as functions on what contracts see of the post.
+    ghost ops: { PostOps Self };
 
     /// Takes all of the parcels, in order, or refuses them all [1, 17].
     ///
     /// They are messages of this node to others, and fit the configuration.
     fn post(&mut self, parcels: &[Parcel<&[u8]>]) -> Result<(), Fault>
-        requires fits { All (FitsParcel (config self.old) (node self.old)) (map owned_parcel parcels.now) }
-        ensures ok { OnOk result (self.new ≡ after self.old (map owned_parcel parcels.now)) }
-        ensures took { OnOk result (takes self.old (map owned_parcel parcels.now)) }
-        ensures fault { IfErr result (refuses self.old (map owned_parcel parcels.now)) }
+        requires fits { All (FitsParcel (ops.config self.old) (ops.node self.old)) (map owned_parcel parcels.now) }
+        ensures ok { OnOk result (self.new ≡ ops.after self.old (map owned_parcel parcels.now)) }
+        ensures took { OnOk result (ops.takes self.old (map owned_parcel parcels.now)) }
+        ensures fault { IfErr result (ops.refuses self.old (map owned_parcel parcels.now)) }
         ensures err { IfErr result
-            (λ fault. self.new ≡ after_refusal self.old (map owned_parcel parcels.now) fault) }
+            (λ fault. self.new ≡ ops.after_refusal self.old (map owned_parcel parcels.now) fault) }
         ensures want { IfErr result IsWant };
 
-    /// There is always a place for a list of none, which changes nothing and is never refused.
-    ghost takes_none: { (s : Self) → takes s [] };
+    ghost laws: { PostLaws ops };
+}
 
-    ghost after_none: { (s : Self) → after s [] ≡ s };
+/// A message of a call of `origin`, from one node to another.
+pub fn parcel_to(
+    source: u8,
+    dest: u8,
+    origin: u8,
+    call: u64,
+    content: Content<&[u8]>,
+) -> Parcel<&[u8]>
+    ensures { owned_parcel result ≡ parcel_to source dest origin call (owned_content content.entry) }
+{
+    Parcel {
+        source,
+        dest,
+        message: Message {
+            origin,
+            call,
+            content,
+        },
+    }
+}
 
-    ghost refuses_none: { (s : Self) → (f : Fault) → refuses s [] f → ⊥ };
-
-    /// Having refused, it is still the post of this node under this configuration.
-    ghost same_config: { (s : Self) → (ps : List Parcel) → (f : Fault) → config (after_refusal s ps f) ≡ config s };
-
-    ghost same_node: { (s : Self) → (ps : List Parcel) → (f : Fault) → node (after_refusal s ps f) ≡ node s };
+/// Posts one message, or changes nothing [1, 17].
+pub fn post_one<P: Post>(
+    post: &mut P,
+    source: u8,
+    dest: u8,
+    origin: u8,
+    call: u64,
+    content: Content<&[u8]>,
+) -> Result<(), Fault>
+    requires fits { FitsParcel (P.ops.config post.old) (P.ops.node post.old)
+        (parcel_to source dest origin call (owned_content content)) }
+    ensures { HasPosted P.ops post.old post.new result
+        (parcel_to source dest origin call (owned_content content.entry) ∷ []) }
+{
+    post.post(&[parcel_to(source, dest, origin, call, content)])
 }
 
 impl<'a> Default for Parcel<&'a [u8]> {

@@ -6,8 +6,8 @@ pub settle-requires-clause-fits : goal.settle-requires-clause-fits
 settle-requires-clause-fits g c =
     asked_fits g.met.M.Manager.laws _ _ c.self.view_is c.self.invariant.0 c.args.page c.args.message
     c.in-Idle.idle _ _ _ _ c.requires.page (sym c.entry.ensures ∙ c.in-Idle.is)
-    c.requires.message c.page.ensures.bytes c.copied-idle.ensures c.requires.config
-    c.requires.node
+    c.requires.message c.page.ensures.bytes c.copied-idle.ensures c.requires.post.config
+    c.requires.post.node
 
 pub invariant_of-self-in-Idle : goal.invariant_of-self-in-Idle
 invariant_of-self-in-Idle g c = (

@@ -10,5 +10,5 @@ pub invalidate-requires-clause-fits : goal.invalidate-requires-clause-fits
 invalidate-requires-clause-fits g c =
     rw (c.copies.ensures)
     (told_fit _ _ c.self.view_is c.self.invariant.0 c.args.page c.args.call c.args.idle.now _ _
-    c.requires.idle c.requires.page c.requires.call c.ranges.call.fits c.requires.config
-    c.requires.node)
+    c.requires.idle c.requires.page c.requires.call c.ranges.call.fits c.requires.post.config
+    c.requires.post.node)

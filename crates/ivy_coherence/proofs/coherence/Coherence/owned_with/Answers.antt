@@ -9,7 +9,7 @@ pub invalidate-requires-clause-fits : goal.invalidate-requires-clause-fits
 invalidate-requires-clause-fits g c =
     others_fit _ _ c.self.view_is c.self.invariant.0 c.args.page c.args.call c.args.copies _ _
     c.requires.page c.requires.call c.ranges.call.fits c.requires.below c.requires.apart
-    c.requires.config c.requires.node
+    c.requires.post.config c.requires.post.node
 
 pub invariant_of-self : goal.invariant_of-self
 invariant_of-self g c = (

@@ -24,7 +24,7 @@ settle-requires-clause-fits g c =
       inside = c.requires.page;
       sized = sized;
     }) c.requires.waits c.unlocked_as-idle.ensures
-    c.put_offs-messages.ensures.list c.requires.config c.requires.node
+    c.put_offs-messages.ensures.list c.requires.post.config c.requires.post.node
 
 pub invariant_of-self : goal.invariant_of-self
 invariant_of-self g c = (

@@ -13,7 +13,7 @@ settle-requires-clause-fits g c =
     (c.page.ensures.bytes
     ∙ page_then c.self.inside.table c.carry_out-out.new.self c.args.page _
     (rw c.word-word.ensures at c.carry_out-out.ensures.bytes) inside) c.owned.ensures
-    c.put_offs-messages.ensures.list c.requires.config c.requires.node
+    c.put_offs-messages.ensures.list c.requires.post.config c.requires.post.node
 
 pub invariant_of-self : goal.invariant_of-self
 invariant_of-self g c =

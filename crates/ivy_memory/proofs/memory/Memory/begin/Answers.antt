@@ -1,5 +1,5 @@
 use Rattle.std.proofs.Common.{rules, ◌∙◌, sym, ap, arith}
-use Rattle.ivy_serving.specs.Outcomes.{HasRefused}
+use Rattle.ivy_wire.specs.Posts.{HasRefused}
 use Rattle.ivy_memory.proofs.Beginning.{no_call, can, wide, words_now, words_before, had_memory}
 use Rattle.ivy_memory.proofs.Beginning.{started_memory, busy_memory, busy_is, not_busy, call_posts}
 use Rattle.ivy_memory.proofs.Beginning.{few_posted, err_refuses, call_asks, heap_memory}
@@ -159,7 +159,7 @@ returns-in-Busy-clause-ok g c =
 pub returns-in-Busy-clause-posted : goal.returns-in-Busy-clause-posted
 returns-in-Busy-clause-posted g c =
     c.in_ok-out-in-Word.ensures.posted
-    ∙ ap (λ x. g.P.Post.after c.args.post.now x)
+    ∙ ap (λ x. g.P.Post.ops.after c.args.post.now x)
     (call_posts g.met.M.Manager.laws _ _ c.config.result c.args.call c.args.number
     c.in-Word.page c.in-Word.word
     (record {
@@ -176,7 +176,7 @@ returns-in-Busy-clause-posted g c =
 pub returns-in_err-out-in-Word-clause-fault : goal.returns-in_err-out-in-Word-clause-fault
 returns-in_err-out-in-Word-clause-fault g c =
     λ idle. err_refuses c.from_residual.result _
-    (HasRefused g.P.Post.refuses g.P.Post.after_refusal c.args.post.now c.need.new.post) _ _ _
+    (HasRefused g.P.Post.ops c.args.post.now c.need.new.post) _ _ _
     (call_posts g.met.M.Manager.laws _ _ c.config.result c.args.call c.args.number
     c.in-Word.page c.in-Word.word
     (record {

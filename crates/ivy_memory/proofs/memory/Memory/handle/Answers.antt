@@ -1,6 +1,6 @@
 use Rattle.std.proofs.Common.{rules}
 use Rattle.ivy_wire.specs.Lent.{owned_message}
-use Rattle.ivy_serving.specs.Outcomes.{HasRefused}
+use Rattle.ivy_wire.specs.Posts.{HasRefused}
 use Rattle.ivy_memory.proofs.Beginning.{few_answers, side_memory, err_posts, left_memory}
 use Rattle.ivy_memory.proofs.memory.Memory.handle.Goals as goal
 
@@ -28,8 +28,8 @@ returns-in_err-handle-clause-fault g c =
       fits = c.requires.fits;
     })
     c.from_residual.result _
-    (HasRefused g.P.Post.refuses g.P.Post.after_refusal c.args.post.now c.handle.new.post) _
-    (λ f refused. g.met.P.Post.refuses_none c.args.post.now f refused.0)
+    (HasRefused g.P.Post.ops c.args.post.now c.handle.new.post) _
+    (λ f refused. g.met.P.Post.laws.refuses_none c.args.post.now f refused.0)
     c.from_residual.ensures.1 c.in_err-handle.ensures.fault
 
 pub invariant_of-self-then-branch : goal.invariant_of-self-then-branch

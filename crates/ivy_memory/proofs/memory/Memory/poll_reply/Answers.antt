@@ -1,5 +1,5 @@
 use Rattle.std.proofs.Common.{IfErr, ◌∙◌, sym, ap, subst, arith}
-use Rattle.ivy_serving.specs.Outcomes.{HasRefused}
+use Rattle.ivy_wire.specs.Posts.{HasRefused}
 use Rattle.ivy_memory.specs.Memories.{CallBegun}
 use Rattle.ivy_memory.proofs.Beginning.{err_there}
 use Rattle.ivy_memory.proofs.Polling.{retry_can, given_is, quiet_is, starts_is, waits_is, poll_memory, poll_posts, retry_asks, polled-few}
@@ -27,7 +27,7 @@ returns-in_err-out-clause-few g c = polled-few _ _ _ c.self.view_is c.self.invar
 pub returns-in_err-out-clause-fault : goal.returns-in_err-out-clause-fault
 returns-in_err-out-clause-fault g c =
     subst (λ x. IfErr c.from_residual.result
-    (HasRefused g.P.Post.refuses g.P.Post.after_refusal c.args.post.now c.need.new.post x))
+    (HasRefused g.P.Post.ops c.args.post.now c.need.new.post x))
     (poll_posts g.met.M.Manager.laws _ _ c.config.result c.in-Some.call c.in-Word.page
     c.in-Word.word
     (record {
@@ -119,7 +119,7 @@ returns-in-Some-reply_of-clause-ok g c =
 
 pub returns-in-Some-reply_of-clause-posted : goal.returns-in-Some-reply_of-clause-posted
 returns-in-Some-reply_of-clause-posted g c =
-    c.in_ok-out.ensures.posted ∙ ap (λ x. g.P.Post.after c.args.post.now x)
+    c.in_ok-out.ensures.posted ∙ ap (λ x. g.P.Post.ops.after c.args.post.now x)
     (poll_posts g.met.M.Manager.laws _ _ c.config.result c.in-Some.call c.in-Word.page
     c.in-Word.word
     (record {
@@ -133,7 +133,7 @@ returns-in-Some-reply_of-clause-posted g c =
 
 pub returns-in-Some-reply_of-clause-took : goal.returns-in-Some-reply_of-clause-took
 returns-in-Some-reply_of-clause-took g c =
-    subst (λ x. g.P.Post.takes c.args.post.now x)
+    subst (λ x. g.P.Post.ops.takes c.args.post.now x)
     (poll_posts g.met.M.Manager.laws _ _ c.config.result c.in-Some.call c.in-Word.page
     c.in-Word.word
     (record {
@@ -206,7 +206,7 @@ returns-in-None-clause-ok g c =
 
 pub returns-in-None-clause-posted : goal.returns-in-None-clause-posted
 returns-in-None-clause-posted g c =
-    c.in_ok-out.ensures.posted ∙ ap (λ x. g.P.Post.after c.args.post.now x)
+    c.in_ok-out.ensures.posted ∙ ap (λ x. g.P.Post.ops.after c.args.post.now x)
     (poll_posts g.met.M.Manager.laws _ _ c.config.result c.in-Some.call c.in-Word.page
     c.in-Word.word
     (record {
@@ -220,7 +220,7 @@ returns-in-None-clause-posted g c =
 
 pub returns-in-None-clause-took : goal.returns-in-None-clause-took
 returns-in-None-clause-took g c =
-    subst (λ x. g.P.Post.takes c.args.post.now x)
+    subst (λ x. g.P.Post.ops.takes c.args.post.now x)
     (poll_posts g.met.M.Manager.laws _ _ c.config.result c.in-Some.call c.in-Word.page
     c.in-Word.word
     (record {
@@ -296,7 +296,7 @@ returns-in-Started-clause-ok g c =
 
 pub returns-in-Started-clause-posted : goal.returns-in-Started-clause-posted
 returns-in-Started-clause-posted g c =
-    c.in_ok-out.ensures.posted ∙ ap (λ x. g.P.Post.after c.args.post.now x)
+    c.in_ok-out.ensures.posted ∙ ap (λ x. g.P.Post.ops.after c.args.post.now x)
     (poll_posts g.met.M.Manager.laws _ _ c.config.result c.in-Some.call c.in-Word.page
     c.in-Word.word
     (record {
@@ -310,7 +310,7 @@ returns-in-Started-clause-posted g c =
 
 pub returns-in-Started-clause-took : goal.returns-in-Started-clause-took
 returns-in-Started-clause-took g c =
-    subst (λ x. g.P.Post.takes c.args.post.now x)
+    subst (λ x. g.P.Post.ops.takes c.args.post.now x)
     (poll_posts g.met.M.Manager.laws _ _ c.config.result c.in-Some.call c.in-Word.page
     c.in-Word.word
     (record {
@@ -383,7 +383,7 @@ returns-in-Busy-clause-ok g c =
 
 pub returns-in-Busy-clause-posted : goal.returns-in-Busy-clause-posted
 returns-in-Busy-clause-posted g c =
-    c.in_ok-out.ensures.posted ∙ ap (λ x. g.P.Post.after c.args.post.now x)
+    c.in_ok-out.ensures.posted ∙ ap (λ x. g.P.Post.ops.after c.args.post.now x)
     (poll_posts g.met.M.Manager.laws _ _ c.config.result c.in-Some.call c.in-Word.page
     c.in-Word.word
     (record {
@@ -397,7 +397,7 @@ returns-in-Busy-clause-posted g c =
 
 pub returns-in-Busy-clause-took : goal.returns-in-Busy-clause-took
 returns-in-Busy-clause-took g c =
-    subst (λ x. g.P.Post.takes c.args.post.now x)
+    subst (λ x. g.P.Post.ops.takes c.args.post.now x)
     (poll_posts g.met.M.Manager.laws _ _ c.config.result c.in-Some.call c.in-Word.page
     c.in-Word.word
     (record {
