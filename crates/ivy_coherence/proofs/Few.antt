@@ -4,6 +4,8 @@ use Rattle.std.proofs.Common.{◌≡◌, ℕ, ◌≤◌, Bool, true, false, List
 use Rattle.ivy_wire.specs.Data.{Message}
 use Rattle.ivy_wire.specs.Spelling.{FitsContent, FitsMessage}
 use Rattle.ivy_pagetable.specs.declared.Entry.{Entry}
+use Rattle.ivy_pagetable.specs.declared.Request.{Request}
+use Rattle.ivy_pagetable.specs.declared.Request.TheVariants as request
 use Rattle.ivy_pagetable.specs.declared.Word.{Word}
 use Rattle.ivy_pagetable.specs.Limits.{most_put_off}
 use Rattle.ivy_pagetable.specs.NodeSets.{Nodes, IsBelow, nodes_with}
@@ -23,7 +25,7 @@ use Rattle.ivy_serving.proofs.Few.{settled-few, invalidations-few}
 use Rattle.ivy_coherence.proofs.Rows.{Rows, AccessRows, handled-by_rows, begun-by_rows}
 
 module _ {S : Type 0} (ops : Ops S) where
-  unlocked-few : (c : Coherent S) (from page : ℕ) (i : IdleState) (reply : Option Bool)
+  unlocked-few : (c : Coherent S) (from page : ℕ) (i : IdleState) (reply : Option Request)
       (bytes : List ℕ) (w : WaitingState) → length w.put_off ≤ most_put_off
       → length (unlocked ops c from page i reply bytes w).posted ≤ most_posted
   unlocked-few c from page i reply bytes w few =
@@ -49,10 +51,10 @@ module _ {S : Type 0} (ops : Ops S) where
         (record { kind = kind; origin = origin; call = call } ∷ []) in omega (arith, k);
     put_off = λ kind page e may is room at fits. omega arith;
     given_up = λ page w by is fits. omega arith;
-    copy = λ page bytes w mine is this fits. unlocked-few c from page copying (Some false) bytes w
+    copy = λ page bytes w mine is this fits. unlocked-few c from page copying (Some request.Read) bytes w
         (put_off-few c page _ s is);
     alone = λ page copies bytes w mine is this none fits. unlocked-few c from page owning
-        (Some true) bytes w.waiting (put_off-few c page _ s is);
+        (Some request.Write) bytes w.waiting (put_off-few c page _ s is);
     shared =
         λ page copies bytes w mine is this some apart fits. told-few c page call (nodes_with copies)
         s (with_below c.config.nodes copies fits.1);

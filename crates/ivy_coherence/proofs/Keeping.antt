@@ -54,7 +54,7 @@ KeepsBegun ops c b = IsSound ops b.after × All (FitsParcel c.config c.me) b.pos
 
 -- what was put off is served with these bytes, the bytes of the page are `now`, and no word waits
 -- at this node
-abbrev pub settled_with : {S : Type 0} → Ops S → Coherent S → ℕ → ℕ → IdleState → Option Bool
+abbrev pub settled_with : {S : Type 0} → Ops S → Coherent S → ℕ → ℕ → IdleState → Option Request
     → List ℕ → List ℕ → Option Out → List PutOff → CoherenceEffect S
 settled_with ops c from page i reply bytes now done qs =
     after_serving ops (record c { table = with_page c.table page now; locked = None; done = done })
@@ -305,7 +305,7 @@ module _ {S : Type 0} {ops : Ops S} (laws : Laws ops) where
   pub copy-start : (c : Coherent S) (page from : ℕ) → IsSound ops c → page < c.config.pages
       → is_owner (entry_at c.table page) ≡ false → from < c.config.nodes → from ≢ c.me
       → IsServing ops c.config c.me page c.manager
-      (serving copying (told ops from page c.manager (Some false)) c.breaches [])
+      (serving copying (told ops from page c.manager (Some request.Read)) c.breaches [])
   copy-start c page from s inside free below foreign =
       let at : IsManaged ops c.config c.me page c.manager = managed c page s inside in
       record {
@@ -326,7 +326,7 @@ module _ {S : Type 0} {ops : Ops S} (laws : Laws ops) where
   pub page-start : (c : Coherent S) (page from : ℕ) → IsSound ops c → page < c.config.pages
       → from < c.config.nodes
       → IsServing ops c.config c.me page c.manager
-      (serving owning (told ops from page c.manager (Some true)) c.breaches [])
+      (serving owning (told ops from page c.manager (Some request.Write)) c.breaches [])
   page-start c page from s inside below = record {
     keeps = laws.keeps_replied c.manager page true from;
     hop = written_hop c page from s inside below;
@@ -348,7 +348,7 @@ module _ {S : Type 0} {ops : Ops S} (laws : Laws ops) where
 
   -- what was put off is served with these bytes, and no word waits then; the page's own bytes may
   -- be others
-  settled-keeps : (c : Coherent S) (from page : ℕ) (i : IdleState) (reply : Option Bool)
+  settled-keeps : (c : Coherent S) (from page : ℕ) (i : IdleState) (reply : Option Request)
       (bytes now : List ℕ) (done : Option Out) (qs : List PutOff) → IsSound ops c
       → page < c.config.pages → length bytes ≡ c.config.page_size → length now ≡ c.config.page_size
       → is_locked (entry_at c.table page) ≡ true → All (CanBeServed c.config c.me) qs
@@ -374,7 +374,7 @@ module _ {S : Type 0} {ops : Ops S} (laws : Laws ops) where
         h.fits,
       )
 
-  unlocked-keeps : (c : Coherent S) (from page : ℕ) (i : IdleState) (reply : Option Bool)
+  unlocked-keeps : (c : Coherent S) (from page : ℕ) (i : IdleState) (reply : Option Request)
       (bytes : List ℕ) (w : WaitingState) → IsSound ops c → page < c.config.pages
       → length bytes ≡ c.config.page_size
       → is_locked (entry_at c.table page) ≡ true → IsWord c.config.page_size w.word
@@ -394,11 +394,11 @@ module _ {S : Type 0} {ops : Ops S} (laws : Laws ops) where
       → from < c.config.nodes → from ≢ c.me → page < c.config.pages
       → length bytes ≡ c.config.page_size
       → entry_at c.table page ≡ entry.AwaitRead w
-      → Keeps ops c (unlocked ops c from page copying (Some false) bytes w)
+      → Keeps ops c (unlocked ops c from page copying (Some request.Read) bytes w)
   copy-keeps c from page bytes w s below foreign inside sized is =
       let good : IsSoundEntry c.config c.me (entry.AwaitRead w) =
       entry_is c page (entry.AwaitRead w) s is in
-      unlocked-keeps c from page copying (Some false) bytes w s inside sized (ap is_locked is)
+      unlocked-keeps c from page copying (Some request.Read) bytes w s inside sized (ap is_locked is)
       (good.reading w refl).0 good.put_off
       (copy-start c page from s inside (ap is_owner is) below foreign)
 
@@ -406,11 +406,11 @@ module _ {S : Type 0} {ops : Ops S} (laws : Laws ops) where
       → IsSound ops c → from < c.config.nodes → page < c.config.pages
       → length bytes ≡ c.config.page_size
       → entry_at c.table page ≡ entry.AwaitWrite w
-      → Keeps ops c (unlocked ops c from page owning (Some true) bytes w.waiting)
+      → Keeps ops c (unlocked ops c from page owning (Some request.Write) bytes w.waiting)
   alone-keeps c from page bytes w s below inside sized is =
       let good : IsSoundEntry c.config c.me (entry.AwaitWrite w) =
       entry_is c page (entry.AwaitWrite w) s is in
-      unlocked-keeps c from page owning (Some true) bytes w.waiting s inside sized (ap is_locked is)
+      unlocked-keeps c from page owning (Some request.Write) bytes w.waiting s inside sized (ap is_locked is)
       (good.writing w refl).0 good.put_off (page-start c page from s inside below)
 
   last_copy-keeps : (c : Coherent S) (from page : ℕ) (w : AwaitAcksState) → IsSound ops c
@@ -463,16 +463,23 @@ module _ {S : Type 0} {ops : Ops S} (laws : Laws ops) where
       word.1 others good.put_off good.few) refl refl)
 
   -- the entry that a word waits at
-  reads-at : (e : Entry) (w : WaitingState) → IsWaiting e false w → e ≡ entry.AwaitRead w
+  reads-at : (e : Entry) (w : WaitingState) → IsWaiting e request.Read w → e ≡ entry.AwaitRead w
   reads-at (entry.AwaitRead t) w waits = ap entry.AwaitRead (sym waits.1)
-  reads-at (entry.AwaitWrite t) w waits = absurd (let f : false ≡ true = waits.0 in cc)
+  reads-at (entry.AwaitWrite t) w waits = absurd (let f : request.Read ≡ request.Write = waits.0 in cc)
   reads-at e w waits = absurd waits
 
-  writes-at : (e : Entry) (w : WaitingState) → IsWaiting e true w
+  writes-at : (e : Entry) (w : WaitingState) → IsWaiting e request.Write w
       → (t : AwaitWriteState) × ((e ≡ entry.AwaitWrite t) × (w ≡ t.waiting))
-  writes-at (entry.AwaitRead t) w waits = absurd (let f : true ≡ false = waits.0 in cc)
+  writes-at (entry.AwaitRead t) w waits = absurd (let f : request.Write ≡ request.Read = waits.0 in cc)
   writes-at (entry.AwaitWrite t) w waits = (t, (refl, waits.1))
   writes-at e w waits = absurd waits
+
+  never-waits : (e : Entry) (w : WaitingState) → IsWaiting e request.Invalidate w → ⊥
+  never-waits (entry.AwaitRead t) w waits =
+      let f : request.Invalidate ≡ request.Read = waits.0 in cc
+  never-waits (entry.AwaitWrite t) w waits =
+      let f : request.Invalidate ≡ request.Write = waits.0 in cc
+  never-waits e w waits = waits
 
   collects-at : (e : Entry) (w : WaitingState) → IsCollecting e w
       → (t : AwaitAcksState) × ((e ≡ entry.AwaitAcks t) × (w ≡ t.waiting))
@@ -480,15 +487,17 @@ module _ {S : Type 0} {ops : Ops S} (laws : Laws ops) where
   collects-at e w waits = absurd waits
 
   -- the same for the word that waits, whatever else its entry says
-  pub waiting_word : (c : Coherent S) (page : ℕ) (write : Bool) (w : WaitingState) → IsSound ops c
-      → IsWaiting (entry_at c.table page) write w → IsWord c.config.page_size w.word
-  waiting_word c page true w s waits =
+  pub waiting_word : (c : Coherent S) (page : ℕ) (kind : Request) (w : WaitingState) → IsSound ops c
+      → IsWaiting (entry_at c.table page) kind w → IsWord c.config.page_size w.word
+  waiting_word c page request.Write w s waits =
       let h = writes-at (entry_at c.table page) w waits in
       subst (λ (x : WaitingState). IsWord c.config.page_size x.word) (sym h.1.1)
       ((entry_is c page (entry.AwaitWrite h.0) s h.1.0).writing h.0 refl).0
-  waiting_word c page false w s waits =
+  waiting_word c page request.Read w s waits =
       ((entry_is c page (entry.AwaitRead w) s (reads-at (entry_at c.table page) w waits)).reading w
       refl).0
+  waiting_word c page request.Invalidate w s waits =
+      absurd (never-waits (entry_at c.table page) w waits)
 
   pub collecting_word : (c : Coherent S) (page : ℕ) (w : WaitingState) → IsSound ops c
       → IsCollecting (entry_at c.table page) w → IsWord c.config.page_size w.word
@@ -497,27 +506,29 @@ module _ {S : Type 0} {ops : Ops S} (laws : Laws ops) where
       subst (λ (x : WaitingState). IsWord c.config.page_size x.word) (sym h.1.1)
       ((entry_is c page (entry.AwaitAcks h.0) s h.1.0).collecting h.0 refl).0.0
 
-  pub unlocking-keeps : (c : Coherent S) (from page : ℕ) (write : Bool) (bytes now : List ℕ)
+  pub unlocking-keeps : (c : Coherent S) (from page : ℕ) (kind : Request) (bytes now : List ℕ)
       (done : Option Out) (w : WaitingState) → IsSound ops c → from < c.config.nodes → from ≢ c.me
       → page < c.config.pages → length bytes ≡ c.config.page_size → length now ≡ c.config.page_size
-      → IsWaiting (entry_at c.table page) write w
+      → IsWaiting (entry_at c.table page) kind w
       → Keeps ops c
-      (settled_with ops c from page (unlocked_as write) (Some write) bytes now done w.put_off)
-  unlocking-keeps c from page true bytes now done w s below foreign inside sized long waits =
+      (settled_with ops c from page (unlocked_as kind) (Some kind) bytes now done w.put_off)
+  unlocking-keeps c from page request.Write bytes now done w s below foreign inside sized long waits =
       let h = writes-at (entry_at c.table page) w waits in
       let good : IsSoundEntry c.config c.me (entry.AwaitWrite h.0) =
       entry_is c page (entry.AwaitWrite h.0) s h.1.0 in
-      settled-keeps c from page owning (Some true) bytes now done w.put_off s inside sized long
+      settled-keeps c from page owning (Some request.Write) bytes now done w.put_off s inside sized long
       (ap is_locked h.1.0)
       (subst (λ (x : WaitingState). All (CanBeServed c.config c.me) x.put_off) (sym h.1.1)
       good.put_off) (page-start c page from s inside below)
-  unlocking-keeps c from page false bytes now done w s below foreign inside sized long waits =
+  unlocking-keeps c from page request.Read bytes now done w s below foreign inside sized long waits =
       let is : entry_at c.table page ≡ entry.AwaitRead w =
       reads-at (entry_at c.table page) w waits in
-      settled-keeps c from page copying (Some false) bytes now done w.put_off s inside sized long
+      settled-keeps c from page copying (Some request.Read) bytes now done w.put_off s inside sized long
       (ap is_locked is)
       (entry_is c page (entry.AwaitRead w) s is).put_off
       (copy-start c page from s inside (ap is_owner is) below foreign)
+  unlocking-keeps c from page request.Invalidate _ _ _ w s below foreign inside sized long waits =
+      absurd (never-waits (entry_at c.table page) w waits)
 
   pub last-keeps : (c : Coherent S) (from page : ℕ) (w : WaitingState) → IsSound ops c
       → page < c.config.pages → IsCollecting (entry_at c.table page) w
@@ -528,7 +539,7 @@ module _ {S : Type 0} {ops : Ops S} (laws : Laws ops) where
       (sym h.1.1) (last_copy-keeps c from page h.0 s inside h.1.0)
 
   pub giving-keeps : (c : Coherent S) (page : ℕ) (w : WaitingState) (q : PutOff) → IsSound ops c
-      → page < c.config.pages → IsWaiting (entry_at c.table page) true w
+      → page < c.config.pages → IsWaiting (entry_at c.table page) request.Write w
       → CanBeServed c.config c.me q → Keeps ops c (given_up ops c page w q)
   giving-keeps c page w q s inside waits can =
       let h = writes-at (entry_at c.table page) w waits in
@@ -538,7 +549,7 @@ module _ {S : Type 0} {ops : Ops S} (laws : Laws ops) where
   pub collecting-keeps : (c : Coherent S) (from page : ℕ) (copies : Nodes) (bytes : List ℕ)
       (w : WaitingState) → IsSound ops c → from < c.config.nodes → page < c.config.pages
       → length bytes ≡ c.config.page_size
-      → IsWaiting (entry_at c.table page) true w → AreOthers c.config c.me copies
+      → IsWaiting (entry_at c.table page) request.Write w → AreOthers c.config c.me copies
       → IsSound ops (collected ops c from page copies bytes w)
   collecting-keeps c from page copies bytes w s below inside sized waits others =
       let h = writes-at (entry_at c.table page) w waits in

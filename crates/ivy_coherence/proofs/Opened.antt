@@ -15,6 +15,8 @@ use Rattle.ivy_pagetable.specs.declared.Entry.{Entry}
 use Rattle.ivy_pagetable.specs.declared.Entry.TheVariants as entry
 use Rattle.ivy_pagetable.specs.declared.Out.{Out}
 use Rattle.ivy_pagetable.specs.declared.PutOff.{PutOff}
+use Rattle.ivy_pagetable.specs.declared.Request.{Request}
+use Rattle.ivy_pagetable.specs.declared.Request.TheVariants as request
 use Rattle.ivy_pagetable.specs.declared.Word.{Word}
 use Rattle.ivy_pagetable.specs.NodeSets.{Nodes, IsBelow, nodes_of}
 use Rattle.ivy_pagetable.specs.States.{IdleState, WaitingState, AwaitAcksState}
@@ -195,19 +197,19 @@ module _ {S : Type 0} {ops : Ops S} (n v : Coherent S) (same : v ≡ n) (s : IsS
       (put_entry-sound v.config v.me e q (s.each page)
       (here (λ x. CanBeServed x.config x.me q) can) room) (owner_put e q) (locked_put e q)))
 
-  pub waits_here : (page : ℕ) (write : Bool) (w : WaitingState)
-      → IsWaiting (entry_at n.table page) write w → IsWaiting (entry_at v.table page) write w
-  waits_here page write w waits = here (λ x. IsWaiting (entry_at x.table page) write w) waits
+  pub waits_here : (page : ℕ) (kind : Request) (w : WaitingState)
+      → IsWaiting (entry_at n.table page) kind w → IsWaiting (entry_at v.table page) kind w
+  waits_here page kind w waits = here (λ x. IsWaiting (entry_at x.table page) kind w) waits
 
 module _ {S : Type 0} {ops : Ops S} (laws : Laws ops) (n v : Coherent S) (same : v ≡ n)
     (s : IsSound ops v) where
   came : (from page : ℕ) (bytes : List ℕ) → Comes n from page bytes → Comes v from page bytes
   came from page bytes h = subst (λ (x : Coherent S). Comes x from page bytes) (sym same) h
 
-  waits_there : (page : ℕ) (write : Bool) (w : WaitingState)
-      → IsWaiting (entry_at n.table page) write w → IsWaiting (entry_at v.table page) write w
-  waits_there page write w waits =
-      subst (λ (x : Coherent S). IsWaiting (entry_at x.table page) write w) (sym same) waits
+  waits_there : (page : ℕ) (kind : Request) (w : WaitingState)
+      → IsWaiting (entry_at n.table page) kind w → IsWaiting (entry_at v.table page) kind w
+  waits_there page kind w waits =
+      subst (λ (x : Coherent S). IsWaiting (entry_at x.table page) kind w) (sym same) waits
 
   collects_there : (page : ℕ) (w : WaitingState) → IsCollecting (entry_at n.table page) w
       → IsCollecting (entry_at v.table page) w
@@ -215,35 +217,35 @@ module _ {S : Type 0} {ops : Ops S} (laws : Laws ops) (n v : Coherent S) (same :
       subst (λ (x : Coherent S). IsCollecting (entry_at x.table page) w) (sym same) waits
 
   -- bytes come for the word that waits
-  pub unlock_word : (page : ℕ) (write : Bool) (bytes : List ℕ) (w : WaitingState)
-      → IsWaiting (entry_at n.table page) write w → length bytes ≡ n.config.page_size
+  pub unlock_word : (page : ℕ) (kind : Request) (bytes : List ℕ) (w : WaitingState)
+      → IsWaiting (entry_at n.table page) kind w → length bytes ≡ n.config.page_size
       → IsWord (length bytes) w.word
-  unlock_word page write bytes w waits sized =
+  unlock_word page kind bytes w waits sized =
       subst (λ z. IsWord z w.word) (ap (λ (x : Coherent S). x.config.page_size) same ∙ sym sized)
-      (waiting_word laws v page write w s (waits_there page write w waits))
+      (waiting_word laws v page kind w s (waits_there page kind w waits))
 
-  pub unlock_fits : (from page : ℕ) (write : Bool) (bytes : List ℕ) (w : WaitingState)
+  pub unlock_fits : (from page : ℕ) (kind : Request) (bytes : List ℕ) (w : WaitingState)
       (i : IdleState) (qs : List PutOff) (k : Config) (node : ℕ) → Comes n from page bytes
-      → IsWaiting (entry_at n.table page) write w
-      → i ≡ unlocked_as write → qs ≡ w.put_off → k ≡ n.config → node ≡ n.me
+      → IsWaiting (entry_at n.table page) kind w
+      → i ≡ unlocked_as kind → qs ≡ w.put_off → k ≡ n.config → node ≡ n.me
       → All (FitsParcel k node)
-      (settled ops v.me from page bytes i v.manager v.breaches (Some write) qs).posted
-  unlock_fits from page write bytes w i qs k node comes waits idle list config me =
+      (settled ops v.me from page bytes i v.manager v.breaches (Some kind) qs).posted
+  unlock_fits from page kind bytes w i qs k node comes waits idle list config me =
       let at : Comes v from page bytes = came from page bytes comes in
       let keeps =
-      unlocking-keeps laws v from page write bytes bytes None w s at.below at.foreign at.inside
-      at.sized at.sized (waits_there page write w waits) in
+      unlocking-keeps laws v from page kind bytes bytes None w s at.below at.foreign at.inside
+      at.sized at.sized (waits_there page kind w waits) in
       rw (idle, list) (fits_at n v same k node config me _ keeps.1)
 
-  pub unlock_sound : (from page : ℕ) (write : Bool) (bytes now : List ℕ) (w : WaitingState)
+  pub unlock_sound : (from page : ℕ) (kind : Request) (bytes now : List ℕ) (w : WaitingState)
       (i after : IdleState) (qs : List PutOff) (t : Table) (m : S) (o : Option Out) (b : ℕ)
       → Comes n from page bytes → length now ≡ n.config.page_size
-      → IsWaiting (entry_at n.table page) write w
-      → i ≡ unlocked_as write → qs ≡ w.put_off
-      → after ≡ (settled ops v.me from page bytes i v.manager v.breaches (Some write) qs).idle
+      → IsWaiting (entry_at n.table page) kind w
+      → i ≡ unlocked_as kind → qs ≡ w.put_off
+      → after ≡ (settled ops v.me from page bytes i v.manager v.breaches (Some kind) qs).idle
       → t ≡ with_page (with_entry v.table page (entry.Idle after)) page now
-      → m ≡ (settled ops v.me from page bytes i v.manager v.breaches (Some write) qs).manager
-      → b ≡ (settled ops v.me from page bytes i v.manager v.breaches (Some write) qs).breaches
+      → m ≡ (settled ops v.me from page bytes i v.manager v.breaches (Some kind) qs).manager
+      → b ≡ (settled ops v.me from page bytes i v.manager v.breaches (Some kind) qs).breaches
       → IsSound ops
       (record {
         config = v.config;
@@ -254,7 +256,7 @@ module _ {S : Type 0} {ops : Ops S} (laws : Laws ops) (n v : Coherent S) (same :
         done = o;
         breaches = b;
       })
-  unlock_sound from page write bytes now w i after qs t m o b comes long waits idle list idle_is
+  unlock_sound from page kind bytes now w i after qs t m o b comes long waits idle list idle_is
       table manager breaches =
       let at : Comes v from page bytes = came from page bytes comes in
       let sized : length now ≡ v.config.page_size =
@@ -266,8 +268,8 @@ module _ {S : Type 0} {ops : Ops S} (laws : Laws ops) (n v : Coherent S) (same :
         sized = long;
       })).sized in
       let keeps =
-      unlocking-keeps laws v from page write bytes now o w s at.below at.foreign at.inside
-      at.sized sized (waits_there page write w waits) in
+      unlocking-keeps laws v from page kind bytes now o w s at.below at.foreign at.inside
+      at.sized sized (waits_there page kind w waits) in
       rw (table, manager, breaches, idle_is, idle, list) keeps.0
 
   -- the last acknowledgement comes
@@ -318,7 +320,7 @@ module _ {S : Type 0} {ops : Ops S} (laws : Laws ops) (n v : Coherent S) (same :
 
   -- a node that waits to write gives its copy up
   pub giving_sound : (page : ℕ) (w : WaitingState) (q : PutOff) (t : Table) (m : S)
-      → page < n.config.pages → IsWaiting (entry_at n.table page) true w
+      → page < n.config.pages → IsWaiting (entry_at n.table page) request.Write w
       → CanBeServed n.config n.me q
       → t ≡ with_entry v.table page (entry.AwaitWrite (record { had_copy = false; waiting = w }))
       → m ≡ ops.on_invalidated v.manager page q.origin
@@ -327,7 +329,7 @@ module _ {S : Type 0} {ops : Ops S} (laws : Laws ops) (n v : Coherent S) (same :
       rw (table, manager)
       (giving-keeps laws v page w q s
       (subst (λ (x : Coherent S). page < x.config.pages) (sym same) inside)
-      (waits_there page true w waits)
+      (waits_there page request.Write w waits)
       (subst (λ (x : Coherent S). CanBeServed x.config x.me q) (sym same) can)).0
 
   pub last_word_at : (page : ℕ) (w : WaitingState) → page < n.config.pages
@@ -405,7 +407,7 @@ module _ {S : Type 0} {ops : Ops S} (laws : Laws ops) (n v : Coherent S) (same :
 
   -- the page came, and others have a copy; an acknowledgement came, and others are missing
   pub collect_sound : (from page : ℕ) (copies : Nodes) (bytes : List ℕ) (w : WaitingState)
-      (t : Table) (m : S) → Comes n from page bytes → IsWaiting (entry_at n.table page) true w
+      (t : Table) (m : S) → Comes n from page bytes → IsWaiting (entry_at n.table page) request.Write w
       → IsBelow n.config.nodes copies → set.contains copies n.me ≡ false
       → t ≡ with_page
       (with_entry v.table page (entry.AwaitAcks (record { left = copies; waiting = w }))) page
@@ -415,7 +417,7 @@ module _ {S : Type 0} {ops : Ops S} (laws : Laws ops) (n v : Coherent S) (same :
       let at : Comes v from page bytes = came from page bytes comes in
       rw (table, manager)
       (collecting-keeps laws v from page copies bytes w s at.below at.inside at.sized
-      (waits_there page true w waits) (are_others n v same s copies below apart))
+      (waits_there page request.Write w waits) (are_others n v same s copies below apart))
 
   pub left_sound : (page : ℕ) (left : Nodes) (w : WaitingState) (t : Table) → page < n.config.pages
       → IsCollecting (entry_at n.table page) w → AreOthers n.config n.me left

@@ -116,13 +116,13 @@ pub record Rows {S : Type 0} (ops : Ops S) (c : Coherent S) (from origin call : 
       (record { kind = request.Invalidate; origin = origin; call = call }))
   pub copy : (page : ℕ) (bytes : List ℕ) (s : WaitingState) → origin ≡ c.me
       → entry_at c.table page ≡ entry.AwaitRead s → s.call ≡ call
-      → P (content.ReadRep page bytes) (unlocked ops c from page copying (Some false) bytes s)
+      → P (content.ReadRep page bytes) (unlocked ops c from page copying (Some request.Read) bytes s)
   -- the page comes, and no node has a copy; nodes have a copy
   pub alone : (page copies : ℕ) (bytes : List ℕ) (s : AwaitWriteState) → origin ≡ c.me
       → entry_at c.table page ≡ entry.AwaitWrite s → s.waiting.call ≡ call
       → nodes_with copies ≡ set.empty
       → P (content.WriteRep page copies bytes)
-      (unlocked ops c from page owning (Some true) bytes s.waiting)
+      (unlocked ops c from page owning (Some request.Write) bytes s.waiting)
   pub shared : (page copies : ℕ) (bytes : List ℕ) (s : AwaitWriteState) → origin ≡ c.me
       → entry_at c.table page ≡ entry.AwaitWrite s → s.waiting.call ≡ call
       → nodes_with copies ≢ set.empty → set.contains (nodes_with copies) c.me ≡ false

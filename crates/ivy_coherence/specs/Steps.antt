@@ -17,17 +17,17 @@ use Rattle.ivy_pagetable.specs.Tables.{entry_at, page_at, with_entry, with_page}
 use Rattle.ivy_pagetable.specs.Words.{carried_out}
 use Rattle.ivy_pagetable.specs.Manager.{Ops}
 use Rattle.ivy_coherence.specs.Coherent.{Coherent}
-use Rattle.ivy_serving.specs.Serving.{Serving, counted, settled, invalidations}
+use Rattle.ivy_serving.specs.Serving.{Serving, counted, is_write, settled, invalidations}
 
 pub record CoherenceEffect (S : Type 0) : Type 0 where
   pub after : Coherent S
   pub posted : List Parcel
 
 -- the word of this call waits at the entry: for a copy to read, or for the page to write
-abbrev pub IsWaiting : Entry → Bool → WaitingState → Type 0
-IsWaiting (entry.AwaitRead s) write waiting = (write ≡ false) × (waiting ≡ s)
-IsWaiting (entry.AwaitWrite s) write waiting = (write ≡ true) × (waiting ≡ s.waiting)
-IsWaiting e write waiting = ⊥
+abbrev pub IsWaiting : Entry → Request → WaitingState → Type 0
+IsWaiting (entry.AwaitRead s) kind waiting = (kind ≡ request.Read) × (waiting ≡ s)
+IsWaiting (entry.AwaitWrite s) kind waiting = (kind ≡ request.Write) × (waiting ≡ s.waiting)
+IsWaiting e kind waiting = ⊥
 
 -- it waits for acknowledgements
 abbrev pub IsCollecting : Entry → WaitingState → Type 0
@@ -35,8 +35,8 @@ IsCollecting (entry.AwaitAcks s) waiting = waiting ≡ s.waiting
 IsCollecting e waiting = ⊥
 
 -- the entry once the page, or a copy, came
-abbrev pub unlocked_as : Bool → IdleState
-unlocked_as write = if write then owning else copying
+abbrev pub unlocked_as : Request → IdleState
+unlocked_as kind = if is_write kind then owning else copying
 
 -- the set has no node
 abbrev pub is_none : Nodes → Bool
@@ -65,7 +65,7 @@ module _ {S : Type 0} (ops : Ops S) where
 
   -- the word that waited is carried out on these bytes; then what was put off is served, in order
   -- of arrival
-  abbrev pub unlocked : Coherent S → ℕ → ℕ → IdleState → Option Bool → List ℕ → WaitingState
+  abbrev pub unlocked : Coherent S → ℕ → ℕ → IdleState → Option Request → List ℕ → WaitingState
       → CoherenceEffect S
   unlocked c from page idle reply bytes s =
       let now = carried_out s.word bytes in
@@ -75,10 +75,10 @@ module _ {S : Type 0} (ops : Ops S) where
       (settled ops c.me from page now.bytes idle c.manager c.breaches reply s.put_off)
 
   -- with the copy, or the page, that was asked for
-  abbrev pub unlocked_by_reply : Coherent S → ℕ → ℕ → Bool → List ℕ → WaitingState
+  abbrev pub unlocked_by_reply : Coherent S → ℕ → ℕ → Request → List ℕ → WaitingState
       → CoherenceEffect S
-  unlocked_by_reply c from page write bytes s =
-      unlocked c from page (unlocked_as write) (Some write) bytes s
+  unlocked_by_reply c from page kind bytes s =
+      unlocked c from page (unlocked_as kind) (Some kind) bytes s
 
   -- with the last acknowledgement, on the page that is here already
   abbrev pub unlocked_by_last : Coherent S → ℕ → ℕ → WaitingState → CoherenceEffect S
@@ -124,7 +124,7 @@ module _ {S : Type 0} (ops : Ops S) where
   -- a copy comes for the word that waits to read
   abbrev pub copy_came : Coherent S → ℕ → ℕ → ℕ → List ℕ → Entry → CoherenceEffect S
   copy_came c from call page bytes (entry.AwaitRead s) =
-      if s.call == call then unlocked c from page copying (Some false) bytes s else breach c
+      if s.call == call then unlocked c from page copying (Some request.Read) bytes s else breach c
   copy_came c from call page bytes e = breach c
 
   abbrev pub copy_came_at : Coherent S → ℕ → ℕ → ℕ → List ℕ → CoherenceEffect S
@@ -145,7 +145,7 @@ module _ {S : Type 0} (ops : Ops S) where
       → CoherenceEffect S
   owned_with c from call page copies bytes s =
       if is_none copies
-      then unlocked c from page owning (Some true) bytes s
+      then unlocked c from page owning (Some request.Write) bytes s
       else record {
         after = collected c from page copies bytes s;
         posted = invalidations c.me page call copies;

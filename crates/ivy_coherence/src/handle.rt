@@ -5,6 +5,7 @@ ghost use Rattle.ivy_model.specs.Wants.{IsWant};
 ghost use Rattle.ivy_wire.specs.Lent.{owned_message};
 ghost use Rattle.ivy_wire.specs.Spelling.{FitsMessage};
 ghost use Rattle.ivy_wire.specs.Posts.{IsPostOf, HasRefused};
+ghost use Rattle.ivy_pagetable.specs.declared.Request.TheVariants as request;
 ghost use Rattle.ivy_pagetable.specs.Entries.{owning};
 ghost use Rattle.ivy_pagetable.specs.Tables.{entry_at, page_at};
 ghost use Rattle.ivy_pagetable.specs.NodeSets.{IsBelow};
@@ -24,13 +25,12 @@ use ivy_wire::{Content, Message, Post, post_one};
 use std::alloc::Allocator;
 
 /// The entry once the page, or a copy, came.
-fn unlocked_as(write: bool) -> Idle
-    ensures { result ≡ unlocked_as write }
+fn unlocked_as(kind: Request) -> Idle
+    ensures { result ≡ unlocked_as kind }
 {
-    if write {
-        Idle::owned()
-    } else {
-        Idle::plain(Access::Read)
+    match kind {
+        Request::Write => Idle::owned(),
+        Request::Read | Request::Invalidate => Idle::plain(Access::Read),
     }
 }
 
@@ -113,7 +113,7 @@ impl<M: Manager, A: Allocator> Coherence<M, A> {
     ) -> Result<(), Fault>
         requires page { page < self.old.config.pages }
         requires message { CanBeServed self.old.config self.old.me message }
-        requires waits { IsWaiting (entry_at self.old.table page) true waiting }
+        requires waits { IsWaiting (entry_at self.old.table page) request.Write waiting }
         requires post { IsPostOf P.ops post.old self.old.config self.old.me }
         ensures { IsStep P.ops post.old post.new result self.old self.new
             (given_up M.ops self.old page waiting message) }
@@ -139,7 +139,7 @@ impl<M: Manager, A: Allocator> Coherence<M, A> {
         &mut self,
         from: u8,
         page: u32,
-        write: bool,
+        kind: Request,
         waiting: &Waiting,
         bytes: &[u8],
         post: &mut P,
@@ -148,10 +148,10 @@ impl<M: Manager, A: Allocator> Coherence<M, A> {
         requires foreign { from ≢ self.old.me }
         requires page { page < self.old.config.pages }
         requires sized { length bytes.now ≡ self.old.config.page_size }
-        requires waits { IsWaiting (entry_at self.old.table page) write waiting.now }
+        requires waits { IsWaiting (entry_at self.old.table page) kind waiting.now }
         requires post { IsPostOf P.ops post.old self.old.config self.old.me }
         ensures { IsStep P.ops post.old post.new result self.old self.new
-            (unlocked_by_reply M.ops self.old from page write bytes.now waiting.now) }
+            (unlocked_by_reply M.ops self.old from page kind bytes.now waiting.now) }
     {
         self.spare.copy_from(bytes);
         let out = self.spare.carry_out(waiting.word());
@@ -161,10 +161,10 @@ impl<M: Manager, A: Allocator> Coherence<M, A> {
             page,
             bytes: self.spare.bytes(),
         };
-        let idle = unlocked_as(write);
+        let idle = unlocked_as(kind);
         let breaches = &mut self.breaches;
         let messages = waiting.put_offs();
-        let reply = Some(write);
+        let reply = Some(kind);
         let after = settle(at, reply, idle, &mut self.manager, breaches, messages, post)?;
         self.table.set_entry(page, Entry::Idle(after));
         self.table.install(page, self.spare.bytes());
@@ -193,7 +193,7 @@ impl<M: Manager, A: Allocator> Coherence<M, A> {
         match self.table.entry(page) {
             Entry::AwaitRead(waiting) if waiting.call() == call => {
                 let waiting = waiting.copied();
-                self.unlock(from, page, false, &waiting, bytes, post)?;
+                self.unlock(from, page, Request::Read, &waiting, bytes, post)?;
             }
             _ => count(&mut self.breaches),
         }
@@ -249,13 +249,13 @@ impl<M: Manager, A: Allocator> Coherence<M, A> {
         requires call { 1 ≤ call }
         requires below { IsBelow self.old.config.nodes copies }
         requires apart { set.contains copies self.old.me ≡ false }
-        requires waits { IsWaiting (entry_at self.old.table page) true waiting }
+        requires waits { IsWaiting (entry_at self.old.table page) request.Write waiting }
         requires post { IsPostOf P.ops post.old self.old.config self.old.me }
         ensures { IsStep P.ops post.old post.new result self.old self.new
             (owned_with M.ops self.old from call page copies bytes.now waiting) }
     {
         if is_none(&copies) {
-            self.unlock(from, page, true, &waiting, bytes, post)?;
+            self.unlock(from, page, Request::Write, &waiting, bytes, post)?;
             return Ok(());
         }
         invalidate(self.me, page, call, &copies, post)?;
@@ -435,7 +435,16 @@ impl<M: Manager, A: Allocator> Coherence<M, A> {
             Content::InvalAck { page } if mine => {
                 self.acknowledged(from, call, page, post)?;
             }
-            _ => count(&mut self.breaches),
+            Content::ReadReq { .. }
+            | Content::WriteReq { .. }
+            | Content::ReadRep { .. }
+            | Content::WriteRep { .. }
+            | Content::Inval { .. }
+            | Content::InvalAck { .. }
+            | Content::AllocReq { .. }
+            | Content::AllocRep { .. }
+            | Content::FreeReq { .. }
+            | Content::FreeRep { .. } => count(&mut self.breaches),
         }
         Ok(())
     }

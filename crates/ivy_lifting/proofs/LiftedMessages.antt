@@ -325,7 +325,7 @@ module _ {S : Type 0} {ops : Ops S} {P : (ℕ → S) → Net → (ℕ → List �
       acks_asked-goes kind o call a is can.foreign h
 
   -- what a word waits for came: it is carried out, and what was put off is served
-  unlocked-goes : (i : IdleState) (reply : Option Bool) (bytes : List ℕ) (w : WaitingState)
+  unlocked-goes : (i : IdleState) (reply : Option Request) (bytes : List ℕ) (w : WaitingState)
       → Stands P m n k.me p f (entry.Idle i) bytes (served.told ops from p k.manager reply)
       k.breaches [] (map (letter_of k.me p) w.put_off)
       → IsServing ops k.config k.me p k.manager
@@ -383,7 +383,7 @@ module _ {S : Type 0} {ops : Ops S} {P : (ℕ → S) → Net → (ℕ → List �
       entry_is k p (entry.AwaitRead w) sound is in
       let word = good.reading w refl in
       either-goes (w.call == call) _ _
-      (λ same. unlocked-goes copying (Some false) bytes w
+      (λ same. unlocked-goes copying (Some request.Read) bytes w
       (comes_quietly kept h sound.here _
       (told-again m k.me k.manager (λ z. ops.on_replied z p false from)) _ _ bytes
       (Row.copy_comes bytes (coming entry.AwaitRead w (λ q. content.ReadRep q bytes) call)
@@ -424,7 +424,7 @@ module _ {S : Type 0} {ops : Ops S} {P : (ℕ → S) → Net → (ℕ → List �
       let word = good.writing a refl in
       let z : Entry = entry.AwaitAcks (record { left = nodes_with copies; waiting = a.waiting }) in
       either-goes (is_none (nodes_with copies)) _ _
-      (λ none. unlocked-goes owning (Some true) bytes a.waiting
+      (λ none. unlocked-goes owning (Some request.Write) bytes a.waiting
       (comes_quietly kept h sound.here _
       (told-again m k.me k.manager (λ z. ops.on_replied z p true from)) _ _ bytes
       (Row.page_comes copies bytes

@@ -179,20 +179,20 @@ module _ (l : Linked) (parcels : List (parcel.Parcel (Bor (List ℕ)))) (i n : �
       numbers-spent l (map owned_parcel parcels) within n (omega (arith, here-part))
       (omega (arith, count, same, spent))
 
-  pub here-frame : (source sent earlier ack : ℕ) (message : Message) → source ≡ l.me
+  pub here-frame : (source sent earlier ack : ℕ) → source ≡ l.me
       → sent ≡ (peer_at l n).sent
       → earlier ≡ count_to (map owned_parcel (take i parcels)) (parcel_at parcels i).dest
-      → ack ≡ (peer_at l n).delivered → message ≡ (parcel_at parcels i).message
+      → ack ≡ (peer_at l n).delivered
       → slice_get (frames_of l (map owned_parcel parcels)) i
       ≡ Some (record {
         source = source;
         dest = (parcel_at parcels i).dest;
         number = sent + earlier + 1;
         ack = ack;
-        body = Some message;
+        body = Some (parcel_at parcels i).message;
       })
-  here-frame source sent earlier ack message me count before heard said =
-      rw (me, count, here-earlier earlier before, heard, said, here)
+  here-frame source sent earlier ack me count before heard =
+      rw (me, count, here-earlier earlier before, heard, here)
       (frame-at l (map owned_parcel parcels) i (parcel_at parcels i) within
       (parcel-inside parcels i lt) (parcel-here parcels i lt))
 

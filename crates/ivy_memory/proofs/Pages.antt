@@ -64,7 +64,7 @@ module _ {S : Type 0} (ops : Ops S) (me page : ℕ) (bytes : List ℕ) where
       (either_pages v.idle.owner _ _ (owner_pages v q.origin q.call q.kind all)
       (other_pages v q.origin q.call q.kind all))
 
-  pub settled-pages : (from : ℕ) (idle : IdleState) (m : S) (breaches : ℕ) (reply : Option Bool)
+  pub settled-pages : (from : ℕ) (idle : IdleState) (m : S) (breaches : ℕ) (reply : Option Request)
       (qs : List PutOff)
       → All IsOfPages (settled ops me from page bytes idle m breaches reply qs).posted
   settled-pages from idle m breaches reply qs =

@@ -16,6 +16,8 @@ use Rattle.ivy_wire.specs.Data.{Message, Parcel}
 use Rattle.ivy_wire.specs.Spelling.{FitsMessage, FitsParcel}
 use Rattle.ivy_wire.specs.Posts.{parcel_to}
 use Rattle.ivy_pagetable.specs.declared.Entry.{Entry}
+use Rattle.ivy_pagetable.specs.declared.Request.{Request}
+use Rattle.ivy_pagetable.specs.declared.Request.TheVariants as asks
 use Rattle.ivy_pagetable.specs.declared.Out.{Out}
 use Rattle.ivy_pagetable.specs.declared.Out.TheVariants as out
 use Rattle.ivy_pagetable.specs.declared.Word.{Word}
@@ -155,7 +157,7 @@ module _ {S : Type 0} where
 
 module _ {S : Type 0} (ops : Ops S) where
   -- the word that waited was carried out
-  unlocked-told : (c : Coherent S) (from page : ℕ) (idle : IdleState) (reply : Option Bool)
+  unlocked-told : (c : Coherent S) (from page : ℕ) (idle : IdleState) (reply : Option Request)
       (bytes : List ℕ) (s : WaitingState) → c.locked ≡ Some page
       → Told c (unlocked ops c from page idle reply bytes s).after
   unlocked-told c from page idle reply bytes s locked =
@@ -168,9 +170,9 @@ module _ {S : Type 0} (ops : Ops S) where
     served = λ kind page i may is order. stays refl refl refl refl;
     put_off = λ kind page e may is room at. stays refl refl refl refl;
     given_up = λ page w by is. stays refl refl refl refl;
-    copy = λ page bytes w mine is this. unlocked-told c from page copying (Some false) bytes w
+    copy = λ page bytes w mine is this. unlocked-told c from page copying (Some asks.Read) bytes w
         (s.others page (ap is_locked is));
-    alone = λ page copies bytes w mine is this none. unlocked-told c from page owning (Some true)
+    alone = λ page copies bytes w mine is this none. unlocked-told c from page owning (Some asks.Write)
         bytes w.waiting (s.others page (ap is_locked is));
     shared = λ page copies bytes w mine is this some apart. stays refl refl refl refl;
     acknowledged = λ page w mine is this missing others. stays refl refl refl refl;

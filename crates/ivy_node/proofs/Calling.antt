@@ -1,5 +1,5 @@
 -- A call of the program that begins, or is asked for its reply, as the code has it.
-use Rattle.std.proofs.Common.{◌≡◌, ℕ, ◌+◌, ◌<◌, ◌≤◌, ◌^◌, ◌⊎◌, inl, inr, true, false, List, [], ◌∷◌}
+use Rattle.std.proofs.Common.{◌≡◌, ℕ, ◌+◌, ◌<◌, ◌≤◌, ◌^◌, ◌⊎◌, inl, inr, Bool, true, false, List, [], ◌∷◌}
 use Rattle.std.proofs.Common.{◌++◌, length, Option, Some, None, Result, Ok, Err, OnErr, refl, sym}
 use Rattle.std.proofs.Common.{ap, ◌∙◌, subst, arith, if◌then◌else◌}
 use Rattle.std.proofs.lemmas.Bool.{lt-ltb}
@@ -27,7 +27,7 @@ use Rattle.ivy_memory.specs.Memories.{NodeMemory, CallBegun, reply_of, reply_at,
 use Rattle.ivy_memory.proofs.Polling.{polled_so}
 use Rattle.ivy_host.specs.Hosts.{Host, begins_as, begins_with, steps, turned_at, turn_of, number_of, recorded}
 use Rattle.ivy_node.specs.Outboxes.{Outbox, HasNumbers, RefusesParcels, IsRefused, posted_by, takes_none, after_none}
-use Rattle.ivy_node.specs.Sites.{HasTurn, AfterHostTurn, HasNoNumbers, host_of}
+use Rattle.ivy_node.specs.Sites.{HasTurn, AfterHostTurn, HasNoNumbers, host_of, is_served, kept_by, told_by}
 use Rattle.ivy_node.proofs.Boxes.{as_many-wait}
 
 abbrev H : Type 0
@@ -145,7 +145,7 @@ module _ (h : H) (k : Call) (a : CallBegun Managed) (calls : IsCall h k a) where
   by_answer answer r same is = calls.turn ∙ ap (begins_with h k a) (sym same ∙ is)
 
   -- it has a reply
-  pub called_answered : (box after : Outbox) (node : ℕ) (memory : NodeMemory Managed)
+  called_answered : (box after : Outbox) (node : ℕ) (memory : NodeMemory Managed)
       (process : Process) (history : List Record) (answer : Answer) (r : Reply)
       → node ≡ number_of h → answer ≡ a.answer → answer ≡ Given r → memory ≡ a.after
       → HasNumbers box a.posted → after ≡ posted_by box a.posted
@@ -165,7 +165,7 @@ module _ (h : H) (k : Call) (a : CallBegun Managed) (calls : IsCall h k a) where
       }
 
   -- its word waits
-  pub called_awaited : (box after : Outbox) (memory : NodeMemory Managed) (answer : Answer)
+  called_awaited : (box after : Outbox) (memory : NodeMemory Managed) (answer : Answer)
       → answer ≡ a.answer → answer ≡ Awaited → memory ≡ a.after → HasNumbers box a.posted
       → after ≡ posted_by box a.posted
       → HasTurn h box (host_of memory h.process h.history) after
@@ -178,7 +178,7 @@ module _ (h : H) (k : Call) (a : CallBegun Managed) (calls : IsCall h k a) where
   }
 
   -- nothing changes
-  pub not_called : (box after : Outbox) (memory : NodeMemory Managed) (answer : Answer)
+  not_called : (box after : Outbox) (memory : NodeMemory Managed) (answer : Answer)
       → answer ≡ a.answer → answer ≡ Unserved → memory ≡ a.after → after ≡ posted_by box a.posted
       → AfterHostTurn false h box (host_of memory h.process h.history) after
   not_called box after memory answer same is next sent =
@@ -187,6 +187,24 @@ module _ (h : H) (k : Call) (a : CallBegun Managed) (calls : IsCall h k a) where
         ap (λ m. host_of m h.process h.history) (next ∙ none.0),
         sent ∙ (ap (posted_by box) none.1 ∙ after_none box),
       )
+
+  -- one of the three
+  pub called : (box after : Outbox) (node : ℕ) (memory : NodeMemory Managed) (process : Process)
+      (history : List Record) (served : Bool) (answer : Answer) → node ≡ number_of h
+      → answer ≡ a.answer → memory ≡ a.after → HasNumbers box a.posted
+      → after ≡ posted_by box a.posted → served ≡ is_served answer
+      → history ≡ kept_by h.history node k answer → process ≡ told_by h.process answer
+      → AfterHostTurn served h box (host_of memory process history) after
+  called box after node memory process history served (Given r) mine same next numbers sent is kept
+      goes =
+      rw is (called_answered box after node memory process history (Given r) r mine same refl next
+      numbers sent kept goes)
+  called box after node memory process history served Awaited mine same next numbers sent is kept
+      goes =
+      rw (is, kept, goes) (called_awaited box after memory Awaited same refl next numbers sent)
+  called box after node memory process history served Unserved mine same next numbers sent is kept
+      goes =
+      rw (is, kept, goes) (not_called box after memory Unserved same refl next sent)
 
   -- numbers are at an end for what it would post
   cannot_by : (box : Outbox) → has_numbers box.link a.posted ≡ false → (r : Answer) → a.answer ≡ r

@@ -12,7 +12,7 @@ use Rattle.ivy_link.specs.declared.Verdict.TheVariants as verdict
 use Rattle.ivy_link.specs.Windows.{first_window, place_at}
 use Rattle.ivy_link.specs.Holding.{window_of, after_hold, ready_of, after_taking}
 use Rattle.ivy_program.specs.declared.Instruction.{Instruction}
-use Rattle.ivy_program.specs.Steps.{HasEnded, Asks, step_of}
+use Rattle.ivy_program.specs.Steps.{HasEnded, Asks, step_of, answered_with}
 use Rattle.ivy_host.specs.Managers.{Managed, managed_ops}
 use Rattle.ivy_events.specs.Marks.{Turn}
 use Rattle.ivy_events.specs.Cores.{Outcome}
@@ -24,6 +24,8 @@ use Rattle.ivy_node.specs.declared.turn.Turn.TheVariants.{Idle, Moved, Ended}
 use Rattle.ivy_model.specs.declared.Record.{Record}
 use Rattle.ivy_link.specs.Linked.{peer_at, has_numbers}
 use Rattle.ivy_program.specs.Steps.{Process}
+use Rattle.ivy_memory.specs.declared.Answer.{Answer}
+use Rattle.ivy_memory.specs.declared.Answer.TheVariants.{Given, Unserved}
 use Rattle.ivy_memory.specs.Memories as memories
 use Rattle.ivy_node.specs.Outboxes.{Outbox, HasNumbers, posted_by}
 use Rattle.ivy_host.specs.Hosts.{Host, host_rules, turn_of}
@@ -196,6 +198,19 @@ pub record IsSite (s : Shown) : Type 0 where
 
 abbrev pub host_of : memories.NodeMemory Managed → Process → List Record → Host Managed
 host_of memory process history = record { memory = memory; process = process; history = history }
+
+-- what an answer to a call of the program does: the reply is recorded, and the process goes on
+abbrev pub is_served : Answer → Bool
+is_served Unserved = false
+is_served answer = true
+
+abbrev pub kept_by : List Record → ℕ → Call → Answer → List Record
+kept_by history node k (Given r) = history ++ record { node = node; call = k; reply = r } ∷ []
+kept_by history node k answer = history
+
+abbrev pub told_by : Process → Answer → Process
+told_by process (Given r) = answered_with process r
+told_by process answer = process
 
 -- the node has a turn, by the rules of the definitions, and what is posted is sent
 pub record HasTurn (old : Host Managed) (box : Outbox) (new : Host Managed)

@@ -12,7 +12,7 @@ ghost use Rattle.ivy_link.specs.Holding.{ready_of};
 ghost use Rattle.ivy_node.specs.Outboxes.{most_sent, most_delivered, next_dest};
 ghost use Rattle.ivy_node.specs.Shown.{holding_at, after_pulse_to};
 ghost use Rattle.ivy_node.specs.Runs.{IsOfRun};
-ghost use Rattle.ivy_node.specs.Sites.{first_shown, host_of, AfterHostTurn, HasNoNumbers, AfterTurn, AfterDelivery, Hears, Receives};
+ghost use Rattle.ivy_node.specs.Sites.{first_shown, host_of, is_served, kept_by, told_by, AfterHostTurn, HasNoNumbers, AfterTurn, AfterDelivery, Hears, Receives};
 ghost use Rattle.ivy_node.specs.Sites.{WentOnOnce, SiteWentOn, IsHeld, early_at, HoldsString, without_ready, IsSpentTurn, IsSpentDelivery, TakesFrame, IsSameNode, IsMadeByEvents, IsSentBy};
 ghost use Rattle.ivy_events.specs.Marks.{marks};
 ghost use Rattle.ivy_model.specs.Legal.{HasWidth};
@@ -98,15 +98,30 @@ fn if_ahead<A: Allocator + Copy>(
     Ok(None)
 }
 
-/// A reply is recorded, and the program goes on with it.
-fn keep<A: Allocator + Copy>(history: &mut Vec<Record, A>, machine: &mut Machine<A>, entry: Record)
+/// Where a call was answered its reply is recorded, and the program goes on with it. It says whether the call
+/// was answered, or is in progress from now on.
+fn keep<A: Allocator + Copy>(
+    history: &mut Vec<Record, A>,
+    machine: &mut Machine<A>,
+    node: u8,
+    call: Call,
+    answer: Answer,
+) -> bool
     requires room { vec_len history.old < vec_capacity history.old }
-    requires asking { IsAsking machine.old }
-    ensures history { history.new.items ≡ history.old.items ++ entry ∷ [] }
-    ensures machine { machine.new ≡ answered_with machine.old entry.reply }
+    requires asks { step_of machine.old ≡ Asks call }
+    ensures served { result ≡ is_served answer }
+    ensures history { history.new.items ≡ kept_by history.old.items node call answer }
+    ensures machine { machine.new ≡ told_by machine.old answer }
 {
-    history.push_reserved(entry);
-    machine.answer(entry.reply);
+    match answer {
+        Answer::Given(reply) => {
+            history.push_reserved(Record { node, call, reply });
+            machine.answer(reply);
+            true
+        }
+        Answer::Awaited => true,
+        Answer::Unserved => false,
+    }
 }
 
 /// A call that the program makes begins: it is answered at once, or in progress from now on [1, 17]. It says
@@ -131,15 +146,8 @@ fn begin<A: Allocator + Copy>(
     ensures want { IfErr result IsWant }
 {
     let number = history.len() as u64 + 1;
-    match memory.begin(call, number, outbox)? {
-        Answer::Given(reply) => {
-            let node = outbox.me();
-            keep(history, machine, Record { node, call, reply });
-            Ok(true)
-        }
-        Answer::Awaited => Ok(true),
-        Answer::Unserved => Ok(false),
-    }
+    let answer = memory.begin(call, number, outbox)?;
+    Ok(keep(history, machine, outbox.me(), call, answer))
 }
 
 /// The call in progress is asked for its reply [1, 17]. It says whether anything changed: the reply is recorded, or
@@ -162,16 +170,8 @@ fn poll<A: Allocator + Copy>(
     ensures spent { IfErr result (HasNoNumbers (host_of memory.old machine.old history.old.items) outbox.old) }
     ensures want { IfErr result IsWant }
 {
-    match memory.poll_reply(outbox)? {
-        Answer::Given(reply) => {
-            let node = outbox.me();
-            let entry = Record { node, call, reply };
-            keep(history, machine, entry);
-            Ok(true)
-        }
-        Answer::Awaited => Ok(true),
-        Answer::Unserved => Ok(false),
-    }
+    let answer = memory.poll_reply(outbox)?;
+    Ok(keep(history, machine, outbox.me(), call, answer))
 }
 
 impl<A: Allocator + Copy> Site<A> {

@@ -51,7 +51,7 @@ module _ {S : Type 0} (ops : Ops S) (me page : ℕ) (bytes : List ℕ) where
       all_served-few (served ops me page bytes v q) qs in
       omega (arith, served_few v q, rest)
 
-  pub settled-few : (from : ℕ) (idle : IdleState) (m : S) (breaches : ℕ) (reply : Option Bool)
+  pub settled-few : (from : ℕ) (idle : IdleState) (m : S) (breaches : ℕ) (reply : Option Request)
       (qs : List PutOff)
       → length (settled ops me from page bytes idle m breaches reply qs).posted ≤ length qs
   settled-few from idle m breaches reply qs =

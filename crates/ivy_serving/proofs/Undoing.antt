@@ -6,7 +6,7 @@ use Rattle.ivy_pagetable.specs.declared.Request.{Request}
 use Rattle.ivy_pagetable.specs.declared.Request.TheVariants as request
 use Rattle.ivy_pagetable.specs.States.{IdleState}
 use Rattle.ivy_pagetable.specs.Manager.{Ops, Laws, Change, Forward, Given, Replied, Invalidated, changed, all_changed, brought_back}
-use Rattle.ivy_serving.specs.Serving.{Serving, serving, served_by_owner, served_by_other, served, all_served, told, settled}
+use Rattle.ivy_serving.specs.Serving.{Serving, serving, is_write, served_by_owner, served_by_other, served, all_served, told, settled}
 
 -- a state of the manager that calls for one page made of another
 pub record IsMadeBy {S : Type 0} (ops : Ops S) (page : ℕ) (m new : S) : Type 0 where
@@ -39,10 +39,10 @@ module _ {S : Type 0} (ops : Ops S) (page : ℕ) where
   follows-either m true v w f g = f
   follows-either m false v w f g = g
 
-  pub told-follows : (from : ℕ) (m : S) (reply : Option Bool)
+  pub told-follows : (from : ℕ) (m : S) (reply : Option Request)
       → IsMadeBy ops page m (told ops from page m reply)
   told-follows from m None = follows-itself m
-  told-follows from m (Some write) = follows-change m (Replied write from)
+  told-follows from m (Some kind) = follows-change m (Replied (is_write kind) from)
 
   module _ (me : ℕ) (bytes : List ℕ) where
     owner-follows : (v : Serving S) (origin call : ℕ) (kind : Request)
@@ -70,7 +70,7 @@ module _ {S : Type 0} (ops : Ops S) (page : ℕ) where
         follows-in_turn v.manager _ _ (served-follows v q)
         (all_served-follows (served ops me page bytes v q) qs)
 
-    pub settled-follows : (from : ℕ) (idle : IdleState) (m : S) (breaches : ℕ) (reply : Option Bool)
+    pub settled-follows : (from : ℕ) (idle : IdleState) (m : S) (breaches : ℕ) (reply : Option Request)
         (qs : List PutOff)
         → IsMadeBy ops page m (settled ops me from page bytes idle m breaches reply qs).manager
     settled-follows from idle m breaches reply qs =

@@ -90,13 +90,18 @@ module _ {S : Type 0} (ops : Ops S) (me page : ℕ) (bytes : List ℕ) where
   all_served v [] = v
   all_served v (q ∷ qs) = all_served (served v q) qs
 
+-- a request to write
+abbrev pub is_write : Request → Bool
+is_write request.Write = true
+is_write kind = false
+
 -- the manager learns that a request to read, or to write, was replied to, where it was
-abbrev pub told : {S : Type 0} → Ops S → ℕ → ℕ → S → Option Bool → S
+abbrev pub told : {S : Type 0} → Ops S → ℕ → ℕ → S → Option Request → S
 told ops from page manager None = manager
-told ops from page manager (Some write) = ops.on_replied manager page write from
+told ops from page manager (Some kind) = ops.on_replied manager page (is_write kind) from
 
 -- what was put off is served at an entry that is idle now, in order of arrival
 abbrev pub settled : {S : Type 0} → Ops S → ℕ → ℕ → ℕ → List ℕ → IdleState → S → ℕ
-    → Option Bool → List PutOff → Serving S
+    → Option Request → List PutOff → Serving S
 settled ops me from page bytes idle manager breaches reply qs =
     all_served ops me page bytes (serving idle (told ops from page manager reply) breaches []) qs

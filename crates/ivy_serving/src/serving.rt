@@ -7,7 +7,7 @@ ghost use Rattle.ivy_wire.specs.Posts.{parcel_to, HasPosted};
 ghost use Rattle.ivy_pagetable.specs.Limits.{most_nodes_in_a_set};
 ghost use Rattle.ivy_pagetable.specs.NodeSets.{nodes_of};
 ghost use Rattle.ivy_pagetable.specs.Manager.{brought_back};
-ghost use Rattle.ivy_serving.specs.Serving.{serving, settled, counted, served_by_owner, served_by_other, served, all_served, invalidations};
+ghost use Rattle.ivy_serving.specs.Serving.{serving, settled, counted, is_write, served_by_owner, served_by_other, served, all_served, invalidations};
 ghost use Rattle.ivy_serving.specs.Limits.{most_posted};
 ghost use Rattle.ivy_serving.specs.Outcomes.{IsSettled};
 
@@ -185,12 +185,21 @@ fn take_back<M: Manager>(at: Place, hop: u8, manager: &mut M)
     }
 }
 
+fn is_write(kind: Request) -> bool
+    ensures { result ≡ is_write kind }
+{
+    match kind {
+        Request::Write => true,
+        Request::Read | Request::Invalidate => false,
+    }
+}
+
 /// Serves messages at an idle entry and posts what comes of it, or changes nothing [1, 17]. First the manager
 /// learns that `from` replied, to a request to write or to read, where that brings it about. What the entry is
 /// then.
 pub fn settle<M: Manager, P: Post>(
     at: Place,
-    reply: Option<bool>,
+    reply: Option<Request>,
     idle: Idle,
     manager: &mut M,
     breaches: &mut u64,
@@ -209,8 +218,8 @@ pub fn settle<M: Manager, P: Post>(
         idle manager.old breaches.old reply messages.now) }
 {
     let hop = manager.next_hop(at.page);
-    if let Some(write) = reply {
-        manager.on_replied(at.page, write, at.from);
+    if let Some(kind) = reply {
+        manager.on_replied(at.page, is_write(kind), at.from);
     }
     let mut after = idle;
     let mut counted = *breaches;

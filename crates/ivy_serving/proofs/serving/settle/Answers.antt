@@ -1,6 +1,7 @@
-use Rattle.std.proofs.Common.{◌≡◌, ℕ, List, Bool, Option, [], ap, ◌∙◌, sym, map, rules}
+use Rattle.std.proofs.Common.{◌≡◌, ℕ, List, Option, [], ap, ◌∙◌, sym, map, rules}
 use Rattle.ivy_wire.specs.Lent.{owned_parcel}
 use Rattle.ivy_pagetable.specs.declared.PutOff.{PutOff}
+use Rattle.ivy_pagetable.specs.declared.Request.{Request}
 use Rattle.ivy_pagetable.specs.States.{IdleState}
 use Rattle.ivy_pagetable.specs.Manager.{Ops}
 use Rattle.ivy_serving.specs.Serving.{Serving, serving, all_served, told, settled}
@@ -9,7 +10,7 @@ use Rattle.ivy_serving.proofs.serving.settle.Goals as goal
 
 -- the manager learns of the reply first, then all messages are served
 settled_then : {S : Type 0} (ops : Ops S) (me from page : ℕ) (bytes : List ℕ) (idle : IdleState)
-    (m : S) (breaches : ℕ) (reply : Option Bool) (qs : List PutOff) (n : S) (v : Serving S)
+    (m : S) (breaches : ℕ) (reply : Option Request) (qs : List PutOff) (n : S) (v : Serving S)
     → n ≡ told ops from page m reply
     → v ≡ all_served ops me page bytes (serving idle n breaches []) qs
     → v ≡ settled ops me from page bytes idle m breaches reply qs
@@ -18,7 +19,7 @@ settled_then ops me from page bytes idle m breaches reply qs n v replied each =
 
 -- and what it is then, it is by calls for this page
 follows_then : {S : Type 0} (ops : Ops S) (me from page : ℕ) (bytes : List ℕ) (idle : IdleState)
-    (m : S) (breaches : ℕ) (reply : Option Bool) (qs : List PutOff) (n : S) (v : Serving S)
+    (m : S) (breaches : ℕ) (reply : Option Request) (qs : List PutOff) (n : S) (v : Serving S)
     → n ≡ told ops from page m reply
     → v ≡ all_served ops me page bytes (serving idle n breaches []) qs
     → IsMadeBy ops page m v.manager

@@ -10,14 +10,14 @@ copy_from-requires g c =
 pub carry_out-out-requires : goal.carry_out-out-requires
 carry_out-out-requires g c =
     rw (c.word.ensures, c.copy_from.ensures)
-    (unlock_word g.met.M.Manager.laws _ _ c.self.view_is c.self.invariant.0 c.args.page c.args.write
+    (unlock_word g.met.M.Manager.laws _ _ c.self.view_is c.self.invariant.0 c.args.page c.args.kind
     c.args.bytes.now c.args.waiting.now c.requires.waits c.requires.sized)
 
 pub settle-requires-clause-fits : goal.settle-requires-clause-fits
 settle-requires-clause-fits g c =
     let sized : length c.bytes.result.now ≡ c.args.self.now.config.page_size = cc in
     unlock_fits g.met.M.Manager.laws _ _ c.self.view_is c.self.invariant.0 c.args.from c.args.page
-    c.args.write c.bytes.result.now c.args.waiting.now _ _ _ _
+    c.args.kind c.bytes.result.now c.args.waiting.now _ _ _ _
     (record {
       below = c.requires.from;
       foreign = c.requires.foreign;
@@ -37,7 +37,7 @@ invariant_of-self-2 g c =
     let sized : length c.bytes.result.now ≡ c.args.self.now.config.page_size = cc in
     let long : length c.carry_out-out.new.self ≡ c.args.self.now.config.page_size = cc in (
       unlock_sound g.met.M.Manager.laws _ _ c.self.view_is c.self.invariant.0 c.args.from
-          c.args.page c.args.write c.bytes.result.now c.carry_out-out.new.self c.args.waiting.now
+          c.args.page c.args.kind c.bytes.result.now c.carry_out-out.new.self c.args.waiting.now
           c.unlocked_as-idle.result _ c.put_offs-messages.result.now _ _ _ _
           (record {
             below = c.requires.from;

@@ -1,5 +1,4 @@
 use Rattle.std.proofs.Common.{rules, ◌≡◌, ◌<◌, ◌+◌, ◌^◌, length, sym, ap, ◌∙◌, arith}
-use Rattle.ivy_wire.specs.Lent.{owned_message}
 use Rattle.ivy_link.specs.Linked.{Linked, Peer, peer_at}
 use Rattle.ivy_link.specs.Holding.{link_of}
 use Rattle.ivy_link.proofs.Peers.{view-length, view-read}
@@ -48,7 +47,7 @@ returns g c =
     c.index-side.ensures) in
     here-frame (link_of c.args.self.now) c.args.parcels.now c.args.index c.from.result
     c.requires.within c.requires.inside c.from.ensures c.self.inside.me c.sent.result
-    c.count_to-earlier.result c.delivered.result (owned_message c.again.result)
+    c.count_to-earlier.result c.delivered.result
     (ap (λ (l : Linked). l.me) (ap link_of c.self.view_is))
     (c.sent.ensures ∙ ap (λ (p : Peer). p.sent) peer) c.count_to-earlier.ensures
-    (c.delivered.ensures ∙ ap (λ (p : Peer). p.delivered) peer) c.again.ensures
+    (c.delivered.ensures ∙ ap (λ (p : Peer). p.delivered) peer)
