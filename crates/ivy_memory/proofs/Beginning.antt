@@ -175,19 +175,6 @@ module _ {S : Type 0} {ops : Ops S} (laws : Laws ops) where
     pub wide : (j : Call) → Some c ≡ Some j → HasWidth j
     wide = one_wide c l.legal
 
-    pub busy_stays : (new : Coherent S) (told : Need) → new ≡ access.after → told ≡ access.need
-        → told ≡ need.Busy → new ≡ v.coherence
-    busy_stays new told is was busy = is ∙ access-begins.busy (sym was ∙ busy)
-
-    pub busy_memory : (new : Coherent S) (told : Need) → new ≡ access.after → told ≡ access.need
-        → told ≡ need.Busy
-        → IsSoundMemory ops
-        (record { coherence = new; asked = v.asked; number = v.number; side = v.side })
-    busy_memory new told is was busy =
-        subst (λ x. IsSoundMemory ops
-        (record { coherence = x; asked = v.asked; number = v.number; side = v.side }))
-        (sym (busy_stays new told is was busy)) l.sound
-
     begun_is : call_begun ops n c number ≡ needed v c number access access.need
     unfolding call_begun
     begun_is =
@@ -209,26 +196,11 @@ module _ {S : Type 0} {ops : Ops S} (laws : Laws ops) where
         never_busy ops v.coherence page w number l.sound.coherent (l.sound.locked resting)
         (sym was ∙ busy)
 
-    -- what the call comes to, by what its access does
-    pub begun_by : (told : Need) → told ≡ access.need
-        → call_begun ops n c number ≡ needed v c number access told
-    begun_by told was = begun_is ∙ ap (needed v c number access) (sym was)
-
     -- what a call posts is what its access posts
     pub call_posts : access.posted ≡ (call_begun ops n c number).posted
     call_posts =
         sym (ap (λ (x : CallBegun S). x.posted) begun_is
         ∙ needed-posted v c number access access.need access-begins refl)
-
-    pub busy_is : (new : Coherent S) (told : Need) → new ≡ access.after → told ≡ access.need
-        → told ≡ need.Busy
-        → record { coherence = new; asked = v.asked; number = v.number; side = v.side }
-        ≡ (call_begun ops n c number).after
-    busy_is new told is was busy =
-        ap (λ x. record { coherence = x; asked = v.asked; number = v.number; side = v.side })
-        (busy_stays new told is was busy)
-        ∙ sym (ap (λ (x : CallBegun S). x.after) (begun_by told was)
-        ∙ ap (λ x. (needed v c number access x).after) busy)
 
 -- A call that begins as one of the heap, as the code has it: `v` is what the fields are seen as,
 -- `n` the value.

@@ -91,9 +91,9 @@ module _ {S : Type 0} (ops : Ops S) where
     put_off = λ kind page e may is room at. all_none IsOfPages;
     given_up = λ page w by is. all_one IsOfPages _ refl;
     copy = λ page bytes w mine is this. settled-pages ops c.me page (carried_out w.word bytes).bytes
-        from copying c.manager c.breaches (Some _) w.put_off;
+        from copying c.manager c.breaches (Some request.Read) w.put_off;
     alone = λ page copies bytes w mine is this none. settled-pages ops c.me page
-        (carried_out w.waiting.word bytes).bytes from owning c.manager c.breaches (Some _)
+        (carried_out w.waiting.word bytes).bytes from owning c.manager c.breaches (Some request.Write)
         w.waiting.put_off;
     shared =
         λ page copies bytes w mine is this some apart. invalidations-pages c.me page call

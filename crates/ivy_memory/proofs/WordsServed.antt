@@ -1,8 +1,8 @@
 -- A word carried out on a page of the flat memory is one call of it: the page has the bytes after
 -- the word then, the others stay as they are, and the word gives the call's reply.
-use Rattle.std.proofs.Common.{◌≡◌, ◌≢◌, ℕ, ◌+◌, ◌-◌, ◌*◌, ◌/◌, ◌%◌, ◌^◌, ◌<◌, ◌≤◌, Bool, true}
-use Rattle.std.proofs.Common.{false, nat_le, List, Option, Some, None, MatchOption, MatchBool, refl}
-use Rattle.std.proofs.Common.{sym, ap, ◌∙◌, subst, if◌then◌else◌, ◌==◌, slice_get, slice_set}
+use Rattle.std.proofs.Common.{◌≡◌, ℕ, ◌+◌, ◌-◌, ◌*◌, ◌/◌, ◌%◌, ◌^◌, ◌≤◌, Bool, true}
+use Rattle.std.proofs.Common.{false, nat_le, List, Some, None, MatchOption, MatchBool, refl}
+use Rattle.std.proofs.Common.{sym, ap, subst, if◌then◌else◌, ◌==◌, slice_get, slice_set}
 use Rattle.std.proofs.lemmas.Bool.{ne_eqb, leb-true}
 use Rattle.std.proofs.lemmas.Option.{slice_get_within}
 use Rattle.byteorder.specs.Endian.{big_bytes}

@@ -1,15 +1,15 @@
-use Rattle.std.proofs.Common.{rules, ◌∙◌, sym, ap, arith}
+use Rattle.std.proofs.Common.{rules, ◌∙◌, sym, arith}
 use Rattle.ivy_wire.specs.Posts.{HasRefused}
-use Rattle.ivy_memory.proofs.Beginning.{no_call, can, wide, words_now, words_before, had_memory}
-use Rattle.ivy_memory.proofs.Beginning.{started_memory, busy_memory, busy_is, not_busy, call_posts}
+use Rattle.ivy_memory.proofs.Beginning.{IsBeginning, no_call, can, wide, words_now, words_before, had_memory}
+use Rattle.ivy_memory.proofs.Beginning.{started_memory, not_busy, call_posts}
 use Rattle.ivy_memory.proofs.Beginning.{few_posted, err_refuses, call_asks, heap_memory}
 use Rattle.ivy_memory.proofs.memory.Memory.begin.Goals as goal
 
 pub need-requires-clause-page : goal.need-requires-clause-page
 need-requires-clause-page g c =
-    (can g.met.M.Manager.laws _ _ c.config.result c.args.call c.args.number c.in-Word.page
-    c.in-Word.word
-    (record {
+    let at : IsBeginning g.M.Manager.ops _ _ c.config.result c.args.call c.args.number c.in-Word.page
+    c.in-Word.word =
+    record {
       same = c.self.view_is;
       sound = c.self.invariant;
       config = c.config.ensures;
@@ -18,13 +18,14 @@ need-requires-clause-page g c =
       least = c.requires.number;
       most = omega arith;
       asks = sym c.asked_of.ensures.is ∙ c.in-Word.is;
-    })).0
+    } in
+    (can g.met.M.Manager.laws _ _ _ _ _ _ _ at).0
 
 pub need-requires-clause-word : goal.need-requires-clause-word
 need-requires-clause-word g c =
-    (can g.met.M.Manager.laws _ _ c.config.result c.args.call c.args.number c.in-Word.page
-    c.in-Word.word
-    (record {
+    let at : IsBeginning g.M.Manager.ops _ _ c.config.result c.args.call c.args.number c.in-Word.page
+    c.in-Word.word =
+    record {
       same = c.self.view_is;
       sound = c.self.invariant;
       config = c.config.ensures;
@@ -33,13 +34,14 @@ need-requires-clause-word g c =
       least = c.requires.number;
       most = omega arith;
       asks = sym c.asked_of.ensures.is ∙ c.in-Word.is;
-    })).1
+    } in
+    (can g.met.M.Manager.laws _ _ _ _ _ _ _ at).1
 
 pub invariant_of-self-in-Some : goal.invariant_of-self-in-Some
 invariant_of-self-in-Some g c =
-    had_memory g.met.M.Manager.laws _ _ c.config.result c.args.call c.args.number c.in-Word.page
-    c.in-Word.word
-    (record {
+    let at : IsBeginning g.M.Manager.ops _ _ c.config.result c.args.call c.args.number c.in-Word.page
+    c.in-Word.word =
+    record {
       same = c.self.view_is;
       sound = c.self.invariant;
       config = c.config.ensures;
@@ -48,28 +50,17 @@ invariant_of-self-in-Some g c =
       least = c.requires.number;
       most = omega arith;
       asks = sym c.asked_of.ensures.is ∙ c.in-Word.is;
-    })
-    c.need.new.self c.in_ok-out-in-Word.field-0 c.in-Have.out c.self.inside.asked
-    c.self.inside.number c.self.invariant.width c.self.invariant.numbered c.self.invariant.small
-    (words_before g.met.M.Manager.laws _ _ c.config.result c.args.call c.args.number
-    c.in-Word.page c.in-Word.word
-    (record {
-      same = c.self.view_is;
-      sound = c.self.invariant;
-      config = c.config.ensures;
-      idle = no_call _ _ c.self.view_is c.is_some.ensures c.if-is_some.false;
-      legal = c.requires.width;
-      least = c.requires.number;
-      most = omega arith;
-      asks = sym c.asked_of.ensures.is ∙ c.in-Word.is;
-    })) c.in_ok-out-in-Word.ensures.ok
-    c.in_ok-out-in-Word.ensures.need c.in-Have.is
+    } in
+    had_memory g.met.M.Manager.laws _ _ _ _ _ _ _ at c.need.new.self c.in_ok-out-in-Word.field-0
+    c.in-Have.out c.self.inside.asked c.self.inside.number c.self.invariant.width
+    c.self.invariant.numbered c.self.invariant.small (words_before g.met.M.Manager.laws _ _ _ _ _ _ _ at)
+    c.in_ok-out-in-Word.ensures.ok c.in_ok-out-in-Word.ensures.need c.in-Have.is
 
 pub invariant_of-self-in-None : goal.invariant_of-self-in-None
 invariant_of-self-in-None g c =
-    had_memory g.met.M.Manager.laws _ _ c.config.result c.args.call c.args.number c.in-Word.page
-    c.in-Word.word
-    (record {
+    let at : IsBeginning g.M.Manager.ops _ _ c.config.result c.args.call c.args.number c.in-Word.page
+    c.in-Word.word =
+    record {
       same = c.self.view_is;
       sound = c.self.invariant;
       config = c.config.ensures;
@@ -78,39 +69,16 @@ invariant_of-self-in-None g c =
       least = c.requires.number;
       most = omega arith;
       asks = sym c.asked_of.ensures.is ∙ c.in-Word.is;
-    })
-    c.need.new.self c.in_ok-out-in-Word.field-0 c.in-Have.out _ c.args.number
-    (wide g.met.M.Manager.laws _ _ c.config.result c.args.call c.args.number c.in-Word.page
-    c.in-Word.word
-    (record {
-      same = c.self.view_is;
-      sound = c.self.invariant;
-      config = c.config.ensures;
-      idle = no_call _ _ c.self.view_is c.is_some.ensures c.if-is_some.false;
-      legal = c.requires.width;
-      least = c.requires.number;
-      most = omega arith;
-      asks = sym c.asked_of.ensures.is ∙ c.in-Word.is;
-    })) (λ j h. c.requires.number) (omega arith)
-    (words_now g.met.M.Manager.laws _ _ c.config.result c.args.call c.args.number c.in-Word.page
-    c.in-Word.word
-    (record {
-      same = c.self.view_is;
-      sound = c.self.invariant;
-      config = c.config.ensures;
-      idle = no_call _ _ c.self.view_is c.is_some.ensures c.if-is_some.false;
-      legal = c.requires.width;
-      least = c.requires.number;
-      most = omega arith;
-      asks = sym c.asked_of.ensures.is ∙ c.in-Word.is;
-    })) c.in_ok-out-in-Word.ensures.ok
-    c.in_ok-out-in-Word.ensures.need c.in-Have.is
+    } in
+    had_memory g.met.M.Manager.laws _ _ _ _ _ _ _ at c.need.new.self c.in_ok-out-in-Word.field-0
+    c.in-Have.out _ c.args.number (wide g.met.M.Manager.laws _ _ _ _ _ _ _ at) (λ j h. c.requires.number) (omega arith)
+    (words_now g.met.M.Manager.laws _ _ _ _ _ _ _ at) c.in_ok-out-in-Word.ensures.ok c.in_ok-out-in-Word.ensures.need c.in-Have.is
 
 pub invariant_of-self-in-Started : goal.invariant_of-self-in-Started
 invariant_of-self-in-Started g c =
-    started_memory g.met.M.Manager.laws _ _ c.config.result c.args.call c.args.number c.in-Word.page
-    c.in-Word.word
-    (record {
+    let at : IsBeginning g.M.Manager.ops _ _ c.config.result c.args.call c.args.number c.in-Word.page
+    c.in-Word.word =
+    record {
       same = c.self.view_is;
       sound = c.self.invariant;
       config = c.config.ensures;
@@ -119,14 +87,14 @@ invariant_of-self-in-Started g c =
       least = c.requires.number;
       most = omega arith;
       asks = sym c.asked_of.ensures.is ∙ c.in-Word.is;
-    })
-    c.need.new.self c.in_ok-out-in-Word.ensures.ok
+    } in
+    started_memory g.met.M.Manager.laws _ _ _ _ _ _ _ at c.need.new.self c.in_ok-out-in-Word.ensures.ok
 
 pub invariant_of-self-in-Busy : goal.invariant_of-self-in-Busy
 invariant_of-self-in-Busy g c =
-    busy_memory g.met.M.Manager.laws _ _ c.config.result c.args.call c.args.number c.in-Word.page
-    c.in-Word.word
-    (record {
+    let at : IsBeginning g.M.Manager.ops _ _ c.config.result c.args.call c.args.number c.in-Word.page
+    c.in-Word.word =
+    record {
       same = c.self.view_is;
       sound = c.self.invariant;
       config = c.config.ensures;
@@ -135,15 +103,14 @@ invariant_of-self-in-Busy g c =
       least = c.requires.number;
       most = omega arith;
       asks = sym c.asked_of.ensures.is ∙ c.in-Word.is;
-    })
-    c.need.new.self c.in_ok-out-in-Word.field-0 c.in_ok-out-in-Word.ensures.ok
-    c.in_ok-out-in-Word.ensures.need c.in-Busy.is
+    } in
+    absurd (not_busy g.met.M.Manager.laws _ _ _ _ _ _ _ at c.in_ok-out-in-Word.field-0 c.in_ok-out-in-Word.ensures.need c.in-Busy.is)
 
-pub returns-in-Busy-clause-ok : goal.returns-in-Busy-clause-ok
-returns-in-Busy-clause-ok g c =
-    busy_is g.met.M.Manager.laws _ _ c.config.result c.args.call c.args.number c.in-Word.page
-    c.in-Word.word
-    (record {
+pub returns-in-Busy : goal.returns-in-Busy
+returns-in-Busy g c =
+    let at : IsBeginning g.M.Manager.ops _ _ c.config.result c.args.call c.args.number c.in-Word.page
+    c.in-Word.word =
+    record {
       same = c.self.view_is;
       sound = c.self.invariant;
       config = c.config.ensures;
@@ -152,34 +119,14 @@ returns-in-Busy-clause-ok g c =
       least = c.requires.number;
       most = omega arith;
       asks = sym c.asked_of.ensures.is ∙ c.in-Word.is;
-    })
-    c.need.new.self c.in_ok-out-in-Word.field-0 c.in_ok-out-in-Word.ensures.ok
-    c.in_ok-out-in-Word.ensures.need c.in-Busy.is
-
-pub returns-in-Busy-clause-posted : goal.returns-in-Busy-clause-posted
-returns-in-Busy-clause-posted g c =
-    c.in_ok-out-in-Word.ensures.posted
-    ∙ ap (λ x. g.P.Post.ops.after c.args.post.now x)
-    (call_posts g.met.M.Manager.laws _ _ c.config.result c.args.call c.args.number
-    c.in-Word.page c.in-Word.word
-    (record {
-      same = c.self.view_is;
-      sound = c.self.invariant;
-      config = c.config.ensures;
-      idle = no_call _ _ c.self.view_is c.is_some.ensures c.if-is_some.false;
-      legal = c.requires.width;
-      least = c.requires.number;
-      most = omega arith;
-      asks = sym c.asked_of.ensures.is ∙ c.in-Word.is;
-    }))
+    } in
+    absurd (not_busy g.met.M.Manager.laws _ _ _ _ _ _ _ at c.in_ok-out-in-Word.field-0 c.in_ok-out-in-Word.ensures.need c.in-Busy.is)
 
 pub returns-in_err-out-in-Word-clause-fault : goal.returns-in_err-out-in-Word-clause-fault
 returns-in_err-out-in-Word-clause-fault g c =
-    λ idle. err_refuses c.from_residual.result _
-    (HasRefused g.P.Post.ops c.args.post.now c.need.new.post) _ _ _
-    (call_posts g.met.M.Manager.laws _ _ c.config.result c.args.call c.args.number
-    c.in-Word.page c.in-Word.word
-    (record {
+    let at : IsBeginning g.M.Manager.ops _ _ c.config.result c.args.call c.args.number c.in-Word.page
+    c.in-Word.word =
+    record {
       same = c.self.view_is;
       sound = c.self.invariant;
       config = c.config.ensures;
@@ -188,14 +135,15 @@ returns-in_err-out-in-Word-clause-fault g c =
       least = c.requires.number;
       most = omega arith;
       asks = sym c.asked_of.ensures.is ∙ c.in-Word.is;
-    })) c.from_residual.ensures.1
-    c.in_err-out-in-Word.ensures.fault
+    } in
+    λ idle. err_refuses c.from_residual.result _ (HasRefused g.P.Post.ops c.args.post.now c.need.new.post)
+    _ _ _ (call_posts g.met.M.Manager.laws _ _ _ _ _ _ _ at) c.from_residual.ensures.1 c.in_err-out-in-Word.ensures.fault
 
 pub returns-in_err-out-in-Word-clause-sure : goal.returns-in_err-out-in-Word-clause-sure
 returns-in_err-out-in-Word-clause-sure g c =
-    λ idle. call_asks g.met.M.Manager.laws _ _ c.config.result c.args.call c.args.number
-    c.in-Word.page c.in-Word.word
-    (record {
+    let at : IsBeginning g.M.Manager.ops _ _ c.config.result c.args.call c.args.number c.in-Word.page
+    c.in-Word.word =
+    record {
       same = c.self.view_is;
       sound = c.self.invariant;
       config = c.config.ensures;
@@ -204,8 +152,8 @@ returns-in_err-out-in-Word-clause-sure g c =
       least = c.requires.number;
       most = omega arith;
       asks = sym c.asked_of.ensures.is ∙ c.in-Word.is;
-    }) c.from_residual.result
-    c.in_err-out-in-Word.ensures.sure
+    } in
+    λ idle. call_asks g.met.M.Manager.laws _ _ _ _ _ _ _ at c.from_residual.result c.in_err-out-in-Word.ensures.sure
 
 pub returns-then-is_some-clause-few : goal.returns-then-is_some-clause-few
 returns-then-is_some-clause-few g c =
@@ -245,19 +193,3 @@ invariant_of-self-in_default g c =
     c.in_ok-answer-in-Heap.answer c.begin.new.self c.self.inside.asked c.self.inside.number
     c.in_ok-answer-in-Heap.ensures.reply c.in_ok-answer-in-Heap.ensures.ok (search rules)
     (search rules)
-
-pub returns-in-Busy-clause-begins : goal.returns-in-Busy-clause-begins
-returns-in-Busy-clause-begins g c =
-    absurd (not_busy g.met.M.Manager.laws _ _ c.config.result c.args.call c.args.number
-    c.in-Word.page c.in-Word.word
-    (record {
-      same = c.self.view_is;
-      sound = c.self.invariant;
-      config = c.config.ensures;
-      idle = no_call _ _ c.self.view_is c.is_some.ensures c.if-is_some.false;
-      legal = c.requires.width;
-      least = c.requires.number;
-      most = omega arith;
-      asks = sym c.asked_of.ensures.is ∙ c.in-Word.is;
-    })
-    c.in_ok-out-in-Word.field-0 c.in_ok-out-in-Word.ensures.need c.in-Busy.is)
