@@ -20,6 +20,7 @@ lists xs q = list_any (λ y. eqb y q) xs
 abbrev pub has : ℕ → ℕ → Bool
 has bits q = eqb (bit_at bits q) 1
 
+-- a range lists each number in it
 pub in_range : (first n q : ℕ) → first ≤ q → q < first + n → lists (range_with_len first n) q ≡ true
 in_range first zero q le lt = absurd (omega (arith, le, lt))
 in_range first (suc n) q le lt =
@@ -32,6 +33,7 @@ in_range first (suc n) q le lt =
     above : (first ≡ q → ⊥) → first + 1 ≤ q
     above n = elim (eq-or-lt_of_le le) [ inl e ↦ absurd (n e) | inr lt ↦ omega (arith, lt) ]
 
+-- a node is in the set of a number that has its bit, among the first 32
 pub lists_with : (bits q : ℕ)
     → set.contains (nodes_with bits) q ≡ (has bits q && lists (range_with_len 0 32) q)
 unfolding nodes_with
@@ -40,9 +42,11 @@ lists_with bits q =
     ∙ any-filter_same (λ y. eqb y q) (has bits) (has bits q) (λ k e. ap (has bits) (eqb-true k q e))
     (range_with_len 0 32)
 
+-- a number below 2 ^ n has no bit from n on
 pub no_bit : (bits n q : ℕ) → bits < 2 ^ n → n ≤ q → has bits q ≡ false
 no_bit bits n q small le = ap (λ x. eqb x 1) (bit_at_above bits n q small le)
 
+-- so the set of a number of 32 bits has just the nodes of its bits
 pub contains_with : (bits q : ℕ) → bits < 2 ^ 32
     → set.contains (nodes_with bits) q ≡ eqb (bit_at bits q) 1
 contains_with bits q small =
@@ -80,9 +84,11 @@ from_bits_of (suc n) bits test small tells =
     tells (q + 1) ∙ ap (has bits) (add-one q) ∙ ap (λ x. eqb x 1) (bit_at-suc bits q))) in
     omega (arith, lowest, others)
 
+-- the byte that has the bits of the nodes in a set
 abbrev pub byte_of : Nodes → ℕ
 byte_of nodes = bits_from 8 (set.contains nodes)
 
+-- a byte is known from the set of its bits
 pub byte_of_with : (bits : ℕ) → bits < 2 ^ 8 → byte_of (nodes_with bits) ≡ bits
 byte_of_with bits small =
     from_bits_of 8 bits (set.contains (nodes_with bits)) small

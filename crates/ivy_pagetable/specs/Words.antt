@@ -52,6 +52,7 @@ advanced count offset bytes =
     then record { out = Full; bytes = bytes }
     else record { out = Done; bytes = overwrite bytes offset (big_bytes 8 (count + 1)) }
 
+-- the count, where it is high enough
 abbrev pub awaited : ℕ → ℕ → Out
 awaited count least = if nat_le least count then Value count else NotYet
 

@@ -31,9 +31,11 @@ abbrev pub message_with : List ℕ → Content → Message
 message_with text content =
     record { origin = slice_index text 0; call = big_number 8 (drop 1 text); content = content }
 
+-- the message of a body of this kind; an acknowledgement alone has none
 unfoldable pub message_at : FrameKind → List ℕ → Option Message
 message_at kind text = option_map (message_with text) (content_at kind (drop call_len text))
 
+-- the frame of a string that is of this kind
 unfoldable pub frame_at : FrameKind → List ℕ → Frame
 frame_at kind bytes = record {
   source = source_at bytes;
