@@ -11,6 +11,7 @@ use Rattle.ivy_program.specs.Instructions.{NamesRegisters}
 use Rattle.ivy_program.specs.Numbers.{IsNumber}
 use Rattle.ivy_program.specs.Operands.{register_word, operation_word, IsWidthWord, IsName}
 
+-- the word is this number, by its digits
 abbrev pub IsNumberWord : List ℕ → ℕ → Type 0
 IsNumberWord word n = IsNumber word × (digits_value 10 word ≡ n)
 

@@ -28,6 +28,7 @@ serving idle manager breaches posted =
 abbrev pub counted : ℕ → ℕ
 counted n = if nat_lt n (2 ^ 64 - 1) then n + 1 else n
 
+-- a parcel of a message for the origin's call of this number
 abbrev pub parcel_to : ℕ → ℕ → ℕ → ℕ → Content → Parcel
 parcel_to me dest origin call body = record {
   source = me;
@@ -88,6 +89,7 @@ module _ {S : Type 0} (ops : Ops S) (me page : ℕ) (bytes : List ℕ) where
     posted = v.posted ++ parcel_to me origin origin call (content.InvalAck page) ∷ [];
   }
 
+  -- one message is served, at the owner or at another node
   abbrev pub served : Serving S → PutOff → Serving S
   served v q = if v.idle.owner then served_by_owner v q.origin q.call q.kind
       else served_by_other v q.origin q.call q.kind
