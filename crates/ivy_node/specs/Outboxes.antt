@@ -28,6 +28,7 @@ pub record Outbox : Type 0 where
   pub waiting : List (List ℕ)
   pub held : List Window
 
+-- the link is this node's, and every frame that it makes has a spelling
 pub record IsSoundOutbox (o : Outbox) : Type 0 where
   pub limits : IsConfig o.config
   pub mine : o.link.me ≡ o.me
@@ -78,6 +79,7 @@ with_sending o s = record {
 abbrev pub HasNumbers : Outbox → List Parcel → Type 0
 HasNumbers o parcels = has_numbers o.link parcels ≡ true
 
+-- the outbox once these parcels were posted
 abbrev pub posted_by : Outbox → List Parcel → Outbox
 posted_by o parcels = with_sending o (sends o.link parcels)
 
@@ -88,6 +90,7 @@ IsRefused Memory o parcels = parcels ≢ []
 IsRefused NumbersSpent o parcels = has_numbers o.link parcels ≡ false
 IsRefused f o parcels = ⊥
 
+-- the same, as a post says it
 abbrev pub RefusesParcels : Outbox → List Parcel → Fault → Type 0
 RefusesParcels o parcels f = IsRefused f o parcels
 
@@ -103,14 +106,17 @@ abbrev pub next_dest : List (List ℕ) → Option ℕ
 next_dest [] = None
 next_dest (bytes ∷ rest) = dest_of bytes
 
+-- to post nothing there are always numbers
 pub takes_none : (o : Outbox) → HasNumbers o []
 takes_none o = refl
 
+-- to post nothing changes nothing
 pub after_none : (o : Outbox) → posted_by o [] ≡ o
 after_none o =
     ap (λ w. record { config = o.config; me = o.me; link = o.link; waiting = w; held = o.held })
     (append-nil o.waiting)
 
+-- and is never refused
 pub refuses_none : (o : Outbox) (f : Fault) → RefusesParcels o [] f → ⊥
 refuses_none o Memory why = why refl
 refuses_none o NumbersSpent why = absurd cc
