@@ -27,9 +27,11 @@ reply_text (Value value) = codes "value" ++ then_number value
 reply_text Done = codes "done"
 reply_text (Refused code) = codes "refused" ++ then_number code
 
+-- as the text of an order has it
 abbrev pub record_text : Record → List ℕ
 record_text r = decimal r.node ++ codes " " ++ call_text r.call ++ codes " = " ++ reply_text r.reply
 
+-- as the text of a schedule has it
 abbrev pub move_text : Move → List ℕ
 move_text (Turn node) = codes "turn" ++ then_number node
 move_text (Deliver index to) = codes "deliver" ++ then_number index ++ then_number to
