@@ -1,6 +1,6 @@
 //! Orders, and whether they are legal.
 use crate::common::check_over;
-use ivy_examples::File;
+use ivy_examples::{File, Order, orders};
 use std::process::Abort;
 use std::sync::Wait;
 use std::test::Fail;
@@ -37,6 +37,21 @@ fn check<R: Abort + AllocGlobal + Threads + Wait + Sync>(
 ) -> Result<(), Fail> {
     let name = "order";
     check_over(rt, &[File { name, text }], "check order", answer)
+}
+
+/// `check` prints the verdict of an example, with this status.
+fn check_example<R: Abort + AllocGlobal + Threads + Wait + Sync>(
+    rt: &R,
+    example: &Order,
+    status: u8,
+) -> Result<(), Fail> {
+    check(rt, example.records.text, (status, example.verdict, ""))
+}
+
+#[test]
+fn examples(rt: HostRuntime) -> Result<(), Fail> {
+    check_example(&rt, &orders::ONE_STORE, 0)?;
+    check_example(&rt, &orders::STALE_LOAD, 3)
 }
 
 #[test]

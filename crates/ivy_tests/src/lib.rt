@@ -77,6 +77,8 @@ mod growths_of_worlds;
 #[cfg(test)]
 mod heap;
 #[cfg(test)]
+mod library;
+#[cfg(test)]
 mod schedules;
 #[cfg(test)]
 mod stores;
