@@ -48,7 +48,8 @@ fn is_sound_content(config: &Config, kind: FrameKind, rest: &[u8]) -> bool
         | FrameKind::Inval
         | FrameKind::InvalAck => BigEndian::read_u32(rest) < config.pages,
         FrameKind::WriteRep => {
-            BigEndian::read_u32(rest) < config.pages && u64::from(BigEndian::read_u32(&rest[4..])) < 1 << config.nodes
+            BigEndian::read_u32(rest) < config.pages
+                && u64::from(BigEndian::read_u32(&rest[4..])) < 1 << config.nodes
         }
         FrameKind::AllocRep => {
             rest[0] == 0
