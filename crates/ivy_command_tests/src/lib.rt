@@ -10,6 +10,8 @@ mod commands;
 #[cfg(test)]
 mod common;
 #[cfg(test)]
+mod crowd;
+#[cfg(test)]
 mod examples;
 #[cfg(test)]
 mod orders;

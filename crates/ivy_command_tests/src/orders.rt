@@ -109,6 +109,7 @@ fn at_fault(rt: HostRuntime) -> Result<(), Fail> {
             "ivy: 20 ProgramFault line 2\n",
         ),
         ("ivy order 1 2 64\n", "ivy: 2 BadConfig\n"),
+        ("ivy order 33 2 64\n", "ivy: 2 BadConfig\n"),
         ("ivy order 258 2 64\n", "ivy: 2 BadConfig\n"),
         ("ivy order 2 4294967298 64\n", "ivy: 2 BadConfig\n"),
         ("ivy order 2 2 96\n", "ivy: 2 BadConfig\n"),

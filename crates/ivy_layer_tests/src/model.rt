@@ -39,7 +39,7 @@ fn alloc(size: u64) -> Call {
 fn limits(rt: HostRuntime) {
     let accepted = [
         SMALL,
-        Config { nodes: 8, ..SMALL },
+        Config { nodes: 32, ..SMALL },
         Config {
             pages: 256,
             ..SMALL
@@ -58,7 +58,7 @@ fn limits(rt: HostRuntime) {
     }
     let refused = [
         Config { nodes: 1, ..SMALL },
-        Config { nodes: 9, ..SMALL },
+        Config { nodes: 33, ..SMALL },
         Config { pages: 1, ..SMALL },
         Config {
             pages: 257,

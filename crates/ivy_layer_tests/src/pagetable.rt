@@ -207,9 +207,9 @@ fn messages_are_put_off_in_order(rt: HostRuntime) -> Result<(), Fail> {
     Ok(())
 }
 
-/// Eight messages can be put off at a locked entry, and no ninth.
+/// Thirty-two messages can be put off at a locked entry, and no further one.
 #[test]
-fn eight_are_put_off(rt: HostRuntime) -> Result<(), Fail> {
+fn thirty_two_are_put_off(rt: HostRuntime) -> Result<(), Fail> {
     let mut table = PageTable::new(rt.alloc(), &CONFIG, 1)?;
     let word = Word::Advance { offset: 8 };
     assert!(rt; word.needs_write() && !Word::Count { offset: 8 }.needs_write());
@@ -219,7 +219,7 @@ fn eight_are_put_off(rt: HostRuntime) -> Result<(), Fail> {
         call: 7,
     };
     let mut waiting = Waiting::new(word, 3);
-    for _ in 0..8 {
+    for _ in 0..32 {
         assert!(rt; !waiting.is_full());
         waiting.put_off(message);
     }

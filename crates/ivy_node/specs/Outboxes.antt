@@ -1,5 +1,5 @@
 -- A node's link, with the strings that wait to be put on the wire, and those that it holds.
-use Rattle.std.specs.Prelude.{◌≡◌, ◌≢◌, ℕ, true, false, List, [], ◌∷◌, ◌++◌, map, Option, Some, None, refl}
+use Rattle.std.specs.Prelude.{◌≡◌, ◌≢◌, ℕ, ◌+◌, ◌*◌, true, false, List, [], ◌∷◌, ◌++◌, map, Option, Some, None, refl}
 use Rattle.std.proofs.Common.{ap, append-nil}
 use Rattle.ivy_model.specs.declared.Config.{Config}
 use Rattle.ivy_model.specs.Config.{IsConfig}
@@ -8,18 +8,20 @@ use Rattle.ivy_model.specs.declared.Fault.TheVariants.{Memory, NumbersSpent}
 use Rattle.ivy_wire.specs.Data.{Parcel}
 use Rattle.ivy_wire.specs.Spelling.{spelling}
 use Rattle.ivy_wire.specs.Destinations.{dest_of}
+use Rattle.ivy_serving.specs.Limits.{most_posted}
+use Rattle.ivy_link.specs.Limits.{most_ahead}
 use Rattle.ivy_link.specs.Linked.{Linked, Sending, sends, has_numbers}
 use Rattle.ivy_link.specs.Fitting.{FitsLink}
 use Rattle.ivy_link.specs.Windows.{Window}
 use Rattle.ivy_link.specs.Holding.{Holding, link_of, holding}
 
--- how many strings one event sends at most: the frames of a pulse, or what is posted
+-- how many strings one event sends at most: what is posted, and a pulse has no more frames
 abbrev pub most_sent : ℕ
-most_sent = 32
+most_sent = most_posted
 
--- and how many a delivery sends with all that a site goes on with: 8 for each string
+-- and how many a delivery sends with all that a site goes on with, as many for each string
 abbrev pub most_delivered : ℕ
-most_delivered = 264
+most_delivered = most_sent + most_sent * most_ahead
 
 pub record Outbox : Type 0 where
   pub config : Config

@@ -6,6 +6,7 @@ use Rattle.std.proofs.lemmas.Option.{none-some}
 use Rattle.std.specs.FinSet as set
 use Rattle.ivy_model.specs.declared.Config.{Config}
 use Rattle.ivy_model.specs.Config.{IsConfig}
+use Rattle.ivy_model.specs.Limits.{most_nodes}
 use Rattle.ivy_wire.specs.Data.{Content, Parcel}
 use Rattle.ivy_pagetable.specs.declared.Entry.{Entry}
 use Rattle.ivy_pagetable.specs.declared.Entry.TheVariants as entry
@@ -97,10 +98,10 @@ module _ (c : Config) (n : Net) (o : IsOwed n) where
 
 -- there are few nodes
 few : (c : Config) → IsConfig c → (nodes : Nodes) → IsBelow c.nodes nodes → (target : ℕ)
-    → set.contains nodes target ≡ true → target < 32
+    → set.contains nodes target ≡ true → target < most_nodes
 few c config nodes low target has =
-    (let a : target < c.nodes = low target has in let b : c.nodes ≤ 8 = config.nodes_to in
-    omega (arith, a, b))
+    (let a : target < c.nodes = low target has in
+    let b : c.nodes ≤ most_nodes = config.nodes_to in omega (arith, a, b))
 
 put_key : (from x p : ℕ) (r : PutOff) (kind : Request)
     → key_of (letter r.origin x r.origin r.call (content_of kind p))
@@ -150,7 +151,7 @@ other_order x p from target k a b = (let f : Order x from p ≡ Order x target p
 -- acknowledgements are collected
 module _ (n : Net) (x p call : ℕ) (e : Entry) (nodes : Nodes) (waiting : WaitingState)
     (is : n.entry x p ≡ e) (o : IsOwed n)
-    (low : (target : ℕ) → set.contains nodes target ≡ true → target < 32)
+    (low : (target : ℕ) → set.contains nodes target ≡ true → target < most_nodes)
     (still : StaysPutOff e (entry.AwaitAcks (record { left = nodes; waiting = waiting }))) where
   abbrev collecting : Entry
   collecting = entry.AwaitAcks (record { left = nodes; waiting = waiting })

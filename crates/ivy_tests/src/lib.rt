@@ -82,3 +82,5 @@ mod library;
 mod schedules;
 #[cfg(test)]
 mod stores;
+#[cfg(test)]
+mod thirty_two_nodes;

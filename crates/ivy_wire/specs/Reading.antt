@@ -17,7 +17,7 @@ content_at kinds.ReadReq rest = Some (contents.ReadReq (big_number 4 rest))
 content_at kinds.WriteReq rest = Some (contents.WriteReq (big_number 4 rest))
 content_at kinds.ReadRep rest = Some (contents.ReadRep (big_number 4 rest) (drop 4 rest))
 content_at kinds.WriteRep rest =
-    Some (contents.WriteRep (big_number 4 rest) (slice_index rest 4) (drop 5 rest))
+    Some (contents.WriteRep (big_number 4 rest) (big_number 4 (drop 4 rest)) (drop 8 rest))
 content_at kinds.Inval rest = Some (contents.Inval (big_number 4 rest))
 content_at kinds.InvalAck rest = Some (contents.InvalAck (big_number 4 rest))
 content_at kinds.AllocReq rest = Some (contents.AllocReq (big_number 8 rest))
