@@ -104,11 +104,7 @@ impl Word {
                 width,
                 offset,
                 value,
-            } => {
-                let before = number_at(bytes, width, offset);
-                overwrite(bytes, width, offset, value);
-                Out::Value(before)
-            }
+            } => swap(bytes, width, offset, value),
             Word::Count { offset } => Out::Value(number_at(bytes, COUNT_WIDTH, offset)),
             Word::Advance { offset } => advance(bytes, offset),
             Word::Await { offset, least } => {
@@ -141,6 +137,17 @@ fn overwrite(bytes: &mut [u8], width: u8, offset: u32, value: u64)
     let start = offset as usize;
     let width = usize::from(width);
     bytes[start..start + width].copy_from_slice(&value.to_be_bytes()[8 - width..]);
+}
+
+fn swap(bytes: &mut [u8], width: u8, offset: u32, next: u64) -> Out
+    requires width { IsWidth width }
+    requires within { offset + width ≤ length bytes.old }
+    ensures out { result ≡ Out.Value (number_at width offset bytes.old) }
+    ensures bytes { bytes.new ≡ overwrite bytes.old offset (big_bytes width next) }
+{
+    let before = number_at(bytes, width, offset);
+    overwrite(bytes, width, offset, next);
+    Out::Value(before)
 }
 
 fn advance(bytes: &mut [u8], offset: u32) -> Out

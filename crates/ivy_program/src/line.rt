@@ -227,6 +227,29 @@ fn parse_ternary(keyword: &str, first: &str, second: &str, third: &str) -> Optio
     }))
 }
 
+/// The action of a line of five words.
+fn parse_quaternary(
+    keyword: &str,
+    first: &str,
+    second: &str,
+    third: &str,
+    fourth: &str,
+) -> Option<Action>
+    ensures found { IfSome result (λ a. SpellsAction (keyword.now ∷ first.now ∷ second.now ∷ third.now ∷ fourth.now ∷ []) a) }
+    ensures none { IfNone result ((a : Action) → ¬ SpellsAction (keyword.now ∷ first.now ∷ second.now ∷ third.now ∷ fourth.now ∷ []) a) }
+    ensures plain { IfSome result (λ a. has_place a ≡ false) }
+{
+    Some(Action::Plain(match keyword {
+        "swap" => Instruction::Swap {
+            width: parse_width(first)?,
+            to: parse_register(second)?,
+            addr: parse_register(third)?,
+            from: parse_register(fourth)?,
+        },
+        _ => return None,
+    }))
+}
+
 /// What a line says.
 #[derive(Clone, Copy)]
 pub(crate) enum Line {
@@ -256,6 +279,9 @@ impl Line {
             [keyword, first, second] => Line::Does(parse_binary(keyword, first, second)?),
             [keyword, first, second, third] => {
                 Line::Does(parse_ternary(keyword, first, second, third)?)
+            }
+            [keyword, first, second, third, fourth] => {
+                Line::Does(parse_quaternary(keyword, first, second, third, fourth)?)
             }
             _ => return None,
         })

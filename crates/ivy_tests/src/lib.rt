@@ -80,3 +80,5 @@ mod heap;
 mod schedules;
 #[cfg(test)]
 mod stores;
+#[cfg(test)]
+mod swaps;
