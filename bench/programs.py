@@ -10,9 +10,9 @@ INSTRUCTIONS = 4_000
 
 
 def every_call():
-    """Eight programs that make every call in loops and differ in where they begin. In each lap a node loads, adds to
-    and stores a word of each page, reads and advances a count of its own and awaits that advance, and takes a block,
-    stores to it and ends it. All counts lie in one page, and all nodes but one ask that one for blocks.
+    """Eight programs that make every call but a swap in loops and differ in where they begin. In each lap a node loads,
+    adds to and stores a word of each page, reads and advances a count of its own and awaits that advance, and takes a
+    block, stores to it and ends it. All counts lie in one page, and all nodes but one ask that one for blocks.
     """
     for node in range(NODES):
         yield f"node {node}"
@@ -36,7 +36,7 @@ def every_call():
         yield "jump again"
 
 
-# A line of each kind of instruction but `stop`.
+# A line of each kind of instruction but `swap` and `stop`.
 KINDS = (
     "set r1 18446744073709551615",
     "mov r2 r1",

@@ -144,6 +144,18 @@ fn parse_operation(word: &str) -> Option<Operation>
     }
 }
 
+/// The action of a line of one word.
+fn parse_alone(keyword: &str) -> Option<Action>
+    ensures found { IfSome result (λ a. SpellsAction (keyword.now ∷ []) a) }
+    ensures none { IfNone result ((a : Action) → ¬ SpellsAction (keyword.now ∷ []) a) }
+    ensures plain { IfSome result (λ a. has_place a ≡ false) }
+{
+    match keyword {
+        "stop" => Some(Action::Plain(Instruction::Stop)),
+        _ => None,
+    }
+}
+
 /// The action of a line of two words.
 fn parse_unary(keyword: &str, operand: &str) -> Option<Action>
     ensures found { IfSome result (λ a. SpellsAction (keyword.now ∷ operand.now ∷ []) a) }
@@ -250,6 +262,26 @@ fn parse_quaternary(
     }))
 }
 
+impl Action {
+    /// What the line of these words does, where it is an instruction.
+    fn read(words: &[&str]) -> Option<Action>
+        ensures found { IfSome result (λ a. SpellsAction (map (λ w. w.now) words.now) a) }
+        ensures none { IfNone result ((a : Action) → ¬ SpellsAction (map (λ w. w.now) words.now) a) }
+        ensures plain { IfSome result (λ a. has_place a ≡ false) }
+    {
+        match *words {
+            [keyword] => parse_alone(keyword),
+            [keyword, operand] => parse_unary(keyword, operand),
+            [keyword, first, second] => parse_binary(keyword, first, second),
+            [keyword, first, second, third] => parse_ternary(keyword, first, second, third),
+            [keyword, first, second, third, fourth] => {
+                parse_quaternary(keyword, first, second, third, fourth)
+            }
+            _ => None,
+        }
+    }
+}
+
 /// What a line says.
 #[derive(Clone, Copy)]
 pub(crate) enum Line {
@@ -272,18 +304,9 @@ impl Line {
     {
         Some(match *words {
             [] => Line::Blank,
-            ["stop"] => Line::Does(Action::Plain(Instruction::Stop)),
             ["node", node] => Line::Node(parse_number(node)?),
             ["label", name] => Line::Label(Name::new(name)?),
-            [keyword, operand] => Line::Does(parse_unary(keyword, operand)?),
-            [keyword, first, second] => Line::Does(parse_binary(keyword, first, second)?),
-            [keyword, first, second, third] => {
-                Line::Does(parse_ternary(keyword, first, second, third)?)
-            }
-            [keyword, first, second, third, fourth] => {
-                Line::Does(parse_quaternary(keyword, first, second, third, fourth)?)
-            }
-            _ => return None,
+            _ => Line::Does(Action::read(words)?),
         })
     }
 }
