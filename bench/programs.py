@@ -10,9 +10,9 @@ INSTRUCTIONS = 4_000
 
 
 def every_call(nodes):
-    """So many programs that make every call in loops and differ in where they begin. In each lap a node loads, adds to
-    and stores a word of each page, reads and advances a count and awaits that advance, and takes a block, stores to it
-    and ends it. All counts lie in one page: each of eight nodes has one of its own, and of more nodes several share one.
+    """So many programs that make every call but a swap in loops and differ in where they begin. In each lap a node
+    loads, adds to and stores a word of each page, reads and advances a count and awaits that advance, and takes a block,
+    stores to it and ends it. All counts lie in one page: each of eight nodes has one of its own, and of more nodes several share one.
     All nodes but one ask that one for blocks.
     """
     for node in range(nodes):
@@ -37,7 +37,7 @@ def every_call(nodes):
         yield "jump again"
 
 
-# A line of each kind of instruction but `stop`.
+# A line of each kind of instruction but `swap` and `stop`.
 KINDS = (
     "set r1 18446744073709551615",
     "mov r2 r1",

@@ -17,3 +17,5 @@ mod examples;
 mod orders;
 #[cfg(test)]
 mod streams;
+#[cfg(test)]
+mod swaps;

@@ -102,6 +102,7 @@ quiet_bytes : (w : Word) (bytes : List ℕ) → reply_of (carried_out w bytes).o
     → (carried_out w bytes).bytes ≡ bytes
 quiet_bytes (word.Load width offset) bytes h = refl
 quiet_bytes (word.Store width offset value) bytes h = absurd cc
+quiet_bytes (word.Swap width offset value) bytes h = absurd cc
 quiet_bytes (word.Count offset) bytes h = refl
 quiet_bytes (word.Advance offset) bytes h =
     quiet_advance (number_at 8 offset bytes == 2 ^ 64 - 1) bytes _ h

@@ -83,4 +83,6 @@ mod schedules;
 #[cfg(test)]
 mod stores;
 #[cfg(test)]
+mod swaps;
+#[cfg(test)]
 mod thirty_two_nodes;
