@@ -234,7 +234,11 @@ fn refuses_among<A: Allocator + Copy>(
 ) -> Result<(), Fail> {
     let string = string(alloc, words, page)?;
     config.check()?;
-    assert_eq!(rt; decode(alloc, config, &string).err(), Some(fault), "{words}");
+    assert_eq!(rt;
+        decode(alloc, config, &string).err(),
+        Some(fault),
+        "{words}"
+    );
     Ok(())
 }
 

@@ -8,7 +8,7 @@ ghost use Rattle.ivy_link.specs.Pulsed.{repeated};
 ghost use Rattle.ivy_link.specs.Holding.{link_of, first_holding, offered_at, accepted_at, after_sending, frames_for, has_numbers_for};
 ghost use Rattle.ivy_link.specs.Holding.{AreToPeers, frames_repeated, after_pulsing, after_hold, given_back, ready_of, after_taking};
 
-use crate::keeping::{count_to, keep_each, reserve};
+use crate::keeping::{count_to, has_numbers_to, keep_each, reserve};
 use crate::lent::{add, again, copied, copies};
 use crate::side::Side;
 use crate::verdict::Verdict;
@@ -121,7 +121,7 @@ impl<A: Allocator + Copy> Link<A> {
     {
         for parcel in parcels {
             let side = &self.sides[usize::from(parcel.dest)];
-            if !side.has_numbers(count_to(parcels, parcel.dest)) {
+            if !has_numbers_to(side, parcels, parcel.dest) {
                 return false;
             }
         }

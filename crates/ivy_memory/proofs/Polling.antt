@@ -101,7 +101,8 @@ module _ {S : Type 0} (ops : Ops S) (m : NodeMemory S) (k : Call) where
   polled-begun is =
       subst (IsBegun k m.number) (sym (polled_so ops m k is)) (as-begun is (reply_at m))
 
-  tried-few : IsSound ops m.coherence → (x : Asked) → length (tried_as ops m k x).posted ≤ most_posted
+  tried-few : IsSound ops m.coherence → (x : Asked)
+      → length (tried_as ops m k x).posted ≤ most_posted
   tried-few s (asked.Refused code) = omega arith
   tried-few s (asked.Word page w) =
       let few =
@@ -115,7 +116,8 @@ module _ {S : Type 0} (ops : Ops S) (m : NodeMemory S) (k : Call) where
       omega (arith, few, is)
   tried-few s (asked.Heap k) = omega arith
 
-  as-few : IsSound ops m.coherence → (r : Option Reply) → length (polled_as ops m k r).posted ≤ most_posted
+  as-few : IsSound ops m.coherence → (r : Option Reply)
+      → length (polled_as ops m k r).posted ≤ most_posted
   as-few s None = tried-few s (asked_of m.coherence.config k)
   as-few s (Some r) = omega arith
 

@@ -385,8 +385,8 @@ pub orders_there : (n : Net) (x p : ℕ) (z : Entry) (left : List Letter) (call 
     → HasKey (goes_on n x p z left (invalidations x p call nodes)) (Order x target p)
 unfolding nodes_of
 orders_there n x p z left call nodes target counted low has =
-    let f = order_from x p call (set.contains nodes) 0 most_nodes target (omega arith) (omega (arith, low))
-    has in
+    let f = order_from x p call (set.contains nodes) 0 most_nodes target (omega arith)
+    (omega (arith, low)) has in
     record {
       at = Underway x target (length (n.posted x target) + f.0);
       letter = letter x target x call (content.Inval p);

@@ -52,10 +52,18 @@ fn one_stores<A: Allocator + Copy>(rt: &impl Abort, world: &mut World<A>) {
     ];
     assert_eq!(rt; play(world, &asks), Ok(()));
     for node in 1..last {
-        assert_eq!(rt; play(world, &[deliver(63 + node, node)]), Ok(()), "node {node}");
+        assert_eq!(rt;
+            play(world, &[deliver(63 + node, node)]),
+            Ok(()),
+            "node {node}"
+        );
     }
     for node in 1..last {
-        assert_eq!(rt; play(world, &[deliver(93 + node, last)]), Ok(()), "node {node}");
+        assert_eq!(rt;
+            play(world, &[deliver(93 + node, last)]),
+            Ok(()),
+            "node {node}"
+        );
     }
     assert_eq!(rt; play(world, &[Move::Turn(last)]), Ok(()));
 }
@@ -86,7 +94,10 @@ fn check_load<A: Allocator + Copy>(
     let brings = format!(in alloc;
         "4956020300{node:02x}004d 0000000000000001 0000000000000000 {node:02x} 0000000000000001 00000001"
     )?;
-    assert!(rt; sent(alloc, world, index + 1, brings.as_str(), Some(0))?, "{brings}");
+    assert!(rt;
+        sent(alloc, world, index + 1, brings.as_str(), Some(0))?,
+        "{brings}"
+    );
     Ok(())
 }
 
@@ -101,11 +112,17 @@ fn check_order<A: Allocator + Copy>(
         "495602051f{node:02x}000d 0000000000000001 0000000000000000 1f 0000000000000002 00000001"
     )?;
     let index = 63 + usize::from(node);
-    assert!(rt; sent(alloc, world, index, orders.as_str(), None)?, "{orders}");
+    assert!(rt;
+        sent(alloc, world, index, orders.as_str(), None)?,
+        "{orders}"
+    );
     let gives_up = format!(in alloc;
         "49560206{node:02x}1f000d 0000000000000001 0000000000000000 1f 0000000000000002 00000001"
     )?;
-    assert!(rt; sent(alloc, world, index + 30, gives_up.as_str(), None)?, "{gives_up}");
+    assert!(rt;
+        sent(alloc, world, index + 30, gives_up.as_str(), None)?,
+        "{gives_up}"
+    );
     Ok(())
 }
 
@@ -143,7 +160,13 @@ fn thirty_two_readers(rt: HostRuntime) -> Result<(), Fail> {
     one_stores(&rt, &mut world);
     check_strings(&rt, rt.alloc(), &world)?;
     for node in 1..WRITER {
-        assert!(rt; shows(&world, &ended(u64::from(node), &[loaded(node, 8, 64, 0)], &[])), "{node}");
+        assert!(rt;
+            shows(
+                &world,
+                &ended(u64::from(node), &[loaded(node, 8, 64, 0)], &[])
+            ),
+            "{node}"
+        );
     }
     let answers = [loaded(WRITER, 8, 64, 0), stored(WRITER, 8, 64, 5)];
     assert!(rt; shows(&world, &ended(u64::from(WRITER), &answers, &[])));

@@ -54,7 +54,8 @@ abbrev pub content_text : Content → List ℕ
 content_text (contents.ReadReq page) = big_bytes 4 page
 content_text (contents.WriteReq page) = big_bytes 4 page
 content_text (contents.ReadRep page bytes) = big_bytes 4 page ++ bytes
-content_text (contents.WriteRep page copies bytes) = big_bytes 4 page ++ (big_bytes 4 copies ++ bytes)
+content_text (contents.WriteRep page copies bytes) =
+    big_bytes 4 page ++ (big_bytes 4 copies ++ bytes)
 content_text (contents.Inval page) = big_bytes 4 page
 content_text (contents.InvalAck page) = big_bytes 4 page
 content_text (contents.AllocReq size) = big_bytes 8 size
