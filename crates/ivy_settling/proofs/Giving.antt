@@ -153,7 +153,7 @@ module _ (c : Config) (config : IsConfig c) (n : Net) (order : IsOrderly c n) (k
       let left : set.contains (set.remove s.copies o) y ≡ true =
       ap (λ t. set.contains t y)
       (sym (with_bits_of c.nodes (set.remove s.copies o)
-      (let f : c.nodes ≤ 8 = config.nodes_to in omega (arith, f))
+      config.nodes_to
       (remove_below c.nodes s.copies o low)) ∙ sym (given_copies i w a h))
       ∙ held in
       let before : set.contains s.copies y ≡ true = was_in s.copies o y left in

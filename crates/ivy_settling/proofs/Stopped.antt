@@ -58,6 +58,7 @@ pub unanswered : (w : Word) (bytes : List ℕ) → reply_of (carried_out w bytes
     → IsUnanswered w bytes
 unanswered (word.Load width offset) bytes h = absurd (some_none _ h)
 unanswered (word.Store width offset value) bytes h = absurd (some_none _ h)
+unanswered (word.Swap width offset value) bytes h = absurd (some_none _ h)
 unanswered (word.Count offset) bytes h = absurd (some_none _ h)
 unanswered (word.Advance offset) bytes h =
     absurd (either_none (number_at 8 offset bytes == 2 ^ 64 - 1) _ _ (some_none _) (some_none _) h)
@@ -97,6 +98,8 @@ pub await_is : (c : Config) (called : Call) (page offset least : ℕ)
 await_is c (call.Load width addr) page offset least h =
     absurd (no_access (access_refusal c width addr) _ page offset least _ (λ o l e. cc) h)
 await_is c (call.Store width addr value) page offset least h =
+    absurd (no_access (access_refusal c width addr) _ page offset least _ (λ o l e. cc) h)
+await_is c (call.Swap width addr value) page offset least h =
     absurd (no_access (access_refusal c width addr) _ page offset least _ (λ o l e. cc) h)
 await_is c (call.Count k) page offset least h =
     (let f = count_word (nat_lt k (count_len c)) (word.Count (8 * k)) _ page offset least h in

@@ -3,7 +3,7 @@
 use Rattle.std.specs.Prelude.{◌≡◌, ◌<◌, ℕ, List, slice_get, Option, Some, None}
 use Rattle.ivy_model.specs.declared.Config.{Config}
 use Rattle.ivy_model.specs.declared.Call.{Call}
-use Rattle.ivy_model.specs.declared.Call.TheVariants.{Load, Store, Count, Advance, Await, Alloc, Free}
+use Rattle.ivy_model.specs.declared.Call.TheVariants.{Load, Store, Swap, Count, Advance, Await, Alloc, Free}
 use Rattle.ivy_model.specs.declared.Record.{Record}
 use Rattle.ivy_model.specs.Memory.{Memory, first}
 use Rattle.ivy_model.specs.Legal.{ServesAll}
@@ -21,6 +21,7 @@ abbrev pub HasNoAnswer : Memory → Option Call → Type 0
 HasNoAnswer m None = Unit {0}
 HasNoAnswer m (Some (Load width addr)) = ⊥
 HasNoAnswer m (Some (Store width addr value)) = ⊥
+HasNoAnswer m (Some (Swap width addr value)) = ⊥
 HasNoAnswer m (Some (Count k)) = ⊥
 HasNoAnswer m (Some (Advance k)) = ⊥
 HasNoAnswer m (Some (Await k least)) =
