@@ -102,7 +102,7 @@ module _ {C : Type 0} (rules : Core C) (c : Config) where
     pub made : moved w move ≡ Some mid
     -- the strings that the node goes on with
     pub more : List (List ℕ)
-    pub world_goes_on : MayGoOn mid move more end
+    pub goes_on : MayGoOn mid move more end
 
   -- there is no world after the move
   abbrev pub HasNoneAfter : World C → Move → Type 0
