@@ -1,5 +1,5 @@
--- A call that is refused at once is never in progress: whatever is in progress is a word of a page or
--- a call of the heap.
+-- A call that is refused at once is never in progress: whatever is in progress is a word of a page
+-- or a call of the heap.
 use Rattle.std.proofs.Common.{◌≡◌, ◌+◌, ◌^◌, ℕ, Bool, true, false, length, nat_lt, if◌then◌else◌, Option, Some, None, refl, sym, ap, ◌∙◌, subst}
 use Rattle.std.proofs.lemmas.Option.{same_Some, none-some}
 use Rattle.ivy_model.specs.declared.Config.{Config}

@@ -71,7 +71,7 @@ module _ (c : Config) (n : Net) (k : IsCovered n) (bytes : List ℕ)
         new_about = λ a l new. absurd new;
         entry = λ own. absurd (let f : false ≡ true = own in cc);
         here = stays_here n copied_net x p (entry.AwaitRead s) (entry.Idle copying) (freed x p)
-            IsNone copied (IsOnly copy_letter) copied_remain c
+            IsNone copied (IsOnly copy_letter) copied_remain
             (record {
               owner = λ q own. absurd (let f : false ≡ true = own in cc);
               moved = λ a l bits others new. absurd new;
@@ -159,8 +159,8 @@ module _ (c : Config) (n : Net) (order : IsOrderly c n) (k : IsCovered n) (bits 
   shared_covered : s.waiting.call ≡ call → nodes_with bits ≢ set.empty
       → IsCovered (goes_on n x p collecting [] (invalidations x p call (nodes_with bits)))
   shared_covered same some =
-      owning_covered c n (goes_on n x p collecting [] (invalidations x p call (nodes_with bits))) x p
-      (entry.AwaitWrite s) collecting served (IsOrder n x p call (nodes_with bits))
+      owning_covered c n (goes_on n x p collecting [] (invalidations x p call (nodes_with bits)))
+      x p (entry.AwaitWrite s) collecting served (IsOrder n x p call (nodes_with bits))
       (orders_step n x p (entry.AwaitWrite s) collecting call (nodes_with bits) is (λ j q h. h))
       (IsOnly page_letter)
       (served_remain n x p (entry.AwaitWrite s) collecting []
@@ -196,12 +196,12 @@ module _ (c : Config) (n : Net) (order : IsOrderly c n) (k : IsCovered n)
 
   ack_covered : set.remove s.left from ≢ set.empty → IsCovered (goes_on n x p one_less [] [])
   ack_covered more =
-      owning_covered c n (goes_on n x p one_less [] []) x p (entry.AwaitAcks s) one_less served IsNone
-      (stay_step n x p (entry.AwaitAcks s) one_less is (λ j q h. h)) (IsOnly ack_letter)
+      owning_covered c n (goes_on n x p one_less [] []) x p (entry.AwaitAcks s) one_less served
+      IsNone (stay_step n x p (entry.AwaitAcks s) one_less is (λ j q h. h)) (IsOnly ack_letter)
       (served_remain n x p (entry.AwaitAcks s) one_less [] [] is ack_letter loose (λ j q h. h)) refl
       refl (acknowledged c n order r) k
       (λ l gone. ap (λ (v : Letter). page_of v.message.content) gone) (λ a l new. absurd new) more
-      (λ y held. held_by c n order k x p (entry.AwaitAcks s) is refl y
+      (λ y held. held_by n k x p (entry.AwaitAcks s) is refl y
       (was_in s.left from y held)) ack_of
 
   last_covered : set.remove s.left from ≡ set.empty
@@ -238,7 +238,7 @@ module _ (c : Config) (n : Net) (order : IsOrderly c n) (k : IsCovered n) (r : B
       (λ j q h. absurd (none-some q h))) refl refl after k (λ l gone. absurd gone)
       (λ a l new. ap (λ (v : Letter). page_of v.message.content) new.3)
       ((subst IsOccupied is (k.occupied x p)) owner unwritten)
-      (held_by c n order k x p (entry.Idle s) is owner) (λ y l held gone. absurd gone)
+      (held_by n k x p (entry.Idle s) is owner) (λ y l held gone. absurd gone)
 
 module _ (c : Config) (config : IsConfig c) where
   covered_by : {n : Net} {f : ℕ → List ℕ} {notice : Notice} {n' : Net} {f' : ℕ → List ℕ}

@@ -42,9 +42,8 @@ pub empty_has : (s : Nodes) (y : ℕ) → s ≡ set.empty → set.contains s y �
 empty_has s y none held =
     both_ways (set.contains s y) (ap (λ t. set.contains t y) none ∙ contains-empty nat_cmp y) held
 
--- the node of a step owns the page after it
-module _ (c : Config) (n : Net) (order : IsOrderly c n) (k : IsCovered n) (x p : ℕ) (e : Entry)
-    (is : n.entry x p ≡ e) where
+-- whom an owner counts has a share
+module _ (n : Net) (k : IsCovered n) (x p : ℕ) (e : Entry) (is : n.entry x p ≡ e) where
   pub held_by : is_owner e ≡ true → (y : ℕ) → set.contains (copies_of e) y ≡ true → HasShare n x y p
   held_by own y held =
       k.members p x y (copies_of e) (At x) (refl, ap is_owner is ∙ own, sym (ap copies_of is)) held
@@ -61,8 +60,8 @@ module _ (c : Config) (n : Net) (order : IsOrderly c n) (counted : IsCounted n) 
   shared_net =
       goes_on n x p shared rest (parcel_to x o o call (content.ReadRep p (n.page x p)) ∷ [])
 
-  share_here : IsOrderly c shared_net → (i y : ℕ) (w : Nodes) (a : Seat) → IsOwned shared_net p i w a
-      → set.contains w y ≡ true → HasShare shared_net i y p
+  share_here : IsOrderly c shared_net → (i y : ℕ) (w : Nodes) (a : Seat)
+      → IsOwned shared_net p i w a → set.contains w y ≡ true → HasShare shared_net i y p
   share_here after i y w a h held =
       let step =
       answer c n k r shared o (content.ReadRep p (n.page x p)) (λ j q g. g) (λ j q g. g) in
@@ -91,14 +90,14 @@ module _ (c : Config) (n : Net) (order : IsOrderly c n) (counted : IsCounted n) 
             (ap (λ v. readable (shared_net.entry v p)) here ∙ ap readable step.after)))
             (λ l gone share. absurd
             (only_no_share (letter from x o call (content.ReadReq p)) l x y p tt gone share))
-            (held_by c n order k x p (entry.Idle s) is owner y before))
+            (held_by n k x p (entry.Idle s) is owner y before))
             )
       ]
 
   pub share_covered : IsOrderly c shared_net → IsCovered shared_net
   share_covered after =
-      answer_covered c n k r shared o (content.ReadRep p (n.page x p)) (λ j q g. g) (λ j q g. g) refl
-      refl
+      answer_covered c n k r shared o (content.ReadRep p (n.page x p)) (λ j q g. g) (λ j q g. g)
+      refl refl
       (λ own unwritten none. empty_has (set.insert s.copies o) o none (with_itself s.copies o))
       (share_here after)
 
@@ -157,7 +156,7 @@ module _ (c : Config) (config : IsConfig c) (n : Net) (order : IsOrderly c n) (k
       (remove_below c.nodes s.copies o low)) ∙ sym (given_copies i w a h))
       ∙ held in
       let before : set.contains s.copies y ≡ true = was_in s.copies o y left in
-      let copy : HasCopy n y p = had (held_by c n order k x p (entry.Idle s) is owner y before) in
+      let copy : HasCopy n y p = had (held_by n k x p (entry.Idle s) is owner y before) in
       share_stays n given_net x p (entry.Idle s) (entry.Idle without) served _
       (answer c n k r (entry.Idle without) o given (λ j q g. g) (λ j q g. g))
       (IsOnly (letter from x o call (content.WriteReq p)))

@@ -1,5 +1,5 @@
--- Each ordered world that moves lead to from the opening is explained by an order of records, and no
--- call in progress there is one that is refused at once.
+-- Each ordered world that moves lead to from the opening is explained by an order of records, and
+-- no call in progress there is one that is refused at once.
 use Rattle.std.proofs.Common.{◌≡◌, ℕ, List, [], ◌∷◌, ◌++◌, length, slice_get, Some, sym, ap, ◌∙◌, inl, inr, subst}
 use Rattle.std.proofs.lemmas.Option.{none-some}
 use Rattle.ivy_model.specs.declared.Config.{Config}

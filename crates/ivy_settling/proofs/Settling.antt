@@ -109,7 +109,11 @@ module _ {S : Type 0} (ops : Ops S) (c : Config) (config : IsConfig c) (o : Orde
         let have : HaveErrands o = have_errands o sound in
         let for : IsErrandFor k (length n.history + 1) n.memory.side.errand =
         have.each i n k there
-        (record { call = called; asked = asked; of = ap (λ d. asked_of d called) good.config ∙ is }) in
+        (record {
+          call = called;
+          asked = asked;
+          of = ap (λ d. asked_of d called) good.config ∙ is;
+        }) in
         let away : i ≢ 0 =
         λ home. subst (IsErrandFor k (length n.history + 1))
         (have.none n (ap (slice_get o.cores) (sym home) ∙ there)) for in
@@ -138,7 +142,8 @@ module _ {S : Type 0} (ops : Ops S) (c : Config) (config : IsConfig c) (o : Orde
       counted : (v : ℕ) → slice_get memory.counts await.count ≡ Some v
           → number_at 8 offset (page_at n.memory.coherence.table page) ≡ v
       counted v is =
-          ap (number_at 8 offset) same_bytes ∙ ap (λ p. number_at 8 offset (flat_page c memory p)) await.first
+          ap (number_at 8 offset) same_bytes
+          ∙ ap (λ p. number_at 8 offset (flat_page c memory p)) await.first
           ∙ ap (λ a. number_at 8 a (flat_page c memory 0)) await.at
           ∙ read_count memory.counts await.count v is (sized.words await.count v is)
 

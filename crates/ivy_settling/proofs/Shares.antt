@@ -3,7 +3,6 @@
 use Rattle.std.proofs.Common.{◌≡◌, ◌≢◌, ◌⊎◌, ℕ, true, false, List, sym, ap, ◌∙◌, inl, inr, subst}
 use Rattle.std.proofs.lemmas.Bool.{cases_eq}
 use Rattle.std.specs.FinSet as set
-use Rattle.ivy_model.specs.declared.Config.{Config}
 use Rattle.ivy_wire.specs.declared.Content.TheVariants as content
 use Rattle.ivy_pagetable.specs.declared.Entry.{Entry}
 use Rattle.ivy_pagetable.specs.declared.Entry.TheVariants as entry
@@ -152,11 +151,11 @@ module _ (n n' : Net) (x p : ℕ) (e z : Entry) (now : Place → Place) (New : P
     }
 
   -- where neither the owner of the page nor its copies change, but for what is told of them
-  pub stays_here : (c : Config) → IsNoMove n n' x p e z now New step p → IsCovered n
+  pub stays_here : IsNoMove n n' x p e z now New step p → IsCovered n
       → ((i y : ℕ) (s : Nodes) (b : Seat) → IsOwned n p i s b → set.contains s y ≡ true
       → HasShare n i y p → HasShare n' i y p)
       → (i y : ℕ) (s : Nodes) (a : Seat) → IsOwned n' p i s a → set.contains s y ≡ true
       → HasShare n' i y p
-  stays_here c none k stays i y s a h held =
+  stays_here none k stays i y s a h held =
       let was = owner_before n n' x p e z now New step p none i s a h in
       stays i y s was.0 was.1 held (k.members p i y s was.0 was.1 held)

@@ -110,7 +110,7 @@ module _ (c : Config) (n : Net) (k : IsCovered n) {T : Type 0} {at : T → Entry
       answer_covered about new_about occupied
       (stays_here n answered_net x p (at s) z served
       (IsThe (Underway x dest (length (n.posted x dest))) (letter x dest origin call body)) answer
-      (IsOnly asking) others_remain c
+      (IsOnly asking) others_remain
       (record {
         owner = λ q h. same h;
         moved =
@@ -142,7 +142,8 @@ given_up_covered c n order counted k r z fewer still occupied plain =
     let told : IsThere (goes_on n r.node r.page z r.rest
     (parcel_to r.node r.origin r.origin r.call (content.InvalAck r.page) ∷ []))
     (letter r.node r.origin r.origin r.call (content.InvalAck r.page)) =
-    letter_there n r.node r.page z r.rest r.origin r.origin r.call (content.InvalAck r.page) counted in
+    letter_there n r.node r.page z r.rest r.origin r.origin r.call (content.InvalAck r.page)
+    counted in
     gave (record {
       at = told.0;
       letter = letter r.node r.origin r.origin r.call (content.InvalAck r.page);
@@ -186,7 +187,7 @@ module _ (c : Config) (n : Net) (k : IsCovered n) (r : Begins c n) (z : Entry) (
         entry = occupied;
         here = stays_here n asking_net x p (entry.Idle s) z served
             (IsThe (Underway x dest (length (n.posted x dest))) (letter x dest x call body)) asks
-            IsNothing all_remain c
+            IsNothing all_remain
             (record {
               owner = λ q h. absurd (let f : true ≡ false = sym h ∙ plain in cc);
               moved =
@@ -198,7 +199,8 @@ module _ (c : Config) (n : Net) (k : IsCovered n) (r : Begins c n) (z : Entry) (
             (IsThe (Underway x dest (length (n.posted x dest))) (letter x dest x call body)) asks
             IsNothing all_remain i y p
             (λ here q read. has (reads
-            (ap (λ v. readable (asking_net.entry v p)) here ∙ ap readable asks.after ∙ reader read)))
+            (ap (λ v. readable (asking_net.entry v p)) here ∙ ap readable asks.after
+            ∙ reader read)))
             (λ l gone. absurd gone) share);
       }) k
 
@@ -269,7 +271,7 @@ module _ (c : Config) (n : Net) (k : IsCovered n) (r : PutsOff c n) where
         entry = put_occupied e later (subst IsOccupied is (k.occupied x p));
         here = stays_here n put_net x p e (with_put_off e later) served
             (IsThe (Aside x p (length (put_offs e))) (letter_of x p later)) puts
-            (IsOnly put_letter) rest_remain c
+            (IsOnly put_letter) rest_remain
             (record {
               owner = λ q h. put_owner e later h;
               moved =

@@ -66,8 +66,8 @@ unanswered (word.Await offset least) bytes h = record {
   offset = offset;
   least = least;
   is = refl;
-  below =
-      awaited_none (number_at 8 offset bytes) least (nat_le least (number_at 8 offset bytes)) refl h;
+  below = awaited_none (number_at 8 offset bytes) least
+      (nat_le least (number_at 8 offset bytes)) refl h;
 }
 
 -- the call is an await of a count that there is
@@ -83,7 +83,8 @@ no_access : (o : Option ℕ) (p page offset least : ℕ) (w : Word)
     → word_unless o p w ≡ kinds.Word page (word.Await offset least) → ⊥
 no_access (Some code) p page offset least w other h = cc
 no_access None p page offset least w other h =
-    other offset least (let f : kinds.Word p w ≡ kinds.Word page (word.Await offset least) = h in cc)
+    other offset least
+    (let f : kinds.Word p w ≡ kinds.Word page (word.Await offset least) = h in cc)
 
 count_word : (b : Bool) (w : Word) (fault : Fault) (page offset least : ℕ)
     → count_asked (if b then Ok w else Err fault) ≡ kinds.Word page (word.Await offset least)

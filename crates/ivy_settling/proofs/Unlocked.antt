@@ -1,6 +1,6 @@
--- Where no letter is under way, no word waits (Li and Hudak 1989: a fault waits for the messages that
--- answer it): whoever waited would wait for a request that is put off where another one waits, at a
--- lower node.
+-- Where no letter is under way, no word waits (Li and Hudak 1989: a fault waits for the messages
+-- that answer it): whoever waited would wait for a request that is put off where another one waits,
+-- at a lower node.
 use Rattle.std.proofs.Common.{◌≡◌, ◌<◌, ◌+◌, ℕ, zero, suc, true, false, [], slice_get, Some, refl, sym, ap, ◌∙◌, inl, inr, subst, arith}
 use Rattle.std.proofs.lemmas.Bool.{cases_Bool, both_ways}
 use Rattle.std.proofs.lemmas.Option.{none-some}
