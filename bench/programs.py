@@ -2,23 +2,24 @@
 
 from timing import Measure, write_lines
 
-NODES = 8
 PAGES = 5
 PAGE_SIZE = 64
+COUNTS = PAGE_SIZE // 8
 
 INSTRUCTIONS = 4_000
 
 
-def every_call():
-    """Eight programs that make every call in loops and differ in where they begin. In each lap a node loads, adds to
-    and stores a word of each page, reads and advances a count of its own and awaits that advance, and takes a block,
-    stores to it and ends it. All counts lie in one page, and all nodes but one ask that one for blocks.
+def every_call(nodes):
+    """So many programs that make every call but a swap in loops and differ in where they begin. In each lap a node
+    loads, adds to and stores a word of each page, reads and advances a count and awaits that advance, and takes a block,
+    stores to it and ends it. All counts lie in one page: each of eight nodes has one of its own, and of more nodes several share one.
+    All nodes but one ask that one for blocks.
     """
-    for node in range(NODES):
+    for node in range(nodes):
         yield f"node {node}"
         yield "set r1 1"
-        yield f"set r2 {node}"
-        yield "set r3 16"
+        yield f"set r2 {node % COUNTS}"
+        yield f"set r3 {128 // nodes}"
         yield "label again"
         for place in range(PAGES - 1):
             page = 1 + (node + place) % (PAGES - 1)
@@ -36,7 +37,7 @@ def every_call():
         yield "jump again"
 
 
-# A line of each kind of instruction but `stop`.
+# A line of each kind of instruction but `swap` and `stop`.
 KINDS = (
     "set r1 18446744073709551615",
     "mov r2 r1",
@@ -74,12 +75,12 @@ def labels_text(labels):
         yield f"jump l{label}"
 
 
-def simulation(manager):
-    """The words of a run of so many drawn moves."""
+def simulation(nodes, manager):
+    """The words of a run of so many drawn moves among so many nodes."""
     options = ["--pages", str(PAGES), "--page-size", str(PAGE_SIZE), "--manager", manager]
     return lambda folder, count: [
         "sim",
-        write_lines(folder / "program", every_call()),
+        write_lines(folder / "program", every_call(nodes)),
         "--moves",
         str(count),
         *options,
@@ -87,13 +88,15 @@ def simulation(manager):
 
 
 def reading(text):
-    """The words of a command that reads such a text, and then refuses the number of its programs with status 2."""
-    return lambda folder, count: ["sim", write_lines(folder / "program", text(count)), "--moves", "0"]
+    """The words of a command that reads such a text, and then refuses a memory of one page with status 2."""
+    return lambda folder, count: ["sim", write_lines(folder / "program", text(count)), "--moves", "0", "--pages", "1"]
 
 
 SIMULATIONS = (
-    Measure("sim-fixed", "move", 500_000, simulation("fixed"), limit=2.8),
-    Measure("sim-dynamic", "move", 500_000, simulation("dynamic"), limit=2.8),
+    Measure("sim-fixed", "move", 500_000, simulation(8, "fixed"), limit=2.8),
+    Measure("sim-fixed-32", "move", 500_000, simulation(32, "fixed"), limit=2.8, beside="sim-fixed"),
+    Measure("sim-dynamic", "move", 500_000, simulation(8, "dynamic"), limit=2.8),
+    Measure("sim-dynamic-32", "move", 500_000, simulation(32, "dynamic"), limit=2.8, beside="sim-dynamic"),
 )
 
 TEXTS = (

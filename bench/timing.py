@@ -22,6 +22,8 @@ class Measure:
     words: Callable[[Path, int], list]
     limit: float = LINEAR
     status: int = 0
+    # The measure whose unit may take at least half as long.
+    beside: str | None = None
 
 
 def write_lines(file, lines):

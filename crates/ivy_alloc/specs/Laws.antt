@@ -23,6 +23,7 @@ IsFlat c call told = (old : Memory) (reply : Reply) (new : Memory)
     → Serves c old call reply new
     ↔ ((reply ≡ (told old.blocks).reply) × (new ≡ with_blocks old (told old.blocks).blocks))
 
+-- under every configuration the heap answers both of its calls as the flat memory does
 abbrev pub HeapIsFlat : Type 0
 HeapIsFlat = (c : Config) (n : ℕ) → IsFlat c (Alloc n) (λ blocks. alloc_told c blocks n)
     × IsFlat c (Free n) (λ blocks. free_told blocks n)
@@ -41,6 +42,7 @@ IsFreeReply (Value value) = ⊥
 IsFreeReply Done = Unit {0}
 IsFreeReply (Refused code) = code ≡ fault_number NotABlock
 
+-- whatever blocks are live, a call of the heap gets one of the replies above
 abbrev pub HasReplies : Type 0
 HasReplies = (c : Config) (blocks : Blocks) (n : ℕ)
     → IsAllocReply c n (alloc_told c blocks n).reply × IsFreeReply (free_told blocks n).reply

@@ -17,6 +17,7 @@ pub record BlocksTold : Type 0 where
   pub reply : Reply
   pub blocks : Blocks
 
+-- this reply, and these are the live blocks after it
 abbrev pub gives : Reply → Blocks → BlocksTold
 gives reply blocks = record { reply = reply; blocks = blocks }
 
@@ -39,6 +40,7 @@ abbrev pub placed : Blocks → ℕ → Option ℕ → BlocksTold
 placed blocks size None = gives (Refused (fault_number NoRoom)) blocks
 placed blocks size (Some addr) = gives (Value addr) (map.insert blocks addr size)
 
+-- the answer to Alloc of so many bytes, which are rounded up to whole words
 unfoldable pub alloc_told : Config → Blocks → ℕ → BlocksTold
 alloc_told c blocks size =
     if size == 0 then gives (Refused (fault_number ZeroSize)) blocks
@@ -49,6 +51,7 @@ abbrev pub ended : Blocks → ℕ → Bool → BlocksTold
 ended blocks addr true = gives Done (map.remove blocks addr)
 ended blocks addr false = gives (Refused (fault_number NotABlock)) blocks
 
+-- the answer to Free of the block that starts at the address
 unfoldable pub free_told : Blocks → ℕ → BlocksTold
 free_told blocks addr = ended blocks addr (map.contains_key blocks addr)
 

@@ -24,6 +24,7 @@ use Rattle.ivy_pagetable.specs.declared.Request.{Request}
 use Rattle.ivy_pagetable.specs.declared.Request.TheVariants as request
 use Rattle.ivy_pagetable.specs.declared.Word.{Word}
 use Rattle.ivy_pagetable.specs.Accesses.{reads}
+use Rattle.ivy_model.specs.Limits.{most_nodes}
 use Rattle.ivy_pagetable.specs.Limits.{most_put_off}
 use Rattle.ivy_pagetable.specs.NodeSets.{Nodes, nodes_of, nodes_with}
 use Rattle.ivy_pagetable.specs.States.{IdleState, WaitingState, AwaitWriteState, AwaitAcksState}
@@ -176,7 +177,7 @@ pub invalidations-fit : (c : Config) (me page call : ℕ) (s : Nodes) → me < c
 unfolding nodes_of
 invalidations-fit c me page call s here inside from to others =
     each_told (FitsParcel c me) (λ node. parcel_to me node me call (content.Inval page))
-    (nodes.contains s) (range_with_len 0 32)
+    (nodes.contains s) (range_with_len 0 most_nodes)
     (λ node is. parcel_fits c me node me call (content.Inval page) here (others.below node is)
     (λ e. absurd (let f : true ≡ false = sym is ∙ ap (nodes.contains s) e ∙ others.apart in cc))
     here from to inside)

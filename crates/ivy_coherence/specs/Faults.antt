@@ -19,11 +19,13 @@ use Rattle.ivy_coherence.specs.declared.need.Need.TheVariants.{Have, Started, Bu
 use Rattle.ivy_coherence.specs.Coherent.{Coherent}
 use Rattle.ivy_serving.specs.Serving.{invalidations}
 
+-- what an access came to, the node's coherence after it, and what is posted
 pub record Begun (S : Type 0) : Type 0 where
   pub need : Need
   pub after : Coherent S
   pub posted : List Parcel
 
+-- the word may be carried out at once, with this access to its page
 abbrev pub suffices : Access → Word → Bool
 suffices access word = if needs_write word then writes access else reads access
 
@@ -53,6 +55,7 @@ fault_entry word call s =
     else entry.AwaitRead (waiting_from word call)
 
 module _ {S : Type 0} (ops : Ops S) where
+  -- an entry of this node is locked already: nothing changes
   abbrev pub busy : Coherent S → Begun S
   busy c = record { need = Busy; after = c; posted = [] }
 
@@ -83,18 +86,22 @@ module _ {S : Type 0} (ops : Ops S) where
     posted = posted;
   }
 
+  -- access does not suffice: the word waits, and what it lacks is asked for
   abbrev pub faulted : Coherent S → ℕ → Word → ℕ → IdleState → Begun S
   faulted c page word call s =
       started c page (fault_entry word call s) (fault_posted c page word call s)
 
+  -- an access to a page whose entry is this one
   abbrev pub accessed : Coherent S → ℕ → Word → ℕ → Entry → Begun S
   accessed c page word call (entry.Idle s) =
       if suffices s.access word then hit c page word else faulted c page word call s
   accessed c page word call e = busy c
 
+  -- no word begins while another one waits at a locked entry of this node
   abbrev pub begun_at : Coherent S → ℕ → Word → ℕ → Option ℕ → Begun S
   begun_at c page word call None = accessed c page word call (entry_at c.table page)
   begun_at c page word call (Some locked) = busy c
 
+  -- an access of this node's program, for the call of this number
   unfoldable pub begun : Coherent S → ℕ → Word → ℕ → Begun S
   begun c page word call = begun_at c page word call c.locked

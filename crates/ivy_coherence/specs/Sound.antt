@@ -28,6 +28,7 @@ pub record IsSoundEntry (c : Config) (me : ℕ) (e : Entry) : Type 0 where
   pub put_off : All (CanBeServed c me) (put_offs e)
   pub few : length (put_offs e) ≤ most_put_off
 
+-- what holds of the whole: each entry is sound, and at most one of them is locked
 pub record IsSound {S : Type 0} (ops : Ops S) (c : Coherent S) : Type 0 where
   pub limits : IsConfig c.config
   pub here : c.me < c.config.nodes

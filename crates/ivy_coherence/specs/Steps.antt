@@ -19,6 +19,7 @@ use Rattle.ivy_pagetable.specs.Manager.{Ops}
 use Rattle.ivy_coherence.specs.Coherent.{Coherent}
 use Rattle.ivy_serving.specs.Serving.{Serving, counted, is_write, settled, invalidations}
 
+-- the coherence after a message, and what is posted
 pub record CoherenceEffect (S : Type 0) : Type 0 where
   pub after : Coherent S
   pub posted : List Parcel
@@ -52,6 +53,7 @@ module _ {S : Type 0} (ops : Ops S) where
   abbrev pub breach : Coherent S → CoherenceEffect S
   breach c = record { after = record c { breaches = counted c.breaches }; posted = [] }
 
+  -- what is left of serving at an idle entry stands in the node's coherence again
   abbrev pub after_serving : Coherent S → ℕ → Serving S → CoherenceEffect S
   after_serving c page v = record {
     after = record c {
@@ -92,6 +94,7 @@ module _ {S : Type 0} (ops : Ops S) where
     posted = [];
   }
 
+  -- where no more can be put off at the entry, the message is a breach
   abbrev pub put_aside : Coherent S → ℕ → Entry → PutOff → CoherenceEffect S
   put_aside c page e q = if can_put_off e then put_by c page e q else breach c
 
@@ -151,6 +154,7 @@ module _ {S : Type 0} (ops : Ops S) where
         posted = invalidations c.me page call copies;
       }
 
+  -- the page comes for the word that waits to write, with the set of the others that have a copy
   abbrev pub page_came : Coherent S → ℕ → ℕ → ℕ → Nodes → List ℕ → Entry → CoherenceEffect S
   page_came c from call page copies bytes (entry.AwaitWrite s) =
       if s.waiting.call == call && not (set.contains copies c.me)
@@ -176,6 +180,7 @@ module _ {S : Type 0} (ops : Ops S) where
       then unlocked c from page owning None (page_at c.table page) s
       else record { after = still_collecting c page left s; posted = [] }
 
+  -- a node gave its copy up for the word that waits for that
   abbrev pub acknowledged : Coherent S → ℕ → ℕ → ℕ → Entry → CoherenceEffect S
   acknowledged c from call page (entry.AwaitAcks s) =
       if s.waiting.call == call && set.contains s.left from
@@ -208,5 +213,6 @@ module _ {S : Type 0} (ops : Ops S) where
       if origin == c.me then acknowledged_at c from call page else breach c
   handled_as c from origin call m = breach c
 
+  -- what a message that comes from a node does
   unfoldable pub handled : Coherent S → ℕ → Message → CoherenceEffect S
   handled c from m = handled_as c from m.origin m.call m.content

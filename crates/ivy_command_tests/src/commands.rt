@@ -68,7 +68,7 @@ fn check<R: Abort + AllocGlobal + Threads + Wait + Sync>(
 const SMALL: &str = "--pages 2 --page-size 64 --manager fixed";
 
 /// Commands, their options, and what they print with status 0.
-const DONE: [(&str, &str, &str); 9] = [
+const DONE: [(&str, &str, &str); 10] = [
     ("run empty", "", ""),
     (
         "run empty",
@@ -76,6 +76,7 @@ const DONE: [(&str, &str, &str); 9] = [
         "",
     ),
     ("run load", SMALL, "node 1: 0\n"),
+    ("run nine", SMALL, ""),
     (
         "run load",
         "--page-size=64 --capacity 1 --pulse 7",
@@ -107,7 +108,7 @@ fn done(rt: HostRuntime) -> Result<(), Fail> {
 }
 
 /// Command lines, and their status and what they print on both streams.
-const REFUSED: [(&str, u8, &str, &str); 25] = [
+const REFUSED: [(&str, u8, &str, &str); 24] = [
     (
         "run load --page-size 64 --turns 1",
         1,
@@ -177,7 +178,6 @@ const REFUSED: [(&str, u8, &str, &str); 25] = [
         "ivy: 20 ProgramFault line 2\n",
     ),
     ("sim load --pages 1", 2, "", "ivy: 2 BadConfig\n"),
-    ("run nine", 2, "", "ivy: 2 BadConfig\n"),
 ];
 
 #[test]

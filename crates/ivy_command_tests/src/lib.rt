@@ -10,8 +10,12 @@ mod commands;
 #[cfg(test)]
 mod common;
 #[cfg(test)]
+mod crowd;
+#[cfg(test)]
 mod examples;
 #[cfg(test)]
 mod orders;
 #[cfg(test)]
 mod streams;
+#[cfg(test)]
+mod swaps;

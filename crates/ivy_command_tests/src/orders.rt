@@ -1,6 +1,6 @@
 //! Orders, and whether they are legal.
 use crate::common::check_over;
-use ivy_examples::File;
+use ivy_examples::{File, Order, orders};
 use std::process::Abort;
 use std::sync::Wait;
 use std::test::Fail;
@@ -20,6 +20,19 @@ ivy order 2 2 64
 1 load 8 64 = value 0
 ";
 
+/// Both nodes swap 1 into a word, and the second one is given what stood there before the first.
+const SWAPPED_AT_ONCE: &str = "\
+ivy order 2 2 64
+0 swap 8 64 1 = value 0
+1 swap 8 64 1 = value 0
+";
+
+const SWAPPED_IN_TURN: &str = "\
+ivy order 2 2 64
+0 swap 8 64 1 = value 0
+1 swap 8 64 1 = value 1
+";
+
 /// A call of each kind, and each refusal that the flat memory has but for a full count.
 const EACH_CALL: &str = "# two nodes\r\n\r\n\
 \tivy order 2 3 64 # of 3 pages\r\n\
@@ -27,6 +40,7 @@ const EACH_CALL: &str = "# two nodes\r\n\r\n\
 0 alloc 9 = value 64\n1 alloc 8 = value 80\n1 alloc 0 = refused 8\n1 alloc 128 = refused 9\n\
 1 free 64 = done\n1 free 64 = refused 10\n\
 0 store 1 66 255 = done\n0 load 2 66 = value 65280\n\
+1 swap 1 67 7 = value 0\n0 load 2 66 = value 65287\n1 swap 2 65 7 = refused 3\n\
 0 load 2 65 = refused 3\n0 load 4 192 = refused 4\n0 load 8 56 = refused 5";
 
 /// Asserts what `check` says of an order.
@@ -39,9 +53,24 @@ fn check<R: Abort + AllocGlobal + Threads + Wait + Sync>(
     check_over(rt, &[File { name, text }], "check order", answer)
 }
 
+/// `check` prints the verdict of an example, with this status.
+fn check_example<R: Abort + AllocGlobal + Threads + Wait + Sync>(
+    rt: &R,
+    example: &Order,
+    status: u8,
+) -> Result<(), Fail> {
+    check(rt, example.records.text, (status, example.verdict, ""))
+}
+
+#[test]
+fn examples(rt: HostRuntime) -> Result<(), Fail> {
+    check_example(&rt, &orders::ONE_STORE, 0)?;
+    check_example(&rt, &orders::STALE_LOAD, 3)
+}
+
 #[test]
 fn legal(rt: HostRuntime) -> Result<(), Fail> {
-    for text in [LOADED_LATER, EACH_CALL, "ivy order 2 2 64"] {
+    for text in [LOADED_LATER, SWAPPED_IN_TURN, EACH_CALL, "ivy order 2 2 64"] {
         check(&rt, text, (0, "legal\n", ""))?;
     }
     Ok(())
@@ -51,12 +80,25 @@ fn legal(rt: HostRuntime) -> Result<(), Fail> {
 fn not_legal(rt: HostRuntime) -> Result<(), Fail> {
     for text in [
         LOADED_EARLIER,
+        SWAPPED_AT_ONCE,
+        "ivy order 2 2 64\n0 swap 8 64 1 = value 1\n",
+        "ivy order 2 2 64\n0 swap 8 64 1 = done\n",
         "ivy order 2 2 64\n2 load 8 64 = value 0\n",
         "ivy order 2 2 64\n0 count 0 = value 18446744073709551615\n",
         "ivy order 2 2 64\n0 await 0 1 = value 0\n",
         "ivy order 2 2 64\n0 load 8 64 = refused 255\n",
     ] {
         check(&rt, text, (3, "not legal\n", ""))?;
+    }
+    Ok(())
+}
+
+/// A swap has a width, an address and a value.
+#[test]
+fn swaps_at_fault(rt: HostRuntime) -> Result<(), Fail> {
+    for call in ["swap 3 64 1", "swap 8 64", "swap 8 64 1 1", "swap 8 64 r1"] {
+        let text = format!(in rt.alloc(); "ivy order 2 2 64\n0 {call} = value 0\n")?;
+        check(&rt, text.as_str(), (2, "", "ivy: 20 ProgramFault line 2\n"))?;
     }
     Ok(())
 }
@@ -94,6 +136,7 @@ fn at_fault(rt: HostRuntime) -> Result<(), Fail> {
             "ivy: 20 ProgramFault line 2\n",
         ),
         ("ivy order 1 2 64\n", "ivy: 2 BadConfig\n"),
+        ("ivy order 33 2 64\n", "ivy: 2 BadConfig\n"),
         ("ivy order 258 2 64\n", "ivy: 2 BadConfig\n"),
         ("ivy order 2 4294967298 64\n", "ivy: 2 BadConfig\n"),
         ("ivy order 2 2 96\n", "ivy: 2 BadConfig\n"),

@@ -95,11 +95,13 @@ IsCarriedOut (request.Check order) status old new =
 abbrev pub IsRequestDone : ℕ → Option (List ℕ) → Option (List ℕ) → Type 0
 IsRequestDone status old new = (request : Request) × IsCarriedOut request status old new
 
+-- the exit status of a refused call: 2 where the configuration or a program is at fault, else 1
 abbrev pub fault_status : Fault → ℕ
 fault_status BadConfig = 2
 fault_status (ProgramFault line) = 2
 fault_status _ = 1
 
+-- 2 where the command line, a file or the configuration is at fault, else 1
 abbrev pub failure_status : Failure → ℕ
 failure_status BadCommandLine = 2
 failure_status (CannotRead name) = 2

@@ -10,6 +10,7 @@ abbrev pub numbered_texts : {X : Type 0} → (ℕ → X → List ℕ) → ℕ �
 numbered_texts text from [] = []
 numbered_texts text from (x ∷ xs) = text from x ++ numbered_texts text (from + 1) xs
 
+-- a line for each value that the program of the node printed
 abbrev pub output_text : ℕ → List ℕ → List ℕ
 output_text node values = flat_map (value_line node) values
 
@@ -17,6 +18,7 @@ output_text node values = flat_map (value_line node) values
 abbrev pub outputs_text : List (List ℕ) → List ℕ
 outputs_text outputs = numbered_texts output_text 0 outputs
 
+-- what the program of each node printed
 abbrev pub outputs_of : {S : Type 0} → List (Node (Host S)) → List (List ℕ)
 outputs_of nodes = map (λ n. n.core.process.state.output) nodes
 
@@ -28,6 +30,7 @@ is_end Ends = true
 abbrev pub has_ended : Process → Bool
 has_ended p = is_end (step_of p)
 
+-- the line that says whether the program of the node has ended
 abbrev pub end_text : {S : Type 0} → ℕ → Node (Host S) → List ℕ
 end_text node n = end_line node (has_ended n.core.process)
 

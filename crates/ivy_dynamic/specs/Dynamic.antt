@@ -10,9 +10,11 @@ pub record Hints : Type 0 where
   pub nodes : ℕ
   pub hints : List ℕ
 
+-- at first every hint is node 0, which owns all pages
 abbrev pub first_hints : Config → ℕ → Hints
 first_hints c me = record { me = me; nodes = c.nodes; hints = replicate c.pages 0 }
 
+-- who probably owns the page
 abbrev pub hint_of : Hints → ℕ → ℕ
 hint_of s page = slice_index s.hints page
 

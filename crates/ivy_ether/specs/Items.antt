@@ -11,11 +11,13 @@ strings_in (Seat i) = []
 strings_in (Frame b) = b ∷ []
 strings_in (Report i es) = []
 
+-- whose seat it is; 0 where it is no seat
 abbrev pub seat_of : Item → ℕ
 seat_of (Seat i) = i
 seat_of (Frame b) = 0
 seat_of (Report i es) = 0
 
+-- the event list that it reports; none where it is no report
 abbrev pub events_in : Item → List Mark
 events_in (Seat i) = []
 events_in (Frame b) = []

@@ -12,21 +12,27 @@ use Rattle.ivy_ether.specs.Data.{Item}
 use Rattle.ivy_ether.specs.Views.{View}
 use Rattle.ivy_ether.specs.Rule as rule
 
+-- some configuration, where no programs run
 abbrev pub any_config : Config
 any_config = record { nodes = 0; pages = 0; page_size = 0; manager = Fixed }
 
 module _ (c : Config) (programs : List (List Instruction)) where
+  -- the world from which the programs run
   abbrev pub beginning : World (Host Managed)
   beginning = opening managed_ops c programs
 
+  -- the rule, over these items of the ether and the views of its passes
   abbrev pub Kept : List Item → List View → Type 0
   Kept = rule.RuleKept (host_rules managed_ops) c beginning
 
+  -- a pass that knows this may make a step with this event list
   abbrev pub MayGive : View → List Mark → Type 0
   MayGive = rule.RuleAllows (host_rules managed_ops) c beginning
 
+  -- the pass's node sends the string by this event list
   abbrev pub SendsFrom : View → List Mark → List ℕ → Type 0
   SendsFrom = rule.ListSends (host_rules managed_ops) c beginning
 
+  -- the event lists that the starter was told are the parts of one run
   abbrev pub Told : View → Type 0
   Told = rule.RuleTold (host_rules managed_ops) c beginning

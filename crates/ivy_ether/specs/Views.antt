@@ -14,6 +14,7 @@ pub record View : Type 0 where
   pub took : List (List ℕ)
   pub reported : Bool
 
+-- a pass that is not the starter's, and has taken no seat
 abbrev pub newcomer : View
 newcomer = record {
   starts = false;
@@ -25,6 +26,7 @@ newcomer = record {
   reported = false;
 }
 
+-- the starter's pass, which has issued no seat yet
 abbrev pub beginner : View
 beginner = record newcomer { starts = true }
 

@@ -10,6 +10,7 @@ pub record Outcome (C : Type 0) : Type 0 where
   pub after : C
   pub posted : List Parcel
 
+-- the rules of a core: what a turn and a message do to it
 pub record Core (C : Type 0) : Type 0 where
   -- one turn of the program; none where no instruction is carried out, no call begins and no reply
   -- is recorded

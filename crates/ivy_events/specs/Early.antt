@@ -7,6 +7,7 @@ use Rattle.ivy_events.specs.Cores.{Core}
 use Rattle.ivy_events.specs.Marks.{Mark, Turn, Delivery, Pulse}
 use Rattle.ivy_events.specs.Nodes.{Node, Effect, turned, verdict_of, delivered, pulsing}
 
+-- a string with this verdict, if it came too early
 abbrev pub early_as : Verdict → List ℕ → List (List ℕ)
 early_as verdict.NotMine bytes = []
 early_as verdict.Next bytes = []
@@ -19,11 +20,13 @@ module _ {C : Type 0} (rules : Core C) (c : Config) where
   node_after n None = n
   node_after n (Some e) = e.after
 
+  -- the node after this event
   abbrev pub after_mark : Node C → Mark → Node C
   after_mark n Turn = node_after n (turned rules n)
   after_mark n (Delivery bytes) = node_after n (delivered rules c n bytes)
   after_mark n (Pulse to) = (pulsing n to).after
 
+  -- the string that came too early by this event, if one did
   abbrev pub early_by : Node C → Mark → List (List ℕ)
   early_by n Turn = []
   early_by n (Delivery bytes) = early_as (verdict_of c n bytes) bytes

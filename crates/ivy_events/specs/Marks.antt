@@ -14,6 +14,7 @@ abbrev pub turns : ℕ → List Mark
 turns zero = []
 turns (suc n) = Turn ∷ turns n
 
+-- the events that one recorded event stands for
 abbrev pub marks_of : Event → List Mark
 marks_of (Turns n) = turns n
 marks_of (Delivered bytes) = Delivery bytes ∷ []

@@ -20,11 +20,13 @@ pub record Node (C : Type 0) : Type 0 where
   pub core : C
   pub link : Linked
 
+-- the node after an event, and the strings that it sends
 pub record Effect (C : Type 0) : Type 0 where
   pub after : Node C
   pub sent : List (List ℕ)
 
 module _ {C : Type 0} where
+  -- nothing changes, and nothing is sent
   abbrev pub stays : Node C → Effect C
   stays n = record { after = n; sent = [] }
 
@@ -48,6 +50,7 @@ module _ {C : Type 0} where
       })
 
 module _ {C : Type 0} (rules : Core C) where
+  -- a turn without an outcome changes nothing
   abbrev pub turned_to : Node C → Option (Outcome C) → Option (Effect C)
   turned_to n None = Some (stays n)
   turned_to n (Some o) = posting n o.after o.posted
@@ -62,6 +65,7 @@ module _ {C : Type 0} (rules : Core C) where
       accepting f
       (posting n (rules.serve n.core f.source m).after (rules.serve n.core f.source m).posted)
 
+  -- what a frame does that is this to the node: for another node, nothing
   abbrev pub received_as : Verdict → Node C → Frame → Option (Effect C)
   received_as verdict.NotMine n f = Some (stays n)
   received_as verdict.Next n f = served_next n f f.body
@@ -71,6 +75,7 @@ module _ {C : Type 0} (rules : Core C) where
   unfoldable pub received : Node C → Frame → Option (Effect C)
   received n f = received_as (offered n.link f) n f
 
+  -- the string is received as the frame that it spells
   abbrev pub delivered_as : Result FrameKind Fault → Node C → List ℕ → Option (Effect C)
   delivered_as (Err fault) n bytes = None
   delivered_as (Ok kind) n bytes = received n (frame_at kind bytes)
@@ -87,6 +92,7 @@ module _ {C : Type 0} where
   abbrev pub verdict_of : Config → Node C → List ℕ → Verdict
   verdict_of c n bytes = verdict_as (checked c bytes) n bytes
 
+  -- a pulse: the node sends another one again what it keeps for it
   unfoldable pub pulsing : Node C → ℕ → Effect C
   pulsing n to = record {
     after = record { core = n.core; link = (pulsed n.link to).after };

@@ -75,6 +75,7 @@ module _ {C : Type 0} (rules : Core C) (c : Config) where
   turn_marks None = []
   turn_marks (Some o) = Turn ∷ []
 
+  -- where the node or the string is not there, a move gives none
   abbrev pub turn_given : Option (Node C) → List Mark
   turn_given None = []
   turn_given (Some n) = turn_marks (rules.turn n.core)
@@ -88,6 +89,7 @@ module _ {C : Type 0} (rules : Core C) (c : Config) where
   pulse_given to None = []
   pulse_given to (Some n) = pulse_marks to (pulsing n to).sent
 
+  -- the events that a move gives before its node goes on
   abbrev pub given_by : World C → Move → List Mark
   given_by w (move.Turn i) = turn_given (slice_get w.nodes i)
   given_by w (move.Deliver index to) =
@@ -101,17 +103,20 @@ module _ {C : Type 0} (rules : Core C) (c : Config) where
   given_further w i (bytes ∷ more) end on =
       delivery_given (slice_get w.nodes i) (Some bytes) ++ given_further on.1.0 i more end on.1.2
 
+  -- those that it gives when its node goes on
   abbrev pub given_after : (w : World C) (m : Move) (more : List (List ℕ)) (end : World C)
       → MayGoOn rules c w m more end → List Mark
   given_after w (move.Turn i) more end on = []
   given_after w (move.Deliver index to) more end on = given_further w to more end on
   given_after w (move.Pulse from to) more end on = []
 
+  -- the events that a move gives at node j
   abbrev pub given_at : (w : World C) (m : Move) (end : World C) → Moves rules c w m end → ℕ
       → List Mark
   given_at w m end moves j = if node_of m == j
       then given_by w m ++ given_after moves.mid m moves.more end moves.goes_on else []
 
+  -- the events of node j that the moves give, in order
   abbrev pub parts_of : (moves : List Move) (w end : World C) → Leads rules c w moves end → ℕ
       → List Mark
   parts_of [] w end lead j = []

@@ -36,10 +36,12 @@ module _ {C : Type 0} where
   gone_on w i e =
       record { nodes = slice_set w.nodes i e.after; sent = w.sent ++ e.sent; early = w.early }
 
+  -- the world after this effect at node i, if there is one
   abbrev pub world_goes_on : World C → ℕ → Option (Effect C) → Option (World C)
   world_goes_on w i None = None
   world_goes_on w i (Some e) = Some (gone_on w i e)
 
+  -- in that world a string with this verdict is remembered, if it came too early
   abbrev pub remembering : Verdict → ℕ → List ℕ → Option (World C) → Option (World C)
   remembering v i bytes None = None
   remembering v i bytes (Some w) = Some (record w { early = remembered v w.early i bytes })
@@ -52,20 +54,24 @@ module _ {C : Type 0} where
       nat_lt from (length w.nodes) && (nat_lt to (length w.nodes) && not (from == to))
 
 module _ {C : Type 0} (rules : Core C) (c : Config) where
+  -- the world after a turn of node i, if there is one
   abbrev pub turn_of : World C → ℕ → Option (Node C) → Option (World C)
   turn_of w i None = None
   turn_of w i (Some n) = world_goes_on w i (turned rules n)
 
+  -- the world after the string was delivered to node i, if there is one
   abbrev pub delivery_of : World C → ℕ → Option (Node C) → Option (List ℕ) → Option (World C)
   delivery_of w i None s = None
   delivery_of w i (Some n) None = None
   delivery_of w i (Some n) (Some s) =
       remembering (verdict_of c n s) i s (world_goes_on w i (delivered rules c n s))
 
+  -- the world after a pulse of node i to another
   abbrev pub pulse_of : World C → ℕ → ℕ → Option (Node C) → Option (World C)
   pulse_of w i to None = None
   pulse_of w i to (Some n) = Some (gone_on w i (pulsing n to))
 
+  -- the world after a move that can be named, if there is one
   abbrev pub made_by : World C → Move → Option (World C)
   made_by w (Turn i) = turn_of w i (slice_get w.nodes i)
   made_by w (Deliver index to) = delivery_of w to (slice_get w.nodes to) (slice_get w.sent index)
@@ -96,7 +102,7 @@ module _ {C : Type 0} (rules : Core C) (c : Config) where
     pub made : moved w move ≡ Some mid
     -- the strings that the node goes on with
     pub more : List (List ℕ)
-    pub world_goes_on : MayGoOn mid move more end
+    pub goes_on : MayGoOn mid move more end
 
   -- there is no world after the move
   abbrev pub HasNoneAfter : World C → Move → Type 0

@@ -46,6 +46,7 @@ pub writes_or_reads : (w : Word) (bytes : List ℕ)
     → ((carried_out w bytes).bytes ≡ bytes) ⊎ (needs_write w ≡ true)
 writes_or_reads (word.Load width offset) bytes = inl refl
 writes_or_reads (word.Store width offset value) bytes = inr refl
+writes_or_reads (word.Swap width offset value) bytes = inr refl
 writes_or_reads (word.Count offset) bytes = inl refl
 writes_or_reads (word.Advance offset) bytes = inr refl
 writes_or_reads (word.Await offset least) bytes = inl refl

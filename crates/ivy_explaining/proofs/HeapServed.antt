@@ -57,6 +57,7 @@ module _ (c : Config) (old : model.Memory) (h : HeapState) (config : h.config â‰
       (let e : heap.Free addr â‰¡ k = cc in subst (IsServedBy (call.Free addr)) e (free_by addr))
   heap_served (call.Load width addr) k of = absurd (not_word _ _ _ k of)
   heap_served (call.Store width addr value) k of = absurd (not_word _ _ _ k of)
+  heap_served (call.Swap width addr value) k of = absurd (not_word _ _ _ k of)
   heap_served (call.Count n) k of = absurd (not_count _ k of)
   heap_served (call.Advance n) k of = absurd (not_count _ k of)
   heap_served (call.Await n least) k of = absurd (not_count _ k of)

@@ -9,6 +9,7 @@ pub record Owners : Type 0 where
   pub nodes : ℕ
   pub owners : List ℕ
 
+-- at first every owner is node 0
 abbrev pub first_owners : Config → ℕ → Owners
 first_owners c me = record { me = me; nodes = c.nodes; owners = replicate c.pages 0 }
 
@@ -33,6 +34,7 @@ kept_if write s page owner = if write then owner_kept s page owner else s
 abbrev pub hop_of : Owners → ℕ → ℕ
 hop_of s page = if manages s page then slice_index s.owners page else page % s.nodes
 
+-- the kept owner changes where a request to write is sent on, or the page is given or comes
 abbrev pub fixed_ops : Ops Owners
 fixed_ops = record {
   me = λ s. s.me;

@@ -22,6 +22,7 @@ pub record Host (S : Type 0) : Type 0 where
   pub history : List Record
 
 module _ {S : Type 0} where
+  -- the number of the host's node
   abbrev pub number_of : Host S → ℕ
   number_of n = n.memory.coherence.me
 
@@ -37,6 +38,7 @@ module _ {S : Type 0} where
     history = n.history ++ record { node = number_of n; call = c; reply = r } ∷ [];
   }
 
+  -- the host goes on to this one, and posts nothing
   abbrev pub quietly : Host S → Outcome (Host S)
   quietly n = record { after = n; posted = [] }
 
@@ -58,6 +60,7 @@ module _ {S : Type 0} (ops : Ops S) where
       if nat_lt (length n.history + 1) (2 ^ 64)
       then begins_as n c (call_begun ops n.memory c (length n.history + 1)) else None
 
+  -- the program's next step: its own, a call that begins, or none where it has ended
   abbrev pub steps : Host S → Step → Option (Outcome (Host S))
   steps n (Local s) = Some (quietly (record n { process = at_state n.process s }))
   steps n (Asks c) = begins n c
@@ -80,9 +83,11 @@ module _ {S : Type 0} (ops : Ops S) where
     posted = (memory_handled ops n.memory from m).posted;
   }
 
+  -- the rules of a host, as those of a core
   abbrev pub host_rules : Core (Host S)
   host_rules = record { turn = turn_of; serve = serving }
 
+  -- no instruction was carried out, and no reply recorded
   abbrev pub first_host : Config → ℕ → List Instruction → Host S
   first_host c me program = record {
     memory = first_memory ops c me;

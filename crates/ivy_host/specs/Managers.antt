@@ -8,6 +8,7 @@ use Rattle.ivy_pagetable.specs.Manager.{Ops}
 use Rattle.ivy_fixed.specs.Fixed.{Owners, fixed_ops}
 use Rattle.ivy_dynamic.specs.Dynamic.{Hints, dynamic_ops}
 
+-- what a node keeps: owners under managing nodes, else hints
 pub data Managed : Type 0 where
   Fixed : (owners : Owners) → Managed
   Dynamic : (hints : Hints) → Managed

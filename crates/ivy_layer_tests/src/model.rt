@@ -31,6 +31,10 @@ fn store(width: u8, addr: u64, value: u64) -> Call {
     Call::Store { width, addr, value }
 }
 
+fn swap(width: u8, addr: u64, value: u64) -> Call {
+    Call::Swap { width, addr, value }
+}
+
 fn alloc(size: u64) -> Call {
     Call::Alloc { size }
 }
@@ -39,7 +43,7 @@ fn alloc(size: u64) -> Call {
 fn limits(rt: HostRuntime) {
     let accepted = [
         SMALL,
-        Config { nodes: 8, ..SMALL },
+        Config { nodes: 32, ..SMALL },
         Config {
             pages: 256,
             ..SMALL
@@ -58,7 +62,7 @@ fn limits(rt: HostRuntime) {
     }
     let refused = [
         Config { nodes: 1, ..SMALL },
-        Config { nodes: 9, ..SMALL },
+        Config { nodes: 33, ..SMALL },
         Config { pages: 1, ..SMALL },
         Config {
             pages: 257,
@@ -87,6 +91,8 @@ fn each_call(rt: HostRuntime) -> Result<(), Fail> {
     let cases = [
         (load(8, 64), Reply::Value(0), Reply::Value(1)),
         (store(8, 64, 7), Reply::Done, Reply::Value(7)),
+        (swap(8, 64, 7), Reply::Value(0), Reply::Value(7)),
+        (swap(8, 64, 0), Reply::Value(0), Reply::Done),
         (Call::Count { k: 0 }, Reply::Value(0), Reply::Value(1)),
         (Call::Advance { k: 0 }, Reply::Done, Reply::Value(1)),
         (Call::Await { k: 0, least: 0 }, Reply::Value(0), Reply::Done),
@@ -207,6 +213,36 @@ fn big_endian_widths(rt: HostRuntime) -> Result<(), Fail> {
         (load(8, 64), Reply::Value(144115188075855872)),
     ];
     assert!(rt; is_legal(rt.alloc(), &answers)?);
+    Ok(())
+}
+
+/// Each swap gives what the one before it put there.
+#[test]
+fn swaps(rt: HostRuntime) -> Result<(), Fail> {
+    let answers = [
+        (swap(8, 64, 9), Reply::Value(0)),
+        (swap(8, 64, 4), Reply::Value(9)),
+        (load(8, 64), Reply::Value(4)),
+    ];
+    assert!(rt; is_legal(rt.alloc(), &answers)?);
+    assert!(rt; !is_legal(rt.alloc(), &[answers[0], answers[0]])?);
+    Ok(())
+}
+
+/// A swap of one byte gives that byte, and leaves those beside it as they are.
+#[test]
+fn swap_widths(rt: HostRuntime) -> Result<(), Fail> {
+    let answers = [
+        (store(8, 64, 258), Reply::Done),
+        (swap(1, 71, 511), Reply::Value(2)),
+        (load(8, 64), Reply::Value(511)),
+        (swap(8, 65, 1), Reply::Refused(3)),
+        (swap(1, 128, 1), Reply::Refused(4)),
+        (swap(1, 0, 1), Reply::Refused(5)),
+        (load(8, 64), Reply::Value(511)),
+    ];
+    assert!(rt; is_legal(rt.alloc(), &answers)?);
+    assert!(rt; !is_legal(rt.alloc(), &[(swap(3, 66, 1), Reply::Value(0))])?);
     Ok(())
 }
 

@@ -65,6 +65,27 @@ fn numbers_have_their_highest_byte_first(rt: HostRuntime) -> Result<(), Fail> {
     Ok(())
 }
 
+/// A swap is written, and gives the number that stood there.
+#[test]
+fn swap_of_a_byte(rt: HostRuntime) -> Result<(), Fail> {
+    let mut table = PageTable::new(rt.alloc(), &CONFIG, 0)?;
+    let swap = |value| Word::Swap {
+        width: 1,
+        offset: 71,
+        value,
+    };
+    let load = Word::Load {
+        width: 8,
+        offset: 64,
+    };
+    assert!(rt; swap(2).needs_write());
+    assert_eq!(rt; (swap(2).width(), swap(2).offset()), (1, 71));
+    assert_eq!(rt; table.carry_out(1, swap(2)), Out::Value(0));
+    assert_eq!(rt; table.carry_out(1, swap(511)), Out::Value(2));
+    assert_eq!(rt; table.carry_out(1, load), Out::Value(255));
+    Ok(())
+}
+
 /// The number that stands where a word is to be stored.
 #[test]
 fn number_of_a_word(rt: HostRuntime) -> Result<(), Fail> {
@@ -207,9 +228,9 @@ fn messages_are_put_off_in_order(rt: HostRuntime) -> Result<(), Fail> {
     Ok(())
 }
 
-/// Eight messages can be put off at a locked entry, and no ninth.
+/// Thirty-two messages can be put off at a locked entry, and no further one.
 #[test]
-fn eight_are_put_off(rt: HostRuntime) -> Result<(), Fail> {
+fn thirty_two_are_put_off(rt: HostRuntime) -> Result<(), Fail> {
     let mut table = PageTable::new(rt.alloc(), &CONFIG, 1)?;
     let word = Word::Advance { offset: 8 };
     assert!(rt; word.needs_write() && !Word::Count { offset: 8 }.needs_write());
@@ -219,7 +240,7 @@ fn eight_are_put_off(rt: HostRuntime) -> Result<(), Fail> {
         call: 7,
     };
     let mut waiting = Waiting::new(word, 3);
-    for _ in 0..8 {
+    for _ in 0..32 {
         assert!(rt; !waiting.is_full());
         waiting.put_off(message);
     }

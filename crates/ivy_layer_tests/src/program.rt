@@ -50,6 +50,12 @@ fn calls_at_fault(rt: HostRuntime) -> Result<(), Fail> {
         "load r1 r2",
         "store 3 r1 r2",
         "store 8 r1",
+        "swap 3 r1 r2 r3",
+        "swap 8 r1 r2",
+        "swap 8 r16 r2 r3",
+        "swap 8 r1 64 r3",
+        "swap 8 r1 r2 16",
+        "swap r1 r2 r3",
         "count r1",
         "count r16 r2",
         "count r1 16",
@@ -79,7 +85,7 @@ fn calls_at_fault(rt: HostRuntime) -> Result<(), Fail> {
 }
 
 /// Programs with a line of each kind.
-const EACH_KIND: [&str; 20] = [
+const EACH_KIND: [&str; 21] = [
     "node 0",
     "label a",
     "set r1 64",
@@ -87,6 +93,7 @@ const EACH_KIND: [&str; 20] = [
     "add r3 r1 r2",
     "load 8 r4 r1",
     "store 8 r1 r2",
+    "swap 8 r4 r1 r2",
     "count r4 r0",
     "advance r0",
     "await r4 r0 r1",
@@ -351,6 +358,25 @@ fn stores(rt: HostRuntime) -> Result<(), Fail> {
     let (calls, output) = answered(rt.alloc(), text, &replies)?;
     assert_eq!(rt; output.as_slice(), [0, 3, 64, 258, 0].as_slice());
     let named = [(2, 64, 258), (8, 258, 64), (1, 64, 64)].map(|(width, addr, value)| Call::Store {
+        width,
+        addr,
+        value,
+    });
+    assert_eq!(rt; calls.as_slice(), named.as_slice());
+    Ok(())
+}
+
+/// A swap names the address and the number of its second and third register, and the old value goes to the
+/// first. A refusal leaves that.
+#[test]
+fn swaps(rt: HostRuntime) -> Result<(), Fail> {
+    let text = "node 0\nset r1 64\nset r2 258\nset r3 7\nswap 2 r3 r1 r2\nstatus r4\nprint r4\n\
+                print r3\nswap 8 r3 r2 r1\nstatus r4\nprint r4\nprint r3\nprint r1\nprint r2\n\
+                swap 1 r1 r1 r1\nprint r1";
+    let replies = [Reply::Value(5), Reply::Refused(3), Reply::Value(9)];
+    let (calls, output) = answered(rt.alloc(), text, &replies)?;
+    assert_eq!(rt; output.as_slice(), [0, 5, 3, 5, 64, 258, 9].as_slice());
+    let named = [(2, 64, 258), (8, 258, 64), (1, 64, 64)].map(|(width, addr, value)| Call::Swap {
         width,
         addr,
         value,

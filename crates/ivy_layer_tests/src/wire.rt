@@ -19,6 +19,9 @@ pub(crate) const PAIR: Config = Config {
 /// A third node.
 const THREE: Config = Config { nodes: 3, ..PAIR };
 
+/// As many nodes as there can be.
+const THIRTY_TWO: Config = Config { nodes: 32, ..PAIR };
+
 /// A page of zeros, and one of bytes that are all ones.
 pub(crate) const ZEROS: &[u8] = &[0; 64];
 
@@ -80,20 +83,20 @@ fn frame<'a>(
 #[test]
 fn first_load(rt: HostRuntime) -> Result<(), Fail> {
     let alloc = rt.alloc();
-    let words = "495601010100000d 0000000000000001 0000000000000000 01 0000000000000001 00000001";
+    let words = "495602010100000d 0000000000000001 0000000000000000 01 0000000000000001 00000001";
     let asks = frame((1, 0), (1, 0), (1, 1), Content::ReadReq { page: 1 });
     spells(&rt, &PAIR, words, &[], asks, alloc)?;
-    let words = "495601030001004d 0000000000000001 0000000000000000 01 0000000000000001 00000001";
+    let words = "495602030001004d 0000000000000001 0000000000000000 01 0000000000000001 00000001";
     let content = Content::ReadRep {
         page: 1,
         bytes: ZEROS,
     };
     let brings = frame((0, 1), (1, 0), (1, 1), content);
     spells(&rt, &PAIR, words, ZEROS, brings, alloc)?;
-    let words = "495601010100000d 0000000000000001 0000000000000001 01 0000000000000001 00000001";
+    let words = "495602010100000d 0000000000000001 0000000000000001 01 0000000000000001 00000001";
     let asks_again = frame((1, 0), (1, 1), (1, 1), Content::ReadReq { page: 1 });
     spells(&rt, &PAIR, words, &[], asks_again, alloc)?;
-    let words = "4956010000010000 0000000000000000 0000000000000001";
+    let words = "4956020000010000 0000000000000000 0000000000000001";
     let ack = Frame {
         source: 0,
         dest: 1,
@@ -108,7 +111,7 @@ fn first_load(rt: HostRuntime) -> Result<(), Fail> {
 fn page_to_write(rt: HostRuntime) -> Result<(), Fail> {
     let alloc = rt.alloc();
     let words =
-        "495601040002004e 0000000000000001 0000000000000000 02 0000000000000001 00000001 02";
+        "4956020400020051 0000000000000001 0000000000000000 02 0000000000000001 00000001 00000002";
     let content = Content::WriteRep {
         page: 1,
         copies: 2,
@@ -117,7 +120,7 @@ fn page_to_write(rt: HostRuntime) -> Result<(), Fail> {
     let given = frame((0, 2), (1, 0), (2, 1), content);
     spells(&rt, &THREE, words, ZEROS, given, alloc)?;
     let words =
-        "495601040001004e 0000000000000001 0000000000000003 01 0000000000000001 00000001 00";
+        "4956020400010051 0000000000000001 0000000000000003 01 0000000000000001 00000001 00000000";
     let content = Content::WriteRep {
         page: 1,
         copies: 0,
@@ -130,13 +133,13 @@ fn page_to_write(rt: HostRuntime) -> Result<(), Fail> {
 #[test]
 fn copies_ended(rt: HostRuntime) -> Result<(), Fail> {
     let alloc = rt.alloc();
-    let words = "495601060102000d 0000000000000001 0000000000000001 02 0000000000000001 00000001";
+    let words = "495602060102000d 0000000000000001 0000000000000001 02 0000000000000001 00000001";
     let ended = frame((1, 2), (1, 1), (2, 1), Content::InvalAck { page: 1 });
     spells(&rt, &THREE, words, &[], ended, alloc)?;
-    let words = "495601060201000d 0000000000000002 0000000000000001 01 0000000000000001 00000001";
+    let words = "495602060201000d 0000000000000002 0000000000000001 01 0000000000000001 00000001";
     let ended = frame((2, 1), (2, 1), (1, 1), Content::InvalAck { page: 1 });
     spells(&rt, &THREE, words, &[], ended, alloc)?;
-    let words = "495601060100000d 0000000000000002 0000000000000001 00 0000000000000001 00000001";
+    let words = "495602060100000d 0000000000000002 0000000000000001 00 0000000000000001 00000001";
     let ended = frame((1, 0), (2, 1), (0, 1), Content::InvalAck { page: 1 });
     spells(&rt, &PAIR, words, &[], ended, alloc)
 }
@@ -145,7 +148,7 @@ fn copies_ended(rt: HostRuntime) -> Result<(), Fail> {
 fn forged(rt: HostRuntime) -> Result<(), Fail> {
     let alloc = rt.alloc();
     let words =
-        "495601040100004e 0000000000000001 0000000000000000 00 0000000000000001 00000001 00";
+        "4956020401000051 0000000000000001 0000000000000000 00 0000000000000001 00000001 00000000";
     let content = Content::WriteRep {
         page: 1,
         copies: 0,
@@ -153,13 +156,13 @@ fn forged(rt: HostRuntime) -> Result<(), Fail> {
     };
     let unasked = frame((1, 0), (1, 0), (0, 1), content);
     spells(&rt, &PAIR, words, ONES, unasked, alloc)?;
-    let words = "495601050100000d 0000000000000002 0000000000000000 01 0000000000000001 00000001";
+    let words = "495602050100000d 0000000000000002 0000000000000000 01 0000000000000001 00000001";
     let ends = frame((1, 0), (2, 0), (1, 1), Content::Inval { page: 1 });
     spells(&rt, &PAIR, words, &[], ends, alloc)?;
-    let words = "495601010100000d 0000000000000003 0000000000000000 00 0000000000000001 00000001";
+    let words = "495602010100000d 0000000000000003 0000000000000000 00 0000000000000001 00000001";
     let own = frame((1, 0), (3, 0), (0, 1), Content::ReadReq { page: 1 });
     spells(&rt, &PAIR, words, &[], own, alloc)?;
-    let words = "495601020100000d 0000000000000004 0000000000000009 01 0000000000000001 00000001";
+    let words = "495602020100000d 0000000000000004 0000000000000009 01 0000000000000001 00000001";
     let asks = frame((1, 0), (4, 9), (1, 1), Content::WriteReq { page: 1 });
     spells(&rt, &PAIR, words, &[], asks, alloc)
 }
@@ -171,7 +174,7 @@ fn forged_count(rt: HostRuntime) -> Result<(), Fail> {
         page[i] = 255;
     }
     let words =
-        "495601040001004e 0000000000000001 0000000000000000 01 0000000000000001 00000000 00";
+        "4956020400010051 0000000000000001 0000000000000000 01 0000000000000001 00000000 00000000";
     let content = Content::WriteRep {
         page: 0,
         copies: 0,
@@ -185,19 +188,19 @@ fn forged_count(rt: HostRuntime) -> Result<(), Fail> {
 fn blocks(rt: HostRuntime) -> Result<(), Fail> {
     let alloc = rt.alloc();
     let words =
-        "4956010701000011 0000000000000001 0000000000000000 01 0000000000000001 0000000000000008";
+        "4956020701000011 0000000000000001 0000000000000000 01 0000000000000001 0000000000000008";
     let asks = frame((1, 0), (1, 0), (1, 1), Content::AllocReq { size: 8 });
     spells(&rt, &PAIR, words, &[], asks, alloc)?;
     let words =
-        "4956010800010012 0000000000000001 0000000000000000 01 0000000000000001 00 0000000000000040";
+        "4956020800010012 0000000000000001 0000000000000000 01 0000000000000001 00 0000000000000040";
     let content = Content::AllocRep { code: 0, addr: 64 };
     let brings = frame((0, 1), (1, 0), (1, 1), content);
     spells(&rt, &PAIR, words, &[], brings, alloc)?;
     let words =
-        "4956010901000011 0000000000000002 0000000000000001 01 0000000000000002 0000000000000040";
+        "4956020901000011 0000000000000002 0000000000000001 01 0000000000000002 0000000000000040";
     let gives_back = frame((1, 0), (2, 1), (1, 2), Content::FreeReq { addr: 64 });
     spells(&rt, &PAIR, words, &[], gives_back, alloc)?;
-    let words = "4956010a0001000a 0000000000000002 0000000000000002 01 0000000000000002 00";
+    let words = "4956020a0001000a 0000000000000002 0000000000000002 01 0000000000000002 00";
     let ended = frame((0, 1), (2, 2), (1, 2), Content::FreeRep { code: 0 });
     spells(&rt, &PAIR, words, &[], ended, alloc)
 }
@@ -206,21 +209,40 @@ fn blocks(rt: HostRuntime) -> Result<(), Fail> {
 fn refused_blocks(rt: HostRuntime) -> Result<(), Fail> {
     let alloc = rt.alloc();
     let words =
-        "4956010800010012 0000000000000001 0000000000000000 01 0000000000000001 08 0000000000000000";
+        "4956020800010012 0000000000000001 0000000000000000 01 0000000000000001 08 0000000000000000";
     let content = Content::AllocRep { code: 8, addr: 0 };
     let of_no_bytes = frame((0, 1), (1, 0), (1, 1), content);
     spells(&rt, &PAIR, words, &[], of_no_bytes, alloc)?;
     let words =
-        "4956010800010012 0000000000000001 0000000000000000 01 0000000000000001 09 0000000000000000";
+        "4956020800010012 0000000000000001 0000000000000000 01 0000000000000001 09 0000000000000000";
     let content = Content::AllocRep { code: 9, addr: 0 };
     let without_room = frame((0, 1), (1, 0), (1, 1), content);
     spells(&rt, &PAIR, words, &[], without_room, alloc)?;
-    let words = "4956010a0001000a 0000000000000002 0000000000000002 01 0000000000000002 0a";
+    let words = "4956020a0001000a 0000000000000002 0000000000000002 01 0000000000000002 0a";
     let no_block = frame((0, 1), (2, 2), (1, 2), Content::FreeRep { code: 10 });
     spells(&rt, &PAIR, words, &[], no_block, alloc)
 }
 
-/// That the words, with the page after them, are refused so.
+/// That the words, with the page after them, are refused so among the nodes of a configuration.
+fn refuses_among<A: Allocator + Copy>(
+    rt: &impl Abort,
+    config: &Config,
+    words: &str,
+    page: &[u8],
+    fault: Fault,
+    alloc: A,
+) -> Result<(), Fail> {
+    let string = string(alloc, words, page)?;
+    config.check()?;
+    assert_eq!(rt;
+        decode(alloc, config, &string).err(),
+        Some(fault),
+        "{words}"
+    );
+    Ok(())
+}
+
+/// That the words, with the page after them, are refused so among two nodes.
 fn refuses<A: Allocator + Copy>(
     rt: &impl Abort,
     words: &str,
@@ -228,34 +250,66 @@ fn refuses<A: Allocator + Copy>(
     fault: Fault,
     alloc: A,
 ) -> Result<(), Fail> {
-    let string = string(alloc, words, page)?;
-    PAIR.check()?;
-    assert_eq!(rt; decode(alloc, &PAIR, &string).err(), Some(fault), "{words}");
-    Ok(())
+    refuses_among(rt, &PAIR, words, page, fault, alloc)
+}
+
+/// A copy set has four bytes, the version is 2, and strings of version 1 are refused.
+#[test]
+fn version_2(rt: HostRuntime) -> Result<(), Fail> {
+    let alloc = rt.alloc();
+    let words =
+        "4956020400020051 0000000000000001 0000000000000000 02 0000000000000001 00000001 00000002";
+    assert_eq!(rt; string(alloc, words, ZEROS)?.len(), 105);
+    let words =
+        "49560204001f0051 0000000000000002 0000000000000001 1f 0000000000000002 00000001 7ffffffe";
+    let content = Content::WriteRep {
+        page: 1,
+        copies: 0x7fff_fffe,
+        bytes: ZEROS,
+    };
+    let given = frame((0, 31), (2, 1), (31, 2), content);
+    spells(&rt, &THIRTY_TWO, words, ZEROS, given, alloc)?;
+    let words = "495601010100000d 0000000000000001 0000000000000000 01 0000000000000001 00000001";
+    refuses(&rt, words, &[], Fault::BadVersion, alloc)?;
+    let words =
+        "495601040002004e 0000000000000001 0000000000000000 02 0000000000000001 00000001 02";
+    refuses_among(&rt, &THREE, words, ZEROS, Fault::BadVersion, alloc)
+}
+
+/// Bit 3 among three nodes; and bits of nodes that are there, with the bytes turned round.
+#[test]
+fn copy_sets_beyond_the_nodes(rt: HostRuntime) -> Result<(), Fail> {
+    let alloc = rt.alloc();
+    let words =
+        "4956020400020051 0000000000000001 0000000000000000 02 0000000000000001 00000001 00000008";
+    refuses_among(&rt, &THREE, words, ZEROS, Fault::BadBody, alloc)?;
+    let words =
+        "4956020400020051 0000000000000001 0000000000000000 02 0000000000000001 00000001 02000000";
+    refuses_among(&rt, &THREE, words, ZEROS, Fault::BadBody, alloc)
 }
 
 #[test]
 fn refused_frames(rt: HostRuntime) -> Result<(), Fail> {
     let alloc = rt.alloc();
-    let words = "495601010100000d 0000000000000001 0000000000000000 01 0000000000000001 000000";
+    let words = "495602010100000d 0000000000000001 0000000000000000 01 0000000000000001 000000";
     refuses(&rt, words, &[], Fault::ShortFrame, alloc)?;
     let words =
-        "495601010100000d 0000000000000001 0000000000000000 01 0000000000000001 00000001 00";
+        "495602010100000d 0000000000000001 0000000000000000 01 0000000000000001 00000001 00";
     refuses(&rt, words, &[], Fault::BadBody, alloc)?;
     refuses(&rt, "", &[], Fault::ShortFrame, alloc)?;
-    let words = "485601010100000d 0000000000000001 0000000000000000 01 0000000000000001 00000001";
+    let words = "485602010100000d 0000000000000001 0000000000000000 01 0000000000000001 00000001";
     refuses(&rt, words, &[], Fault::BadMagic, alloc)?;
-    let words = "495602010100000d 0000000000000001 0000000000000000 01 0000000000000001 00000001";
+    let words = "495601010100000d 0000000000000001 0000000000000000 01 0000000000000001 00000001";
     refuses(&rt, words, &[], Fault::BadVersion, alloc)?;
-    let words = "4956010b0100000d 0000000000000001 0000000000000000 01 0000000000000001 00000001";
+    let words = "4956020b0100000d 0000000000000001 0000000000000000 01 0000000000000001 00000001";
     refuses(&rt, words, &[], Fault::BadKind, alloc)?;
-    let words = "495601010200000d 0000000000000001 0000000000000000 01 0000000000000001 00000001";
+    let words = "495602010200000d 0000000000000001 0000000000000000 01 0000000000000001 00000001";
     refuses(&rt, words, &[], Fault::BadNode, alloc)?;
-    let words = "495601010000000d 0000000000000001 0000000000000000 01 0000000000000001 00000001";
+    let words = "495602010000000d 0000000000000001 0000000000000000 01 0000000000000001 00000001";
     refuses(&rt, words, &[], Fault::BadNode, alloc)?;
-    let words = "495601010100000d 0000000000000001 0000000000000000 01 0000000000000001 00000002";
+    let words = "495602010100000d 0000000000000001 0000000000000000 01 0000000000000001 00000002";
     refuses(&rt, words, &[], Fault::BadBody, alloc)?;
-    let words = "495601010100000d 0000000000000001 0000000000000000 02 0000000000000001 00000001";
+    let words = "495602010100000d 0000000000000001 0000000000000000 02 0000000000000001 00000001";
     refuses(&rt, words, &[], Fault::BadBody, alloc)
 }
 
@@ -263,35 +317,35 @@ fn refused_frames(rt: HostRuntime) -> Result<(), Fail> {
 fn refused_headers(rt: HostRuntime) -> Result<(), Fail> {
     let alloc = rt.alloc();
     // a header without its last byte, and a request without its last byte
-    let words = "4956010000010000 0000000000000000 00000000000000";
+    let words = "4956020000010000 0000000000000000 00000000000000";
     refuses(&rt, words, &[], Fault::ShortFrame, alloc)?;
-    let words = "495601020100000d 0000000000000004 0000000000000009 01 0000000000000001 000000";
+    let words = "495602020100000d 0000000000000004 0000000000000009 01 0000000000000001 000000";
     refuses(&rt, words, &[], Fault::ShortFrame, alloc)?;
     // the second magic byte, and a version before the first
-    let words = "495701010100000d 0000000000000001 0000000000000000 01 0000000000000001 00000001";
+    let words = "495702010100000d 0000000000000001 0000000000000000 01 0000000000000001 00000001";
     refuses(&rt, words, &[], Fault::BadMagic, alloc)?;
     let words = "495600010100000d 0000000000000001 0000000000000000 01 0000000000000001 00000001";
     refuses(&rt, words, &[], Fault::BadVersion, alloc)?;
     // a destination that is not there
-    let words = "495601010102000d 0000000000000001 0000000000000000 01 0000000000000001 00000001";
+    let words = "495602010102000d 0000000000000001 0000000000000000 01 0000000000000001 00000001";
     refuses(&rt, words, &[], Fault::BadNode, alloc)
 }
 
 #[test]
 fn first_of_two_faults(rt: HostRuntime) -> Result<(), Fail> {
     let alloc = rt.alloc();
-    let words = "485601010100000d 0000000000000001 0000000000000000 01 0000000000000001 000000";
+    let words = "485602010100000d 0000000000000001 0000000000000000 01 0000000000000001 000000";
     refuses(&rt, words, &[], Fault::ShortFrame, alloc)?;
-    let words = "485602010100000d 0000000000000001 0000000000000000 01 0000000000000001 00000001";
+    let words = "485601010100000d 0000000000000001 0000000000000000 01 0000000000000001 00000001";
     refuses(&rt, words, &[], Fault::BadMagic, alloc)?;
-    let words = "4956020b0100000d 0000000000000001 0000000000000000 01 0000000000000001 00000001";
+    let words = "4956010b0100000d 0000000000000001 0000000000000000 01 0000000000000001 00000001";
     refuses(&rt, words, &[], Fault::BadVersion, alloc)?;
-    let words = "4956010b0200000d 0000000000000001 0000000000000000 01 0000000000000001 00000001";
+    let words = "4956020b0200000d 0000000000000001 0000000000000000 01 0000000000000001 00000001";
     refuses(&rt, words, &[], Fault::BadKind, alloc)?;
-    let words = "495601010200000d 0000000000000001 0000000000000000 02 0000000000000001 00000001";
+    let words = "495602010200000d 0000000000000001 0000000000000000 02 0000000000000001 00000001";
     refuses(&rt, words, &[], Fault::BadNode, alloc)?;
     let words =
-        "495601010200000d 0000000000000001 0000000000000000 01 0000000000000001 00000001 00";
+        "495602010200000d 0000000000000001 0000000000000000 01 0000000000000001 00000001 00";
     refuses(&rt, words, &[], Fault::BadNode, alloc)
 }
 
@@ -299,14 +353,14 @@ fn first_of_two_faults(rt: HostRuntime) -> Result<(), Fail> {
 fn wrong_numbers(rt: HostRuntime) -> Result<(), Fail> {
     let alloc = rt.alloc();
     // an Ack with a number, and a message without one
-    let words = "4956010000010000 0000000000000001 0000000000000001";
+    let words = "4956020000010000 0000000000000001 0000000000000001";
     refuses(&rt, words, &[], Fault::BadBody, alloc)?;
-    let words = "495601010100000d 0000000000000000 0000000000000000 01 0000000000000001 00000001";
+    let words = "495602010100000d 0000000000000000 0000000000000000 01 0000000000000001 00000001";
     refuses(&rt, words, &[], Fault::BadBody, alloc)?;
     // call 0, and the length of another kind
-    let words = "495601010100000d 0000000000000001 0000000000000000 01 0000000000000000 00000001";
+    let words = "495602010100000d 0000000000000001 0000000000000000 01 0000000000000000 00000001";
     refuses(&rt, words, &[], Fault::BadBody, alloc)?;
-    let words = "495601070100000d 0000000000000001 0000000000000000 01 0000000000000001 00000001";
+    let words = "495602070100000d 0000000000000001 0000000000000000 01 0000000000000001 00000001";
     refuses(&rt, words, &[], Fault::BadBody, alloc)
 }
 
@@ -315,16 +369,16 @@ fn wrong_codes(rt: HostRuntime) -> Result<(), Fail> {
     let alloc = rt.alloc();
     // codes that are none
     let words =
-        "4956010800010012 0000000000000001 0000000000000000 01 0000000000000001 0a 0000000000000000";
+        "4956020800010012 0000000000000001 0000000000000000 01 0000000000000001 0a 0000000000000000";
     refuses(&rt, words, &[], Fault::BadBody, alloc)?;
-    let words = "4956010a0001000a 0000000000000002 0000000000000002 01 0000000000000002 09";
+    let words = "4956020a0001000a 0000000000000002 0000000000000002 01 0000000000000002 09";
     refuses(&rt, words, &[], Fault::BadBody, alloc)?;
     // an address beside a refusal
     let words =
-        "4956010800010012 0000000000000001 0000000000000000 01 0000000000000001 08 0000000000000040";
+        "4956020800010012 0000000000000001 0000000000000000 01 0000000000000001 08 0000000000000040";
     refuses(&rt, words, &[], Fault::BadBody, alloc)?;
     let words =
-        "4956010800010012 0000000000000001 0000000000000000 01 0000000000000001 09 0000000000000040";
+        "4956020800010012 0000000000000001 0000000000000000 01 0000000000000001 09 0000000000000040";
     refuses(&rt, words, &[], Fault::BadBody, alloc)
 }
 
@@ -333,16 +387,16 @@ fn wrong_pages(rt: HostRuntime) -> Result<(), Fail> {
     let alloc = rt.alloc();
     // a copy set with node 2
     let words =
-        "495601040001004e 0000000000000001 0000000000000000 01 0000000000000001 00000001 04";
+        "4956020400010051 0000000000000001 0000000000000000 01 0000000000000001 00000001 00000004";
     refuses(&rt, words, ZEROS, Fault::BadBody, alloc)?;
     // a page of 48 bytes, and one of 65
     let words =
-        "495601040001003e 0000000000000001 0000000000000000 01 0000000000000001 00000001 02";
+        "4956020400010041 0000000000000001 0000000000000000 01 0000000000000001 00000001 00000002";
     refuses(&rt, words, &[0; 48], Fault::BadBody, alloc)?;
-    let words = "495601030001004e 0000000000000001 0000000000000000 01 0000000000000001 00000001";
+    let words = "495602030001004e 0000000000000001 0000000000000000 01 0000000000000001 00000001";
     refuses(&rt, words, &[0; 65], Fault::BadBody, alloc)?;
     // the page after the last one
-    let words = "495601030001004d 0000000000000001 0000000000000000 01 0000000000000001 00000002";
+    let words = "495602030001004d 0000000000000001 0000000000000000 01 0000000000000001 00000002";
     refuses(&rt, words, ZEROS, Fault::BadBody, alloc)
 }
 
@@ -352,7 +406,7 @@ pub(crate) const KINDS_AND_LENGTHS: [(FrameKind, u8, u16); 11] = [
     (FrameKind::ReadReq, 1, 13),
     (FrameKind::WriteReq, 2, 13),
     (FrameKind::ReadRep, 3, 77),
-    (FrameKind::WriteRep, 4, 78),
+    (FrameKind::WriteRep, 4, 81),
     (FrameKind::Inval, 5, 13),
     (FrameKind::InvalAck, 6, 13),
     (FrameKind::AllocReq, 7, 17),
@@ -404,7 +458,7 @@ fn pages(rt: HostRuntime) -> Result<(), Fail> {
 /// A request from node 1 to node 0, and a string that has no destination.
 #[test]
 fn destinations(rt: HostRuntime) -> Result<(), Fail> {
-    let request = [b'I', b'V', 1, 1, 1, 0, 0, 13];
+    let request = [b'I', b'V', 2, 1, 1, 0, 0, 13];
     assert_eq!(rt; destination(&request), Some(0));
     assert_eq!(rt; destination(&request[..5]), None);
     Ok(())

@@ -43,8 +43,10 @@ module _ {S : Type 0} where
     loose = loose;
   }
 
+  -- between events no letter is loose
   abbrev pub net_of : Ordered (Host S) → Net
   net_of o = net_with o o.delivered []
 
+  -- the manager of each node, and a spare one beyond the nodes
   abbrev pub managers_of : S → Ordered (Host S) → ℕ → S
   managers_of spare o i = manager_of spare (slice_get o.cores i)

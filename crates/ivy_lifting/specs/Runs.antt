@@ -12,6 +12,7 @@ use Rattle.ivy_host.specs.Openings.{opening}
 use Rattle.ivy_host.specs.Sound.{IsSoundHost}
 
 module _ {S : Type 0} (ops : Ops S) (c : Config) (programs : List (List Instruction)) where
+  -- the ordered world of the opening, in which nothing was posted
   abbrev pub first_ordered : Ordered (Host S)
   first_ordered = ordered_of (opening ops c programs) (λ i j. [])
 
@@ -20,6 +21,7 @@ module _ {S : Type 0} (ops : Ops S) (c : Config) (programs : List (List Instruct
   IsOrderedRun [] end = end ≡ first_ordered
   IsOrderedRun (last ∷ before) end = IsOrderedRun before last × Steps (host_rules ops) last end
 
+  -- some moves of the ordered world lead to it from the opening
   abbrev pub IsReachedInOrder : Ordered (Host S) → Type 0
   IsReachedInOrder o = (before : List (Ordered (Host S))) × IsOrderedRun before o
 

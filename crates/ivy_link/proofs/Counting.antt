@@ -5,7 +5,7 @@ use Rattle.std.proofs.Common.{Bool, true, false, ◌&&◌, nat_lt, if◌then◌e
 use Rattle.std.proofs.lemmas.Bool.{cases_eq, cases_lt, cases_Bool, and_parts, eq-eqb, ne_eqb}
 use Rattle.std.proofs.lemmas.Bool.Decides.{nat_tests}
 use Rattle.std.proofs.lemmas.List.{get_or-set_other, get_or-take, length-set, length-take}
-use Rattle.std.proofs.lemmas.List.Sums.{sum_by-cons, sum_by-take-le, count_by_more_yes, count_by_more_no}
+use Rattle.std.proofs.lemmas.List.Sums.{sum_by-cons, sum_by-take-le, count_by-le-length, count_by_more_yes, count_by_more_no}
 use Rattle.std.proofs.lemmas.Grind.{get_or-set_at}
 use Rattle.std.proofs.Math.ListN.{set}
 use Rattle.std.specs.List.{slice_get}
@@ -28,6 +28,10 @@ pub count-other : (p : Parcel) (ps : List Parcel) (j : ℕ) → p.dest ≢ j
 count-other p ps j ne =
     let none : one_if (p.dest == j) ≡ 0 = ap one_if (ne_eqb p.dest j ne) in
     omega (arith, none, sum_by-cons (λ q. one_if (q.dest == j)) p ps)
+
+-- no more go to a node than there are
+pub counted_few : (ps : List Parcel) (j : ℕ) → count_to ps j ≤ length ps
+counted_few ps j = count_by-le-length (λ p. p.dest == j) ps
 
 -- one parcel sent: a number more was used, and a parcel fewer is to come
 sent-shift : (l : Linked) (p : Parcel) (ps : List Parcel) (j : ℕ) → p.dest < length l.peers

@@ -11,6 +11,7 @@ abbrev pub verdict_on : ℕ → ℕ → Verdict
 verdict_on delivered number =
     if number == delivered + 1 then Next else (if nat_le number delivered then Repeat else Ahead)
 
+-- what the frame is to the node of this link
 abbrev pub offered : {B : Type 0} → Linked → frame.Frame B → Verdict
 offered l f = if f.dest == l.me then verdict_on (peer_at l f.source).delivered f.number else NotMine
 
@@ -34,6 +35,7 @@ is_owing Repeat number = nat_le 1 number
 is_owing Ahead number = false
 is_owing NotMine number = false
 
+-- what is known of a node once a frame with this verdict came from it
 abbrev pub heard : Verdict → Peer → ℕ → ℕ → Peer
 heard v p number ack = record {
   sent = p.sent;

@@ -17,9 +17,11 @@ pub record Holding : Type 0 where
   pub peers : List Peer
   pub held : List Window
 
+-- the link without the strings that it holds
 abbrev pub link_of : Holding → Linked
 link_of h = record { me = h.me; peers = h.peers }
 
+-- the link, and the strings that it holds of each node
 abbrev pub holding : Linked → List Window → Holding
 holding l held = record { me = l.me; peers = l.peers; held = held }
 
@@ -50,6 +52,7 @@ frames_for h ps = linked.frames_of (link_of h) ps
 abbrev pub after_sending : Holding → List Parcel → Holding
 after_sending h ps = holding (linked.after_sends (link_of h) ps) h.held
 
+-- nor does a pulse
 abbrev pub frames_repeated : Holding → ℕ → List Frame
 frames_repeated h to = pulsing.frames_again (link_of h) to
 
@@ -61,9 +64,11 @@ after_pulsing h to = holding (pulsing.after_pulse (link_of h) to) h.held
 abbrev pub offered_at : {B : Type 0} → Holding → frame.Frame B → Verdict
 offered_at h f = accepting.offered (link_of h) f
 
+-- the window of the frame's source moves
 abbrev pub moved_at : Verdict → List Window → ℕ → List Window
 moved_at v held j = slice_set held j (moved_by v (window_of held j))
 
+-- the link accepts the frame, and the window of its source moves
 abbrev pub accepted_at : {B : Type 0} → Holding → frame.Frame B → Holding
 accepted_at h f =
     holding (accepting.accepted (link_of h) f) (moved_at (offered_at h f) h.held f.source)
@@ -74,6 +79,7 @@ abbrev pub can_hold_frame : {B : Type 0} → Holding → frame.Frame B → Bool
 can_hold_frame h f = f.dest == h.me
     && windows.can_hold (peer_at (link_of h) f.source).delivered (window_at h f.source) f.number
 
+-- the place in its source's window for the string of this frame
 abbrev pub place_in : {B : Type 0} → Holding → frame.Frame B → ℕ
 place_in h f = place_of (peer_at (link_of h) f.source).delivered f.number
 
@@ -90,5 +96,6 @@ given_back h f s = if can_hold_frame h f then None else Some s
 abbrev pub ready_of : Holding → ℕ → Option (List ℕ)
 ready_of h j = place_at (window_at h j) 0
 
+-- the string that is ready is taken out
 abbrev pub after_taking : Holding → ℕ → Holding
 after_taking h j = with_window h j (without_first (window_at h j))

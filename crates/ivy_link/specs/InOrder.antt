@@ -17,6 +17,7 @@ pub record LinkNet : Type 0 where
   pub sent : ℕ → ℕ → List Message
   pub delivered : ℕ → ℕ → List Message
 
+-- what a node of such a network does
 pub data Action : Type 0 where
   Send : (node : ℕ) (parcels : List Parcel) → Action
   Accept : (node : ℕ) (frame : Frame) → Action
@@ -39,6 +40,7 @@ handed Repeat delivered node f i j = delivered i j
 handed Ahead delivered node f i j = delivered i j
 handed NotMine delivered node f i j = delivered i j
 
+-- the network after this action
 abbrev pub done : LinkNet → Action → LinkNet
 done n (Send i ps) = record {
   links = slice_set n.links i (after_sends (link_at n.links i) ps);
@@ -63,6 +65,7 @@ abbrev pub all_done : LinkNet → List Action → LinkNet
 all_done n [] = n
 all_done n (a ∷ more) = all_done (done n a) more
 
+-- each of these actions may be done after those before it
 abbrev pub MayDoAll : LinkNet → List Action → Type 0
 MayDoAll n [] = Unit {0}
 MayDoAll n (a ∷ more) = MayDo n a × MayDoAll (done n a) more
@@ -72,6 +75,7 @@ abbrev pub links_from : ℕ → ℕ → ℕ → List Linked
 links_from nodes zero from = []
 links_from nodes (suc more) from = first_link from nodes ∷ links_from nodes more (suc from)
 
+-- no frame was made yet
 abbrev pub first_net : ℕ → LinkNet
 first_net nodes =
     record { links = links_from nodes nodes 0; made = []; sent = λ i j. []; delivered = λ i j. [] }

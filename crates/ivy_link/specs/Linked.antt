@@ -37,9 +37,11 @@ abbrev pub with_message : Peer → Message → Peer
 with_message p m =
     record { sent = p.sent + 1; kept = p.kept ++ m ∷ []; delivered = p.delivered; owed = false }
 
+-- one parcel is sent
 abbrev pub sent_one : Linked → Parcel → Linked
 sent_one l p = with_peer l p.dest (with_message (peer_at l p.dest) p.message)
 
+-- the frame of the next number to the parcel's node
 abbrev pub frame_of : Linked → Parcel → Frame
 frame_of l p = record {
   source = l.me;
@@ -69,6 +71,7 @@ pub record Sending : Type 0 where
   pub after : Linked
   pub frames : List Frame
 
+-- the parcels are sent: the link after that, and their frames
 abbrev pub sends : Linked → List Parcel → Sending
 sends l ps = record { after = after_sends l ps; frames = frames_of l ps }
 

@@ -27,10 +27,12 @@ acknowledging me to p = if p.owed then ack_alone me to p.delivered ∷ [] else [
 abbrev pub repeated : ℕ → ℕ → Peer → List Frame
 repeated me to p = numbered me to p.delivered (p.sent - length p.kept + 1) (take most_again p.kept)
 
+-- kept messages are sent again, and only where there are none an acknowledgement alone
 abbrev pub frames_of_pulse : List Message → ℕ → ℕ → Peer → List Frame
 frames_of_pulse [] me to p = acknowledging me to p
 frames_of_pulse (m ∷ ms) me to p = repeated me to p
 
+-- the frames of a pulse to this node
 abbrev pub frames_again : Linked → ℕ → List Frame
 frames_again l to = frames_of_pulse (peer_at l to).kept l.me to (peer_at l to)
 

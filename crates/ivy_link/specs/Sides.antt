@@ -20,6 +20,7 @@ held_of s = s.held
 abbrev pub message_of : Parcel → Message
 message_of p = p.message
 
+-- the link as what its sides know, without what they hold
 abbrev pub linked : ℕ → List Sided → Linked
 linked me sides = record { me = me; peers = map peer_of sides }
 
@@ -27,6 +28,7 @@ linked me sides = record { me = me; peers = map peer_of sides }
 abbrev pub seen : ℕ → List Sided → Holding
 seen me sides = holding (linked me sides) (map held_of sides)
 
+-- beyond the nodes: nothing was sent, and there is no room
 abbrev pub side_at : List Sided → ℕ → Sided
 side_at sides j = slice_index_or sides j (record { peer = fresh; room = 0; held = first_window })
 

@@ -13,9 +13,11 @@ Window = List (Option (List ℕ))
 abbrev pub first_window : Window
 first_window = replicate most_ahead None
 
+-- what is held there; beyond the places nothing is
 abbrev pub place_at : Window → ℕ → Option (List ℕ)
 place_at w k = slice_index_or w k None
 
+-- the window has this place, and nothing is held there
 abbrev pub is_free : Window → ℕ → Bool
 is_free w k = nat_lt k most_ahead && is_none (place_at w k)
 

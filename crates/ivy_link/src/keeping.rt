@@ -1,6 +1,7 @@
 //! How messages are kept, each at the side of its node.
-ghost use Rattle.std.specs.Prelude.{◌≡◌, length, map, true, OnOk, IsOk};
+ghost use Rattle.std.specs.Prelude.{◌≡◌, ◌↔◌, ◌+◌, ◌≤◌, length, map, true, IsTrue, OnOk, IsOk};
 ghost use Rattle.ivy_wire.specs.Lent.{owned_parcel};
+ghost use Rattle.ivy_link.specs.Limits.{greatest_number};
 ghost use Rattle.ivy_link.specs.Linked.{after_sends, has_numbers, AreWithin};
 ghost use Rattle.ivy_link.specs.Sides.{peer_of, held_of, linked, message_of, count_to, HasRoomFor};
 
@@ -16,7 +17,21 @@ pub(crate) fn count_to(parcels: &[Parcel<&[u8]>], node: u8) -> usize
     parcels.iter().filter(|parcel| parcel.dest == node).count()
 }
 
-/// Makes room at each node for the messages of the parcels that go there.
+/// Whether a number is left, at the side of a node, for each of the parcels that go there. They are counted only
+/// where none is left for all parcels.
+#[tactic(auto, using(crate::proofs::Counting::counted_few))]
+pub(crate) fn has_numbers_to<A: Allocator>(
+    side: &Side<A>,
+    parcels: &[Parcel<&[u8]>],
+    node: u8,
+) -> bool
+    ensures { IsTrue result ↔ (side.now.peer.sent + count_to (map owned_parcel parcels.now) node ≤ greatest_number) }
+{
+    side.has_numbers(parcels.len()) || side.has_numbers(count_to(parcels, node))
+}
+
+/// Makes room at each node for the messages of the parcels that go there. They are not counted: there is room
+/// for all parcels then.
 pub(crate) fn reserve<A: Allocator>(
     sides: &mut Vec<Side<A>, A>,
     parcels: &[Parcel<&[u8]>],
@@ -28,8 +43,7 @@ pub(crate) fn reserve<A: Allocator>(
     ensures sure { length parcels.now ≡ 0 → IsOk result }
 {
     for parcel in parcels {
-        let more = count_to(parcels, parcel.dest);
-        sides[usize::from(parcel.dest)].reserve(more)?;
+        sides[usize::from(parcel.dest)].reserve(parcels.len())?;
     }
     Ok(())
 }

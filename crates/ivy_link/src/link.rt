@@ -8,7 +8,7 @@ ghost use Rattle.ivy_link.specs.Pulsed.{repeated};
 ghost use Rattle.ivy_link.specs.Holding.{link_of, first_holding, offered_at, accepted_at, after_sending, frames_for, has_numbers_for};
 ghost use Rattle.ivy_link.specs.Holding.{AreToPeers, frames_repeated, after_pulsing, after_hold, given_back, ready_of, after_taking};
 
-use crate::keeping::{count_to, keep_each, reserve};
+use crate::keeping::{count_to, has_numbers_to, keep_each, reserve};
 use crate::lent::{add, copied, copies};
 use crate::side::Side;
 use crate::verdict::Verdict;
@@ -62,6 +62,22 @@ impl<A: Allocator + Copy> Link<A> {
             return Verdict::NotMine;
         }
         self.sides[usize::from(frame.source)].verdict(frame.number)
+    }
+
+    /// How many messages were sent to a node. It takes no memory.
+    pub fn sent_to(&self, to: u8) -> u64
+        requires to { to < length self.now.peers }
+        ensures { result ≡ (peer_at (link_of self.now) to).sent }
+    {
+        self.sides[usize::from(to)].sent()
+    }
+
+    /// How many messages of a node were delivered here. It takes no memory.
+    pub fn delivered_from(&self, from: u8) -> u64
+        requires from { from < length self.now.peers }
+        ensures { result ≡ (peer_at (link_of self.now) from).delivered }
+    {
+        self.sides[usize::from(from)].delivered()
     }
 
     /// Takes the acknowledgement of a frame, and counts its message as delivered where it is the next: no
@@ -121,7 +137,7 @@ impl<A: Allocator + Copy> Link<A> {
     {
         for parcel in parcels {
             let side = &self.sides[usize::from(parcel.dest)];
-            if !side.has_numbers(count_to(parcels, parcel.dest)) {
+            if !has_numbers_to(side, parcels, parcel.dest) {
                 return false;
             }
         }

@@ -44,6 +44,7 @@ pub record WriteTurns : Type 0 where
   pub latest : ℕ
   pub queued : ℕ → Bool
 
+-- how these turns go with who asks whom to write, and who reads from whom
 pub record HasTurns (claiming : ℕ → Bool) (Writes Reads : ℕ → ℕ → Type 0) (manager kept : ℕ)
     (t : WriteTurns) : Type 0 where
   pub bounded : (node : ℕ) → t.turn node ≤ t.latest

@@ -105,6 +105,8 @@ can_ask c (call.Load width addr) config legal =
     accessed c width addr (word.Load width (addr % c.page_size)) config legal refl refl
 can_ask c (call.Store width addr value) config legal =
     accessed c width addr (word.Store width (addr % c.page_size) value) config legal refl refl
+can_ask c (call.Swap width addr value) config legal =
+    accessed c width addr (word.Swap width (addr % c.page_size) value) config legal refl refl
 can_ask c (call.Count k) config legal = counted c k (word.Count (8 * k)) config refl refl
 can_ask c (call.Advance k) config legal = counted c k (word.Advance (8 * k)) config refl refl
 can_ask c (call.Await k least) config legal =

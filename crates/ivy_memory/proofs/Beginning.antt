@@ -37,6 +37,7 @@ use Rattle.ivy_memory.proofs.Asking.{can_ask}
 use Rattle.ivy_memory.specs.Sound.{IsInProgress, IsSoundMemory}
 use Rattle.ivy_memory.proofs.Tame.{Begins, begun-begins, one_wide, had-sound, started-sound, told-sound, needed-posted, call-few, call-sound, told-few}
 use Rattle.ivy_memory.proofs.Sides.{idle_words, word_words, misfit_stays}
+use Rattle.ivy_serving.specs.Limits.{most_posted}
 
 none_of : {A : Type 0} (o : Option A) → is_some o ≡ false → o ≡ None
 none_of None h = refl
@@ -81,9 +82,9 @@ pub record IsBeginning {S : Type 0} (ops : Ops S) (n v : NodeMemory S) (k : Conf
 
 -- a call posts few messages
 pub few_posted : {S : Type 0} {ops : Ops S} (n v : NodeMemory S) → v ≡ n → IsSoundMemory ops v
-    → (c : Call) (number : ℕ) → length (call_begun ops n c number).posted ≤ 8
+    → (c : Call) (number : ℕ) → length (call_begun ops n c number).posted ≤ most_posted
 few_posted {S} {ops} n v same s c number =
-    subst (λ (x : NodeMemory S). length (call_begun ops x c number).posted ≤ 8) same
+    subst (λ (x : NodeMemory S). length (call_begun ops x c number).posted ≤ most_posted) same
     (call-few ops v c number s.coherent)
 
 -- where no word waits, a word is carried out, or has to be asked for
@@ -282,9 +283,9 @@ module _ {S : Type 0} {ops : Ops S} (laws : Laws ops) (n v : NodeMemory S) (node
       ap (λ x. memory_handled ops x from m) (sym l.same)
       ∙ ap (λ i. effect_by (heap_told i v.side from m)) (sym l.me)
 
-  pub few_answers : length (memory_handled ops n from m).posted ≤ 8
+  pub few_answers : length (memory_handled ops n from m).posted ≤ most_posted
   few_answers =
-      subst (λ (x : NodeMemory S). length (memory_handled ops x from m).posted ≤ 8) l.same
+      subst (λ (x : NodeMemory S). length (memory_handled ops x from m).posted ≤ most_posted) l.same
       (told-few laws v from m l.sound
       (subst (λ (x : NodeMemory S). from < x.coherence.config.nodes) (sym l.same) l.below)
       (subst (λ (x : NodeMemory S). from ≢ x.coherence.me) (sym l.same) l.foreign)

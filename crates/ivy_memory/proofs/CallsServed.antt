@@ -11,7 +11,7 @@ use Rattle.ivy_model.specs.declared.Fault.TheVariants.{NoSuchCount}
 use Rattle.ivy_model.specs.Config.{IsConfig, count_len}
 use Rattle.ivy_model.specs.Memory.{IsSized, flat_page}
 use Rattle.ivy_model.specs.Memory as model
-use Rattle.ivy_model.specs.Serves.{Serves, access_refusal}
+use Rattle.ivy_model.specs.Serves.{Serves, Loads, Stores, Swaps, access_refusal}
 use Rattle.ivy_model.specs.Legal.{HasWidth}
 use Rattle.ivy_pagetable.specs.declared.Word.{Word}
 use Rattle.ivy_pagetable.specs.declared.Word.TheVariants as word
@@ -19,7 +19,7 @@ use Rattle.ivy_pagetable.specs.Words.{carried_out}
 use Rattle.ivy_memory.specs.declared.asked.Asked.TheVariants as asked
 use Rattle.ivy_memory.specs.Asking.{asked_of, count_asked, word_unless}
 use Rattle.ivy_memory.specs.Flat.{IsServed, WordsAreFlat, RefusalsAreFlat}
-use Rattle.ivy_memory.proofs.WordsServed.{load_served, store_served, load_refused, store_refused, count_served, advance_served, await_served, count_refused, advance_refused, await_refused}
+use Rattle.ivy_memory.proofs.WordsServed.{load_served, store_served, swap_served, access_refused, count_served, advance_served, await_served, count_refused, advance_refused, await_refused}
 
 -- what a word that is not refused is, and the code of one that is
 is_word : (o : Option ℕ) (p q : ℕ) (v w : Word) → word_unless o p v ≡ asked.Word q w
@@ -87,6 +87,13 @@ module _ (c : Config) (mem : model.Memory) (sized : IsSized c mem) where
       this_word (call.Store width addr value) (addr / c.page_size) page
       (word.Store width (addr % c.page_size) value) w is.1 is.2
       (store_served c mem config width addr legal is.0 sized value)
+  word_served config (call.Swap width addr value) page w legal of =
+      let is =
+      is_word (access_refusal c width addr) (addr / c.page_size) page
+      (word.Swap width (addr % c.page_size) value) w of in
+      this_word (call.Swap width addr value) (addr / c.page_size) page
+      (word.Swap width (addr % c.page_size) value) w is.1 is.2
+      (swap_served c mem config width addr legal is.0 sized value)
   word_served config (call.Count k) page w legal of =
       let is = count_there (nat_lt k (count_len c)) page (word.Count (8 * k)) w of in
       this_word (call.Count k) 0 page (word.Count (8 * k)) w is.1 is.2
@@ -105,13 +112,20 @@ module _ (c : Config) (mem : model.Memory) (sized : IsSized c mem) where
   pub refusal_served : (called : Call) (code : ℕ) → asked_of c called ≡ asked.Refused code
       → Serves c mem called (reply.Refused code) mem
   refusal_served (call.Load width addr) code is =
-      load_refused c mem width addr code
+      access_refused c mem width addr code
       (is_refused (access_refusal c width addr) (addr / c.page_size) code
       (word.Load width (addr % c.page_size)) is)
+      (Loads c mem width addr (reply.Refused code) mem)
   refusal_served (call.Store width addr value) code is =
-      store_refused c mem width addr code
+      access_refused c mem width addr code
       (is_refused (access_refusal c width addr) (addr / c.page_size) code
-      (word.Store width (addr % c.page_size) value) is) value
+      (word.Store width (addr % c.page_size) value) is)
+      (Stores c mem width addr value (reply.Refused code) mem)
+  refusal_served (call.Swap width addr value) code is =
+      access_refused c mem width addr code
+      (is_refused (access_refusal c width addr) (addr / c.page_size) code
+      (word.Swap width (addr % c.page_size) value) is)
+      (Swaps c mem width addr value (reply.Refused code) mem)
   refusal_served (call.Count k) code is =
       let gone = count_gone (nat_lt k (count_len c)) code (word.Count (8 * k)) is in
       subst (λ n. Serves c mem (call.Count k) (reply.Refused n) mem) gone.1

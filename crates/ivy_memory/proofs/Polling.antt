@@ -18,6 +18,7 @@ use Rattle.ivy_coherence.specs.Coherent.{Coherent}
 use Rattle.ivy_coherence.specs.Faults.{Begun, HasToAsk, suffices, accessed, begun_at, begun}
 use Rattle.ivy_coherence.specs.Sound.{IsSound}
 use Rattle.ivy_coherence.proofs.Keeping.{begun-keeps}
+use Rattle.ivy_serving.specs.Limits.{most_posted}
 use Rattle.ivy_serving.proofs.IdleServing.{all_none}
 use Rattle.ivy_coherence.proofs.Few.{begun-few}
 use Rattle.ivy_memory.specs.declared.answer.Answer.{Answer}
@@ -100,7 +101,8 @@ module _ {S : Type 0} (ops : Ops S) (m : NodeMemory S) (k : Call) where
   polled-begun is =
       subst (IsBegun k m.number) (sym (polled_so ops m k is)) (as-begun is (reply_at m))
 
-  tried-few : IsSound ops m.coherence → (x : Asked) → length (tried_as ops m k x).posted ≤ 8
+  tried-few : IsSound ops m.coherence → (x : Asked)
+      → length (tried_as ops m k x).posted ≤ most_posted
   tried-few s (asked.Refused code) = omega arith
   tried-few s (asked.Word page w) =
       let few =
@@ -114,7 +116,8 @@ module _ {S : Type 0} (ops : Ops S) (m : NodeMemory S) (k : Call) where
       omega (arith, few, is)
   tried-few s (asked.Heap k) = omega arith
 
-  as-few : IsSound ops m.coherence → (r : Option Reply) → length (polled_as ops m k r).posted ≤ 8
+  as-few : IsSound ops m.coherence → (r : Option Reply)
+      → length (polled_as ops m k r).posted ≤ most_posted
   as-few s None = tried-few s (asked_of m.coherence.config k)
   as-few s (Some r) = omega arith
 
@@ -130,16 +133,16 @@ module _ {S : Type 0} (ops : Ops S) where
   polled-same m = at-same m m.asked
 
   at-few : (m : NodeMemory S) → IsSound ops m.coherence → (a : Option Call)
-      → length (polled_at ops m a).posted ≤ 8
+      → length (polled_at ops m a).posted ≤ most_posted
   at-few m s None = omega arith
   at-few m s (Some k) = as-few ops m k s (reply_at m)
 
   -- it posts few messages
   pub polled-few : (n v : NodeMemory S) → v ≡ n → IsSoundMemory ops v
-      → length (polled ops n).posted ≤ 8
+      → length (polled ops n).posted ≤ most_posted
   unfolding polled
   polled-few n v same s =
-      subst (λ (x : NodeMemory S). length (polled_at ops x x.asked).posted ≤ 8) same
+      subst (λ (x : NodeMemory S). length (polled_at ops x x.asked).posted ≤ most_posted) same
       (at-few v s.coherent v.asked)
 
 module _ {S : Type 0} {ops : Ops S} (laws : Laws ops) (m : NodeMemory S) (k : Call)

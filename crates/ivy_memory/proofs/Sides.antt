@@ -19,6 +19,7 @@ use Rattle.ivy_wire.specs.declared.Content.TheVariants as content
 use Rattle.ivy_wire.specs.Data.{Content, Message}
 use Rattle.ivy_wire.specs.Spelling.{FitsContent, FitsMessage, FitsParcel}
 use Rattle.ivy_wire.specs.Posts.{parcel_to}
+use Rattle.ivy_serving.specs.Limits.{most_posted}
 use Rattle.ivy_serving.proofs.IdleServing.{all_none, all_one}
 use Rattle.ivy_alloc.specs.Heap.{HeapState, HasNoRoom, first_heap}
 use Rattle.ivy_alloc.specs.Laws.{IsAllocReply, IsFreeReply, with_blocks}
@@ -310,14 +311,14 @@ first_sound-side c me = first_as c me (me == 0) refl
 
 -- a call of the heap that begins posts one message at most
 few_if : (me : ℕ) (s : HeapSide) (k : HeapCall) (number : ℕ) (o : Option HeapState)
-    → length (heap_begun_at me s k number o).posted ≤ 8
+    → length (heap_begun_at me s k number o).posted ≤ most_posted
 few_if me s k number (Some h) = omega arith
 few_if me s k number None =
-    either (λ (b : HeapBegun). length b.posted ≤ 8) (nat_lt (number_in k) (2 ^ 64)) _ _
+    either (λ (b : HeapBegun). length b.posted ≤ most_posted) (nat_lt (number_in k) (2 ^ 64)) _ _
     (omega arith) (omega arith)
 
 pub heap_begun-few : (me : ℕ) (s : HeapSide) (k : HeapCall) (number : ℕ)
-    → length (heap_begun me s k number).posted ≤ 8
+    → length (heap_begun me s k number).posted ≤ most_posted
 heap_begun-few me s k number = few_if me s k number s.heap
 
 unserved_at : {S : Type 0} (m : NodeMemory S) (k : Call) (number : ℕ) (h : HeapCall)

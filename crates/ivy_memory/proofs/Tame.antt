@@ -35,6 +35,7 @@ use Rattle.ivy_coherence.specs.Steps.{unlocked, handled}
 use Rattle.ivy_coherence.specs.Faults.{Begun, started, hit, begun}
 use Rattle.ivy_coherence.specs.Sound.{IsSound}
 use Rattle.ivy_coherence.proofs.Keeping.{handled-keeps, begun-keeps, first-sound}
+use Rattle.ivy_serving.specs.Limits.{most_posted}
 use Rattle.ivy_alloc.specs.Heap.{HeapState}
 use Rattle.ivy_serving.proofs.IdleServing.{all_none, all_one}
 use Rattle.ivy_coherence.proofs.Rows.{Rows, AccessRows, handled-by_rows, begun-by_rows}
@@ -103,6 +104,7 @@ quiet_bytes : (w : Word) (bytes : List ℕ) → reply_of (carried_out w bytes).o
     → (carried_out w bytes).bytes ≡ bytes
 quiet_bytes (word.Load width offset) bytes h = refl
 quiet_bytes (word.Store width offset value) bytes h = absurd cc
+quiet_bytes (word.Swap width offset value) bytes h = absurd cc
 quiet_bytes (word.Count offset) bytes h = refl
 quiet_bytes (word.Advance offset) bytes h =
     quiet_advance (number_at 8 offset bytes == 2 ^ 64 - 1) bytes _ h
@@ -484,13 +486,13 @@ module _ {S : Type 0} {ops : Ops S} (laws : Laws ops) where
   pub told-few : (m : NodeMemory S) (from : ℕ) (message : Message) → IsSoundMemory ops m
       → from < m.coherence.config.nodes → from ≢ m.coherence.me
       → FitsMessage m.coherence.config message
-      → length (memory_handled ops m from message).posted ≤ 8
+      → length (memory_handled ops m from message).posted ≤ most_posted
   told-few m from message s below foreign fits =
       let t : HeapTold = heap_told m.coherence.me m.side from message in
       let few =
       (told-keeps m.coherence.config m.coherence.me m.asked m.side s.side s.coherent.limits
       s.coherent.here from message below foreign fits).few in
-      either (λ (e : MemoryEffect S). length e.posted ≤ 8) t.fits (by_side m t)
+      either (λ (e : MemoryEffect S). length e.posted ≤ most_posted) t.fits (by_side m t)
       (by_coherence ops m from message) (omega (arith, few))
       (handled-few ops m.coherence from message s.coherent fits)
 
@@ -694,7 +696,7 @@ module _ {S : Type 0} (ops : Ops S) where
   call-same m k number = as-same m k number (asked_of m.coherence.config k)
 
   as-few : (m : NodeMemory S) (k : Call) (number : ℕ) (x : Asked) → IsSound ops m.coherence
-      → length (begun_as ops m k number x).posted ≤ 8
+      → length (begun_as ops m k number x).posted ≤ most_posted
   as-few m k number (asked.Refused code) s = omega arith
   as-few m k number (asked.Word page w) s =
       let b : Begun S = begun ops m.coherence page w number in
@@ -706,6 +708,6 @@ module _ {S : Type 0} (ops : Ops S) where
   as-few m k number (asked.Heap h) s = heap_begun-few m.coherence.me m.side h number
 
   pub call-few : (m : NodeMemory S) (k : Call) (number : ℕ) → IsSound ops m.coherence
-      → length (call_begun ops m k number).posted ≤ 8
+      → length (call_begun ops m k number).posted ≤ most_posted
   unfolding call_begun
   call-few m k number s = as-few m k number (asked_of m.coherence.config k) s

@@ -16,7 +16,7 @@ use Rattle.ivy_model.specs.Memory.{IsSized, flat_page}
 use Rattle.ivy_model.specs.Memory as model
 use Rattle.ivy_model.specs.Numbers.{fault_number}
 use Rattle.ivy_model.specs.declared.fault.Fault.TheVariants.{NoSuchCount, CountFull}
-use Rattle.ivy_model.specs.Serves.{Serves, Loads, Stores, Refuses, Advances, access_refusal, overwrite}
+use Rattle.ivy_model.specs.Serves.{Serves, Loads, Stores, Swaps, Refuses, Advances, access_refusal, overwrite}
 use Rattle.ivy_model.specs.Legal.{IsWidth}
 use Rattle.ivy_model.proofs.Counts.{read_count, write_count}
 use Rattle.ivy_model.proofs.Sizes.{access_placed}
@@ -56,34 +56,56 @@ module _ (c : Config) (old : model.Memory) where
         (λ code. Refuses old code (reply.Value value) old)) (sym permitted)
         (ap reply.Value (sym (read_by_page c old width addr placed)), refl))
 
-    pub store_served : IsSized c old → (value : ℕ)
-        → IsServed c old (call.Store width addr value) (addr / c.page_size)
-        (carried_out (word.Store width (addr % c.page_size) value)
-        (flat_page c old (addr / c.page_size)))
-    store_served sized value =
-        let new : model.Memory = with_word c old width addr value in
-        record {
-          new = new;
-          answers =
-              subst (λ o. MatchOption o (Stores c old width addr value reply.Done new)
-              (λ code. Refuses old code reply.Done new)) (sym permitted) (refl, refl);
-          here = write_by_page c old width addr value sized.bytes placed;
-          others =
-              λ q inside ne. write_elsewhere c old width addr value q sized.bytes placed inside ne;
-          blocks = refl;
-        }
+    module _ (sized : IsSized c old) (value : ℕ) where
+      abbrev new : model.Memory
+      new = with_word c old width addr value
+
+      -- what the memory answers, with the value in the word's place then
+      written : (called : Call) (given : Out) → Answers c old called (reply_of given) new
+          → IsServed c old called (addr / c.page_size)
+          (record {
+            out = given;
+            bytes =
+                overwrite (flat_page c old (addr / c.page_size)) (addr % c.page_size)
+                (big_bytes width value);
+          })
+      written called given answers =
+          record {
+            new = new;
+            answers = answers;
+            here = write_by_page c old width addr value sized.bytes placed;
+            others =
+                λ q inside ne. write_elsewhere c old width addr value q sized.bytes placed inside
+                ne;
+            blocks = refl;
+          }
+
+      pub store_served : IsServed c old (call.Store width addr value) (addr / c.page_size)
+          (carried_out (word.Store width (addr % c.page_size) value)
+          (flat_page c old (addr / c.page_size)))
+      store_served =
+          written (call.Store width addr value) out.Done
+          (subst (λ o. MatchOption o (Stores c old width addr value reply.Done new)
+          (λ code. Refuses old code reply.Done new)) (sym permitted) (refl, refl))
+
+      pub swap_served : IsServed c old (call.Swap width addr value) (addr / c.page_size)
+          (carried_out (word.Swap width (addr % c.page_size) value)
+          (flat_page c old (addr / c.page_size)))
+      swap_served =
+          let before : ℕ =
+          number_at width (addr % c.page_size) (flat_page c old (addr / c.page_size)) in
+          written (call.Swap width addr value) (out.Value before)
+          (subst (λ o. MatchOption o (Swaps c old width addr value (reply.Value before) new)
+          (λ code. Refuses old code (reply.Value before) new)) (sym permitted)
+          ((ap reply.Value (sym (read_by_page c old width addr placed)), refl), (refl, refl)))
 
   module _ (width addr code : ℕ) (refusal : access_refusal c width addr ≡ Some code) where
-    pub load_refused : Serves c old (call.Load width addr) (reply.Refused code) old
-    load_refused =
-        subst (λ o. MatchOption o (Loads c old width addr (reply.Refused code) old)
-        (λ n. Refuses old n (reply.Refused code) old)) (sym refusal) (refl, refl)
-
-    pub store_refused : (value : ℕ)
-        → Serves c old (call.Store width addr value) (reply.Refused code) old
-    store_refused value =
-        subst (λ o. MatchOption o (Stores c old width addr value (reply.Refused code) old)
-        (λ n. Refuses old n (reply.Refused code) old)) (sym refusal) (refl, refl)
+    -- the memory refuses the access, whatever it would do otherwise
+    pub access_refused : (P : Type 0) → MatchOption (access_refusal c width addr) P
+        (λ n. Refuses old n (reply.Refused code) old)
+    access_refused P =
+        subst (λ o. MatchOption o P (λ n. Refuses old n (reply.Refused code) old)) (sym refusal)
+        (refl, refl)
 
   -- a count is a word of page 0
   module _ (sized : IsSized c old) (k n : ℕ) (there : slice_get old.counts k ≡ Some n) where

@@ -2,7 +2,7 @@
 use Rattle.std.specs.Prelude.{◌≡◌, ◌⊎◌, ◌<◌, ℕ, ◌/◌, ◌%◌, Option, Some, None, Result, Ok, Err}
 use Rattle.ivy_model.specs.declared.Config.{Config}
 use Rattle.ivy_model.specs.declared.Call.{Call}
-use Rattle.ivy_model.specs.declared.Call.TheVariants.{Load, Store, Count, Advance, Await, Alloc, Free}
+use Rattle.ivy_model.specs.declared.Call.TheVariants.{Load, Store, Swap, Count, Advance, Await, Alloc, Free}
 use Rattle.ivy_model.specs.declared.Fault.{Fault}
 use Rattle.ivy_model.specs.Numbers.{fault_number}
 use Rattle.ivy_model.specs.Serves.{access_refusal}
@@ -39,6 +39,9 @@ asked_of c (Load width addr) =
 asked_of c (Store width addr value) =
     word_unless (access_refusal c width addr) (addr / c.page_size)
     (word.Store width (addr % c.page_size) value)
+asked_of c (Swap width addr value) =
+    word_unless (access_refusal c width addr) (addr / c.page_size)
+    (word.Swap width (addr % c.page_size) value)
 asked_of c (Count k) = count_asked (word_of_count c k word.Count)
 asked_of c (Advance k) = count_asked (word_of_count c k word.Advance)
 asked_of c (Await k least) = count_asked (word_of_count c k (λ offset. word.Await offset least))

@@ -51,6 +51,7 @@ abbrev pub reply_there : Option Out → Option Reply
 reply_there None = None
 reply_there (Some o) = reply_of o
 
+-- the first one, if it is there, else the other
 abbrev pub first_reply : Option Reply → Option Reply → Option Reply
 first_reply (Some r) o = Some r
 first_reply None o = o
@@ -105,12 +106,15 @@ module _ {S : Type 0} where
     posted = b.posted;
   }
 
+  -- the call is refused at once with this number
   abbrev pub refused : NodeMemory S → ℕ → CallBegun S
   refused m code = record { answer = Given (reply.Refused code); after = m; posted = [] }
 
+  -- nothing changes, and no reply is given
   abbrev pub unserved : NodeMemory S → CallBegun S
   unserved m = record { answer = Unserved; after = m; posted = [] }
 
+  -- a call whose word was carried out, or waits from now on, or can't begin beside another one
   abbrev pub needed : NodeMemory S → Call → ℕ → Begun S → Need → CallBegun S
   needed m call number b (need.Have o) = answered m call number b (reply_of o)
   needed m call number b need.Started = answered m call number b None
@@ -145,10 +149,12 @@ pub record MemoryEffect (S : Type 0) : Type 0 where
   pub after : NodeMemory S
   pub posted : List Parcel
 
+-- what the node's side of the heap makes of a message
 abbrev pub by_side : {S : Type 0} → NodeMemory S → HeapTold → MemoryEffect S
 by_side m t = record { after = record m { side = t.after }; posted = t.posted }
 
 module _ {S : Type 0} (ops : Ops S) where
+  -- a call begins that is this to the memory
   abbrev pub begun_as : NodeMemory S → Call → ℕ → Asked → CallBegun S
   begun_as m call number (asked.Refused code) = refused m code
   begun_as m call number (asked.Word page word) =
@@ -169,6 +175,7 @@ module _ {S : Type 0} (ops : Ops S) where
       again m (needed (taken_out m) call m.number b b.need) b.need
   tried_as m call (asked.Heap k) = unserved m
 
+  -- a reply that is there is taken out, and without one the call is tried again
   abbrev pub polled_as : NodeMemory S → Call → Option Reply → CallBegun S
   polled_as m call (Some r) = record { answer = Given r; after = taken_out m; posted = [] }
   polled_as m call None = tried_as m call (asked_of m.coherence.config call)
@@ -181,6 +188,7 @@ module _ {S : Type 0} (ops : Ops S) where
   unfoldable pub polled : NodeMemory S → CallBegun S
   polled m = polled_at m m.asked
 
+  -- what the coherence makes of a message
   abbrev pub by_coherence : NodeMemory S → ℕ → Message → MemoryEffect S
   by_coherence m from message = record {
     after = record m { coherence = (handled ops m.coherence from message).after };
@@ -197,5 +205,6 @@ module _ {S : Type 0} (ops : Ops S) where
   memory_handled m from message =
       memory_handled_as m from message (heap_told m.coherence.me m.side from message)
 
+  -- the memory after a message
   abbrev pub memory_told : NodeMemory S → ℕ → Message → NodeMemory S
   memory_told m from message = (memory_handled m from message).after

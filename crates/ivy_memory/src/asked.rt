@@ -1,8 +1,9 @@
 //! What a call is to the memory of a node.
-ghost use Rattle.std.specs.Prelude.{◌≡◌};
+ghost use Rattle.std.specs.Prelude.{◌≡◌, ◌/◌};
 ghost use Rattle.ivy_model.specs.Config.{IsConfig};
-ghost use Rattle.ivy_model.specs.Legal.{HasWidth};
-ghost use Rattle.ivy_memory.specs.Asking.{count_asked, asked_of};
+ghost use Rattle.ivy_model.specs.Legal.{HasWidth, IsWidth};
+ghost use Rattle.ivy_model.specs.Serves.{access_refusal};
+ghost use Rattle.ivy_memory.specs.Asking.{count_asked, asked_of, word_unless};
 
 use crate::heap_side::HeapCall;
 use ivy_event::{advance, await_at_least, read};
@@ -30,7 +31,20 @@ fn count_asked(word: Result<Word, Fault>) -> Asked
     }
 }
 
-/// What a call of a legal width is: a load or a store is the word at its address, and a call on an eventcount is
+/// What an access to a word is, which is this one in its page: it is refused, or that word.
+fn word_asked(config: &Config, width: u8, addr: u64, word: Word) -> Asked
+    requires limits { IsConfig config.now }
+    requires width { IsWidth width }
+    ensures is { result ≡ word_unless (access_refusal config.now width addr) (addr / config.now.page_size) word }
+{
+    if let Some(code) = access_refusal(config, width, addr) {
+        return Asked::Refused(code);
+    }
+    let page = (addr / u64::from(config.page_size)) as u32;
+    Asked::Word { page, word }
+}
+
+/// What a call of a legal width is: a load, a store or a swap is the word at its address, and a call on an eventcount is
 /// that of the 8 bytes at its place in page 0. It takes no memory.
 pub fn asked_of(config: &Config, call: Call) -> Asked
     requires limits { IsConfig config.now }
@@ -40,28 +54,26 @@ pub fn asked_of(config: &Config, call: Call) -> Asked
     let size = u64::from(config.page_size);
     match call {
         Call::Load { width, addr } => {
-            if let Some(code) = access_refusal(config, width, addr) {
-                return Asked::Refused(code);
-            }
             let offset = (addr % size) as u32;
-            Asked::Word {
-                page: (addr / size) as u32,
-                word: Word::Load { width, offset },
-            }
+            word_asked(config, width, addr, Word::Load { width, offset })
         }
         Call::Store { width, addr, value } => {
-            if let Some(code) = access_refusal(config, width, addr) {
-                return Asked::Refused(code);
-            }
             let offset = (addr % size) as u32;
-            Asked::Word {
-                page: (addr / size) as u32,
-                word: Word::Store {
-                    width,
-                    offset,
-                    value,
-                },
-            }
+            let word = Word::Store {
+                width,
+                offset,
+                value,
+            };
+            word_asked(config, width, addr, word)
+        }
+        Call::Swap { width, addr, value } => {
+            let offset = (addr % size) as u32;
+            let word = Word::Swap {
+                width,
+                offset,
+                value,
+            };
+            word_asked(config, width, addr, word)
         }
         Call::Count { k } => count_asked(read(config, k)),
         Call::Advance { k } => count_asked(advance(config, k)),

@@ -9,6 +9,7 @@ ghost use Rattle.ivy_wire.specs.Posts.{IsPostOf, HasRefused};
 ghost use Rattle.ivy_memory.specs.Asking.{CallHasToAsk, IsOfHeap, MayBeRefused, asked_of};
 ghost use Rattle.ivy_memory.specs.HeapCalls.{IsGrowth, IsGrowthPosted};
 ghost use Rattle.ivy_memory.specs.Memories.{first_memory, reply_of, reply_at, HasToAskAgain, call_begun, polled, memory_handled, memory_told};
+ghost use Rattle.ivy_serving.specs.Limits.{most_posted};
 
 use crate::answer::Answer;
 use crate::asked::{Asked, asked_of};
@@ -108,7 +109,7 @@ impl<M: Manager, A: Allocator + Copy> Memory<M, A> {
         requires post { IsPostOf P.ops post.old self.old.coherence.config self.old.coherence.me }
         ensures busy { IsErrOf result Fault.Busy ↔ IsSome self.old.asked }
         ensures unasked { IsSome self.old.asked → post.new ≡ post.old }
-        ensures few { length (call_begun M.ops self.old call number).posted ≤ 8 }
+        ensures few { length (call_begun M.ops self.old call number).posted ≤ most_posted }
         ensures begins { IfOk result (λ answer. answer ≢ Answer.Unserved) }
         ensures reply { IfOk result (λ answer. answer ≡ (call_begun M.ops self.old call number).answer) }
         ensures ok { OnOk result (self.new ≡ (call_begun M.ops self.old call number).after) }
@@ -176,7 +177,7 @@ impl<M: Manager, A: Allocator + Copy> Memory<M, A> {
     /// other nodes have to be asked for is refused by a fault: else it takes no memory, and asks the post nothing.
     pub fn poll_reply<P: Post>(&mut self, post: &mut P) -> Result<Answer, Fault>
         requires post { IsPostOf P.ops post.old self.old.coherence.config self.old.coherence.me }
-        ensures few { length (polled M.ops self.old).posted ≤ 8 }
+        ensures few { length (polled M.ops self.old).posted ≤ most_posted }
         ensures reply { IfOk result (λ answer. answer ≡ (polled M.ops self.old).answer) }
         ensures ok { OnOk result (self.new ≡ (polled M.ops self.old).after) }
         ensures posted { OnOk result (post.new ≡ P.ops.after post.old (polled M.ops self.old).posted) }
@@ -228,7 +229,7 @@ impl<M: Manager, A: Allocator + Copy> Memory<M, A> {
         requires foreign { from ≢ self.old.coherence.me }
         requires fits { FitsMessage self.old.coherence.config (owned_message message) }
         requires post { IsPostOf P.ops post.old self.old.coherence.config self.old.coherence.me }
-        ensures few { length (memory_handled M.ops self.old from (owned_message message.entry)).posted ≤ 8 }
+        ensures few { length (memory_handled M.ops self.old from (owned_message message.entry)).posted ≤ most_posted }
         ensures ok { OnOk result (self.new ≡ memory_told M.ops self.old from (owned_message message.entry)) }
         ensures posted { OnOk result (post.new ≡ P.ops.after post.old (memory_handled M.ops self.old from (owned_message message.entry)).posted) }
         ensures took { OnOk result (P.ops.takes post.old (memory_handled M.ops self.old from (owned_message message.entry)).posted) }

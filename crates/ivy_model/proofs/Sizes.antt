@@ -11,7 +11,7 @@ use Rattle.byteorder.specs.Endian.{big_bytes}
 use Rattle.byteorder.specs.Numbers.{length-bytes_high_first}
 use Rattle.ivy_model.specs.declared.config.Config.{Config}
 use Rattle.ivy_model.specs.declared.call.Call.{Call}
-use Rattle.ivy_model.specs.declared.call.Call.TheVariants.{Load, Store, Count, Advance, Await, Alloc, Free}
+use Rattle.ivy_model.specs.declared.call.Call.TheVariants.{Load, Store, Swap, Count, Advance, Await, Alloc, Free}
 use Rattle.ivy_model.specs.declared.call.Record.{Record}
 use Rattle.ivy_model.specs.declared.call.Reply.{Reply}
 use Rattle.ivy_model.specs.declared.call.Reply.TheVariants.{Done, Refused, Value}
@@ -111,6 +111,11 @@ serves_sized c old new (Load width addr) reply h w s p =
 serves_sized c old new (Store width addr value) reply h w s p =
     by_option (access_refusal c width addr) p
     (λ e x. subst (IsSized c) (sym x.1)
+    (stored_sized c old width addr value s (access_placed c width addr h w e)))
+    (λ _ _ x. subst (IsSized c) (sym x.1) s)
+serves_sized c old new (Swap width addr value) reply h w s p =
+    by_option (access_refusal c width addr) p
+    (λ e x. subst (IsSized c) (sym x.1.1)
     (stored_sized c old width addr value s (access_placed c width addr h w e)))
     (λ _ _ x. subst (IsSized c) (sym x.1) s)
 serves_sized c old new (Count k) reply h w s p =

@@ -5,7 +5,7 @@ abbrev pub least_nodes : ℕ
 least_nodes = 2
 
 abbrev pub most_nodes : ℕ
-most_nodes = 8
+most_nodes = 32
 
 abbrev pub least_pages : ℕ
 least_pages = 2

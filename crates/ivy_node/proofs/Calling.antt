@@ -16,6 +16,7 @@ use Rattle.ivy_coherence.specs.Faults.{Begun, begun}
 use Rattle.ivy_host.specs.Managers.{Managed, managed_ops}
 use Rattle.ivy_program.specs.Steps.{Process, Asks, step_of, answered_with}
 use Rattle.ivy_events.specs.Cores.{Outcome}
+use Rattle.ivy_serving.specs.Limits.{most_posted}
 use Rattle.ivy_memory.specs.declared.Answer.{Answer}
 use Rattle.ivy_memory.specs.declared.Answer.TheVariants.{Given, Awaited, Unserved}
 use Rattle.ivy_memory.specs.declared.Asked.{Asked}
@@ -97,8 +98,8 @@ unposted (inl grows) = grows.2
 unposted (inr refuses) = refuses.1
 
 -- few strings are added
-pub called_few : (box after : Outbox) (posted : List Parcel) → length posted ≤ 8
-    → after ≡ posted_by box posted → length after.waiting ≤ length box.waiting + 8
+pub called_few : (box after : Outbox) (posted : List Parcel) → length posted ≤ most_posted
+    → after ≡ posted_by box posted → length after.waiting ≤ length box.waiting + most_posted
 called_few box after posted few sent =
     let grown : length after.waiting ≡ length box.waiting + length posted =
     ap (λ (x : Outbox). length x.waiting) sent ∙ as_many-wait box posted in

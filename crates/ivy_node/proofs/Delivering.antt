@@ -29,6 +29,7 @@ use Rattle.ivy_host.specs.Managers.{Managed, managed_ops}
 use Rattle.ivy_events.specs.Marks.{Mark, Delivery}
 use Rattle.ivy_events.specs.Cores.{Core}
 use Rattle.ivy_events.specs.Nodes.{Node, Effect, stays, posting, accepting, served_next, received, received_as, delivered, delivered_as}
+use Rattle.ivy_serving.specs.Limits.{most_posted}
 use Rattle.ivy_memory.specs.Memories.{NodeMemory, memory_handled, memory_told}
 use Rattle.ivy_host.specs.Hosts.{Host, host_rules, serving}
 use Rattle.ivy_node.specs.Outboxes.{Outbox, HasNumbers, IsRefused, holding_of, with_holding, posted_by}
@@ -164,7 +165,7 @@ pub record IsHeard (v : Shown) (f : Frame) (w : Verdict) (h : H) (box : Outbox) 
         waiting = v.waiting ++ sent;
         held = v.held;
       }
-  pub few : length sent ≤ 8
+  pub few : length sent ≤ most_posted
   pub same_me : link.me ≡ v.node.link.me
   pub peers : length link.peers ≡ length v.node.link.peers
   pub same : (j : ℕ) → (peer_at link j).delivered ≡ (peer_at v.node.link j).delivered
@@ -202,7 +203,7 @@ heard_quietly v f w ne none = record {
 told_message : (v : Shown) (f : Frame) (w : Verdict) (m : Message) → w ≡ verdict.Next
     → f.body ≡ Some m
     → HasNumbers (box_of v) (memory_handled managed_ops v.node.core.memory f.source m).posted
-    → length (memory_handled managed_ops v.node.core.memory f.source m).posted ≤ 8
+    → length (memory_handled managed_ops v.node.core.memory f.source m).posted ≤ most_posted
     → IsHeard v f w (serving managed_ops v.node.core f.source m).after
     (posted_by (box_of v) (memory_handled managed_ops v.node.core.memory f.source m).posted)
 unfolding serving
@@ -231,7 +232,7 @@ pub heard_message : (v : Shown) (f : Frame) (w : Verdict) (m : Message)
     (memory : NodeMemory Managed) (box : Outbox) → w ≡ verdict.Next → f.body ≡ Some m
     → memory ≡ memory_told managed_ops v.node.core.memory f.source m
     → HasNumbers (box_of v) (memory_handled managed_ops v.node.core.memory f.source m).posted
-    → length (memory_handled managed_ops v.node.core.memory f.source m).posted ≤ 8
+    → length (memory_handled managed_ops v.node.core.memory f.source m).posted ≤ most_posted
     → box ≡ posted_by (box_of v) (memory_handled managed_ops v.node.core.memory f.source m).posted
     → IsHeard v f w
     (record { memory = memory; process = v.node.core.process; history = v.node.core.history })
@@ -376,7 +377,7 @@ heard_early v k f bytes w r ne h box new events site x is listed =
 pub heard_few : (n v : Shown) → v ≡ n → (f : Frame) (w : Verdict) (h : H) (box new : Outbox)
     → w ≡ offered v.node.link f → IsHeard v f w h box
     → new ≡ with_holding box (holding.accepted_at (holding_of box) f)
-    → length new.waiting ≤ length n.waiting + 8
+    → length new.waiting ≤ length n.waiting + most_posted
 heard_few n v same f w h box new said x is =
     let count : length new.waiting ≡ length (v.waiting ++ x.sent) =
     ap (λ (b : Outbox). length b.waiting) (after_heard v f w h box new said x is) in

@@ -1,5 +1,5 @@
 -- A node's link, with the strings that wait to be put on the wire, and those that it holds.
-use Rattle.std.specs.Prelude.{◌≡◌, ◌≢◌, ℕ, true, false, List, [], ◌∷◌, ◌++◌, map, Option, Some, None, refl}
+use Rattle.std.specs.Prelude.{◌≡◌, ◌≢◌, ℕ, ◌+◌, ◌*◌, true, false, List, [], ◌∷◌, ◌++◌, map, Option, Some, None, refl}
 use Rattle.std.proofs.Common.{ap, append-nil}
 use Rattle.ivy_model.specs.declared.Config.{Config}
 use Rattle.ivy_model.specs.Config.{IsConfig}
@@ -9,18 +9,20 @@ use Rattle.ivy_wire.specs.Data.{Parcel}
 use Rattle.ivy_wire.specs.Posts.{PostOps, PostLaws}
 use Rattle.ivy_wire.specs.Spelling.{spelling}
 use Rattle.ivy_wire.specs.Destinations.{dest_of}
+use Rattle.ivy_serving.specs.Limits.{most_posted}
+use Rattle.ivy_link.specs.Limits.{most_ahead}
 use Rattle.ivy_link.specs.Linked.{Linked, Sending, sends, has_numbers}
 use Rattle.ivy_link.specs.Fitting.{FitsLink}
 use Rattle.ivy_link.specs.Windows.{Window}
 use Rattle.ivy_link.specs.Holding.{Holding, link_of, holding}
 
--- how many strings one event sends at most: the frames of a pulse, or what is posted
+-- how many strings one event sends at most: what is posted, and a pulse has no more frames
 abbrev pub most_sent : ℕ
-most_sent = 32
+most_sent = most_posted
 
--- and how many a delivery sends with all that a site goes on with: 8 for each string
+-- and how many a delivery sends with all that a site goes on with, as many for each string
 abbrev pub most_delivered : ℕ
-most_delivered = 264
+most_delivered = most_sent + most_sent * most_ahead
 
 pub record Outbox : Type 0 where
   pub config : Config
@@ -29,6 +31,7 @@ pub record Outbox : Type 0 where
   pub waiting : List (List ℕ)
   pub held : List Window
 
+-- the link is this node's, and every frame that it makes has a spelling
 pub record IsSoundOutbox (o : Outbox) : Type 0 where
   pub limits : IsConfig o.config
   pub mine : o.link.me ≡ o.me
@@ -79,6 +82,7 @@ with_sending o s = record {
 abbrev pub HasNumbers : Outbox → List Parcel → Type 0
 HasNumbers o parcels = has_numbers o.link parcels ≡ true
 
+-- the outbox once these parcels were posted
 abbrev pub posted_by : Outbox → List Parcel → Outbox
 posted_by o parcels = with_sending o (sends o.link parcels)
 
@@ -89,6 +93,7 @@ IsRefused Memory o parcels = parcels ≢ []
 IsRefused NumbersSpent o parcels = has_numbers o.link parcels ≡ false
 IsRefused f o parcels = ⊥
 
+-- the same, as a post says it
 abbrev pub RefusesParcels : Outbox → List Parcel → Fault → Type 0
 RefusesParcels o parcels f = IsRefused f o parcels
 
@@ -104,14 +109,17 @@ abbrev pub next_dest : List (List ℕ) → Option ℕ
 next_dest [] = None
 next_dest (bytes ∷ rest) = dest_of bytes
 
+-- to post nothing there are always numbers
 pub takes_none : (o : Outbox) → HasNumbers o []
 takes_none o = refl
 
+-- to post nothing changes nothing
 pub after_none : (o : Outbox) → posted_by o [] ≡ o
 after_none o =
     ap (λ w. record { config = o.config; me = o.me; link = o.link; waiting = w; held = o.held })
     (append-nil o.waiting)
 
+-- and is never refused
 pub refuses_none : (o : Outbox) (f : Fault) → RefusesParcels o [] f → ⊥
 refuses_none o Memory why = why refl
 refuses_none o NumbersSpent why = absurd cc

@@ -6,6 +6,7 @@ use Rattle.ivy_program.specs.declared.Instruction.{Instruction}
 use Rattle.ivy_events.specs.Worlds as worlds
 use Rattle.ivy_host.specs.Hosts.{Host}
 
+-- a world with the configuration and the programs that it runs
 pub record Run : Type 0 where
   pub config : Config
   pub programs : List (List Instruction)

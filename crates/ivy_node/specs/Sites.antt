@@ -32,6 +32,7 @@ use Rattle.ivy_host.specs.Hosts.{Host, host_rules, turn_of}
 use Rattle.ivy_host.specs.Openings.{first_node}
 use Rattle.ivy_node.specs.Shown.{Shown, holding_at, after_event, after_delivery}
 
+-- nothing was listed or held, and no string waits
 abbrev pub first_shown : Config → ℕ → List Instruction → Shown
 first_shown c me program = record {
   config = c;
@@ -59,6 +60,7 @@ pub record SiteTurns (old new : Shown) : Type 0 where
   pub sent : posting old.node outcome.after outcome.posted ≡ Some effect
   pub after : new ≡ after_event old Turn effect
 
+-- what a turn changes that came to this
 abbrev pub AfterTurn : turn.Turn → Shown → Shown → Type 0
 AfterTurn Idle old new = (turn_of managed_ops old.node.core ≡ None) × (new ≡ old)
 AfterTurn Moved old new = SiteTurns old new
@@ -110,6 +112,7 @@ pub record Hears (bytes : List ℕ) (answer : Verdict) (source : ℕ) (again : O
   pub early : MatchOption again (answer ≢ verdict.Ahead)
       (λ string. (string ≡ bytes) × Contains (early_at new) string × (answer ≡ verdict.Ahead))
 
+-- the string is delivered, and held where it came too early; the source is told
 pub record Receives (bytes : List ℕ) (verdict : Verdict) (source : ℕ) (old new : Shown) : Type 0
   where
     pub mid : Shown
@@ -131,9 +134,11 @@ SiteGoesOn source [] old new = new ≡ old
 SiteGoesOn source (bytes ∷ more) old new =
     (mid : Shown) × GoesOnOnce source bytes old mid × SiteGoesOn source more mid new
 
+-- so it went on, with some string
 abbrev pub WentOnOnce : ℕ → Shown → Shown → Type 0
 WentOnOnce source old new = (bytes : List ℕ) × GoesOnOnce source bytes old new
 
+-- so it went on, with any number of strings
 abbrev pub SiteWentOn : ℕ → Shown → Shown → Type 0
 SiteWentOn source old new = (more : List (List ℕ)) × SiteGoesOn source more old new
 
@@ -145,6 +150,7 @@ FollowsDelivery verdict.Next f bytes mid new = SiteWentOn f.source mid new
 FollowsDelivery verdict.Repeat f bytes mid new = new ≡ mid
 FollowsDelivery verdict.Ahead f bytes mid new = new ≡ holding_in mid f bytes
 
+-- the string is delivered, and then the site goes on, or holds it
 pub record AfterDelivery (bytes : List ℕ) (verdict : Verdict) (old new : Shown) : Type 0 where
   pub mid : Shown
   pub first : SiteDelivers bytes verdict old mid
@@ -183,6 +189,7 @@ pub record IsHeld (s : Shown) (from place : ℕ) (bytes : List ℕ) : Type 0 whe
   pub dest : frame.dest ≡ s.node.link.me
   pub number : frame.number ≡ (peer_at s.node.link from).delivered + place + 1
 
+-- each string that is held came too early, and is held in its place
 abbrev pub HoldsEarly : Shown → Type 0
 HoldsEarly s = (source place : ℕ) (bytes : List ℕ)
     → place_at (window_of s.held source) place ≡ Some bytes → IsHeld s source place bytes

@@ -16,6 +16,7 @@ use Rattle.ivy_node.specs.Runs.{IsReached}
 abbrev pub programs_of : List Shown → List (List Instruction)
 programs_of sites = map (λ (s : Shown). s.node.core.process.program) sites
 
+-- the world that these sites are, in which these strings were sent
 abbrev pub world_of : List Shown → List (List ℕ) → worlds.World (Host Managed)
 world_of sites sent = record {
   nodes = map (λ (s : Shown). s.node) sites;
@@ -40,6 +41,7 @@ abbrev pub run_of : Config → List Shown → List (List ℕ) → Run
 run_of c sites sent =
     record { config = c; programs = programs_of sites; world = world_of sites sent }
 
+-- the sites are those of a world that some moves led to from its opening
 pub record IsRunning (c : Config) (sites : List Shown) (sent : List (List ℕ)) : Type 0 where
   pub limits : IsConfig c
   pub count : length sites ≡ c.nodes
@@ -50,6 +52,7 @@ pub record IsRunning (c : Config) (sites : List Shown) (sent : List (List ℕ)) 
 abbrev pub AreFirst : Config → List (List Instruction) → List Shown → Type 0
 AreFirst c programs sites = sites ≡ first_sites_from c 0 programs
 
+-- no other fault than want of memory
 abbrev pub IsMemory : Fault → Type 0
 IsMemory fault = fault ≡ Memory
 

@@ -1,5 +1,5 @@
 //! One node: its program, its memory, its link, and the strings that wait to be put on the wire.
-ghost use Rattle.std.specs.Prelude.{◌≡◌, ◌↔◌, ◌≢◌, ◌+◌, ◌<◌, ◌≤◌, ◌++◌, ◌∷◌, [], None, Some, Err, length, vec_len, vec_capacity};
+ghost use Rattle.std.specs.Prelude.{◌*◌, ◌≡◌, ◌↔◌, ◌≢◌, ◌+◌, ◌<◌, ◌≤◌, ◌++◌, ◌∷◌, [], None, Some, Err, length, vec_len, vec_capacity};
 ghost use Rattle.std.specs.Prelude.{IsTrue, IfOk, IfErr, OnOk, OnErr, IfSome, IsOkUnless, MatchBool, MatchResult, MatchOption, Contains};
 ghost use Rattle.ivy_model.specs.Config.{IsConfig};
 ghost use Rattle.ivy_model.specs.Wants.{IsWant};
@@ -7,6 +7,8 @@ ghost use Rattle.ivy_wire.specs.Faults.{checked};
 ghost use Rattle.ivy_program.specs.Steps.{IsAsking, HasEnded, Asks, step_of, answered_with};
 ghost use Rattle.ivy_host.specs.Managers.{managed_ops};
 ghost use Rattle.ivy_events.specs.Nodes.{pulsing};
+ghost use Rattle.ivy_serving.specs.Limits.{most_posted};
+ghost use Rattle.ivy_link.specs.Limits.{most_ahead};
 ghost use Rattle.ivy_link.specs.Accepted.{offered};
 ghost use Rattle.ivy_link.specs.Holding.{ready_of};
 ghost use Rattle.ivy_node.specs.Outboxes.{most_sent, most_delivered, next_dest};
@@ -141,7 +143,7 @@ fn begin<A: Allocator + Copy>(
     requires me { outbox.old.me ≡ memory.old.coherence.me }
     ensures ok { IfOk result (λ began. AfterHostTurn began (host_of memory.old machine.old history.old.items) outbox.old (host_of memory.new machine.new history.new.items) outbox.new) }
     ensures err { OnErr result ((memory.new ≡ memory.old) × (outbox.new ≡ outbox.old) × (machine.new ≡ machine.old) × (history.new.items ≡ history.old.items)) }
-    ensures few { OnOk result (length outbox.new.waiting ≤ length outbox.old.waiting + 8) }
+    ensures few { OnOk result (length outbox.new.waiting ≤ length outbox.old.waiting + most_posted) }
     ensures spent { IfErr result (HasNoNumbers (host_of memory.old machine.old history.old.items) outbox.old) }
     ensures want { IfErr result IsWant }
 {
@@ -166,7 +168,7 @@ fn poll<A: Allocator + Copy>(
     requires me { outbox.old.me ≡ memory.old.coherence.me }
     ensures ok { IfOk result (λ changed. AfterHostTurn changed (host_of memory.old machine.old history.old.items) outbox.old (host_of memory.new machine.new history.new.items) outbox.new) }
     ensures err { OnErr result ((memory.new ≡ memory.old) × (outbox.new ≡ outbox.old) × (machine.new ≡ machine.old) × (history.new.items ≡ history.old.items)) }
-    ensures few { OnOk result (length outbox.new.waiting ≤ length outbox.old.waiting + 8) }
+    ensures few { OnOk result (length outbox.new.waiting ≤ length outbox.old.waiting + most_posted) }
     ensures spent { IfErr result (HasNoNumbers (host_of memory.old machine.old history.old.items) outbox.old) }
     ensures want { IfErr result IsWant }
 {
@@ -304,7 +306,7 @@ impl<A: Allocator + Copy> Site<A> {
         ensures done { MatchResult result (λ h. Hears string.now h.0 h.1 h.2 self.old self.new) (λ _. self.new ≡ self.old) }
         ensures from { IfOk result (λ h. h.1 < self.old.config.nodes) }
         ensures refused { MatchResult (checked self.old.config string.now) (λ _. IfErr result IsWant) (λ fault. result ≡ Err fault) }
-        ensures few { length self.new.waiting ≤ length self.old.waiting + 8 }
+        ensures few { length self.new.waiting ≤ length self.old.waiting + most_posted }
         ensures spent { IfErr result (IsSpentDelivery self.old string.now) }
     {
         let config = self.outbox.config();
@@ -353,7 +355,7 @@ impl<A: Allocator + Copy> Site<A> {
         ensures done { MatchResult result (λ r. Receives string.now r.0 r.1 self.old self.new) (λ _. self.new ≡ self.old) }
         ensures from { IfOk result (λ r. r.1 < self.old.config.nodes) }
         ensures refused { MatchResult (checked self.old.config string.now) (λ _. IfErr result IsWant) (λ fault. result ≡ Err fault) }
-        ensures few { length self.new.waiting ≤ length self.old.waiting + 8 }
+        ensures few { length self.new.waiting ≤ length self.old.waiting + most_posted }
         ensures spent { IfErr result (IsSpentDelivery self.old string.now) }
     {
         let (verdict, from, early) = self.hear(string)?;
@@ -381,7 +383,7 @@ impl<A: Allocator + Copy> Site<A> {
         requires from { from < self.old.config.nodes }
         ensures same { IsSameNode self.old self.new }
         ensures done { MatchBool result (WentOnOnce from self.old self.new) (self.new ≡ self.old) }
-        ensures few { length self.new.waiting ≤ length self.old.waiting + 8 }
+        ensures few { length self.new.waiting ≤ length self.old.waiting + most_posted }
     {
         let Some(string) = self.take_ready(from) else {
             return false;
@@ -400,7 +402,7 @@ impl<A: Allocator + Copy> Site<A> {
         requires from { from < self.old.config.nodes }
         ensures same { IsSameNode self.old self.new }
         ensures done { SiteWentOn from self.old self.new }
-        ensures few { length self.new.waiting ≤ length self.old.waiting + 256 }
+        ensures few { length self.new.waiting ≤ length self.old.waiting + most_posted * most_ahead }
     {
         for _ in 0..MOST_AHEAD {
             if !self.go_on_once(from) {

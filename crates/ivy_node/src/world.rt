@@ -15,17 +15,17 @@ ghost use Rattle.ivy_node.specs.WorldSites.{programs_of, world_of, AreSites, IsM
 use crate::site::Site;
 use ivy_events::Move;
 use ivy_link::MOST_AHEAD;
-use ivy_model::{Config, Fault, Record};
+use ivy_model::{Config, Fault, MOST_NODES, Record};
 use ivy_program::Program;
 use ivy_wire::Bytes;
 use std::alloc::Allocator;
 use std::marker::Model;
 
-/// How many strings a turn or a pulse sends at most.
-const MOST_SENT: usize = 32;
+/// How many strings a turn or a pulse sends at most: one to each node, or as many messages again.
+const MOST_SENT: usize = MOST_NODES as usize;
 
 /// How many strings a delivery sends at most, with all that the node goes on with.
-const MOST_DELIVERED: usize = 8 + 8 * MOST_AHEAD;
+const MOST_DELIVERED: usize = MOST_SENT + MOST_SENT * MOST_AHEAD;
 
 /// A world of nodes that run programs over one shared memory, on a wire that may lose, repeat and reorder.
 ///

@@ -1,10 +1,10 @@
 -- Sets of nodes as numbers: bit q of the number stands for node q.
-use Rattle.std.proofs.Common.{◌≡◌, ◌≢◌, ℕ, zero, suc, ◌+◌, ◌-◌, ◌*◌, ◌/◌, ◌%◌, ◌^◌, ◌<◌, ◌≤◌, Bool}
+use Rattle.std.proofs.Common.{◌≡◌, ◌≢◌, ℕ, zero, suc, ◌+◌, ◌*◌, ◌/◌, ◌%◌, ◌^◌, ◌<◌, ◌≤◌, Bool}
 use Rattle.std.proofs.Common.{true, false, not, ◌&&◌, ◌||◌, cond, eqb, List, [], ◌∷◌, ◌++◌, length}
-use Rattle.std.proofs.Common.{IsTrue, ◌↔◌, refl, sym, ap, ◌∙◌, arith, inl, inr, add-one, w8, min}
+use Rattle.std.proofs.Common.{IsTrue, ◌↔◌, refl, sym, ap, ◌∙◌, arith, inl, inr, add-one, w32, min}
 use Rattle.std.proofs.Common.{eqb-true, true≢false}
 use Rattle.std.specs.List.{filter, range_with_len, sum_by}
-use Rattle.std.specs.Int.{bit_at}
+use Rattle.std.specs.Int.{bit_at, bit_not}
 use Rattle.std.specs.Int.RustNames.{bit_or, bit_and}
 use Rattle.std.specs.Ordering.{nat_cmp}
 use Rattle.std.specs.FinSet as set
@@ -14,13 +14,13 @@ use Rattle.std.proofs.lemmas.Bool.{cases_Bool, cases_lt, cases_eq, and_parts, fa
 use Rattle.std.proofs.lemmas.List.Elements.{filter-append}
 use Rattle.std.proofs.lemmas.List.FromFn.{length-range_with_len}
 use Rattle.std.proofs.lemmas.List.Sums.{sum_by-cons, length-filter, count_by-le-length}
-use Rattle.std.proofs.lemmas.List.{append-nil}
 use Rattle.std.proofs.lemmas.Nat.{pow_pos}
 use Rattle.std.proofs.lemmas.Nat.Bits.{bit_at-zero, bit_at-lt, bit_at_lowest, bit_at-suc}
 use Rattle.std.proofs.lemmas.Nat.Bits.{bit_at_above, bit_at_and, bit_at_set_same, bit_at_set_other}
 use Rattle.std.proofs.lemmas.Nat.Bits.{bit_at_clear_same, bit_at_clear_other, same_from_bits_below}
+use Rattle.ivy_model.specs.Limits.{most_nodes}
 use Rattle.ivy_pagetable.specs.NodeSets.{Nodes, nodes_of, IsBelow, bits_of, nodes_with}
-use Rattle.ivy_pagetable.specs.Bytes.{lists, has, in_range, lists_with, no_bit, contains_with}
+use Rattle.ivy_pagetable.specs.Bits.{lists, has, in_range, lists_with, no_bit, contains_with}
 use Rattle.ivy_pagetable.proofs.NodeSets.{tied, untied, sets_equal}
 
 -- which sets lie below a number
@@ -130,13 +130,14 @@ number_below (suc n) p (suc m) low =
       | inr y ↦ omega (arith, even p n y, rest, twice)
     ]
 
-pub bits_of_bit : (s : Nodes) (q : ℕ) → q < 32 → bit_at (bits_of s) q ≡ cond (set.contains s q) 1 0
+pub bits_of_bit : (s : Nodes) (q : ℕ) → q < most_nodes
+    → bit_at (bits_of s) q ≡ cond (set.contains s q) 1 0
 unfolding bits_of nodes_of
-bits_of_bit s q lt = bit_of_number 32 (set.contains s) q lt
+bits_of_bit s q lt = bit_of_number most_nodes (set.contains s) q lt
 
 pub bits_of_below : (n : ℕ) (s : Nodes) → IsBelow n s → bits_of s < 2 ^ n
 unfolding bits_of nodes_of
-bits_of_below n s low = number_below 32 (set.contains s) n low
+bits_of_below n s low = number_below most_nodes (set.contains s) n low
 
 pub with_below : (n bits : ℕ) → bits < 2 ^ n → IsBelow n (nodes_with bits)
 with_below n bits small q is =
@@ -149,13 +150,13 @@ with_below n bits small q is =
     ]
 
 -- the nodes of a set's number are the set's
-pub with_bits_of : (n : ℕ) (s : Nodes) → n ≤ 32 → IsBelow n s → nodes_with (bits_of s) ≡ s
+pub with_bits_of : (n : ℕ) (s : Nodes) → n ≤ most_nodes → IsBelow n s → nodes_with (bits_of s) ≡ s
 with_bits_of n s le low =
-    let small = bits_of_below 32 s (more_below n 32 s le low) in
-    sets_equal _ _ (λ q. contains_with (bits_of s) q small ∙ elim (cases_lt q 32) [
+    let small = bits_of_below most_nodes s (more_below n most_nodes s le low) in
+    sets_equal _ _ (λ q. contains_with (bits_of s) q small ∙ elim (cases_lt q most_nodes) [
       | inl lt ↦ ap (λ x. eqb x 1) (bits_of_bit s q lt) ∙ back (set.contains s q)
       | inr past ↦
-          no_bit (bits_of s) 32 q small past
+          no_bit (bits_of s) most_nodes q small past
           ∙ sym (false_from_ne_true (set.contains s q) (λ is. omega (arith, low q is, past, le)))
     ])
   where
@@ -163,11 +164,12 @@ with_bits_of n s le low =
     back true = refl
     back false = refl
 
--- a number of 32 bits is that of its nodes
-pub bits_of_with : (bits : ℕ) → bits < 2 ^ 32 → bits_of (nodes_with bits) ≡ bits
+-- a number of so many bits is that of its nodes
+pub bits_of_with : (bits : ℕ) → bits < 2 ^ most_nodes → bits_of (nodes_with bits) ≡ bits
 bits_of_with bits small =
-    same_from_bits_below 32 (bits_of (nodes_with bits)) bits
-    (bits_of_below 32 (nodes_with bits) (with_below 32 bits small)) small (λ q lt. (
+    same_from_bits_below most_nodes (bits_of (nodes_with bits)) bits
+    (bits_of_below most_nodes (nodes_with bits) (with_below most_nodes bits small)) small
+    (λ q lt. (
     bits_of_bit (nodes_with bits) q lt ∙ ap (λ b. cond b 1 0) (contains_with bits q small)
     ∙ bit (bit_at bits q) (bit_at-lt bits q)
     ))
@@ -181,10 +183,12 @@ bits_of_with bits small =
 pub no_bits : nodes_with 0 ≡ set.empty
 no_bits =
     sets_equal _ _
-    (λ q. lists_with 0 q ∙ ap (λ x. eqb x 1 && lists (range_with_len 0 32) q) (bit_at-zero q)
+    (λ q. lists_with 0 q
+    ∙ ap (λ x. eqb x 1 && lists (range_with_len 0 most_nodes) q) (bit_at-zero q)
     ∙ sym (contains-empty nat_cmp q))
 
-pub emptiness : (bits : ℕ) → bits < 2 ^ 32 → IsTrue (eqb bits 0) ↔ (nodes_with bits ≡ set.empty)
+pub emptiness : (bits : ℕ) → bits < 2 ^ most_nodes
+    → IsTrue (eqb bits 0) ↔ (nodes_with bits ≡ set.empty)
 emptiness bits small = (
   λ t. ap nodes_with (eqb-true bits 0 t) ∙ no_bits,
   λ e. eq-eqb bits 0
@@ -192,35 +196,36 @@ emptiness bits small = (
 )
 
 -- a bit that is set, and one that is cleared
-pub with_bit : (bits node : ℕ) → node < 8
-    → nodes_with (bit_or bits (1 * 2 ^ node % 2 ^ 8)) ≡ set.insert (nodes_with bits) node
+pub with_bit : (bits node : ℕ) → node < most_nodes
+    → nodes_with (bit_or bits (1 * 2 ^ node % 2 ^ 32)) ≡ set.insert (nodes_with bits) node
 with_bit bits node few =
     sets_equal _ _ (λ q. lists_with new q ∙ elim (cases_eq node q) [
       | inl e ↦
           ap (λ k. has new k && here k) (sym e)
-          ∙ ap (λ x. eqb x 1 && here node) (bit_at_set_same w8 bits node few)
-          ∙ in_range 0 32 node (omega arith) (omega (arith, few))
+          ∙ ap (λ x. eqb x 1 && here node) (bit_at_set_same w32 bits node few)
+          ∙ in_range 0 most_nodes node (omega arith) (omega (arith, few))
           ∙ sym (tied q node _ ∙ ap (λ b. b || set.contains (nodes_with bits) q) (eq-eqb node q e))
       | inr other ↦
-          ap (λ x. eqb x 1 && here q) (bit_at_set_other w8 bits node few q (λ e. other (sym e)))
+          ap (λ x. eqb x 1 && here q) (bit_at_set_other w32 bits node few q (λ e. other (sym e)))
           ∙ sym (lists_with bits q)
           ∙ sym (tied q node _
           ∙ ap (λ b. b || set.contains (nodes_with bits) q) (ne_eqb node q other))
     ])
   where
     new : ℕ
-    new = bit_or bits (1 * 2 ^ node % 2 ^ 8)
+    new = bit_or bits (1 * 2 ^ node % 2 ^ 32)
 
     here : ℕ → Bool
-    here q = lists (range_with_len 0 32) q
+    here q = lists (range_with_len 0 most_nodes) q
 
-pub without_bit : (bits node : ℕ) → bits < 2 ^ 8 → node < 8
-    → nodes_with (bit_and bits (255 - 1 * 2 ^ node % 2 ^ 8)) ≡ set.remove (nodes_with bits) node
+pub without_bit : (bits node : ℕ) → bits < 2 ^ most_nodes → node < most_nodes
+    → nodes_with (bit_and bits (bit_not w32 (1 * 2 ^ node % 2 ^ 32)))
+    ≡ set.remove (nodes_with bits) node
 without_bit bits node small few =
     sets_equal _ _ (λ q. lists_with new q ∙ elim (cases_eq node q) [
       | inl e ↦
           ap (λ k. has new k && here q) (sym e)
-          ∙ ap (λ x. eqb x 1 && here q) (bit_at_clear_same w8 bits node few)
+          ∙ ap (λ x. eqb x 1 && here q) (bit_at_clear_same w32 bits node few)
           ∙ sym (untied q node _
           ∙ ap (λ b. not b && set.contains (nodes_with bits) q) (eq-eqb node q e))
       | inr other ↦ ap (λ b. b && here q) (others q other) ∙ sym (lists_with bits q)
@@ -229,21 +234,21 @@ without_bit bits node small few =
     ])
   where
     new : ℕ
-    new = bit_and bits (255 - 1 * 2 ^ node % 2 ^ 8)
+    new = bit_and bits (bit_not w32 (1 * 2 ^ node % 2 ^ 32))
 
     here : ℕ → Bool
-    here q = lists (range_with_len 0 32) q
+    here q = lists (range_with_len 0 most_nodes) q
 
     others : (q : ℕ) → node ≢ q → has new q ≡ has bits q
     others q other =
-        elim (cases_lt q 8) [
+        elim (cases_lt q most_nodes) [
           | inl lt ↦
-              ap (λ x. eqb x 1) (bit_at_clear_other w8 bits node few q lt (λ e. other (sym e)))
-          | inr past ↦ ap (λ x. eqb x 1) (bit_at_and bits (255 - 1 * 2 ^ node % 2 ^ 8) q)
-              ∙ ap (λ x. eqb (min x (bit_at (255 - 1 * 2 ^ node % 2 ^ 8) q)) 1)
-              (bit_at_above bits 8 q small past)
-              ∙ ap (λ x. eqb x 1) (zero-min (bit_at (255 - 1 * 2 ^ node % 2 ^ 8) q))
-              ∙ sym (no_bit bits 8 q small past)
+              ap (λ x. eqb x 1) (bit_at_clear_other w32 bits node few q lt (λ e. other (sym e)))
+          | inr past ↦ ap (λ x. eqb x 1) (bit_at_and bits (bit_not w32 (1 * 2 ^ node % 2 ^ 32)) q)
+              ∙ ap (λ x. eqb (min x (bit_at (bit_not w32 (1 * 2 ^ node % 2 ^ 32)) q)) 1)
+              (bit_at_above bits most_nodes q small past)
+              ∙ ap (λ x. eqb x 1) (zero-min (bit_at (bit_not w32 (1 * 2 ^ node % 2 ^ 32)) q))
+              ∙ sym (no_bit bits most_nodes q small past)
         ]
 
 -- the steps of `nodes`: those below k that a test passes
@@ -273,16 +278,3 @@ passing_few test k = omega (
   count_by-le-length test (range_with_len 0 k),
   length-range_with_len 0 k,
 )
-
-pub nodes_below : (s : Nodes) → IsBelow 8 s → passing (set.contains s) 8 ≡ nodes_of s
-unfolding nodes_of
-nodes_below s low = sym (none_from 24)
-  where
-    none_from : (n : ℕ) → passing (set.contains s) (8 + n) ≡ passing (set.contains s) 8
-    none_from zero = refl
-    none_from (suc n) =
-        let q : ℕ = 8 + n in
-        ap (passing (set.contains s)) (omega arith) ∙ passing_more (set.contains s) q
-        ∙ ap (λ b. passing (set.contains s) q ++ cond b (q ∷ []) [])
-        (false_from_ne_true (set.contains s q) (λ is. omega (arith, low q is)))
-        ∙ append-nil (passing (set.contains s) q) ∙ none_from n

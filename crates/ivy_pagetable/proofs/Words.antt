@@ -14,7 +14,7 @@ use Rattle.byteorder.specs.Endian.{big_number, big_bytes}
 use Rattle.byteorder.specs.Numbers.{big_from-cons, big_from-lt, length-bytes_high_first}
 use Rattle.ivy_model.specs.Serves.{overwrite}
 use Rattle.ivy_pagetable.specs.declared.word.Word.{Word}
-use Rattle.ivy_pagetable.specs.declared.word.Word.TheVariants.{Load, Store, Count, Advance, Await}
+use Rattle.ivy_pagetable.specs.declared.word.Word.TheVariants.{Load, Store, Swap, Count, Advance, Await}
 use Rattle.ivy_pagetable.specs.declared.word.Out.TheVariants.{Full, Done}
 use Rattle.ivy_pagetable.specs.Words.{IsWord, Carried, carried_out, number_at, width_of, offset_of}
 
@@ -52,6 +52,7 @@ pub length-carried_out : (word : Word) (bytes : List ℕ) → IsWord (length byt
     → length (carried_out word bytes).bytes ≡ length bytes
 length-carried_out (Load width offset) bytes h = refl
 length-carried_out (Store width offset value) bytes h = written bytes width value offset h.within
+length-carried_out (Swap width offset value) bytes h = written bytes width value offset h.within
 length-carried_out (Count offset) bytes h = refl
 length-carried_out (Advance offset) bytes h =
     counted (number_at 8 offset bytes == 2 ^ 64 - 1) bytes (number_at 8 offset bytes) offset
@@ -86,6 +87,7 @@ pub bytes-carried_out : (word : Word) (bytes : List ℕ) → All (λ b. b < 256)
     → All (λ b. b < 256) (carried_out word bytes).bytes
 bytes-carried_out (Load width offset) bytes all = all
 bytes-carried_out (Store width offset value) bytes all = overwritten bytes width value offset all
+bytes-carried_out (Swap width offset value) bytes all = overwritten bytes width value offset all
 bytes-carried_out (Count offset) bytes all = all
 bytes-carried_out (Advance offset) bytes all =
     raised_bytes (number_at 8 offset bytes == 2 ^ 64 - 1) bytes (number_at 8 offset bytes) offset
@@ -186,6 +188,7 @@ pub taken_back : (word : Word) (bytes : List ℕ) → IsWord (length bytes) word
     (carried_out word bytes).bytes).bytes ≡ bytes
 taken_back (Load width offset) bytes h all = number_back bytes width offset h.within all
 taken_back (Store width offset value) bytes h all = store_back bytes width offset value h.within all
+taken_back (Swap width offset value) bytes h all = store_back bytes width offset value h.within all
 taken_back (Count offset) bytes h all = number_back bytes 8 offset h.within all
 taken_back (Advance offset) bytes h all =
     raise_back (number_at 8 offset bytes == 2 ^ 64 - 1) bytes (number_at 8 offset bytes) offset

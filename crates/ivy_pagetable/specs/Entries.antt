@@ -18,6 +18,7 @@ is_locked (entry.AwaitRead s) = true
 is_locked (entry.AwaitWrite s) = true
 is_locked (entry.AwaitAcks s) = true
 
+-- the node owns the page, also while it waits for acknowledgements
 abbrev pub is_owner : Entry → Bool
 is_owner (entry.Idle s) = s.owner
 is_owner (entry.AwaitRead s) = false
@@ -31,12 +32,14 @@ is_plain (entry.AwaitRead s) = false
 is_plain (entry.AwaitWrite s) = false
 is_plain (entry.AwaitAcks s) = false
 
+-- the page's bytes may be read here: a copy stays one while the node waits to write
 abbrev pub readable : Entry → Bool
 readable (entry.Idle s) = reads s.access
 readable (entry.AwaitRead s) = false
 readable (entry.AwaitWrite s) = s.had_copy
 readable (entry.AwaitAcks s) = true
 
+-- the page may be written here, so no word waits for it
 abbrev pub writable : Entry → Bool
 writable (entry.Idle s) = writes s.access
 writable (entry.AwaitRead s) = false

@@ -10,10 +10,12 @@ use Rattle.std.specs.declared.alloc.Allocator.{Ghosts}
 use Rattle.ivy_pagetable.specs.TableState.{Table, pages_in}
 use Rattle.ivy_pagetable.specs.Tables.{with_page}
 
+-- the region with these bytes written from a place on
 abbrev pub poured : List ℕ → ℕ → List ℕ → List ℕ
 poured bytes at new =
     refill (length bytes) bytes (take at bytes ++ (new ++ drop (length new) (drop at bytes)))
 
+-- the table that the region is then, whatever the length of what was written
 abbrev pub spilled : Table → ℕ → List ℕ → Table
 spilled t page new = record {
   page_size = t.page_size;
@@ -22,11 +24,13 @@ spilled t page new = record {
       (poured (concat t.pages) (page * t.page_size) new);
 }
 
+-- the table once the lent bytes came back as these
 abbrev pub page_given_back : Table → ℕ → List ℕ → Table
 page_given_back t page new =
     if length new == t.page_size then with_page t page new else spilled t page new
 
 module _ (A : RattleType) (heap : Ghosts A.Denot) where
+  -- the bytes are those of the page, lent until they come back
   abbrev pub LendsPage : MutBor Table → ℕ → MutBor (List ℕ) → Fml
   LendsPage t page bytes =
       Lends (table.the_row A heap) (Array u8 0) t bytes (page_given_back t.now page)

@@ -1,7 +1,7 @@
 pub mod Limits
 pub mod Accesses
 pub mod NodeSets
-pub mod Bytes
+pub mod Bits
 pub mod States
 pub mod Entries
 pub mod TableState

@@ -23,6 +23,7 @@ pub data Change : Type 0 where
   Replied : (write : Bool) → (from : ℕ) → Change
   Invalidated : (by : ℕ) → Change
 
+-- the manager after one call for the page
 abbrev pub changed : {S : Type 0} → Ops S → ℕ → S → Change → S
 changed ops page s (Forward write origin) = ops.on_forward s page write origin
 changed ops page s (Given to) = ops.on_given s page to
@@ -52,6 +53,7 @@ pub record IsRouted {S : Type 0} (ops : Ops S) (s : S) (p : ℕ) : Type 0 where
   pub me : ops.me s < ops.nodes s
   pub hop : ops.next_hop s p < ops.nodes s
 
+-- what is asked of every manager
 pub record Laws {S : Type 0} (ops : Ops S) : Type 0 where
   -- at first, the next hop is a node, and this node at node 0 alone
   pub first_me : (c : Config) (i : ℕ) → IsConfig c → i < c.nodes → ops.me (ops.first c i) ≡ i

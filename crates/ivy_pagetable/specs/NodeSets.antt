@@ -5,7 +5,7 @@ use Rattle.std.specs.List.{range_with_len}
 use Rattle.std.specs.Ordering.{nat_cmp}
 use Rattle.std.specs.FinSet as set
 use Rattle.std.specs.Coded.{Coded, coded_ℕ}
-use Rattle.ivy_pagetable.specs.Limits.{numbers_of_nodes}
+use Rattle.ivy_model.specs.Limits.{most_nodes}
 
 abbrev pub Nodes : Type 0
 Nodes = set.FinSet nat_cmp
@@ -16,7 +16,7 @@ nodes_code = set.code coded_ℕ
 
 -- the nodes of a set, in ascending order
 unfoldable pub nodes_of : Nodes → List ℕ
-nodes_of s = filter (set.contains s) (range_with_len 0 numbers_of_nodes)
+nodes_of s = filter (set.contains s) (range_with_len 0 most_nodes)
 
 -- each node of the set is a number below n
 abbrev pub IsBelow : ℕ → Nodes → Type 0
@@ -29,4 +29,4 @@ bits_of s = sum_by (λ q. 2 ^ q) (nodes_of s)
 -- the nodes whose bits the number has
 unfoldable pub nodes_with : ℕ → Nodes
 nodes_with bits =
-    set.from_list (filter (λ q. bit_at bits q == 1) (range_with_len 0 numbers_of_nodes))
+    set.from_list (filter (λ q. bit_at bits q == 1) (range_with_len 0 most_nodes))

@@ -31,9 +31,11 @@ pub record WaitingState : Type 0 where
   pub call : ℕ
   pub put_off : List PutOff
 
+-- the messages put off are no more than have room
 abbrev pub FitsPutOff : WaitingState → Type 0
 FitsPutOff s = length s.put_off ≤ most_put_off
 
+-- `had_copy` says whether this node has a copy of the page that it waits to write
 pub record AwaitWriteState : Type 0 where
   pub had_copy : Bool
   pub waiting : WaitingState
@@ -43,5 +45,6 @@ pub record AwaitAcksState : Type 0 where
   pub left : Nodes
   pub waiting : WaitingState
 
+-- some acknowledgement is missing
 abbrev pub IsAwaitAcks : AwaitAcksState → Type 0
 IsAwaitAcks s = s.left ≢ empty

@@ -2,6 +2,7 @@
 use Rattle.std.specs.Prelude.{ℕ, zero, suc, List, [], ◌∷◌, take, drop}
 use Rattle.ivy_pagetable.specs.declared.entry.Entry.{Entry}
 
+-- the entry and the bytes of each page, by its number
 pub record Table : Type 0 where
   pub page_size : ℕ
   pub entries : List Entry

@@ -4,7 +4,7 @@ use Rattle.byteorder.specs.Endian.{big_number, big_bytes}
 use Rattle.ivy_model.specs.Legal.{IsWidth}
 use Rattle.ivy_model.specs.Serves.{overwrite}
 use Rattle.ivy_pagetable.specs.declared.word.Word.{Word}
-use Rattle.ivy_pagetable.specs.declared.word.Word.TheVariants.{Load, Store, Count, Advance, Await}
+use Rattle.ivy_pagetable.specs.declared.word.Word.TheVariants.{Load, Store, Swap, Count, Advance, Await}
 use Rattle.ivy_pagetable.specs.declared.word.Out.{Out}
 use Rattle.ivy_pagetable.specs.declared.word.Out.TheVariants.{Value, Done, Full, NotYet}
 
@@ -12,6 +12,7 @@ use Rattle.ivy_pagetable.specs.declared.word.Out.TheVariants.{Value, Done, Full,
 abbrev pub width_of : Word → ℕ
 width_of (Load width offset) = width
 width_of (Store width offset value) = width
+width_of (Swap width offset value) = width
 width_of (Count offset) = 8
 width_of (Advance offset) = 8
 width_of (Await offset least) = 8
@@ -19,6 +20,7 @@ width_of (Await offset least) = 8
 abbrev pub offset_of : Word → ℕ
 offset_of (Load width offset) = offset
 offset_of (Store width offset value) = offset
+offset_of (Swap width offset value) = offset
 offset_of (Count offset) = offset
 offset_of (Advance offset) = offset
 offset_of (Await offset least) = offset
@@ -32,6 +34,7 @@ pub record IsWord (page_size : ℕ) (word : Word) : Type 0 where
 abbrev pub needs_write : Word → Bool
 needs_write (Load width offset) = false
 needs_write (Store width offset value) = true
+needs_write (Swap width offset value) = true
 needs_write (Count offset) = false
 needs_write (Advance offset) = true
 needs_write (Await offset least) = false
@@ -52,6 +55,7 @@ advanced count offset bytes =
     then record { out = Full; bytes = bytes }
     else record { out = Done; bytes = overwrite bytes offset (big_bytes 8 (count + 1)) }
 
+-- the count, where it is high enough
 abbrev pub awaited : ℕ → ℕ → Out
 awaited count least = if nat_le least count then Value count else NotYet
 
@@ -60,6 +64,11 @@ carried_out (Load width offset) bytes =
     record { out = Value (number_at width offset bytes); bytes = bytes }
 carried_out (Store width offset value) bytes =
     record { out = Done; bytes = overwrite bytes offset (big_bytes width value) }
+carried_out (Swap width offset value) bytes =
+    record {
+      out = Value (number_at width offset bytes);
+      bytes = overwrite bytes offset (big_bytes width value);
+    }
 carried_out (Count offset) bytes = record { out = Value (number_at 8 offset bytes); bytes = bytes }
 carried_out (Advance offset) bytes = advanced (number_at 8 offset bytes) offset bytes
 carried_out (Await offset least) bytes =

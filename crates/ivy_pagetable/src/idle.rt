@@ -1,7 +1,7 @@
 ghost use Rattle.std.specs.Prelude.{◌≡◌, ◌≢◌, ◌<◌, true, false};
 ghost use Rattle.std.specs.FinSet as set;
 ghost use Rattle.ivy_pagetable.specs.declared.access.Access.TheVariants.{Read, Write};
-ghost use Rattle.ivy_pagetable.specs.Limits.{most_nodes_in_a_set};
+ghost use Rattle.ivy_model.specs.Limits.{most_nodes};
 ghost use Rattle.ivy_pagetable.specs.States.{IsIdle};
 
 use crate::access::Access;
@@ -59,7 +59,7 @@ impl Idle {
     /// the node is among those that have one.
     pub fn with_reader(&self, node: u8) -> Idle
         requires owner { self.now.owner ≡ true }
-        requires node { node < most_nodes_in_a_set }
+        requires node { node < most_nodes }
         ensures { result ≡ record { access = Read; owner = true; copies = set.insert self.now.copies node } }
     {
         let mut copies = self.copies;

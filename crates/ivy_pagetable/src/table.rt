@@ -136,7 +136,7 @@ impl<A: Allocator> PageTable<A> {
         self.entries[page as usize] = entry;
     }
 
-    /// Puts a message off where a word waits for the page and fewer than eight are put off, and
+    /// Puts a message off where a word waits for the page and fewer than 32 are put off, and
     /// says whether it did. If not, nothing changes.
     pub fn put_off(&mut self, page: u32, message: PutOff) -> bool
         requires { page < length self.old.entries }

@@ -5,15 +5,19 @@ ghost use Rattle.ivy_pagetable.specs.Limits.{most_put_off};
 use crate::put_off::PutOff;
 use crate::word::Word;
 use arrayvec::ArrayVec;
+use ivy_model::MOST_NODES;
 use std::marker::Model;
 
+/// The messages put off at one entry, at most this many.
+const MOST_PUT_OFF: usize = MOST_NODES as usize;
+
 /// A word that waits for its page, the number of its call, and the messages that were put off
-/// until then, at most eight.
+/// until then, at most 32.
 #[derive(Drop)]
 pub struct Waiting {
     word: Word,
     call: u64,
-    put_off: ArrayVec<PutOff, 8>,
+    put_off: ArrayVec<PutOff, MOST_PUT_OFF>,
 }
 
 impl Model for Waiting {

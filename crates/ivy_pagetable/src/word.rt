@@ -15,6 +15,8 @@ pub enum Word {
     Load { width: u8, offset: u32 },
     /// Puts the lowest `width` bytes of the value there.
     Store { width: u8, offset: u32, value: u64 },
+    /// The number there, in whose place it puts the lowest `width` bytes of the value.
+    Swap { width: u8, offset: u32, value: u64 },
     /// The eventcount there.
     Count { offset: u32 },
     /// Adds one to the eventcount there.
@@ -43,7 +45,7 @@ impl Word {
         ensures { result ≡ needs_write self }
     {
         match self {
-            Word::Store { .. } | Word::Advance { .. } => true,
+            Word::Store { .. } | Word::Swap { .. } | Word::Advance { .. } => true,
             Word::Load { .. } | Word::Count { .. } | Word::Await { .. } => false,
         }
     }
@@ -53,7 +55,8 @@ impl Word {
         ensures { result ≡ width_of self }
     {
         match self {
-            Word::Load { width, .. } | Word::Store { width, .. } => width,
+            Word::Load { width, .. } | Word::Store { width, .. } | Word::Swap { width, .. } =>
+                width,
             Word::Count { .. } | Word::Advance { .. } | Word::Await { .. } => COUNT_WIDTH,
         }
     }
@@ -65,6 +68,7 @@ impl Word {
         match self {
             Word::Load { offset, .. }
             | Word::Store { offset, .. }
+            | Word::Swap { offset, .. }
             | Word::Count { offset }
             | Word::Advance { offset }
             | Word::Await { offset, .. } => offset,
@@ -96,6 +100,11 @@ impl Word {
                 overwrite(bytes, width, offset, value);
                 Out::Done
             }
+            Word::Swap {
+                width,
+                offset,
+                value,
+            } => swap(bytes, width, offset, value),
             Word::Count { offset } => Out::Value(number_at(bytes, COUNT_WIDTH, offset)),
             Word::Advance { offset } => advance(bytes, offset),
             Word::Await { offset, least } => {
@@ -128,6 +137,17 @@ fn overwrite(bytes: &mut [u8], width: u8, offset: u32, value: u64)
     let start = offset as usize;
     let width = usize::from(width);
     bytes[start..start + width].copy_from_slice(&value.to_be_bytes()[8 - width..]);
+}
+
+fn swap(bytes: &mut [u8], width: u8, offset: u32, next: u64) -> Out
+    requires width { IsWidth width }
+    requires within { offset + width ≤ length bytes.old }
+    ensures out { result ≡ Out.Value (number_at width offset bytes.old) }
+    ensures bytes { bytes.new ≡ overwrite bytes.old offset (big_bytes width next) }
+{
+    let before = number_at(bytes, width, offset);
+    overwrite(bytes, width, offset, next);
+    Out::Value(before)
 }
 
 fn advance(bytes: &mut [u8], offset: u32) -> Out

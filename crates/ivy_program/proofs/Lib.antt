@@ -14,3 +14,4 @@ pub mod Unique
 pub mod Reading
 pub mod Settled
 pub mod Whole
+pub mod Lengths

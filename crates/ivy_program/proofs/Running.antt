@@ -6,7 +6,7 @@ use Rattle.ivy_model.specs.Legal.{HasWidth, IsWidth}
 use Rattle.ivy_program.specs.declared.instruction.Width.{Width}
 use Rattle.ivy_program.specs.declared.instruction.Width.TheVariants.{One, Two, Four, Eight}
 use Rattle.ivy_program.specs.declared.instruction.Instruction.{Instruction}
-use Rattle.ivy_program.specs.declared.instruction.Instruction.TheVariants.{Load, Store, Count, Advance, Await, Alloc, Free}
+use Rattle.ivy_program.specs.declared.instruction.Instruction.TheVariants.{Load, Store, Swap, Count, Advance, Await, Alloc, Free}
 use Rattle.ivy_program.specs.Instructions.{bytes_in}
 use Rattle.ivy_program.specs.States.{State}
 use Rattle.ivy_program.specs.Steps.{Step, Local, Asks, Ends, step, step_at, after_reply}
@@ -48,6 +48,7 @@ legal_at : (n : ℕ) (s : State) (i : Option Instruction) (c : Call) → step_at
 legal_at n s None c h = cc
 legal_at n s (Some (Load width to addr)) c h = subst HasWidth (ap (asked c) h) (is_width width)
 legal_at n s (Some (Store width addr from)) c h = subst HasWidth (ap (asked c) h) (is_width width)
+legal_at n s (Some (Swap width to addr from)) c h = subst HasWidth (ap (asked c) h) (is_width width)
 legal_at n s (Some (Count to count)) c h = subst HasWidth (ap (asked c) h) tt
 legal_at n s (Some (Advance count)) c h = subst HasWidth (ap (asked c) h) tt
 legal_at n s (Some (Await to count least)) c h = subst HasWidth (ap (asked c) h) tt

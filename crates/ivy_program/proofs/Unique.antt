@@ -6,7 +6,7 @@ use Rattle.std.specs.List.{AllZip}
 use Rattle.std.specs.Str.Parse.{digits_value}
 use Rattle.std.proofs.lemmas.Bool.Decides.{nat_tests}
 use Rattle.ivy_program.specs.declared.instruction.Instruction.{Instruction}
-use Rattle.ivy_program.specs.declared.instruction.Instruction.TheVariants.{Set, Move, Compute, Load, Store, Count, Advance, Await, Alloc, Free, Status, Print, Jump, JumpIfZero, Stop}
+use Rattle.ivy_program.specs.declared.instruction.Instruction.TheVariants.{Set, Move, Compute, Load, Store, Swap, Count, Advance, Await, Alloc, Free, Status, Print, Jump, JumpIfZero, Stop}
 use Rattle.ivy_program.specs.declared.instruction.Operation.{Operation}
 use Rattle.ivy_program.specs.declared.instruction.Operation.TheVariants.{Add, Sub, Mul}
 use Rattle.ivy_program.specs.declared.instruction.Width.{Width}
@@ -62,6 +62,7 @@ key words =
 abbrev key_of : Instruction → ℕ
 key_of (Load width to addr) = number (codes "load")
 key_of (Store width addr from) = number (codes "store")
+key_of (Swap width to addr from) = number (codes "swap")
 key_of (Count to count) = number (codes "count")
 key_of (Advance count) = number (codes "advance")
 key_of (Await to count least) = number (codes "await")
@@ -89,6 +90,7 @@ operation_same o p h = absurd (omega (arith, ap (λ w. slice_index w 0) h))
 plain_key : (ws : List (List ℕ)) (i : Instruction) → SpellsPlain ws i → key ws ≡ key_of i
 plain_key ws (Load width to addr) h = ap key h.2
 plain_key ws (Store width addr from) h = ap key h.2
+plain_key ws (Swap width to addr from) h = ap key h.2
 plain_key ws (Count to count) h = ap key h
 plain_key ws (Advance count) h = ap key h
 plain_key ws (Await to count least) h = ap key h
@@ -165,6 +167,11 @@ module _ (ws : List (List ℕ)) where
       (width_same w v (sym h.1.1 ∙ ap (digits_value 10) (sym (at 1 _ h.2) ∙ at 1 _ k.2) ∙ k.1.1) i)
       (operand_same ws 2 a b (at 2 _ h.2) (at 2 _ k.2) i)
       (operand_same ws 3 f g (at 3 _ h.2) (at 3 _ k.2) i)
+  plain_same (Swap w t a f) (Swap v u b g) h k = λ i. Swap
+      (width_same w v (sym h.1.1 ∙ ap (digits_value 10) (sym (at 1 _ h.2) ∙ at 1 _ k.2) ∙ k.1.1) i)
+      (operand_same ws 2 t u (at 2 _ h.2) (at 2 _ k.2) i)
+      (operand_same ws 3 a b (at 3 _ h.2) (at 3 _ k.2) i)
+      (operand_same ws 4 f g (at 4 _ h.2) (at 4 _ k.2) i)
   plain_same (Count t c) (Count u d) h k =
       λ i. Count (operand_same ws 1 t u (at 1 _ h) (at 1 _ k) i)
       (operand_same ws 2 c d (at 2 _ h) (at 2 _ k) i)

@@ -5,7 +5,7 @@ use Rattle.ivy_program.specs.declared.instruction.Width.TheVariants.{One, Two, F
 use Rattle.ivy_program.specs.declared.instruction.Operation.{Operation}
 use Rattle.ivy_program.specs.declared.instruction.Operation.TheVariants.{Add, Sub, Mul}
 use Rattle.ivy_program.specs.declared.instruction.Instruction.{Instruction}
-use Rattle.ivy_program.specs.declared.instruction.Instruction.TheVariants.{Set, Move, Compute, Load, Store, Count, Advance, Await, Alloc, Free, Status, Print, Jump, JumpIfZero, Stop}
+use Rattle.ivy_program.specs.declared.instruction.Instruction.TheVariants.{Set, Move, Compute, Load, Store, Swap, Count, Advance, Await, Alloc, Free, Status, Print, Jump, JumpIfZero, Stop}
 
 abbrev pub bytes_in : Width → ℕ
 bytes_in One = 1
@@ -22,6 +22,7 @@ result_of Mul left right = (left * right) % 2 ^ 64
 -- the register that takes the value of the reply to the call of this instruction
 abbrev pub receiver_of : Instruction → Option ℕ
 receiver_of (Load width to addr) = Some to
+receiver_of (Swap width to addr from) = Some to
 receiver_of (Count to count) = Some to
 receiver_of (Await to count least) = Some to
 receiver_of (Alloc to size) = Some to
@@ -34,6 +35,7 @@ NamesRegisters (Move to from) = (to < 16) × (from < 16)
 NamesRegisters (Compute operation to left right) = (to < 16) × (left < 16) × (right < 16)
 NamesRegisters (Load width to addr) = (to < 16) × (addr < 16)
 NamesRegisters (Store width addr from) = (addr < 16) × (from < 16)
+NamesRegisters (Swap width to addr from) = (to < 16) × (addr < 16) × (from < 16)
 NamesRegisters (Count to count) = (to < 16) × (count < 16)
 NamesRegisters (Advance count) = count < 16
 NamesRegisters (Await to count least) = (to < 16) × (count < 16) × (least < 16)

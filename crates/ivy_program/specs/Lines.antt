@@ -6,11 +6,12 @@ use Rattle.ivy_program.specs.declared.line.Action.TheVariants as action
 use Rattle.ivy_program.specs.declared.line.Line.{Line}
 use Rattle.ivy_program.specs.declared.line.Line.TheVariants as line
 use Rattle.ivy_program.specs.declared.instruction.Instruction.{Instruction}
-use Rattle.ivy_program.specs.declared.instruction.Instruction.TheVariants.{Set, Move, Compute, Load, Store, Count, Advance, Await, Alloc, Free, Status, Print, Stop}
+use Rattle.ivy_program.specs.declared.instruction.Instruction.TheVariants.{Set, Move, Compute, Load, Store, Swap, Count, Advance, Await, Alloc, Free, Status, Print, Stop}
 use Rattle.ivy_program.specs.Instructions.{NamesRegisters}
 use Rattle.ivy_program.specs.Numbers.{IsNumber}
 use Rattle.ivy_program.specs.Operands.{register_word, operation_word, IsWidthWord, IsName}
 
+-- the word is this number, by its digits
 abbrev pub IsNumberWord : List ℕ → ℕ → Type 0
 IsNumberWord word n = IsNumber word × (digits_value 10 word ≡ n)
 
@@ -20,6 +21,8 @@ SpellsPlain words (Load width to addr) = (w : List ℕ) × IsWidthWord w width
     × (words ≡ codes "load" ∷ w ∷ register_word to ∷ register_word addr ∷ [])
 SpellsPlain words (Store width addr from) = (w : List ℕ) × IsWidthWord w width
     × (words ≡ codes "store" ∷ w ∷ register_word addr ∷ register_word from ∷ [])
+SpellsPlain words (Swap width to addr from) = (w : List ℕ) × IsWidthWord w width
+    × (words ≡ codes "swap" ∷ w ∷ register_word to ∷ register_word addr ∷ register_word from ∷ [])
 SpellsPlain words (Count to count) =
     words ≡ codes "count" ∷ register_word to ∷ register_word count ∷ []
 SpellsPlain words (Advance count) = words ≡ codes "advance" ∷ register_word count ∷ []

@@ -35,15 +35,18 @@ lengthened part line =
     if nat_lt (length part.lines) 4096
     then Some (record { lines = part.lines ++ line ∷ []; labels = part.labels }) else None
 
+-- the parts with this last part, where it could be made
 abbrev pub put_last : List Part → Option Part → Option (List Part)
 put_last parts (Some part) = Some (with_last parts part)
 put_last parts None = None
 
+-- the label joins the last part, if there is one and it can
 abbrev pub label_last : List Part → List ℕ → Option Part → Option (List Part)
 label_last parts name (Some part) =
     put_last parts (labelled part name (label_place part.labels name))
 label_last parts name None = None
 
+-- so does the instruction
 abbrev pub lengthen_last : List Part → Numbered → Option Part → Option (List Part)
 lengthen_last parts line (Some part) = put_last parts (lengthened part line)
 lengthen_last parts line None = None

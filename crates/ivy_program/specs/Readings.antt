@@ -35,6 +35,7 @@ parts_from parts number [] = parts
 parts_from parts number (line ∷ lines) =
     parts_from (unwrap_or (joined parts number line) parts) (number + 1) lines
 
+-- the parts that the lines of a whole text make
 abbrev pub text_parts : List (Option Line) → List Part
 text_parts lines = parts_from [] 1 lines
 
@@ -44,6 +45,7 @@ IsOutOfOrder lines number = (before : ℕ) × (number ≡ before + 1) × (line :
     × (slice_get lines before ≡ Some line)
     × (joined (text_parts (take before lines)) number line ≡ None)
 
+-- a jump to the place of a label, if it has one
 abbrev pub jump_to : Option ℕ → Option Instruction
 jump_to (Some place) = Some (Jump place)
 jump_to None = None
@@ -67,6 +69,7 @@ abbrev pub LosesIn : List Label → List Numbered → ℕ → Type 0
 LosesIn labels lines number = (line : Numbered) × Contains lines line × (line.number ≡ number)
     × (resolved labels line.action ≡ None)
 
+-- the line of this number jumps to a name that its part does not have
 abbrev pub HasLost : Part → ℕ → Type 0
 HasLost part number = LosesIn part.labels part.lines number
 
@@ -87,6 +90,7 @@ abbrev pub IsLeastOrNone : (ℕ → Type 0) → Option ℕ → Type 0
 IsLeastOrNone P None = (n : ℕ) → ¬ P n
 IsLeastOrNone P (Some n) = P n × ((m : ℕ) → P m → n ≤ m)
 
+-- the lesser of two numbers, of which the first may be missing
 abbrev pub lesser : Option ℕ → ℕ → ℕ
 lesser None n = n
 lesser (Some m) n = if nat_lt m n then m else n

@@ -11,6 +11,7 @@ StepsTo program zero old new = new ≡ old
 StepsTo program (suc n) old new =
     (mid : State) × (step program old ≡ Local mid) × StepsTo program n mid new
 
+-- some instructions without a call lead there, or none
 abbrev pub Reaches : List Instruction → State → State → Type 0
 Reaches program old new = (n : ℕ) × StepsTo program n old new
 
@@ -26,6 +27,7 @@ Runs program old (r ∷ rs) new =
 abbrev pub IsRunTo : List Instruction → List Record → State → Type 0
 IsRunTo program history new = Runs program first_state history new
 
+-- some run of the program from its beginning makes these records
 abbrev pub IsRun : List Instruction → List Record → Type 0
 IsRun program history = (new : State) × IsRunTo program history new
 

@@ -9,6 +9,7 @@ pub record State : Type 0 where
   pub status : ℕ
   pub output : List ℕ
 
+-- at the first instruction, with 0 in each register and nothing printed
 abbrev pub first_state : State
 first_state = record { place = 0; registers = replicate 16 0; status = 0; output = [] }
 
@@ -34,6 +35,7 @@ put s r value = record {
   output = s.output;
 }
 
+-- one more value was printed
 abbrev pub printed : State → ℕ → State
 printed s value = record {
   place = s.place;

@@ -5,7 +5,7 @@ use Rattle.ivy_model.specs.declared.Call.TheVariants as call
 use Rattle.ivy_model.specs.declared.Reply.{Reply}
 use Rattle.ivy_model.specs.declared.Reply.TheVariants.{Value, Done, Refused}
 use Rattle.ivy_program.specs.declared.instruction.Instruction.{Instruction}
-use Rattle.ivy_program.specs.declared.instruction.Instruction.TheVariants.{Set, Move, Compute, Load, Store, Count, Advance, Await, Alloc, Free, Status, Print, Jump, JumpIfZero, Stop}
+use Rattle.ivy_program.specs.declared.instruction.Instruction.TheVariants.{Set, Move, Compute, Load, Store, Swap, Count, Advance, Await, Alloc, Free, Status, Print, Jump, JumpIfZero, Stop}
 use Rattle.ivy_program.specs.declared.machine.Next.{Next}
 use Rattle.ivy_program.specs.declared.machine.Next.TheVariants as next
 use Rattle.ivy_program.specs.Instructions.{bytes_in, result_of, receiver_of}
@@ -23,6 +23,8 @@ abbrev pub call_of : State → Instruction → Option Call
 call_of s (Load width to addr) = Some (call.Load (bytes_in width) (value_in s addr))
 call_of s (Store width addr from) =
     Some (call.Store (bytes_in width) (value_in s addr) (value_in s from))
+call_of s (Swap width to addr from) =
+    Some (call.Swap (bytes_in width) (value_in s addr) (value_in s from))
 call_of s (Count to count) = Some (call.Count (value_in s count))
 call_of s (Advance count) = Some (call.Advance (value_in s count))
 call_of s (Await to count least) = Some (call.Await (value_in s count) (value_in s least))
@@ -47,6 +49,7 @@ place_after count s (JumpIfZero from place) = if value_in s from == 0 then place
 place_after count s Stop = count
 place_after count s _ = s.place + 1
 
+-- an instruction makes its call, or leads to this state
 abbrev pub step_told : Option Call → State → Step
 step_told (Some call) s = Asks call
 step_told None s = Local s
@@ -56,6 +59,7 @@ abbrev pub step_by : ℕ → State → Instruction → Step
 step_by count s i =
     step_told (call_of s i) (gone_to (after_instruction s i) (place_after count s i))
 
+-- where there is no instruction, the program has ended
 abbrev pub step_at : ℕ → State → Option Instruction → Step
 step_at count s None = Ends
 step_at count s (Some i) = step_by count s i
@@ -108,6 +112,7 @@ IsAsking p = (call : Call) × (step_of p ≡ Asks call)
 abbrev pub HasEnded : Process → Type 0
 HasEnded p = step_of p ≡ Ends
 
+-- the same program in this state
 abbrev pub at_state : Process → State → Process
 at_state p s = record { program = p.program; state = s }
 
@@ -117,5 +122,6 @@ TellsStep next.Local old new = (step_of old ≡ Local new.state) × (new ≡ at_
 TellsStep (next.Call call) old new = (step_of old ≡ Asks call) × (new ≡ old)
 TellsStep next.Ended old new = (step_of old ≡ Ends) × (new ≡ old)
 
+-- the program goes on with the reply to its call
 abbrev pub answered_with : Process → Reply → Process
 answered_with p reply = at_state p (after_reply p.program p.state reply)

@@ -124,6 +124,14 @@ pub enum Instruction {
         addr: Register,
         from: Register,
     },
+    /// `swap W rD rA rB`: a swap at the address in one register, of another's number; the old value goes
+    /// to a third.
+    Swap {
+        width: Width,
+        to: Register,
+        addr: Register,
+        from: Register,
+    },
     /// `count rD rK`: the value of the eventcount that one register names, to another.
     Count {
         to: Register,
@@ -180,6 +188,7 @@ impl Instruction {
     {
         match self {
             Instruction::Load { to, .. } => Some(to),
+            Instruction::Swap { to, .. } => Some(to),
             Instruction::Count { to, .. } => Some(to),
             Instruction::Await { to, .. } => Some(to),
             Instruction::Alloc { to, .. } => Some(to),

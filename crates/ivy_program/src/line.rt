@@ -144,6 +144,18 @@ fn parse_operation(word: &str) -> Option<Operation>
     }
 }
 
+/// The action of a line of one word.
+fn parse_alone(keyword: &str) -> Option<Action>
+    ensures found { IfSome result (λ a. SpellsAction (keyword.now ∷ []) a) }
+    ensures none { IfNone result ((a : Action) → ¬ SpellsAction (keyword.now ∷ []) a) }
+    ensures plain { IfSome result (λ a. has_place a ≡ false) }
+{
+    match keyword {
+        "stop" => Some(Action::Plain(Instruction::Stop)),
+        _ => None,
+    }
+}
+
 /// The action of a line of two words.
 fn parse_unary(keyword: &str, operand: &str) -> Option<Action>
     ensures found { IfSome result (λ a. SpellsAction (keyword.now ∷ operand.now ∷ []) a) }
@@ -227,6 +239,49 @@ fn parse_ternary(keyword: &str, first: &str, second: &str, third: &str) -> Optio
     }))
 }
 
+/// The action of a line of five words.
+fn parse_quaternary(
+    keyword: &str,
+    first: &str,
+    second: &str,
+    third: &str,
+    fourth: &str,
+) -> Option<Action>
+    ensures found { IfSome result (λ a. SpellsAction (keyword.now ∷ first.now ∷ second.now ∷ third.now ∷ fourth.now ∷ []) a) }
+    ensures none { IfNone result ((a : Action) → ¬ SpellsAction (keyword.now ∷ first.now ∷ second.now ∷ third.now ∷ fourth.now ∷ []) a) }
+    ensures plain { IfSome result (λ a. has_place a ≡ false) }
+{
+    Some(Action::Plain(match keyword {
+        "swap" => Instruction::Swap {
+            width: parse_width(first)?,
+            to: parse_register(second)?,
+            addr: parse_register(third)?,
+            from: parse_register(fourth)?,
+        },
+        _ => return None,
+    }))
+}
+
+impl Action {
+    /// What the line of these words does, where it is an instruction.
+    fn read(words: &[&str]) -> Option<Action>
+        ensures found { IfSome result (λ a. SpellsAction (map (λ w. w.now) words.now) a) }
+        ensures none { IfNone result ((a : Action) → ¬ SpellsAction (map (λ w. w.now) words.now) a) }
+        ensures plain { IfSome result (λ a. has_place a ≡ false) }
+    {
+        match *words {
+            [keyword] => parse_alone(keyword),
+            [keyword, operand] => parse_unary(keyword, operand),
+            [keyword, first, second] => parse_binary(keyword, first, second),
+            [keyword, first, second, third] => parse_ternary(keyword, first, second, third),
+            [keyword, first, second, third, fourth] => {
+                parse_quaternary(keyword, first, second, third, fourth)
+            }
+            _ => None,
+        }
+    }
+}
+
 /// What a line says.
 #[derive(Clone, Copy)]
 pub(crate) enum Line {
@@ -249,15 +304,9 @@ impl Line {
     {
         Some(match *words {
             [] => Line::Blank,
-            ["stop"] => Line::Does(Action::Plain(Instruction::Stop)),
             ["node", node] => Line::Node(parse_number(node)?),
             ["label", name] => Line::Label(Name::new(name)?),
-            [keyword, operand] => Line::Does(parse_unary(keyword, operand)?),
-            [keyword, first, second] => Line::Does(parse_binary(keyword, first, second)?),
-            [keyword, first, second, third] => {
-                Line::Does(parse_ternary(keyword, first, second, third)?)
-            }
-            _ => return None,
+            _ => Line::Does(Action::read(words)?),
         })
     }
 }

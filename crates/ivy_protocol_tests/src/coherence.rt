@@ -67,6 +67,8 @@ enum Step {
     /// A message about page 1 comes from a node, and is taken or refused.
     Comes(u8, Letter),
     Refuses(u8, Letter),
+    /// Requests of node 2 for a copy come, for so many of its calls.
+    Asks(u64),
     /// Whether its messages are refused from now on.
     IsFull(bool),
     /// The answer that is there, left there or taken out.
@@ -109,6 +111,16 @@ impl Node {
         }
     }
 
+    /// Whether requests of node 2 for a copy are taken, for its calls from 1 to this one.
+    fn takes_requests(&mut self, calls: u64) -> Result<bool, Fail> {
+        for call in 1..=calls {
+            if !self.takes(2, (Said::Request, 2, call))? {
+                return Ok(false);
+            }
+        }
+        Ok(true)
+    }
+
     /// Whether the step goes as it says.
     fn goes(&mut self, step: &Step) -> Result<bool, Fail> {
         match step {
@@ -116,6 +128,7 @@ impl Node {
             Step::Stores(call, need) => Ok(self.needs(1, STORE, *call)? == *need),
             Step::Comes(from, letter) => Ok(self.takes(*from, *letter)?),
             Step::Refuses(from, letter) => Ok(!self.takes(*from, *letter)?),
+            Step::Asks(calls) => self.takes_requests(*calls),
             Step::IsFull(is_full) => {
                 self.posted.refuse(*is_full);
                 Ok(true)
@@ -194,7 +207,7 @@ const GOES_ON: Scene = Scene {
     posted: &[(0, (Said::Request, 2, 7))],
 };
 
-/// Requests at a locked entry are put off, eight at most. Once the copy came they go on in their order,
+/// Requests at a locked entry are put off, 32 at most. Once the copy came they go on in their order,
 /// and the word that waited has read the copy.
 #[test]
 fn requests_at_a_locked_entry(rt: HostRuntime) -> Result<(), Fail> {
@@ -205,20 +218,13 @@ const LOCKED: Scene = Scene {
     me: 1,
     steps: &[
         Step::Loads(1, 3, Need::Started),
-        Step::Comes(2, (Said::Request, 2, 1)),
-        Step::Comes(2, (Said::Request, 2, 2)),
-        Step::Comes(2, (Said::Request, 2, 3)),
-        Step::Comes(2, (Said::Request, 2, 4)),
-        Step::Comes(2, (Said::Request, 2, 5)),
-        Step::Comes(2, (Said::Request, 2, 6)),
-        Step::Comes(2, (Said::Request, 2, 7)),
-        Step::Comes(2, (Said::Request, 2, 8)),
+        Step::Asks(32),
         Step::Breaches(0),
-        Step::Comes(2, (Said::Request, 2, 9)),
+        Step::Comes(2, (Said::Request, 2, 33)),
         Step::Posted(1),
         Step::Breaches(1),
         Step::Comes(0, (Said::Copy(Bytes::Ones), 1, 3)),
-        Step::Posted(9),
+        Step::Posted(33),
         Step::Shows(Some(Out::Value(u64::MAX))),
         Step::Returns(Some(Out::Value(u64::MAX))),
         Step::Returns(None),
@@ -234,6 +240,30 @@ const LOCKED: Scene = Scene {
         (0, (Said::Request, 2, 6)),
         (0, (Said::Request, 2, 7)),
         (0, (Said::Request, 2, 8)),
+        (0, (Said::Request, 2, 9)),
+        (0, (Said::Request, 2, 10)),
+        (0, (Said::Request, 2, 11)),
+        (0, (Said::Request, 2, 12)),
+        (0, (Said::Request, 2, 13)),
+        (0, (Said::Request, 2, 14)),
+        (0, (Said::Request, 2, 15)),
+        (0, (Said::Request, 2, 16)),
+        (0, (Said::Request, 2, 17)),
+        (0, (Said::Request, 2, 18)),
+        (0, (Said::Request, 2, 19)),
+        (0, (Said::Request, 2, 20)),
+        (0, (Said::Request, 2, 21)),
+        (0, (Said::Request, 2, 22)),
+        (0, (Said::Request, 2, 23)),
+        (0, (Said::Request, 2, 24)),
+        (0, (Said::Request, 2, 25)),
+        (0, (Said::Request, 2, 26)),
+        (0, (Said::Request, 2, 27)),
+        (0, (Said::Request, 2, 28)),
+        (0, (Said::Request, 2, 29)),
+        (0, (Said::Request, 2, 30)),
+        (0, (Said::Request, 2, 31)),
+        (0, (Said::Request, 2, 32)),
     ],
 };
 

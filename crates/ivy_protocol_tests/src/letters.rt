@@ -35,7 +35,7 @@ pub(crate) enum Said {
     /// Asks for the page itself.
     WriteRequest,
     /// The page itself, and the nodes that have a copy.
-    Whole(u8, Bytes),
+    Whole(u32, Bytes),
     /// The order of a node that is to write, and what acknowledges it.
     Order,
     Acknowledgement,

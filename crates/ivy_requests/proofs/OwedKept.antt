@@ -6,6 +6,7 @@ use Rattle.std.proofs.lemmas.Option.{none-some}
 use Rattle.std.specs.FinSet as set
 use Rattle.ivy_model.specs.declared.Config.{Config}
 use Rattle.ivy_model.specs.Config.{IsConfig}
+use Rattle.ivy_model.specs.Limits.{most_nodes}
 use Rattle.ivy_wire.specs.Data.{Content, Parcel}
 use Rattle.ivy_wire.specs.Posts.{parcel_to}
 use Rattle.ivy_pagetable.specs.declared.Entry.{Entry}
@@ -98,10 +99,10 @@ module _ (c : Config) (n : Net) (o : IsOwed n) where
 
 -- there are few nodes
 few : (c : Config) → IsConfig c → (nodes : Nodes) → IsBelow c.nodes nodes → (target : ℕ)
-    → set.contains nodes target ≡ true → target < 32
+    → set.contains nodes target ≡ true → target < most_nodes
 few c config nodes low target has =
-    (let a : target < c.nodes = low target has in let b : c.nodes ≤ 8 = config.nodes_to in
-    omega (arith, a, b))
+    (let a : target < c.nodes = low target has in
+    let b : c.nodes ≤ most_nodes = config.nodes_to in omega (arith, a, b))
 
 put_key : (from x p : ℕ) (r : PutOff) (kind : Request)
     → key_of (letter r.origin x r.origin r.call (content_of kind p))
@@ -134,7 +135,7 @@ module _ (n : Net) (x p from : ℕ) (r : PutOff) (e : Entry) (rest : List Letter
         (λ k w. inl (put_wants e r x p k w))
 
 -- who is in a set without a node is in the set
-was_in : (s : Nodes) (node q : ℕ) → set.contains (set.remove s node) q ≡ true
+pub was_in : (s : Nodes) (node q : ℕ) → set.contains (set.remove s node) q ≡ true
     → set.contains s q ≡ true
 was_in s node q h =
     elim (cases_Bool (set.contains s q)) [
@@ -151,7 +152,7 @@ other_order x p from target k a b = (let f : Order x from p ≡ Order x target p
 -- acknowledgements are collected
 module _ (n : Net) (x p call : ℕ) (e : Entry) (nodes : Nodes) (waiting : WaitingState)
     (is : n.entry x p ≡ e) (o : IsOwed n)
-    (low : (target : ℕ) → set.contains nodes target ≡ true → target < 32)
+    (low : (target : ℕ) → set.contains nodes target ≡ true → target < most_nodes)
     (still : StaysPutOff e (entry.AwaitAcks (record { left = nodes; waiting = waiting }))) where
   abbrev collecting : Entry
   collecting = entry.AwaitAcks (record { left = nodes; waiting = waiting })
@@ -241,7 +242,7 @@ module _ (c : Config) (config : IsConfig c) where
       asked c _ o r _ _ _ (λ j q h. absurd (none-some q h)) (λ k w. sym w)
   owed_by (Row.asks_page r hop plain away) order down o =
       asked c _ o r _ _ _ (λ j q h. absurd (none-some q h)) (λ k w. sym w)
-  owed_by (Row.ends_copies r owner reader low out) order down o =
+  owed_by (Row.ends_copies r owner reader unwritten low out) order down o =
       owner_owed _ r.node r.page r.call (entry.Idle r.state) r.state.copies
       (waiting_from r.word r.call) r.is o
       (few c config r.state.copies low) (λ j q h. absurd (none-some q h)) r.loose

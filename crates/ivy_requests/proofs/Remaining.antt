@@ -9,6 +9,7 @@ use Rattle.std.proofs.lemmas.Option.{same_Some, none-some, slice_get-map, slice_
 use Rattle.std.specs.FinSet as set
 use Rattle.ivy_wire.specs.declared.Content.TheVariants as content
 use Rattle.ivy_wire.specs.Data.{Content, Message, Parcel}
+use Rattle.ivy_model.specs.Limits.{most_nodes}
 use Rattle.ivy_wire.specs.Posts.{parcel_to}
 use Rattle.ivy_link.specs.Paired.{posted}
 use Rattle.ivy_pagetable.specs.declared.Entry.{Entry}
@@ -381,12 +382,12 @@ order_from x p call test first (suc most) target low high has =
 
 -- orders are posted: to each of these nodes
 pub orders_there : (n : Net) (x p : ℕ) (z : Entry) (left : List Letter) (call : ℕ) (nodes : Nodes)
-    (target : ℕ) → IsCounted n → target < 32 → set.contains nodes target ≡ true
+    (target : ℕ) → IsCounted n → target < most_nodes → set.contains nodes target ≡ true
     → HasKey (goes_on n x p z left (invalidations x p call nodes)) (Order x target p)
 unfolding nodes_of
 orders_there n x p z left call nodes target counted low has =
-    let f = order_from x p call (set.contains nodes) 0 32 target (omega arith) (omega (arith, low))
-    has in
+    let f = order_from x p call (set.contains nodes) 0 most_nodes target (omega arith)
+    (omega (arith, low)) has in
     record {
       at = Underway x target (length (n.posted x target) + f.0);
       letter = letter x target x call (content.Inval p);

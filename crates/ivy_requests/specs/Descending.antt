@@ -15,11 +15,13 @@ pub record IsAsked (n : Net) (body : Content) (origin node : ℕ) : Type 0 where
   pub asker : letter.message.origin ≡ origin
   pub asks : letter.message.content ≡ body
 
+-- by these heights each request for the page is at a node lower than its origin
 pub record GoDown (n : Net) (page : ℕ) (height : ℕ → ℕ) : Type 0 where
   pub reads : (origin node : ℕ) → IsAsked n (content.ReadReq page) origin node
       → height node < height origin
   pub writes : (origin node : ℕ) → IsAsked n (content.WriteReq page) origin node
       → height node < height origin
 
+-- for each page there are such heights
 abbrev pub Descends : Net → Type 0
 Descends n = (page : ℕ) → (height : ℕ → ℕ) × GoDown n page height

@@ -17,6 +17,7 @@ pub record IsAway (c : Config) (n : Net) (page node : ℕ) : Type 0 where
 
 -- `hop` is each node's next hop for the page
 module _ (c : Config) (n : Net) (page : ℕ) (hop : ℕ → ℕ) where
+  -- one step of a route: to where the request is, to the next hop, or to who sends a copy
   pub data IsRoute (node next : ℕ) : Type 0 where
     follows : IsAsked n (content.WriteReq page) node next → IsRoute node next
     hops : IsAway c n page node → next ≡ hop node → IsRoute node next
@@ -27,6 +28,7 @@ module _ (c : Config) (n : Net) (page : ℕ) (hop : ℕ → ℕ) where
   LeadAlong node [] end = end ≡ node
   LeadAlong node (next ∷ rest) end = IsRoute node next × LeadAlong next rest end
 
+  -- so they do, by whatever nodes
   abbrev pub LeadTo : ℕ → ℕ → Type 0
   LeadTo node end = (nodes : List ℕ) × LeadAlong node nodes end
 

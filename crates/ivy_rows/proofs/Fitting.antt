@@ -4,10 +4,12 @@ use Rattle.std.proofs.lemmas.Bool.{cases_eq, lt-ltb}
 use Rattle.std.specs.FinSet as set
 use Rattle.ivy_model.specs.declared.Config.{Config}
 use Rattle.ivy_model.specs.Config.{IsConfig}
+use Rattle.ivy_model.specs.Limits.{most_nodes}
 use Rattle.ivy_wire.specs.declared.Content.TheVariants as content
 use Rattle.ivy_wire.specs.Data.{Content}
 use Rattle.ivy_pagetable.specs.declared.Entry.{Entry}
 use Rattle.ivy_pagetable.specs.declared.Entry.TheVariants as entry
+use Rattle.ivy_pagetable.specs.Limits.{most_put_off}
 use Rattle.ivy_pagetable.specs.NodeSets.{nodes_with}
 use Rattle.ivy_pagetable.specs.Entries.{is_owner, copies_of, put_offs, can_put_off}
 use Rattle.ivy_rows.specs.Letters.{Letter, Net, Place, IsAt}
@@ -43,11 +45,11 @@ module _ (c : Config) (config : IsConfig c) (n : Net) (order : IsOrderly c n) (x
   pub never_full : (p : ℕ) → IsFull (n.entry x p) → ⊥
   never_full p full =
       let few : length (put_offs (n.entry x p)) < c.nodes = few_aside c n order x p here in
-      let small : length (put_offs (n.entry x p)) < 8 =
-      (let f : c.nodes ≤ 8 = config.nodes_to in omega (arith, few, f)) in
+      let small : length (put_offs (n.entry x p)) < most_put_off =
+      (let f : c.nodes ≤ most_nodes = config.nodes_to in omega (arith, few, f)) in
       let room : can_put_off (n.entry x p) ≡ true =
-      ap (λ b. b && nat_lt (length (put_offs (n.entry x p))) 8) full.0
-      ∙ lt-ltb (length (put_offs (n.entry x p))) 8 small in
+      ap (λ b. b && nat_lt (length (put_offs (n.entry x p))) most_put_off) full.0
+      ∙ lt-ltb (length (put_offs (n.entry x p))) most_put_off small in
       let f : true ≡ false = sym room ∙ full.1 in
       cc
 

@@ -7,6 +7,7 @@ use Rattle.std.proofs.lemmas.Option.{same_Some, none-some}
 use Rattle.std.specs.FinSet as set
 use Rattle.ivy_wire.specs.declared.Content.TheVariants as content
 use Rattle.ivy_wire.specs.Data.{Content, Message, Parcel}
+use Rattle.ivy_model.specs.Limits.{most_nodes}
 use Rattle.ivy_wire.specs.Posts.{parcel_to}
 use Rattle.ivy_link.specs.Paired.{posted}
 use Rattle.ivy_pagetable.specs.declared.Entry.{Entry}
@@ -120,7 +121,7 @@ pub orders_posted : (x p call : ℕ) (nodes : Nodes) (i j k : ℕ) (m : Message)
     × (m ≡ record { origin = x; call = call; content = content.Inval p })
 unfolding nodes_of
 orders_posted x p call nodes i j k m h =
-    let f = posted_from x p call (set.contains nodes) 0 32 i j m k h in
+    let f = posted_from x p call (set.contains nodes) 0 most_nodes i j m k h in
     (f.0, f.2, f.3, f.4)
 
 -- the place of the one letter that is posted to a node

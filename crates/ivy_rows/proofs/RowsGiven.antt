@@ -161,8 +161,7 @@ module _ (c : Config) (n : Net) (r : Served c n entry.Idle content.WriteReq) (or
 
     same_left : nodes_with (bits_of left) ≡ left
     same_left =
-        with_bits_of c.nodes left (let f : c.nodes ≤ 8 = config.nodes_to in omega (arith, f))
-        (remove_below c.nodes s.copies o low)
+        with_bits_of c.nodes left config.nodes_to (remove_below c.nodes s.copies o low)
 
     give_step : IsStep n given_net x p (entry.Idle s) (entry.Idle without) served
         (IsThe to_writer page_letter)

@@ -41,6 +41,7 @@ content_of request.Read page = content.ReadReq page
 content_of request.Write page = content.WriteReq page
 content_of request.Invalidate page = content.Inval page
 
+-- the letter that was put off at a page of a node
 abbrev pub letter_of : ℕ → ℕ → PutOff → Letter
 letter_of node page q = record {
   source = q.origin;

@@ -122,6 +122,7 @@ IsExpectedAs c n l (content.FreeRep code) = ⊥
 abbrev pub IsExpected : Config → Net → Letter → Type 0
 IsExpected c n l = IsExpectedAs c n l l.message.content
 
+-- each letter is expected and the only one of its key, and each page has at most one owner
 pub record IsOrderly (c : Config) (n : Net) : Type 0 where
   pub fits : (at : Place) (l : Letter) → IsAt n at l → IsExpected c n l
   pub one_letter : (a b : Place) (l m : Letter) → IsAt n a l → IsAt n b m → key_of l ≡ key_of m

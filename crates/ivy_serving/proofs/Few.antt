@@ -6,6 +6,7 @@ use Rattle.std.specs.FinSet as set
 use Rattle.std.specs.List.{filter, range_with_len}
 use Rattle.std.proofs.lemmas.Bool.{cases_Bool}
 use Rattle.std.proofs.lemmas.List.{length-map}
+use Rattle.ivy_model.specs.Limits.{most_nodes}
 use Rattle.ivy_wire.specs.Data.{Parcel}
 use Rattle.ivy_pagetable.specs.declared.PutOff.{PutOff}
 use Rattle.ivy_pagetable.specs.declared.Request.{Request}
@@ -70,7 +71,7 @@ passed_few n first (suc len) p below =
 
 pub nodes-few : (n : ℕ) (s : Nodes) → IsBelow n s → length (nodes_of s) ≤ n
 unfolding nodes_of
-nodes-few n s below = omega (arith, passed_few n 0 32 (set.contains s) below)
+nodes-few n s below = omega (arith, passed_few n 0 most_nodes (set.contains s) below)
 
 pub invalidations-few : (me page call n : ℕ) (s : Nodes) → IsBelow n s
     → length (invalidations me page call s) ≤ n

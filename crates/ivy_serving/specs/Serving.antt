@@ -82,6 +82,7 @@ module _ {S : Type 0} (ops : Ops S) (me page : ℕ) (bytes : List ℕ) where
     posted = v.posted ++ parcel_to me origin origin call (content.InvalAck page) ∷ [];
   }
 
+  -- one message is served, at the owner or at another node
   abbrev pub served : Serving S → PutOff → Serving S
   served v q = if v.idle.owner then served_by_owner v q.origin q.call q.kind
       else served_by_other v q.origin q.call q.kind

@@ -3,8 +3,8 @@ ghost use Rattle.std.specs.Prelude.{◌≡◌, ◌+◌, ◌<◌, ◌≤◌, ◌+
 ghost use Rattle.ivy_model.specs.Wants.{IsWant};
 ghost use Rattle.ivy_wire.specs.Lent.{owned_parcel};
 ghost use Rattle.ivy_wire.specs.Spelling.{FitsParcel};
+ghost use Rattle.ivy_model.specs.Limits.{most_nodes};
 ghost use Rattle.ivy_wire.specs.Posts.{parcel_to, HasPosted};
-ghost use Rattle.ivy_pagetable.specs.Limits.{most_nodes_in_a_set};
 ghost use Rattle.ivy_pagetable.specs.NodeSets.{nodes_of};
 ghost use Rattle.ivy_pagetable.specs.Manager.{brought_back};
 ghost use Rattle.ivy_serving.specs.Serving.{serving, settled, counted, is_write, served_by_owner, served_by_other, served, all_served, invalidations};
@@ -12,12 +12,12 @@ ghost use Rattle.ivy_serving.specs.Limits.{most_posted};
 ghost use Rattle.ivy_serving.specs.Outcomes.{IsSettled};
 
 use arrayvec::ArrayVec;
-use ivy_model::Fault;
+use ivy_model::{Fault, MOST_NODES};
 use ivy_pagetable::{Access, Idle, Manager, NodeSet, PutOff, Request};
 use ivy_wire::{Content, Parcel, Post, parcel_to};
 
 /// How many messages a node posts in one event at most.
-const MOST_POSTED: usize = 8;
+const MOST_POSTED: usize = MOST_NODES as usize;
 
 /// What a node posts in one event, in order.
 type Parcels<'a> = ArrayVec<Parcel<&'a [u8]>, MOST_POSTED>;
@@ -51,7 +51,7 @@ fn serve_as_owner<'a, M: Manager>(
 )
     requires room { length out.old.items < most_posted }
     requires owner { idle.old.owner ≡ true }
-    requires origin { message.origin < most_nodes_in_a_set }
+    requires origin { message.origin < most_nodes }
     ensures after { let before = serving idle.old manager.old breaches.old (map owned_parcel out.old.items) in
         let after = serving idle.new manager.new breaches.new (map owned_parcel out.new.items) in
         after ≡ served_by_owner M.ops at.entry.me at.entry.page at.entry.bytes.now
@@ -139,7 +139,7 @@ fn serve<'a, M: Manager>(
     out: &mut Parcels<'a>,
 )
     requires room { length out.old.items < most_posted }
-    requires origin { message.origin < most_nodes_in_a_set }
+    requires origin { message.origin < most_nodes }
     ensures after { let before = serving idle.old manager.old breaches.old (map owned_parcel out.old.items) in
         let after = serving idle.new manager.new breaches.new (map owned_parcel out.new.items) in
         after ≡ served M.ops at.entry.me at.entry.page at.entry.bytes.now before message }
@@ -163,7 +163,7 @@ fn serve_all<'a, M: Manager>(
 )
     requires few { length messages.now ≤ most_posted }
     requires empty { out.old.items ≡ [] }
-    requires origins { All (λ q. q.origin < most_nodes_in_a_set) messages.now }
+    requires origins { All (λ q. q.origin < most_nodes) messages.now }
     ensures after { let before = serving idle.old manager.old breaches.old [] in
         let after = serving idle.new manager.new breaches.new (map owned_parcel out.new.items) in
         after ≡ all_served M.ops at.entry.me at.entry.page at.entry.bytes.now before messages.now }
@@ -208,7 +208,7 @@ pub fn settle<M: Manager, P: Post>(
 ) -> Result<Idle, Fault>
     requires mine { at.me ≡ M.ops.me manager.old }
     requires few { length messages.now ≤ most_posted }
-    requires origins { All (λ q. q.origin < most_nodes_in_a_set) messages.now }
+    requires origins { All (λ q. q.origin < most_nodes) messages.now }
     requires fits { All (FitsParcel (P.ops.config post.old) (P.ops.node post.old))
         (settled M.ops at.me at.from at.page at.bytes.now
         idle manager.old breaches.old reply messages.now).posted }

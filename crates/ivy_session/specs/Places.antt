@@ -35,6 +35,7 @@ pub record IsSeated (wire : TableId) (c : Config) (programs : List (List Instruc
   pub given : HasGiven (length programs) s p
   pub took : AllCanBeMade p.known.took (length programs) s.me s.events
 
+-- this site, with this pass
 abbrev pub place : Shown → Held → SeatedState
 place s p = record { site = s; pass = p }
 

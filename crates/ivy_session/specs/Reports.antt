@@ -24,6 +24,7 @@ pub record NodeReport : Type 0 where
   pub output : List ℕ
   pub events : List Mark
 
+-- what a report says of this site's node
 abbrev pub report_of : Shown → NodeReport
 report_of s = record {
   history = s.node.core.history;

@@ -27,6 +27,7 @@ pub record ServesString (v : Verdict) (old new : SeatedState) : Type 0 where
 abbrev pub Rests : SeatedState → SeatedState → Type 0
 Rests old new = (old.site.waiting ≡ []) × (new.site ≡ old.site)
 
+-- what a turn on the wire changes that came to this
 abbrev pub AfterWire : WireTurn → SeatedState → SeatedState → Type 0
 AfterWire Sent old new = Leaves old.site new.site
 AfterWire Lost old new = Leaves old.site new.site

@@ -43,7 +43,7 @@ const ENDS: [Move; 4] = [
 /// The answer that the copy was ended.
 const ENDED: [(usize, Written); 1] = [string!(
     3,
-    "495601060100000d 0000000000000002 0000000000000001 00 0000000000000001 00000001"
+    "495602060100000d 0000000000000002 0000000000000001 00 0000000000000001 00000001"
 )];
 
 const STORED: [Record; 1] = [stored!(0, 64, 5)];

@@ -24,10 +24,10 @@ pub(crate) const LOADS: &str = "node 0\nnode 1\nset r1 64\nload 8 r2 r1\nprint r
 
 /// The request of that load, and the header of the reply, which a page of zeros follows.
 pub(crate) const REQUEST: &str =
-    "495601010100000d 0000000000000001 0000000000000000 01 0000000000000001 00000001";
+    "495602010100000d 0000000000000001 0000000000000000 01 0000000000000001 00000001";
 
 pub(crate) const REPLY: &str =
-    "495601030001004d 0000000000000001 0000000000000000 01 0000000000000001 00000001";
+    "495602030001004d 0000000000000001 0000000000000000 01 0000000000000001 00000001";
 
 /// A store to an address, which is done.
 pub(crate) fn stored(node: u8, width: u8, addr: u64, value: u64) -> Record {

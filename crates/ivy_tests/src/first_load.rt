@@ -62,8 +62,8 @@ fn first_load(rt: HostRuntime) -> Result<(), Fail> {
 /// After the first load each node sends again what it keeps or owes, and then nothing.
 #[test]
 fn pulses_after_the_first_load(rt: HostRuntime) -> Result<(), Fail> {
-    let again = "495601010100000d 0000000000000001 0000000000000001 01 0000000000000001 00000001";
-    let acknowledged = "4956010000010000 0000000000000000 0000000000000001";
+    let again = "495602010100000d 0000000000000001 0000000000000001 01 0000000000000001 00000001";
+    let acknowledged = "4956020000010000 0000000000000000 0000000000000001";
     check_run(
         &rt,
         rt.alloc(),

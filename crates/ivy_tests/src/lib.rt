@@ -77,6 +77,12 @@ mod growths_of_worlds;
 #[cfg(test)]
 mod heap;
 #[cfg(test)]
+mod library;
+#[cfg(test)]
 mod schedules;
 #[cfg(test)]
 mod stores;
+#[cfg(test)]
+mod swaps;
+#[cfg(test)]
+mod thirty_two_nodes;

@@ -150,8 +150,9 @@ const DYNAMIC: Config = Config {
     ..TRIO
 };
 
-const WORLDS: [(Config, &str, Option<Fault>); 5] = [
-    (Config { nodes: 9, ..PAIR }, NINE, Some(Fault::BadConfig)),
+const WORLDS: [(Config, &str, Option<Fault>); 6] = [
+    (Config { nodes: 33, ..PAIR }, NINE, Some(Fault::BadConfig)),
+    (Config { nodes: 9, ..PAIR }, NINE, None),
     (PAIR, THREE, Some(Fault::BadConfig)),
     (PAIR, "", Some(Fault::BadConfig)),
     (TRIO, THREE, None),

@@ -32,6 +32,7 @@ abbrev pub drawn_delivery : ℕ → ℕ → ℕ → Option (List ℕ) → Move
 drawn_delivery nodes y index (Some string) = Deliver index (dest_at string)
 drawn_delivery nodes y index None = Turn (y % nodes)
 
+-- the delivery that a word draws, of one of the last strings
 abbrev pub delivery : ℕ → List (List ℕ) → ℕ → Move
 delivery nodes sent y =
     let index = index_back (length sent) y in
@@ -41,6 +42,7 @@ delivery nodes sent y =
 abbrev pub other_at : ℕ → ℕ → ℕ
 other_at node place = if nat_lt place node then place else place + 1
 
+-- the pulse that two words draw, from one node to another
 abbrev pub pulse : ℕ → ℕ → ℕ → Move
 pulse nodes y z = Pulse (y % nodes) (other_at (y % nodes) (z % (nodes - 1)))
 

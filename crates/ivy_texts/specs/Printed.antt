@@ -1,7 +1,7 @@
 -- How calls, replies, records and moves are printed.
 use Rattle.std.specs.Prelude.{ℕ, List, ◌++◌, codes, decimal}
 use Rattle.ivy_model.specs.declared.Call.{Call}
-use Rattle.ivy_model.specs.declared.Call.TheVariants.{Load, Store, Count, Advance, Await, Alloc, Free}
+use Rattle.ivy_model.specs.declared.Call.TheVariants.{Load, Store, Swap, Count, Advance, Await, Alloc, Free}
 use Rattle.ivy_model.specs.declared.Reply.{Reply}
 use Rattle.ivy_model.specs.declared.Reply.TheVariants.{Value, Done, Refused}
 use Rattle.ivy_model.specs.declared.Record.{Record}
@@ -16,6 +16,8 @@ abbrev pub call_text : Call → List ℕ
 call_text (Load width addr) = codes "load" ++ then_number width ++ then_number addr
 call_text (Store width addr value) =
     codes "store" ++ then_number width ++ then_number addr ++ then_number value
+call_text (Swap width addr value) =
+    codes "swap" ++ then_number width ++ then_number addr ++ then_number value
 call_text (Count k) = codes "count" ++ then_number k
 call_text (Advance k) = codes "advance" ++ then_number k
 call_text (Await k least) = codes "await" ++ then_number k ++ then_number least
@@ -27,9 +29,11 @@ reply_text (Value value) = codes "value" ++ then_number value
 reply_text Done = codes "done"
 reply_text (Refused code) = codes "refused" ++ then_number code
 
+-- as the text of an order has it
 abbrev pub record_text : Record → List ℕ
 record_text r = decimal r.node ++ codes " " ++ call_text r.call ++ codes " = " ++ reply_text r.reply
 
+-- as the text of a schedule has it
 abbrev pub move_text : Move → List ℕ
 move_text (Turn node) = codes "turn" ++ then_number node
 move_text (Deliver index to) = codes "deliver" ++ then_number index ++ then_number to

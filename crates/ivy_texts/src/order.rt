@@ -58,6 +58,11 @@ fn parse_call(words: &[&str]) -> Option<Call> {
             addr: parse_number(addr)?,
             value: parse_number(value)?,
         },
+        ["swap", width, addr, value] => Call::Swap {
+            width: parse_width(width)?,
+            addr: parse_number(addr)?,
+            value: parse_number(value)?,
+        },
         ["count", k] => Call::Count {
             k: parse_number(k)?,
         },

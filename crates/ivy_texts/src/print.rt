@@ -51,6 +51,10 @@ impl fmt::Display for CallText {
                 let width = Decimal(u64::from(width));
                 write!(f, "store {width} {} {}", Decimal(addr), Decimal(value))
             }
+            Call::Swap { width, addr, value } => {
+                let width = Decimal(u64::from(width));
+                write!(f, "swap {width} {} {}", Decimal(addr), Decimal(value))
+            }
             Call::Count { k } => write!(f, "count {}", Decimal(k)),
             Call::Advance { k } => write!(f, "advance {}", Decimal(k)),
             Call::Await { k, least } => write!(f, "await {} {}", Decimal(k), Decimal(least)),

@@ -1,12 +1,14 @@
 -- The text of a content, read and written.
-use Rattle.std.proofs.Common.{◌≡◌, ℕ, ◌+◌, ◌^◌, ◌<◌, Bool, true, false, eqb, ltb, ◌&&◌, ◌||◌, ◌⊎◌, List, [], ◌∷◌, ◌++◌, length, get_or, drop, Some, refl, ap, ◌∙◌, arith, inl, inr}
-use Rattle.std.proofs.lemmas.List.{length-drop, get_or-drop, drop-drop}
+use Rattle.std.proofs.Common.{◌≡◌, ℕ, ◌+◌, ◌^◌, ◌<◌, ◌≤◌, Bool, true, false, eqb, ltb, ◌&&◌, ◌||◌, ◌⊎◌, List, [], ◌∷◌, ◌++◌, length, get_or, drop, Some, refl, ap, ◌∙◌, arith, inl, inr}
+use Rattle.std.proofs.Math.Pow.{pow_mono}
+use Rattle.std.proofs.lemmas.List.{length-drop, drop-drop}
 use Rattle.std.proofs.lemmas.Bool.{eqb-true}
 use Rattle.std.proofs.lemmas.Bool.Decides.{nat_tests}
 use Rattle.byteorder.specs.Endian.{big_number, big_bytes}
 use Rattle.byteorder.specs.Numbers.{big_number-reads_back, big_from-lt}
 use Rattle.ivy_model.specs.declared.Config.{Config}
 use Rattle.ivy_model.specs.Config.{IsConfig}
+use Rattle.ivy_model.specs.Limits.{most_nodes}
 use Rattle.ivy_wire.specs.declared.frame.FrameKind.{FrameKind}
 use Rattle.ivy_wire.specs.declared.frame.FrameKind.TheVariants as kinds
 use Rattle.ivy_wire.specs.Data.{Content}
@@ -94,11 +96,12 @@ content_spelled c kinds.ReadRep rest h some len sound = (
   },
 )
 content_spelled c kinds.WriteRep rest h some len sound =
-    let p = both (ltb (big_number 4 rest) c.pages) (ltb (get_or rest 4 0) (2 ^ c.nodes)) sound in
-    let second : drop 4 rest ≡ get_or rest 4 0 ∷ drop 5 rest =
-    field_1 (drop 4 rest) (omega (arith, length-drop 4 rest))
-    ∙ rw (get_or-drop 4 rest 0 0, drop-drop 1 4 rest) refl in (
-      contents.WriteRep (big_number 4 rest) (get_or rest 4 0) (drop 5 rest),
+    let copies : ℕ = big_number 4 (drop 4 rest) in
+    let p = both (ltb (big_number 4 rest) c.pages) (ltb copies (2 ^ c.nodes)) sound in
+    let second : drop 4 rest ≡ big_bytes 4 copies ++ drop 8 rest =
+    field_4 (drop 4 rest) (IsBytes-drop 4 rest h) (omega (arith, length-drop 4 rest))
+    ∙ ap (λ (t : List ℕ). big_bytes 4 copies ++ t) (drop-drop 4 4 rest) in (
+      contents.WriteRep (big_number 4 rest) copies (drop 8 rest),
       record {
         read = refl;
         kind = refl;
@@ -106,8 +109,8 @@ content_spelled c kinds.WriteRep rest h some len sound =
             ∙ ap (λ (t : List ℕ). big_bytes 4 (big_number 4 rest) ++ t) second;
         fits = (
           page_of c rest p.0,
-          below (get_or rest 4 0) (2 ^ c.nodes) p.1,
-          omega (arith, length-drop 5 rest),
+          below copies (2 ^ c.nodes) p.1,
+          omega (arith, length-drop 8 rest),
         );
       },
     )
@@ -184,6 +187,12 @@ page_back : (c : Config) (page : ℕ) (rest : List ℕ) → IsConfig c → page 
 page_back c page rest limits lt =
     let most = limits.pages_to in big_number-reads_back 4 page rest (omega arith)
 
+copies_back : (c : Config) (copies : ℕ) (rest : List ℕ) → IsConfig c → copies < 2 ^ c.nodes
+    → big_number 4 (big_bytes 4 copies ++ rest) ≡ copies
+copies_back c copies rest limits lt =
+    let most : 2 ^ c.nodes ≤ 2 ^ most_nodes = pow_mono limits.nodes_to in
+    big_number-reads_back 4 copies rest (omega (arith, lt, most))
+
 reply_sound : (code addr : ℕ)
     → ((code ≡ 0) × (addr < 2 ^ 64)) ⊎ (((code ≡ 8) ⊎ (code ≡ 9)) × (addr ≡ 0))
     → eqb code 0 || ((eqb code 8 || eqb code 9) && eqb addr 0) ≡ true
@@ -223,10 +232,13 @@ content_again c (contents.ReadRep page bytes) limits fits =
       len = omega (arith, fits.1);
     }
 content_again c (contents.WriteRep page copies bytes) limits fits =
-    let back = page_back c page (copies ∷ bytes) limits fits.0 in
+    let back = page_back c page (big_bytes 4 copies ++ bytes) limits fits.0 in
+    let set = copies_back c copies bytes limits fits.1 in
     record {
-      read = ap (λ n. Some (contents.WriteRep n copies bytes)) back;
-      sound = rw (back, above page c.pages fits.0) (above copies (2 ^ c.nodes) fits.1);
+      read = ap
+          (λ n. Some (contents.WriteRep n (big_number 4 (big_bytes 4 copies ++ bytes)) bytes)) back
+          ∙ ap (λ n. Some (contents.WriteRep page n bytes)) set;
+      sound = rw (back, set, above page c.pages fits.0) (above copies (2 ^ c.nodes) fits.1);
       len = omega (arith, fits.2);
     }
 content_again c (contents.Inval page) limits fits =

@@ -18,6 +18,7 @@ use Rattle.ivy_wire.specs.Data.{Content}
 use Rattle.ivy_wire.specs.declared.frame.Content.TheVariants as contents
 use Rattle.ivy_wire.specs.Data.{Message}
 use Rattle.ivy_wire.specs.Data.{Frame}
+use Rattle.ivy_wire.specs.Lengths.{frame_version}
 use Rattle.ivy_wire.specs.Spelling.{code_of, kind_of, frame_kind, content_text, message_text, spelling, text_len, FitsMessage, Fits, Spells}
 use Rattle.ivy_wire.specs.Faults.{kind_byte, source_at, dest_at, len_at, frame_number_at, ack_at, text_at, kind_at, is_sound_content, is_sound_text, checked_in, checked_kind, checked}
 use Rattle.ivy_wire.specs.Reading.{content_at, message_at, frame_at}
@@ -29,7 +30,7 @@ use Rattle.ivy_wire.proofs.Contents.{both, content_spelled, content_again}
 pub record IsSound (c : Config) (kind : FrameKind) (bytes : List ℕ) : Type 0 where
   pub long : 24 ≤ length bytes
   pub magic : (get_or bytes 0 0 ≡ 73) × (get_or bytes 1 0 ≡ 86)
-  pub version : get_or bytes 2 0 ≡ 1
+  pub version : get_or bytes 2 0 ≡ frame_version
   pub known : kind_at (kind_byte bytes) ≡ Some kind
   pub source : source_at bytes < c.nodes
   pub dest : dest_at bytes < c.nodes
@@ -114,14 +115,15 @@ sound_checked c k bytes e =
     let g2 = guard (ltb (length bytes) (24 + len_at bytes)) ShortFrame _ k g1.1 in
     let g3 =
     guard (not (eqb (get_or bytes 0 0) 73 && eqb (get_or bytes 1 0) 86)) BadMagic _ k g2.1 in
-    let g4 = guard (not (eqb (get_or bytes 2 0) 1)) BadVersion _ k g3.1 in
+    let g4 = guard (not (eqb (get_or bytes 2 0) frame_version)) BadVersion _ k g3.1 in
     let p = sound_kind c (kind_at (kind_byte bytes)) k bytes g4.1 in
     let m = both (eqb (get_or bytes 0 0) 73) (eqb (get_or bytes 1 0) 86)
     (flipped (eqb (get_or bytes 0 0) 73 && eqb (get_or bytes 1 0) 86) g3.0) in
     record {
       long = ltb-false (length bytes) 24 g1.0;
       magic = (eqb-true (get_or bytes 0 0) 73 m.0, eqb-true (get_or bytes 1 0) 86 m.1);
-      version = eqb-true (get_or bytes 2 0) 1 (flipped (eqb (get_or bytes 2 0) 1) g4.0);
+      version = eqb-true (get_or bytes 2 0) frame_version
+          (flipped (eqb (get_or bytes 2 0) frame_version) g4.0);
       known = p.0;
       source = p.1.source;
       dest = p.1.dest;
@@ -170,7 +172,7 @@ never_memory c bytes e =
     let p3 =
     pass (not (eqb (get_or bytes 0 0) 73 && eqb (get_or bytes 1 0) 86)) BadMagic _ (λ n. cc)
     p2 in
-    let p4 = pass (not (eqb (get_or bytes 2 0) 1)) BadVersion _ (λ n. cc) p3 in
+    let p4 = pass (not (eqb (get_or bytes 2 0) frame_version)) BadVersion _ (λ n. cc) p3 in
     kind_never_memory c (kind_at (kind_byte bytes)) bytes p4
 
 checked_in_again : (c : Config) (kind : FrameKind) (bytes : List ℕ) → IsSound c kind bytes
@@ -386,7 +388,7 @@ respelled bytes a b v k len text =
 spelled_so : (c : Config) (kind : FrameKind) (bytes : List ℕ) (m : Option Message) → IsBytes bytes
     → IsSound c kind bytes → HasMessage c kind (frame_number_at bytes) (text_at bytes) m
     → length (text_at bytes) ≡ len_at bytes
-    → bytes ≡ respelled bytes 73 86 1 (code_of (frame_kind m)) (length (message_text m))
+    → bytes ≡ respelled bytes 73 86 frame_version (code_of (frame_kind m)) (length (message_text m))
     (message_text m)
 spelled_so c kind bytes m h s has len =
     let e1 : get_or bytes 3 0 ≡ code_of (frame_kind m) =
@@ -398,9 +400,10 @@ spelled_so c kind bytes m h s has len =
     ∙ ap (λ x. respelled bytes 73 x (get_or bytes 2 0) (get_or bytes 3 0) (len_at bytes)
     (text_at bytes)) s.magic.1
     ∙ ap (λ x. respelled bytes 73 86 x (get_or bytes 3 0) (len_at bytes) (text_at bytes)) s.version
-    ∙ ap (λ x. respelled bytes 73 86 1 x (len_at bytes) (text_at bytes)) e1
-    ∙ ap (λ x. respelled bytes 73 86 1 (code_of (frame_kind m)) x (text_at bytes)) e2
-    ∙ ap (λ x. respelled bytes 73 86 1 (code_of (frame_kind m)) (length (message_text m)) x)
+    ∙ ap (λ x. respelled bytes 73 86 frame_version x (len_at bytes) (text_at bytes)) e1
+    ∙ ap (λ x. respelled bytes 73 86 frame_version (code_of (frame_kind m)) x (text_at bytes)) e2
+    ∙ ap (λ x. respelled bytes 73 86 frame_version (code_of (frame_kind m))
+    (length (message_text m)) x)
     has.spelled
 
 -- a sound string spells the frame in it

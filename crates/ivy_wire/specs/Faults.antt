@@ -7,7 +7,7 @@ use Rattle.ivy_model.specs.declared.Fault.TheVariants.{ZeroSize, NoRoom, NotABlo
 use Rattle.ivy_model.specs.Numbers.{fault_number}
 use Rattle.ivy_wire.specs.declared.frame.FrameKind.{FrameKind}
 use Rattle.ivy_wire.specs.declared.frame.FrameKind.TheVariants.{Ack, ReadReq, WriteReq, ReadRep, WriteRep, Inval, InvalAck, AllocReq, AllocRep, FreeReq, FreeRep}
-use Rattle.ivy_wire.specs.Lengths.{header_len, call_len}
+use Rattle.ivy_wire.specs.Lengths.{frame_version, header_len, call_len}
 use Rattle.ivy_wire.specs.Spelling.{code_of, all_kinds, text_len}
 
 -- the fields of the header, and the body, which follows it
@@ -57,7 +57,7 @@ is_sound_content c ReadReq rest = is_page c (big_number 4 rest)
 is_sound_content c WriteReq rest = is_page c (big_number 4 rest)
 is_sound_content c ReadRep rest = is_page c (big_number 4 rest)
 is_sound_content c WriteRep rest =
-    is_page c (big_number 4 rest) && is_copy_set c (slice_index rest 4)
+    is_page c (big_number 4 rest) && is_copy_set c (big_number 4 (drop 4 rest))
 is_sound_content c Inval rest = is_page c (big_number 4 rest)
 is_sound_content c InvalAck rest = is_page c (big_number 4 rest)
 is_sound_content c AllocReq rest = true
@@ -98,5 +98,5 @@ checked c bytes =
     if nat_lt (length bytes) header_len then Err ShortFrame
     else if nat_lt (length bytes) (header_len + len_at bytes) then Err ShortFrame
     else if not (slice_index bytes 0 == 73 && slice_index bytes 1 == 86) then Err BadMagic
-    else if not (slice_index bytes 2 == 1) then Err BadVersion
+    else if not (slice_index bytes 2 == frame_version) then Err BadVersion
     else checked_kind c (kind_at (kind_byte bytes)) bytes

@@ -34,6 +34,7 @@ pub record IsPostOf {P : Type 0} (ops : PostOps P) (post : P) (c : Config) (me :
   pub config : ops.config post ≡ c
   pub node : ops.node post ≡ me
 
+-- a parcel of a message for the origin's call of this number
 abbrev pub parcel_to : ℕ → ℕ → ℕ → ℕ → Content → Parcel
 parcel_to me dest origin call body = record {
   source = me;

@@ -17,7 +17,7 @@ content_at kinds.ReadReq rest = Some (contents.ReadReq (big_number 4 rest))
 content_at kinds.WriteReq rest = Some (contents.WriteReq (big_number 4 rest))
 content_at kinds.ReadRep rest = Some (contents.ReadRep (big_number 4 rest) (drop 4 rest))
 content_at kinds.WriteRep rest =
-    Some (contents.WriteRep (big_number 4 rest) (slice_index rest 4) (drop 5 rest))
+    Some (contents.WriteRep (big_number 4 rest) (big_number 4 (drop 4 rest)) (drop 8 rest))
 content_at kinds.Inval rest = Some (contents.Inval (big_number 4 rest))
 content_at kinds.InvalAck rest = Some (contents.InvalAck (big_number 4 rest))
 content_at kinds.AllocReq rest = Some (contents.AllocReq (big_number 8 rest))
@@ -31,9 +31,11 @@ abbrev pub message_with : List ℕ → Content → Message
 message_with text content =
     record { origin = slice_index text 0; call = big_number 8 (drop 1 text); content = content }
 
+-- the message of a body of this kind; an acknowledgement alone has none
 unfoldable pub message_at : FrameKind → List ℕ → Option Message
 message_at kind text = option_map (message_with text) (content_at kind (drop call_len text))
 
+-- the frame of a string that is of this kind
 unfoldable pub frame_at : FrameKind → List ℕ → Frame
 frame_at kind bytes = record {
   source = source_at bytes;

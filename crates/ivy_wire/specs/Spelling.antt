@@ -6,6 +6,7 @@ use Rattle.ivy_model.specs.declared.Fault.TheVariants.{ZeroSize, NoRoom, NotABlo
 use Rattle.ivy_model.specs.Numbers.{fault_number}
 use Rattle.ivy_wire.specs.declared.frame.FrameKind.{FrameKind}
 use Rattle.ivy_wire.specs.declared.frame.FrameKind.TheVariants as kinds
+use Rattle.ivy_wire.specs.Lengths.{frame_version}
 use Rattle.ivy_wire.specs.Data.{Content}
 use Rattle.ivy_wire.specs.declared.frame.Content.TheVariants as contents
 use Rattle.ivy_wire.specs.Data.{Message}
@@ -53,7 +54,8 @@ abbrev pub content_text : Content → List ℕ
 content_text (contents.ReadReq page) = big_bytes 4 page
 content_text (contents.WriteReq page) = big_bytes 4 page
 content_text (contents.ReadRep page bytes) = big_bytes 4 page ++ bytes
-content_text (contents.WriteRep page copies bytes) = big_bytes 4 page ++ (copies ∷ bytes)
+content_text (contents.WriteRep page copies bytes) =
+    big_bytes 4 page ++ (big_bytes 4 copies ++ bytes)
 content_text (contents.Inval page) = big_bytes 4 page
 content_text (contents.InvalAck page) = big_bytes 4 page
 content_text (contents.AllocReq size) = big_bytes 8 size
@@ -66,11 +68,11 @@ abbrev pub message_text : Option Message → List ℕ
 message_text None = []
 message_text (Some m) = m.origin ∷ (big_bytes 8 m.call ++ content_text m.content)
 
--- The header, and the body: the letters I and V, version 1, kind, source, destination,
+-- The header, and the body: the letters I and V, version, kind, source, destination,
 -- the length of the body, number and acknowledgement.
 abbrev pub spelling : Frame → List ℕ
 spelling f =
-    73 ∷ 86 ∷ 1 ∷ code_of (frame_kind f.body) ∷ f.source ∷ f.dest
+    73 ∷ 86 ∷ frame_version ∷ code_of (frame_kind f.body) ∷ f.source ∷ f.dest
     ∷ (big_bytes 2 (length (message_text f.body))
     ++ (big_bytes 8 f.number ++ (big_bytes 8 f.ack ++ message_text f.body)))
 
@@ -80,7 +82,7 @@ text_len c kinds.Ack = 0
 text_len c kinds.ReadReq = 13
 text_len c kinds.WriteReq = 13
 text_len c kinds.ReadRep = 13 + c.page_size
-text_len c kinds.WriteRep = 14 + c.page_size
+text_len c kinds.WriteRep = 17 + c.page_size
 text_len c kinds.Inval = 13
 text_len c kinds.InvalAck = 13
 text_len c kinds.AllocReq = 17

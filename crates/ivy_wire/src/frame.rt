@@ -50,7 +50,7 @@ pub(crate) const KINDS: [FrameKind; 11] = [
 ];
 
 /// The one version of frames that there is.
-pub(crate) const VERSION: u8 = 1;
+pub(crate) const VERSION: u8 = 2;
 
 /// Bytes of a header.
 pub(crate) const HEADER_LEN: usize = 24;
@@ -69,7 +69,7 @@ pub enum Content<B> {
     /// Brings a copy of a page.
     ReadRep { page: u32, bytes: B },
     /// Brings a page itself. Bit `i` of `copies`, bit 0 the least, says that node `i` has a copy.
-    WriteRep { page: u32, copies: u8, bytes: B },
+    WriteRep { page: u32, copies: u32, bytes: B },
     /// Ends a copy of a page: its writer is about to write to it.
     Inval { page: u32 },
     /// Says that a copy was ended.
@@ -130,7 +130,7 @@ impl FrameKind {
             FrameKind::Ack => 0,
             FrameKind::ReadReq | FrameKind::WriteReq | FrameKind::Inval | FrameKind::InvalAck => 13,
             FrameKind::ReadRep => 13 + config.page_size as u16,
-            FrameKind::WriteRep => 14 + config.page_size as u16,
+            FrameKind::WriteRep => 17 + config.page_size as u16,
             FrameKind::AllocReq | FrameKind::FreeReq => 17,
             FrameKind::AllocRep => 18,
             FrameKind::FreeRep => 10,
@@ -205,7 +205,7 @@ impl Content<&[u8]> {
                 bytes,
             } => {
                 *page < config.pages
-                    && u16::from(*copies) < 1 << config.nodes
+                    && u64::from(*copies) < 1 << config.nodes
                     && bytes.len() == config.page_size as usize
             }
             // A number behind a reference is in its range once it is read.

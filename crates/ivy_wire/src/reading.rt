@@ -48,7 +48,8 @@ fn is_sound_content(config: &Config, kind: FrameKind, rest: &[u8]) -> bool
         | FrameKind::Inval
         | FrameKind::InvalAck => BigEndian::read_u32(rest) < config.pages,
         FrameKind::WriteRep => {
-            BigEndian::read_u32(rest) < config.pages && u16::from(rest[4]) < 1 << config.nodes
+            BigEndian::read_u32(rest) < config.pages
+                && u64::from(BigEndian::read_u32(&rest[4..])) < 1 << config.nodes
         }
         FrameKind::AllocRep => {
             rest[0] == 0
@@ -177,8 +178,8 @@ fn content_at<'a>(config: &Config, kind: FrameKind, rest: &'a [u8]) -> Option<Co
         }),
         FrameKind::WriteRep => Some(Content::WriteRep {
             page: BigEndian::read_u32(rest),
-            copies: rest[4],
-            bytes: &rest[5..],
+            copies: BigEndian::read_u32(&rest[4..]),
+            bytes: &rest[8..],
         }),
         FrameKind::Inval => Some(Content::Inval {
             page: BigEndian::read_u32(rest),

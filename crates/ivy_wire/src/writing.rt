@@ -53,7 +53,7 @@ fn push_content<A: Allocator>(
             bytes,
         } => {
             push_u32(out, *page)?;
-            out.push(*copies)?;
+            push_u32(out, *copies)?;
             out.extend_from_slice(*bytes)
         }
         Content::Inval { page } => push_u32(out, *page),

@@ -3,7 +3,7 @@ use Rattle.std.proofs.lemmas.List.{length-map, take_all}
 use Rattle.ivy_wire.specs.Lent.{owned_parcel}
 use Rattle.ivy_link.specs.Sides.{peer_of, held_of, side_at, count_to}
 use Rattle.ivy_link.proofs.Peers.{stays-same}
-use Rattle.ivy_link.proofs.Counting.{room-more, room-none}
+use Rattle.ivy_link.proofs.Counting.{counted_few, room-more, room-none}
 use Rattle.ivy_link.proofs.Sending.{ready-within, parcel_at, parcel-here, parcel-inside}
 use Rattle.ivy_link.proofs.keeping.reserve.Goals as goal
 
@@ -41,10 +41,15 @@ loop-parcel-preserved g c =
     ready-within c.args.sides.now.items c.loop-parcel.sides.items c.args.parcels.now
     c.loop-parcel.parcel-index c.from.result c.loop-parcel.invariant.peers c.requires.within
     c.loop-parcel-test.true c.from.ensures in
-    let more : c.count_to-more.result
-    ≡ count_to (map owned_parcel c.args.parcels.now)
-    (parcel_at c.args.parcels.now c.loop-parcel.parcel-index).dest = c.count_to-more.ensures in
-    let room : c.count_to-more.result ≤ c.reserve.new.self.room = c.in_ok-reserve.ensures.room in
+    let more : count_to (map owned_parcel c.args.parcels.now)
+    (parcel_at c.args.parcels.now c.loop-parcel.parcel-index).dest ≤ length c.args.parcels.now =
+    omega (
+      arith,
+      counted_few (map owned_parcel c.args.parcels.now)
+          (parcel_at c.args.parcels.now c.loop-parcel.parcel-index).dest,
+      length-map c.args.parcels.now owned_parcel,
+    ) in
+    let room : length c.args.parcels.now ≤ c.reserve.new.self.room = c.in_ok-reserve.ensures.room in
     record {
       peers = stays-same peer_of c.args.sides.now.items c.loop-parcel.sides.items c.from.result
           c.index_mut.result.now c.reserve.new.self c.loop-parcel.invariant.peers at

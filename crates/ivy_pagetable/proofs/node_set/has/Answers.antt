@@ -1,6 +1,6 @@
 use Rattle.std.proofs.Common.{eqb, sym, ap, ◌∙◌, arith}
 use Rattle.std.proofs.lemmas.Nat.Bits.{shr_and_one}
-use Rattle.ivy_pagetable.specs.Bytes.{contains_with}
+use Rattle.ivy_pagetable.specs.Bits.{contains_with}
 use Rattle.ivy_pagetable.proofs.node_set.has.Goals as goal
 
 pub returns : goal.returns

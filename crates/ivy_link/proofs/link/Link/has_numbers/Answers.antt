@@ -1,4 +1,4 @@
-use Rattle.std.proofs.Common.{rules, ◌≡◌, ◌<◌, ◌≤◌, ◌+◌, ◌^◌, length, map, sym, ap, ◌∙◌, arith, inl, inr, true, false}
+use Rattle.std.proofs.Common.{rules, refl, ℕ, ◌≡◌, ◌<◌, ◌≤◌, ◌+◌, ◌^◌, length, map, sym, ap, ◌∙◌, arith, inl, inr, true, false}
 use Rattle.std.proofs.lemmas.Bool.{cases_eq, cases_lt}
 use Rattle.std.proofs.lemmas.List.{get_or-map, length-map}
 use Rattle.ivy_wire.specs.Lent.{owned_parcel}
@@ -22,8 +22,8 @@ index-side-requires g c =
           (ap link_of c.self.view_is),
     )
 
-pub returns-then-not-has_numbers : goal.returns-then-not-has_numbers
-returns-then-not-has_numbers g c =
+pub returns-then-not-has_numbers_to : goal.returns-then-not-has_numbers_to
+returns-then-not-has_numbers_to g c =
     let at : c.from.result < length c.args.self.now.peers =
     here-within (link_of c.args.self.now) c.args.parcels.now c.loop-parcel.parcel-index
     c.from.result c.requires.within c.loop-parcel-test.true c.from.ensures in
@@ -31,18 +31,20 @@ returns-then-not-has_numbers g c =
     sym (view-read (link_of c.args.self.now) c.self.inside.me c.self.inside.sides.items
     (ap link_of c.self.view_is) c.from.result c.index-side.result.now at
     c.index-side.ensures) in
-    let spent : 2 ^ 64 ≤ c.index-side.result.now.peer.sent + c.count_to.result =
-    elim (cases_lt (c.index-side.result.now.peer.sent + c.count_to.result) (2 ^ 64)) [
+    let count : ℕ =
+    count_to (map owned_parcel c.args.parcels.now)
+    (parcel_at c.args.parcels.now c.loop-parcel.parcel-index).dest in
+    let spent : 2 ^ 64 ≤ c.index-side.result.now.peer.sent + count =
+    elim (cases_lt (c.index-side.result.now.peer.sent + count) (2 ^ 64)) [
       | inl lt ↦
           (let wrong : false ≡ true =
-          (rw c.if-not-has_numbers.true at c.has_numbers.ensures).1 (omega (arith, lt)) in cc)
+          (rw c.if-not-has_numbers_to.true at c.has_numbers_to.ensures).1 (omega (arith, lt)) in cc)
       | inr
           le ↦ le
     ] in
     sym (here-spent (link_of c.args.self.now) c.args.parcels.now c.loop-parcel.parcel-index
     c.from.result c.requires.within c.loop-parcel-test.true c.from.ensures
-    c.index-side.result.now.peer.sent c.count_to.result (ap (λ (p : Peer). p.sent) peer)
-    c.count_to.ensures spent)
+    c.index-side.result.now.peer.sent count (ap (λ (p : Peer). p.sent) peer) refl spent)
 
 pub loop-parcel-preserved : goal.loop-parcel-preserved
 loop-parcel-preserved g c =
@@ -57,14 +59,14 @@ loop-parcel-preserved g c =
     ap (peer_at (link_of c.args.self.now)) (sym dest)
     ∙ view-read (link_of c.args.self.now) c.self.inside.me c.self.inside.sides.items
     (ap link_of c.self.view_is) c.from.result c.index-side.result.now at c.index-side.ensures in
-    let count : c.count_to.result
-    ≡ count_to (map owned_parcel c.args.parcels.now)
-    (parcel_at c.args.parcels.now c.loop-parcel.parcel-index).dest = c.count_to.ensures in
-    let enough : c.index-side.result.now.peer.sent + c.count_to.result < 2 ^ 64 =
-    search (rules, c.if-not-has_numbers.ensures) in
+    let count : ℕ =
+    count_to (map owned_parcel c.args.parcels.now)
+    (parcel_at c.args.parcels.now c.loop-parcel.parcel-index).dest in
+    let enough : c.index-side.result.now.peer.sent + count < 2 ^ 64 =
+    search (rules, c.if-not-has_numbers_to.ensures) in
     λ k lt.
     elim (cases_eq k c.loop-parcel.parcel-index) [
-      | inl e ↦ rw e (omega (arith, enough, count, ap (λ (p : Peer). p.sent) peer))
+      | inl e ↦ rw e (omega (arith, enough, ap (λ (p : Peer). p.sent) peer))
       | inr ne ↦ c.loop-parcel.invariant k (omega (arith, lt, ne))
     ]
 

@@ -1,4 +1,5 @@
 use Rattle.std.proofs.Common.{◌≤◌, ◌+◌, ◌*◌, length}
+use Rattle.ivy_serving.specs.Limits.{most_posted}
 use Rattle.ivy_node.specs.Sites.{IsSameNode, SiteWentOn}
 use Rattle.ivy_node.proofs.site.Site.go_on.Given as goal
 
@@ -7,5 +8,5 @@ abbrev pub invariant-loop : goal.invariant-loop
 invariant-loop g l = record {
   same : IsSameNode l.initial.self l.self;
   on : SiteWentOn l.from l.initial.self l.self;
-  few : length l.self.waiting ≤ length l.initial.self.waiting + 8 * l.counter;
+  few : length l.self.waiting ≤ length l.initial.self.waiting + most_posted * l.counter;
 }

@@ -1,8 +1,9 @@
-use Rattle.std.proofs.Common.{◌≡◌, ap, cond, sym, ◌∙◌, ◌++◌, ◌∷◌, [], length, arith, subst}
+use Rattle.std.proofs.Common.{◌≡◌, ap, cond, sym, ◌∙◌, ◌++◌, ◌∷◌, [], length, arith}
 use Rattle.std.specs.FinSet as set
 use Rattle.std.proofs.lemmas.List.{append-nil}
-use Rattle.ivy_pagetable.specs.NodeSets.{IsBelow}
-use Rattle.ivy_pagetable.proofs.Bits.{passing, passing_few, passing_more, nodes_below, with_below}
+use Rattle.ivy_model.specs.Limits.{most_nodes}
+use Rattle.ivy_pagetable.specs.NodeSets.{nodes_of}
+use Rattle.ivy_pagetable.proofs.Bits.{passing, passing_few, passing_more}
 use Rattle.ivy_pagetable.proofs.node_set.NodeSet.nodes.Goals as goal
 use Rattle.ivy_pagetable.proofs.node_set.NodeSet.nodes.Goals.{then-has, else-has}
 
@@ -34,8 +35,7 @@ loop-node-preserved c =
     ]
 
 pub returns : goal.returns
+unfolding nodes_of
 returns c =
-    let low = subst (IsBelow 8) c.self.view_is (with_below 8 c.self.inside.bits c.self.invariant) in
-    let all : c.loop-node.node ≡ 8 = omega arith in
+    let all : c.loop-node.node ≡ most_nodes = omega arith in
     c.loop-node.invariant ∙ ap (passing (set.contains c.args.self.now)) all
-    ∙ nodes_below c.args.self.now low

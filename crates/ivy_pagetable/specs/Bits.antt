@@ -1,4 +1,4 @@
--- A byte is known from the nodes whose bits it has. It stands here since the model of a set of
+-- A number is known from the nodes whose bits it has. It stands here since the model of a set of
 -- nodes cites it.
 use Rattle.std.proofs.Common.{◌≡◌, ℕ, zero, suc, ◌+◌, ◌*◌, ◌/◌, ◌%◌, ◌^◌, ◌<◌, ◌≤◌, Bool, true}
 use Rattle.std.proofs.Common.{false, ◌&&◌, ◌||◌, cond, eqb, List, refl, sym, ap, ◌∙◌, arith, inl}
@@ -11,6 +11,7 @@ use Rattle.std.proofs.Math.Nat.{pow-succ'}
 use Rattle.std.proofs.lemmas.Bool.{cases_Bool, cases_lt, eqb-false}
 use Rattle.std.proofs.lemmas.Map.Views.{any-filter_same}
 use Rattle.std.proofs.lemmas.Nat.Bits.{bit_at_lowest, bit_at-suc, bit_at_above}
+use Rattle.ivy_model.specs.Limits.{most_nodes}
 use Rattle.ivy_pagetable.specs.NodeSets.{Nodes, nodes_with}
 
 -- whether a node stands in a list, and whether a number has its bit
@@ -20,6 +21,7 @@ lists xs q = list_any (λ y. eqb y q) xs
 abbrev pub has : ℕ → ℕ → Bool
 has bits q = eqb (bit_at bits q) 1
 
+-- a range lists each number in it
 pub in_range : (first n q : ℕ) → first ≤ q → q < first + n → lists (range_with_len first n) q ≡ true
 in_range first zero q le lt = absurd (omega (arith, le, lt))
 in_range first (suc n) q le lt =
@@ -32,26 +34,30 @@ in_range first (suc n) q le lt =
     above : (first ≡ q → ⊥) → first + 1 ≤ q
     above n = elim (eq-or-lt_of_le le) [ inl e ↦ absurd (n e) | inr lt ↦ omega (arith, lt) ]
 
+-- a node is in the set of a number that has its bit, among the first 32
 pub lists_with : (bits q : ℕ)
-    → set.contains (nodes_with bits) q ≡ (has bits q && lists (range_with_len 0 32) q)
+    → set.contains (nodes_with bits) q ≡ (has bits q && lists (range_with_len 0 most_nodes) q)
 unfolding nodes_with
 lists_with bits q =
-    contains-from_list_nat (filter (has bits) (range_with_len 0 32)) q
+    contains-from_list_nat (filter (has bits) (range_with_len 0 most_nodes)) q
     ∙ any-filter_same (λ y. eqb y q) (has bits) (has bits q) (λ k e. ap (has bits) (eqb-true k q e))
-    (range_with_len 0 32)
+    (range_with_len 0 most_nodes)
 
+-- a number below 2 ^ n has no bit from n on
 pub no_bit : (bits n q : ℕ) → bits < 2 ^ n → n ≤ q → has bits q ≡ false
 no_bit bits n q small le = ap (λ x. eqb x 1) (bit_at_above bits n q small le)
 
-pub contains_with : (bits q : ℕ) → bits < 2 ^ 32
+-- so the set of a number of as many bits has just the nodes of its bits
+pub contains_with : (bits q : ℕ) → bits < 2 ^ most_nodes
     → set.contains (nodes_with bits) q ≡ eqb (bit_at bits q) 1
 contains_with bits q small =
-    lists_with bits q ∙ elim (cases_lt q 32) [
+    lists_with bits q ∙ elim (cases_lt q most_nodes) [
       | inl lt ↦
-          ap (λ b. has bits q && b) (in_range 0 32 q (omega arith) lt) ∙ and_true (has bits q)
+          ap (λ b. has bits q && b) (in_range 0 most_nodes q (omega arith) lt)
+          ∙ and_true (has bits q)
       | inr le ↦
-          ap (λ b. b && lists (range_with_len 0 32) q) (no_bit bits 32 q small le)
-          ∙ sym (no_bit bits 32 q small le)
+          ap (λ b. b && lists (range_with_len 0 most_nodes) q) (no_bit bits most_nodes q small le)
+          ∙ sym (no_bit bits most_nodes q small le)
     ]
   where
     and_true : (b : Bool) → (b && true) ≡ b
@@ -80,10 +86,13 @@ from_bits_of (suc n) bits test small tells =
     tells (q + 1) ∙ ap (has bits) (add-one q) ∙ ap (λ x. eqb x 1) (bit_at-suc bits q))) in
     omega (arith, lowest, others)
 
-abbrev pub byte_of : Nodes → ℕ
-byte_of nodes = bits_from 8 (set.contains nodes)
+-- the number whose bits are the nodes of the set
+abbrev pub number_of_set : Nodes → ℕ
+number_of_set nodes = bits_from most_nodes (set.contains nodes)
 
-pub byte_of_with : (bits : ℕ) → bits < 2 ^ 8 → byte_of (nodes_with bits) ≡ bits
-byte_of_with bits small =
-    from_bits_of 8 bits (set.contains (nodes_with bits)) small
-    (λ q. contains_with bits q (omega (arith, small)))
+-- a number is known from the set of its bits
+pub number_of_set_with : (bits : ℕ) → bits < 2 ^ most_nodes
+    → number_of_set (nodes_with bits) ≡ bits
+number_of_set_with bits small =
+    from_bits_of most_nodes bits (set.contains (nodes_with bits)) small
+    (λ q. contains_with bits q small)

@@ -1,0 +1,174 @@
+//! As many nodes as there can be: all but one load the same word, and one of them stores to it.
+use crate::common::{deliver, ended, is_sent, loaded, play, shows, stored, world};
+use ivy_model::{Config, Kind};
+use ivy_node::{Move, World};
+use std::alloc::{AllocError, Allocator};
+use std::process::Abort;
+use std::test::Fail;
+
+const THIRTY_TWO: Config = Config {
+    nodes: 32,
+    pages: 2,
+    page_size: 64,
+    manager: Kind::Dynamic,
+};
+
+/// The node that stores.
+const WRITER: u8 = 31;
+
+/// Nodes 1 to 31 load the word at 64, and the last of them stores 5 there.
+fn readers<A: Allocator + Copy>(alloc: A) -> Result<String<A>, AllocError> {
+    let mut text = String::from_str(alloc, "node 0\n")?;
+    for node in 1..32 {
+        text.push_str(format!(in alloc; "node {node}\nset r1 64\nload 8 r2 r1\n")?.as_str())?;
+    }
+    text.push_str("set r3 5\nstore 8 r1 r3\n")?;
+    Ok(text)
+}
+
+/// One node after another makes two turns, which ask for a copy of the page, and is given it.
+fn all_load<A: Allocator + Copy>(rt: &impl Abort, world: &mut World<A>) {
+    for node in 1..32u64 {
+        let request = 2 * (node - 1);
+        let moves = [
+            Move::Turn(node),
+            Move::Turn(node),
+            deliver(request, 0),
+            deliver(request + 1, node),
+            Move::Turn(node),
+        ];
+        assert_eq!(rt; play(world, &moves), Ok(()), "node {node}");
+    }
+}
+
+/// Node 31 asks for the page, is given it, and orders the 30 others to give their copies up. They do.
+fn one_stores<A: Allocator + Copy>(rt: &impl Abort, world: &mut World<A>) {
+    let last = u64::from(WRITER);
+    let asks = [
+        Move::Turn(last),
+        Move::Turn(last),
+        deliver(62, 0),
+        deliver(63, last),
+    ];
+    assert_eq!(rt; play(world, &asks), Ok(()));
+    for node in 1..last {
+        assert_eq!(rt;
+            play(world, &[deliver(63 + node, node)]),
+            Ok(()),
+            "node {node}"
+        );
+    }
+    for node in 1..last {
+        assert_eq!(rt;
+            play(world, &[deliver(93 + node, last)]),
+            Ok(()),
+            "node {node}"
+        );
+    }
+    assert_eq!(rt; play(world, &[Move::Turn(last)]), Ok(()));
+}
+
+/// Whether this string was sent, of these words and, where one is said, a page whose first word it is.
+fn sent<A: Allocator + Copy>(
+    alloc: A,
+    world: &World<A>,
+    index: usize,
+    words: &str,
+    page: Option<u64>,
+) -> Result<bool, Fail> {
+    is_sent(alloc, world, index, (words, page))
+}
+
+/// The strings of a node's load: its request to node 0, and the copy.
+fn check_load<A: Allocator + Copy>(
+    rt: &impl Abort,
+    alloc: A,
+    world: &World<A>,
+    node: u8,
+) -> Result<(), Fail> {
+    let index = 2 * usize::from(node) - 2;
+    let asks = format!(in alloc;
+        "49560201{node:02x}00000d 0000000000000001 0000000000000000 {node:02x} 0000000000000001 00000001"
+    )?;
+    assert!(rt; sent(alloc, world, index, asks.as_str(), None)?, "{asks}");
+    let brings = format!(in alloc;
+        "4956020300{node:02x}004d 0000000000000001 0000000000000000 {node:02x} 0000000000000001 00000001"
+    )?;
+    assert!(rt;
+        sent(alloc, world, index + 1, brings.as_str(), Some(0))?,
+        "{brings}"
+    );
+    Ok(())
+}
+
+/// The order to a node to give its copy up, and its acknowledgement.
+fn check_order<A: Allocator + Copy>(
+    rt: &impl Abort,
+    alloc: A,
+    world: &World<A>,
+    node: u8,
+) -> Result<(), Fail> {
+    let orders = format!(in alloc;
+        "495602051f{node:02x}000d 0000000000000001 0000000000000000 1f 0000000000000002 00000001"
+    )?;
+    let index = 63 + usize::from(node);
+    assert!(rt;
+        sent(alloc, world, index, orders.as_str(), None)?,
+        "{orders}"
+    );
+    let gives_up = format!(in alloc;
+        "49560206{node:02x}1f000d 0000000000000001 0000000000000000 1f 0000000000000002 00000001"
+    )?;
+    assert!(rt;
+        sent(alloc, world, index + 30, gives_up.as_str(), None)?,
+        "{gives_up}"
+    );
+    Ok(())
+}
+
+/// The request of the node that stores, and the page, which comes with the 30 nodes that have a copy too.
+const ASKS: &str =
+    "495602021f00000d 0000000000000002 0000000000000001 1f 0000000000000002 00000001";
+
+const BRINGS: &str =
+    "49560204001f0051 0000000000000002 0000000000000001 1f 0000000000000002 00000001 7ffffffe";
+
+/// All strings, to the byte.
+fn check_strings<A: Allocator + Copy>(
+    rt: &impl Abort,
+    alloc: A,
+    world: &World<A>,
+) -> Result<(), Fail> {
+    assert_eq!(rt; world.sent().len(), 124);
+    for node in 1..32 {
+        check_load(rt, alloc, world, node)?;
+    }
+    assert!(rt; sent(alloc, world, 62, ASKS, None)?);
+    assert!(rt; sent(alloc, world, 63, BRINGS, Some(0))?);
+    for node in 1..WRITER {
+        check_order(rt, alloc, world, node)?;
+    }
+    Ok(())
+}
+
+#[test]
+fn thirty_two_readers(rt: HostRuntime) -> Result<(), Fail> {
+    let text = readers(rt.alloc())?;
+    let mut world = world(rt.alloc(), THIRTY_TWO, text.as_str())?;
+    all_load(&rt, &mut world);
+    assert_eq!(rt; world.sent().len(), 62);
+    one_stores(&rt, &mut world);
+    check_strings(&rt, rt.alloc(), &world)?;
+    for node in 1..WRITER {
+        assert!(rt;
+            shows(
+                &world,
+                &ended(u64::from(node), &[loaded(node, 8, 64, 0)], &[])
+            ),
+            "{node}"
+        );
+    }
+    let answers = [loaded(WRITER, 8, 64, 0), stored(WRITER, 8, 64, 5)];
+    assert!(rt; shows(&world, &ended(u64::from(WRITER), &answers, &[])));
+    Ok(())
+}
