@@ -51,8 +51,8 @@ module _ {S : Type 0} (ops : Ops S) where
         (record { kind = kind; origin = origin; call = call } ∷ []) in omega (arith, k);
     put_off = λ kind page e may is room at fits. omega arith;
     given_up = λ page w by is fits. omega arith;
-    copy = λ page bytes w mine is this fits. unlocked-few c from page copying (Some request.Read) bytes w
-        (put_off-few c page _ s is);
+    copy = λ page bytes w mine is this fits. unlocked-few c from page copying
+        (Some request.Read) bytes w (put_off-few c page _ s is);
     alone = λ page copies bytes w mine is this none fits. unlocked-few c from page owning
         (Some request.Write) bytes w.waiting (put_off-few c page _ s is);
     shared =

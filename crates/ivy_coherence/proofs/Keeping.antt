@@ -399,7 +399,8 @@ module _ {S : Type 0} {ops : Ops S} (laws : Laws ops) where
   copy-keeps c from page bytes w s below foreign inside sized is =
       let good : IsSoundEntry c.config c.me (entry.AwaitRead w) =
       entry_is c page (entry.AwaitRead w) s is in
-      unlocked-keeps c from page copying (Some request.Read) bytes w s inside sized (ap is_locked is)
+      unlocked-keeps c from page copying (Some request.Read) bytes w s inside sized
+      (ap is_locked is)
       (good.reading w refl).0 good.put_off
       (copy-start c page from s inside (ap is_owner is) below foreign)
 
@@ -411,7 +412,8 @@ module _ {S : Type 0} {ops : Ops S} (laws : Laws ops) where
   alone-keeps c from page bytes w s below inside sized is =
       let good : IsSoundEntry c.config c.me (entry.AwaitWrite w) =
       entry_is c page (entry.AwaitWrite w) s is in
-      unlocked-keeps c from page owning (Some request.Write) bytes w.waiting s inside sized (ap is_locked is)
+      unlocked-keeps c from page owning (Some request.Write) bytes w.waiting s inside sized
+      (ap is_locked is)
       (good.writing w refl).0 good.put_off (page-start c page from s inside below)
 
   last_copy-keeps : (c : Coherent S) (from page : ℕ) (w : AwaitAcksState) → IsSound ops c
@@ -466,12 +468,14 @@ module _ {S : Type 0} {ops : Ops S} (laws : Laws ops) where
   -- the entry that a word waits at
   reads-at : (e : Entry) (w : WaitingState) → IsWaiting e request.Read w → e ≡ entry.AwaitRead w
   reads-at (entry.AwaitRead t) w waits = ap entry.AwaitRead (sym waits.1)
-  reads-at (entry.AwaitWrite t) w waits = absurd (let f : request.Read ≡ request.Write = waits.0 in cc)
+  reads-at (entry.AwaitWrite t) w waits =
+      absurd (let f : request.Read ≡ request.Write = waits.0 in cc)
   reads-at e w waits = absurd waits
 
   writes-at : (e : Entry) (w : WaitingState) → IsWaiting e request.Write w
       → (t : AwaitWriteState) × ((e ≡ entry.AwaitWrite t) × (w ≡ t.waiting))
-  writes-at (entry.AwaitRead t) w waits = absurd (let f : request.Write ≡ request.Read = waits.0 in cc)
+  writes-at (entry.AwaitRead t) w waits =
+      absurd (let f : request.Write ≡ request.Read = waits.0 in cc)
   writes-at (entry.AwaitWrite t) w waits = (t, (refl, waits.1))
   writes-at e w waits = absurd waits
 
@@ -513,18 +517,22 @@ module _ {S : Type 0} {ops : Ops S} (laws : Laws ops) where
       → IsWaiting (entry_at c.table page) kind w
       → Keeps ops c
       (settled_with ops c from page (unlocked_as kind) (Some kind) bytes now done w.put_off)
-  unlocking-keeps c from page request.Write bytes now done w s below foreign inside sized long waits =
+  unlocking-keeps c from page request.Write bytes now done w s below foreign inside sized long
+      waits =
       let h = writes-at (entry_at c.table page) w waits in
       let good : IsSoundEntry c.config c.me (entry.AwaitWrite h.0) =
       entry_is c page (entry.AwaitWrite h.0) s h.1.0 in
-      settled-keeps c from page owning (Some request.Write) bytes now done w.put_off s inside sized long
+      settled-keeps c from page owning (Some request.Write) bytes now done w.put_off s inside sized
+      long
       (ap is_locked h.1.0)
       (subst (λ (x : WaitingState). All (CanBeServed c.config c.me) x.put_off) (sym h.1.1)
       good.put_off) (page-start c page from s inside below)
-  unlocking-keeps c from page request.Read bytes now done w s below foreign inside sized long waits =
+  unlocking-keeps c from page request.Read bytes now done w s below foreign inside sized long
+      waits =
       let is : entry_at c.table page ≡ entry.AwaitRead w =
       reads-at (entry_at c.table page) w waits in
-      settled-keeps c from page copying (Some request.Read) bytes now done w.put_off s inside sized long
+      settled-keeps c from page copying (Some request.Read) bytes now done w.put_off s inside sized
+      long
       (ap is_locked is)
       (entry_is c page (entry.AwaitRead w) s is).put_off
       (copy-start c page from s inside (ap is_owner is) below foreign)

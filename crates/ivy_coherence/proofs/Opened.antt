@@ -407,7 +407,8 @@ module _ {S : Type 0} {ops : Ops S} (laws : Laws ops) (n v : Coherent S) (same :
 
   -- the page came, and others have a copy; an acknowledgement came, and others are missing
   pub collect_sound : (from page : ℕ) (copies : Nodes) (bytes : List ℕ) (w : WaitingState)
-      (t : Table) (m : S) → Comes n from page bytes → IsWaiting (entry_at n.table page) request.Write w
+      (t : Table) (m : S) → Comes n from page bytes
+      → IsWaiting (entry_at n.table page) request.Write w
       → IsBelow n.config.nodes copies → set.contains copies n.me ≡ false
       → t ≡ with_page
       (with_entry v.table page (entry.AwaitAcks (record { left = copies; waiting = w }))) page

@@ -116,7 +116,8 @@ pub record Rows {S : Type 0} (ops : Ops S) (c : Coherent S) (from origin call : 
       (record { kind = request.Invalidate; origin = origin; call = call }))
   pub copy : (page : ℕ) (bytes : List ℕ) (s : WaitingState) → origin ≡ c.me
       → entry_at c.table page ≡ entry.AwaitRead s → s.call ≡ call
-      → P (content.ReadRep page bytes) (unlocked ops c from page copying (Some request.Read) bytes s)
+      → P (content.ReadRep page bytes)
+      (unlocked ops c from page copying (Some request.Read) bytes s)
   -- the page comes, and no node has a copy; nodes have a copy
   pub alone : (page copies : ℕ) (bytes : List ℕ) (s : AwaitWriteState) → origin ≡ c.me
       → entry_at c.table page ≡ entry.AwaitWrite s → s.waiting.call ≡ call

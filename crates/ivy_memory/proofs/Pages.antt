@@ -93,8 +93,8 @@ module _ {S : Type 0} (ops : Ops S) where
     copy = λ page bytes w mine is this. settled-pages ops c.me page (carried_out w.word bytes).bytes
         from copying c.manager c.breaches (Some request.Read) w.put_off;
     alone = λ page copies bytes w mine is this none. settled-pages ops c.me page
-        (carried_out w.waiting.word bytes).bytes from owning c.manager c.breaches (Some request.Write)
-        w.waiting.put_off;
+        (carried_out w.waiting.word bytes).bytes from owning c.manager c.breaches
+        (Some request.Write) w.waiting.put_off;
     shared =
         λ page copies bytes w mine is this some apart. invalidations-pages c.me page call
         (nodes_with copies);

@@ -174,8 +174,8 @@ module _ {S : Type 0} (ops : Ops S) where
     given_up = λ page w by is. stays refl refl refl refl;
     copy = λ page bytes w mine is this. unlocked-told c from page copying (Some asks.Read) bytes w
         (s.others page (ap is_locked is));
-    alone = λ page copies bytes w mine is this none. unlocked-told c from page owning (Some asks.Write)
-        bytes w.waiting (s.others page (ap is_locked is));
+    alone = λ page copies bytes w mine is this none. unlocked-told c from page owning
+        (Some asks.Write) bytes w.waiting (s.others page (ap is_locked is));
     shared = λ page copies bytes w mine is this some apart. stays refl refl refl refl;
     acknowledged = λ page w mine is this missing others. stays refl refl refl refl;
     last = λ page w mine is this missing none. unlocked-told c from page owning None

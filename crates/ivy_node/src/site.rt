@@ -4,7 +4,7 @@ ghost use Rattle.std.specs.Prelude.{IsTrue, IfOk, IfErr, OnOk, OnErr, IfSome, Is
 ghost use Rattle.ivy_model.specs.Config.{IsConfig};
 ghost use Rattle.ivy_model.specs.Wants.{IsWant};
 ghost use Rattle.ivy_wire.specs.Faults.{checked};
-ghost use Rattle.ivy_program.specs.Steps.{IsAsking, HasEnded, Asks, step_of, answered_with};
+ghost use Rattle.ivy_program.specs.Steps.{HasEnded, Asks, step_of};
 ghost use Rattle.ivy_host.specs.Managers.{managed_ops};
 ghost use Rattle.ivy_events.specs.Nodes.{pulsing};
 ghost use Rattle.ivy_serving.specs.Limits.{most_posted};

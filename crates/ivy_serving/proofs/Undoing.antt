@@ -70,8 +70,8 @@ module _ {S : Type 0} (ops : Ops S) (page : ℕ) where
         follows-in_turn v.manager _ _ (served-follows v q)
         (all_served-follows (served ops me page bytes v q) qs)
 
-    pub settled-follows : (from : ℕ) (idle : IdleState) (m : S) (breaches : ℕ) (reply : Option Request)
-        (qs : List PutOff)
+    pub settled-follows : (from : ℕ) (idle : IdleState) (m : S) (breaches : ℕ)
+        (reply : Option Request) (qs : List PutOff)
         → IsMadeBy ops page m (settled ops me from page bytes idle m breaches reply qs).manager
     settled-follows from idle m breaches reply qs =
         follows-in_turn m _ _ (told-follows from m reply)

@@ -129,7 +129,8 @@ returns-in_ok-deliver_shared-in-Deliver g c =
     (search rules) c.index.ensures) in
     let site =
     slice_get_read c.args.sites.now.items (length c.args.sites.now.items) c.in-Deliver.to
-    c.index_mut-site-in-Deliver.result.now refl (search rules) c.index_mut-site-in-Deliver.ensures.value in
+    c.index_mut-site-in-Deliver.result.now refl (search rules)
+    c.index_mut-site-in-Deliver.ensures.value in
     let went =
     delivery_went c.args.config.now c.args.sites.now.items c.args.sent.now.items c.in-Deliver.index
     c.in-Deliver.to c.index_mut-site-in-Deliver.result.now c.deliver_shared.new.self
@@ -153,7 +154,8 @@ pub returns-in_ok-pulse-in-Pulse : goal.returns-in_ok-pulse-in-Pulse
 returns-in_ok-pulse-in-Pulse g c =
     let site =
     slice_get_read c.args.sites.now.items (length c.args.sites.now.items) c.in-Pulse.from
-    c.index_mut-site-in-Pulse.result.now refl (search rules) c.index_mut-site-in-Pulse.ensures.value in
+    c.index_mut-site-in-Pulse.result.now refl (search rules)
+    c.index_mut-site-in-Pulse.ensures.value in
     let went =
     went_there _ _ _ _ _ _
     (pulse_went c.args.config.now c.args.sites.now.items c.args.sent.now.items c.in-Pulse.from

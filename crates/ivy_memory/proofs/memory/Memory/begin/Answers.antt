@@ -7,8 +7,8 @@ use Rattle.ivy_memory.proofs.memory.Memory.begin.Goals as goal
 
 pub need-requires-clause-page : goal.need-requires-clause-page
 need-requires-clause-page g c =
-    let at : IsBeginning g.M.Manager.ops _ _ c.config.result c.args.call c.args.number c.in-Word.page
-    c.in-Word.word =
+    let at : IsBeginning g.M.Manager.ops _ _ c.config.result c.args.call c.args.number
+    c.in-Word.page c.in-Word.word =
     record {
       same = c.self.view_is;
       sound = c.self.invariant;
@@ -23,8 +23,8 @@ need-requires-clause-page g c =
 
 pub need-requires-clause-word : goal.need-requires-clause-word
 need-requires-clause-word g c =
-    let at : IsBeginning g.M.Manager.ops _ _ c.config.result c.args.call c.args.number c.in-Word.page
-    c.in-Word.word =
+    let at : IsBeginning g.M.Manager.ops _ _ c.config.result c.args.call c.args.number
+    c.in-Word.page c.in-Word.word =
     record {
       same = c.self.view_is;
       sound = c.self.invariant;
@@ -39,8 +39,8 @@ need-requires-clause-word g c =
 
 pub invariant_of-self-in-Some : goal.invariant_of-self-in-Some
 invariant_of-self-in-Some g c =
-    let at : IsBeginning g.M.Manager.ops _ _ c.config.result c.args.call c.args.number c.in-Word.page
-    c.in-Word.word =
+    let at : IsBeginning g.M.Manager.ops _ _ c.config.result c.args.call c.args.number
+    c.in-Word.page c.in-Word.word =
     record {
       same = c.self.view_is;
       sound = c.self.invariant;
@@ -53,13 +53,14 @@ invariant_of-self-in-Some g c =
     } in
     had_memory g.met.M.Manager.laws _ _ _ _ _ _ _ at c.need.new.self c.in_ok-out-in-Word.field-0
     c.in-Have.out c.self.inside.asked c.self.inside.number c.self.invariant.width
-    c.self.invariant.numbered c.self.invariant.small (words_before g.met.M.Manager.laws _ _ _ _ _ _ _ at)
+    c.self.invariant.numbered c.self.invariant.small
+    (words_before g.met.M.Manager.laws _ _ _ _ _ _ _ at)
     c.in_ok-out-in-Word.ensures.ok c.in_ok-out-in-Word.ensures.need c.in-Have.is
 
 pub invariant_of-self-in-None : goal.invariant_of-self-in-None
 invariant_of-self-in-None g c =
-    let at : IsBeginning g.M.Manager.ops _ _ c.config.result c.args.call c.args.number c.in-Word.page
-    c.in-Word.word =
+    let at : IsBeginning g.M.Manager.ops _ _ c.config.result c.args.call c.args.number
+    c.in-Word.page c.in-Word.word =
     record {
       same = c.self.view_is;
       sound = c.self.invariant;
@@ -71,13 +72,14 @@ invariant_of-self-in-None g c =
       asks = sym c.asked_of.ensures.is ∙ c.in-Word.is;
     } in
     had_memory g.met.M.Manager.laws _ _ _ _ _ _ _ at c.need.new.self c.in_ok-out-in-Word.field-0
-    c.in-Have.out _ c.args.number (wide g.met.M.Manager.laws _ _ _ _ _ _ _ at) (λ j h. c.requires.number) (omega arith)
-    (words_now g.met.M.Manager.laws _ _ _ _ _ _ _ at) c.in_ok-out-in-Word.ensures.ok c.in_ok-out-in-Word.ensures.need c.in-Have.is
+    c.in-Have.out _ c.args.number (wide g.met.M.Manager.laws _ _ _ _ _ _ _ at)
+    (λ j h. c.requires.number) (omega arith) (words_now g.met.M.Manager.laws _ _ _ _ _ _ _ at)
+    c.in_ok-out-in-Word.ensures.ok c.in_ok-out-in-Word.ensures.need c.in-Have.is
 
 pub invariant_of-self-in-Started : goal.invariant_of-self-in-Started
 invariant_of-self-in-Started g c =
-    let at : IsBeginning g.M.Manager.ops _ _ c.config.result c.args.call c.args.number c.in-Word.page
-    c.in-Word.word =
+    let at : IsBeginning g.M.Manager.ops _ _ c.config.result c.args.call c.args.number
+    c.in-Word.page c.in-Word.word =
     record {
       same = c.self.view_is;
       sound = c.self.invariant;
@@ -88,12 +90,13 @@ invariant_of-self-in-Started g c =
       most = omega arith;
       asks = sym c.asked_of.ensures.is ∙ c.in-Word.is;
     } in
-    started_memory g.met.M.Manager.laws _ _ _ _ _ _ _ at c.need.new.self c.in_ok-out-in-Word.ensures.ok
+    started_memory g.met.M.Manager.laws _ _ _ _ _ _ _ at c.need.new.self
+    c.in_ok-out-in-Word.ensures.ok
 
 pub invariant_of-self-in-Busy : goal.invariant_of-self-in-Busy
 invariant_of-self-in-Busy g c =
-    let at : IsBeginning g.M.Manager.ops _ _ c.config.result c.args.call c.args.number c.in-Word.page
-    c.in-Word.word =
+    let at : IsBeginning g.M.Manager.ops _ _ c.config.result c.args.call c.args.number
+    c.in-Word.page c.in-Word.word =
     record {
       same = c.self.view_is;
       sound = c.self.invariant;
@@ -104,12 +107,13 @@ invariant_of-self-in-Busy g c =
       most = omega arith;
       asks = sym c.asked_of.ensures.is ∙ c.in-Word.is;
     } in
-    absurd (not_busy g.met.M.Manager.laws _ _ _ _ _ _ _ at c.in_ok-out-in-Word.field-0 c.in_ok-out-in-Word.ensures.need c.in-Busy.is)
+    absurd (not_busy g.met.M.Manager.laws _ _ _ _ _ _ _ at c.in_ok-out-in-Word.field-0
+    c.in_ok-out-in-Word.ensures.need c.in-Busy.is)
 
 pub returns-in-Busy : goal.returns-in-Busy
 returns-in-Busy g c =
-    let at : IsBeginning g.M.Manager.ops _ _ c.config.result c.args.call c.args.number c.in-Word.page
-    c.in-Word.word =
+    let at : IsBeginning g.M.Manager.ops _ _ c.config.result c.args.call c.args.number
+    c.in-Word.page c.in-Word.word =
     record {
       same = c.self.view_is;
       sound = c.self.invariant;
@@ -120,12 +124,13 @@ returns-in-Busy g c =
       most = omega arith;
       asks = sym c.asked_of.ensures.is ∙ c.in-Word.is;
     } in
-    absurd (not_busy g.met.M.Manager.laws _ _ _ _ _ _ _ at c.in_ok-out-in-Word.field-0 c.in_ok-out-in-Word.ensures.need c.in-Busy.is)
+    absurd (not_busy g.met.M.Manager.laws _ _ _ _ _ _ _ at c.in_ok-out-in-Word.field-0
+    c.in_ok-out-in-Word.ensures.need c.in-Busy.is)
 
 pub returns-in_err-out-in-Word-clause-fault : goal.returns-in_err-out-in-Word-clause-fault
 returns-in_err-out-in-Word-clause-fault g c =
-    let at : IsBeginning g.M.Manager.ops _ _ c.config.result c.args.call c.args.number c.in-Word.page
-    c.in-Word.word =
+    let at : IsBeginning g.M.Manager.ops _ _ c.config.result c.args.call c.args.number
+    c.in-Word.page c.in-Word.word =
     record {
       same = c.self.view_is;
       sound = c.self.invariant;
@@ -136,13 +141,15 @@ returns-in_err-out-in-Word-clause-fault g c =
       most = omega arith;
       asks = sym c.asked_of.ensures.is ∙ c.in-Word.is;
     } in
-    λ idle. err_refuses c.from_residual.result _ (HasRefused g.P.Post.ops c.args.post.now c.need.new.post)
-    _ _ _ (call_posts g.met.M.Manager.laws _ _ _ _ _ _ _ at) c.from_residual.ensures.1 c.in_err-out-in-Word.ensures.fault
+    λ idle. err_refuses c.from_residual.result _
+    (HasRefused g.P.Post.ops c.args.post.now c.need.new.post) _ _ _
+    (call_posts g.met.M.Manager.laws _ _ _ _ _ _ _ at) c.from_residual.ensures.1
+    c.in_err-out-in-Word.ensures.fault
 
 pub returns-in_err-out-in-Word-clause-sure : goal.returns-in_err-out-in-Word-clause-sure
 returns-in_err-out-in-Word-clause-sure g c =
-    let at : IsBeginning g.M.Manager.ops _ _ c.config.result c.args.call c.args.number c.in-Word.page
-    c.in-Word.word =
+    let at : IsBeginning g.M.Manager.ops _ _ c.config.result c.args.call c.args.number
+    c.in-Word.page c.in-Word.word =
     record {
       same = c.self.view_is;
       sound = c.self.invariant;
@@ -153,7 +160,8 @@ returns-in_err-out-in-Word-clause-sure g c =
       most = omega arith;
       asks = sym c.asked_of.ensures.is ∙ c.in-Word.is;
     } in
-    λ idle. call_asks g.met.M.Manager.laws _ _ _ _ _ _ _ at c.from_residual.result c.in_err-out-in-Word.ensures.sure
+    λ idle. call_asks g.met.M.Manager.laws _ _ _ _ _ _ _ at c.from_residual.result
+    c.in_err-out-in-Word.ensures.sure
 
 pub returns-then-is_some-clause-few : goal.returns-then-is_some-clause-few
 returns-then-is_some-clause-few g c =

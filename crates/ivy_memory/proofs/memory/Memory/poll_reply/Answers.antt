@@ -23,7 +23,8 @@ need-requires-clause-word g c =
 
 pub returns-in_err-out : goal.returns-in_err-out
 returns-in_err-out g c =
-    let at : IsRetry g.M.Manager.ops _ _ c.config.result c.in-Some.call c.in-Word.page c.in-Word.word =
+    let at : IsRetry g.M.Manager.ops _ _ c.config.result c.in-Some.call c.in-Word.page
+    c.in-Word.word =
     record {
       same = c.self.view_is;
       sound = c.self.invariant;
@@ -41,16 +42,20 @@ returns-in_err-out g c =
       err = search rules;
       fault =
           subst (λ x. IfErr c.from_residual.result
-          (HasRefused g.P.Post.ops c.args.post.now c.need.new.post x)) (poll_posts g.met.M.Manager.laws _ _ _ _ _ _ at)
+          (HasRefused g.P.Post.ops c.args.post.now c.need.new.post x))
+          (poll_posts g.met.M.Manager.laws _ _ _ _ _ _ at)
           (err_there c.from_residual.result _ _ c.from_residual.ensures.1
           c.in_err-out.ensures.fault);
-      sure = retry_asks g.met.M.Manager.laws _ _ _ _ _ _ at c.from_residual.result c.in_err-out.ensures.sure;
+      sure =
+          retry_asks g.met.M.Manager.laws _ _ _ _ _ _ at c.from_residual.result
+          c.in_err-out.ensures.sure;
       want = search rules;
     }
 
 pub invariant_of-self-in-Some-reply_of : goal.invariant_of-self-in-Some-reply_of
 invariant_of-self-in-Some-reply_of g c =
-    let at : IsRetry g.M.Manager.ops _ _ c.config.result c.in-Some.call c.in-Word.page c.in-Word.word =
+    let at : IsRetry g.M.Manager.ops _ _ c.config.result c.in-Some.call c.in-Word.page
+    c.in-Word.word =
     record {
       same = c.self.view_is;
       sound = c.self.invariant;
@@ -68,7 +73,8 @@ invariant_of-self-in-Some-reply_of g c =
 
 pub returns-in-Some-reply_of : goal.returns-in-Some-reply_of
 returns-in-Some-reply_of g c =
-    let at : IsRetry g.M.Manager.ops _ _ c.config.result c.in-Some.call c.in-Word.page c.in-Word.word =
+    let at : IsRetry g.M.Manager.ops _ _ c.config.result c.in-Some.call c.in-Word.page
+    c.in-Word.word =
     record {
       same = c.self.view_is;
       sound = c.self.invariant;
@@ -97,7 +103,8 @@ returns-in-Some-reply_of g c =
 
 pub invariant_of-self-in-None : goal.invariant_of-self-in-None
 invariant_of-self-in-None g c =
-    let at : IsRetry g.M.Manager.ops _ _ c.config.result c.in-Some.call c.in-Word.page c.in-Word.word =
+    let at : IsRetry g.M.Manager.ops _ _ c.config.result c.in-Some.call c.in-Word.page
+    c.in-Word.word =
     record {
       same = c.self.view_is;
       sound = c.self.invariant;
@@ -113,7 +120,8 @@ invariant_of-self-in-None g c =
 
 pub returns-in-None : goal.returns-in-None
 returns-in-None g c =
-    let at : IsRetry g.M.Manager.ops _ _ c.config.result c.in-Some.call c.in-Word.page c.in-Word.word =
+    let at : IsRetry g.M.Manager.ops _ _ c.config.result c.in-Some.call c.in-Word.page
+    c.in-Word.word =
     record {
       same = c.self.view_is;
       sound = c.self.invariant;
@@ -140,7 +148,8 @@ returns-in-None g c =
 
 pub invariant_of-self-in-Started : goal.invariant_of-self-in-Started
 invariant_of-self-in-Started g c =
-    let at : IsRetry g.M.Manager.ops _ _ c.config.result c.in-Some.call c.in-Word.page c.in-Word.word =
+    let at : IsRetry g.M.Manager.ops _ _ c.config.result c.in-Some.call c.in-Word.page
+    c.in-Word.word =
     record {
       same = c.self.view_is;
       sound = c.self.invariant;
@@ -157,7 +166,8 @@ invariant_of-self-in-Started g c =
 
 pub returns-in-Started : goal.returns-in-Started
 returns-in-Started g c =
-    let at : IsRetry g.M.Manager.ops _ _ c.config.result c.in-Some.call c.in-Word.page c.in-Word.word =
+    let at : IsRetry g.M.Manager.ops _ _ c.config.result c.in-Some.call c.in-Word.page
+    c.in-Word.word =
     record {
       same = c.self.view_is;
       sound = c.self.invariant;
@@ -185,7 +195,8 @@ returns-in-Started g c =
 
 pub invariant_of-self-in-Busy : goal.invariant_of-self-in-Busy
 invariant_of-self-in-Busy g c =
-    let at : IsRetry g.M.Manager.ops _ _ c.config.result c.in-Some.call c.in-Word.page c.in-Word.word =
+    let at : IsRetry g.M.Manager.ops _ _ c.config.result c.in-Some.call c.in-Word.page
+    c.in-Word.word =
     record {
       same = c.self.view_is;
       sound = c.self.invariant;
@@ -200,7 +211,8 @@ invariant_of-self-in-Busy g c =
 
 pub returns-in-Busy : goal.returns-in-Busy
 returns-in-Busy g c =
-    let at : IsRetry g.M.Manager.ops _ _ c.config.result c.in-Some.call c.in-Word.page c.in-Word.word =
+    let at : IsRetry g.M.Manager.ops _ _ c.config.result c.in-Some.call c.in-Word.page
+    c.in-Word.word =
     record {
       same = c.self.view_is;
       sound = c.self.invariant;
