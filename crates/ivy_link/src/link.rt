@@ -63,6 +63,22 @@ impl<A: Allocator + Copy> Link<A> {
         self.sides[usize::from(frame.source)].verdict(frame.number)
     }
 
+    /// How many messages were sent to a node. It takes no memory.
+    pub fn sent_to(&self, to: u8) -> u64
+        requires to { to < length self.now.peers }
+        ensures { result ≡ (peer_at (link_of self.now) to).sent }
+    {
+        self.sides[usize::from(to)].sent()
+    }
+
+    /// How many messages of a node were delivered here. It takes no memory.
+    pub fn delivered_from(&self, from: u8) -> u64
+        requires from { from < length self.now.peers }
+        ensures { result ≡ (peer_at (link_of self.now) from).delivered }
+    {
+        self.sides[usize::from(from)].delivered()
+    }
+
     /// Takes the acknowledgement of a frame, and counts its message as delivered where it is the next: no
     /// string of its number is held any more. A frame for another node changes nothing. It takes no memory.
     pub fn accept<B>(&mut self, frame: &Frame<B>)
