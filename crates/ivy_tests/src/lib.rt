@@ -79,4 +79,6 @@ mod heap;
 #[cfg(test)]
 mod schedules;
 #[cfg(test)]
+mod settling;
+#[cfg(test)]
 mod stores;
