@@ -197,7 +197,7 @@ module _ (c : Config) where
       (λ has. absurd (no_bytes (entry.AwaitRead (waiting_from r.word r.call)) refl refl has)) tt
   copied_by (Row.asks_page r hop plain away) o h =
       asked c _ _ h r _ _ _ refl (awaiting_bytes r.state r.word r.call) tt
-  copied_by (Row.ends_copies r owner reader low out) o h =
+  copied_by (Row.ends_copies r owner reader unwritten low out) o h =
       ordered c _ _ h r.node r.page (entry.Idle r.state) _ r.call r.state.copies r.is
       (λ k q there. absurd (none-some q there))
       (λ has. owner_had c _ _ h r.node r.page (entry.Idle r.state) r.is owner)

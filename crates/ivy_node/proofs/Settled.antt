@@ -1,5 +1,5 @@
 -- Moves that a world makes to come to rest.
-use Rattle.std.proofs.Common.{◌≡◌, ◌≢◌, ◌<◌, ◌≤◌, ◌+◌, ◌↔◌, ◌||◌, ℕ, Bool, true, false, List, [], ◌∷◌, ◌++◌, length, take, slice_get, Some, Ok, Err, refl, ap, subst, ◌∙◌, arith, inl, inr}
+use Rattle.std.proofs.Common.{◌≡◌, ◌≢◌, ◌<◌, ◌≤◌, ◌+◌, ◌↔◌, ◌||◌, ℕ, Bool, true, false, List, [], ◌∷◌, ◌++◌, length, take, slice_get, Some, Ok, Err, refl, sym, ap, subst, ◌∙◌, arith, inl, inr}
 use Rattle.std.specs.Result.{result_ok}
 use Rattle.std.proofs.Math.Seq.{take-append_seam}
 use Rattle.std.proofs.lemmas.List.{length-append}
@@ -17,15 +17,17 @@ use Rattle.ivy_host.specs.Managers.{Managed, managed_ops}
 use Rattle.ivy_link.specs.Linked.{peer_at}
 use Rattle.ivy_events.specs.declared.Move.TheVariants.{Turn, Deliver, Pulse}
 use Rattle.ivy_order.proofs.Places.{get_map}
+use Rattle.ivy_model.specs.Config.{IsConfig}
 use Rattle.ivy_settling.specs.Still.{IsStill}
+use Rattle.ivy_settling.proofs.StillWorlds.{settled-led}
 use Rattle.ivy_node.specs.declared.round.Round.{Round}
 use Rattle.ivy_node.specs.declared.rest.Rest.{Rest}
 use Rattle.ivy_node.specs.declared.rest.Rest.TheVariants.{Still, Going}
 use Rattle.ivy_node.specs.RunState.{Run}
-use Rattle.ivy_node.specs.Runs.{made_of, IsLedTo, IsRefusedBy, IsSameRun, CannotBeNamed}
+use Rattle.ivy_node.specs.Runs.{made_of, IsLedTo, IsRefusedBy, IsReached, IsSameRun, CannotBeNamed}
 use Rattle.ivy_node.specs.Shown.{Shown}
 use Rattle.ivy_node.specs.WorldSites.{world_of}
-use Rattle.ivy_node.specs.Settling.{DoesNothing, IsDelivered, IsDeliveredFrom, IsOfRound, round_after, HadTurns, IsInRound, HasMadeOne, HasRefusedOne, HasSettledBy}
+use Rattle.ivy_node.specs.Settling.{DoesNothing, IsDelivered, IsDeliveredFrom, IsOfRound, round_after, HadTurns, IsInRound, HasMadeOne, HasRefusedOne, HasSettledBy, HasSettled}
 use Rattle.ivy_node.proofs.Leading.{leads_one}
 
 at_end : {A : Type 0} (xs : List A) (x : A) → slice_get (xs ++ x ∷ []) (length xs) ≡ Some x
@@ -129,3 +131,11 @@ stands_still r round count over had none delivered = record {
   turns = λ i n e. had none i
       (omega (arith, slice_get_within r.world.nodes i n e, count, over)) n e;
 }
+
+-- and what is promised then
+pub settled-on : (old new : Run) → IsConfig old.config → length old.programs ≡ old.config.nodes
+    → IsSameRun old new → IsReached new → IsStill managed_ops new.world → HasSettled new
+settled-on old new config each same reached still =
+    settled-led new.config new.programs (subst IsConfig (sym same.0) config)
+    (ap length same.1 ∙ each ∙ ap (λ (c : Config). c.nodes) (sym same.0)) reached.0 new.world
+    reached.1 still

@@ -10,7 +10,7 @@ use Rattle.ivy_events.specs.Nodes.{Node}
 use Rattle.ivy_events.specs.Worlds.{World, Moves}
 use Rattle.ivy_host.specs.Hosts.{Host, host_rules, turn_of, answered_by}
 use Rattle.ivy_host.specs.Managers.{Managed, managed_ops}
-use Rattle.ivy_settling.specs.Settled.{IsSettled}
+use Rattle.ivy_settling.specs.Settled.{AreSettled}
 use Rattle.ivy_node.specs.declared.round.Round.{Round}
 use Rattle.ivy_node.specs.declared.rest.Rest.{Rest}
 use Rattle.ivy_node.specs.declared.rest.Rest.TheVariants.{Still, Going}
@@ -117,4 +117,4 @@ pub record Settles (most : ℕ) (result : Result Rest (ℕ × Fault)) (old new :
 -- what is promised of nodes that stand still holds of the world's
 abbrev pub HasSettled : Run → Type 0
 HasSettled r =
-    IsSettled r.config (map (λ (n : Node (Host Managed)). answered_by n.core) r.world.nodes)
+    AreSettled r.config (map (λ (n : Node (Host Managed)). answered_by n.core) r.world.nodes)

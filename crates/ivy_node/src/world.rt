@@ -338,6 +338,7 @@ impl<A: Allocator + Copy> World<A> {
 
     /// Goes through rounds for so many moves, or until the world stands still.
     fn settle_on(&mut self, moves: u64) -> Result<Rest, (u64, Fault)>
+        requires nodes { 0 < self.old.config.nodes }
         ensures stays { IsSameRun self.old self.new }
         ensures made { HasSettledBy moves result self.old self.new }
         ensures still { result ≡ Ok Rest.Still → IsStill managed_ops self.new.world }

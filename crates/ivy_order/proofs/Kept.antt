@@ -35,7 +35,7 @@ module _ (c : Config) (config : IsConfig c) where
   orderly_by (Row.acknowledges_last r same left last) o = all_acknowledged c _ o r last
   orderly_by (Row.asks_copy r hop plain unread away) o = copy_asked c _ r o hop
   orderly_by (Row.asks_page r hop plain away) o = page_asked c _ r o hop
-  orderly_by (Row.ends_copies r owner reader low out) o = copies_ordered_back c _ r o owner reader
+  orderly_by (Row.ends_copies r owner reader unwritten low out) o = copies_ordered_back c _ r o owner reader
 
 pub orderly-kept : {S : Type 0} (ops : Ops S) (c : Config) → IsConfig c
     → IsKept ops c (λ m n f. IsOrderly c n)

@@ -44,7 +44,7 @@ module _ (n : Net) (first : IsFirst n) where
     | inr y ↦ absurd (let f : true ≡ false = sym h ∙ ap is_owner y in cc)
   ]
 
-  seat_first : (p i : ℕ) (s : Nodes) (a : Seat) → IsOwned n p i s a
+  pub seat_first : (p i : ℕ) (s : Nodes) (a : Seat) → IsOwned n p i s a
       → (a ≡ At 0) × (i ≡ 0) × (s ≡ set.empty)
   seat_first p i s (At w) h =
       (let f : (i ≡ 0) × (copies_of (n.entry i p) ≡ set.empty) = owner_first i p h.1 in

@@ -67,7 +67,7 @@ module _ (n n' : Net) (x p : ℕ) (e z : Entry) (now : Place → Place) (New : P
     pub moved : (a : Place) (l : Letter) (bits : ℕ) (bytes : List ℕ) → New a l
         → l.message.content ≡ content.WriteRep q bits bytes → ⊥
 
-  owner_before : (q : ℕ) → IsNoMove q → (i : ℕ) (s : Nodes) (a : Seat) → IsOwned n' q i s a
+  pub owner_before : (q : ℕ) → IsNoMove q → (i : ℕ) (s : Nodes) (a : Seat) → IsOwned n' q i s a
       → (b : Seat) × IsOwned n q i s b × (a ≡ seat_now now b)
   owner_before q none i s (At w) h = elim (step.elsewhere i q) [
     | inr other ↦ (At w, (h.0, ap is_owner (sym other.1) ∙ h.1, h.2 ∙ ap copies_of other.1), refl)

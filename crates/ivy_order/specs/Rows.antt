@@ -16,7 +16,7 @@ use Rattle.ivy_pagetable.specs.declared.Request.TheVariants as request
 use Rattle.ivy_pagetable.specs.declared.Word.{Word}
 use Rattle.ivy_pagetable.specs.NodeSets.{IsBelow, bits_of, nodes_with}
 use Rattle.ivy_pagetable.specs.States.{IdleState, WaitingState, AwaitWriteState}
-use Rattle.ivy_pagetable.specs.Accesses.{reads}
+use Rattle.ivy_pagetable.specs.Accesses.{reads, writes}
 use Rattle.ivy_pagetable.specs.Entries.{is_locked, is_owner, can_put_off, with_put_off, without, copying, owning, sharing}
 use Rattle.ivy_pagetable.specs.Words.{IsWord, carried_out}
 use Rattle.ivy_pagetable.specs.Manager.{Ops}
@@ -315,7 +315,7 @@ pub data Row (c : Config) (n : Net) (f : ℕ → List ℕ) : Notice → Net → 
       (parcel_to r.node hop r.node r.call
       (content.WriteReq r.page) ∷ [])) f
   ends_copies : (r : Begins c n) → r.state.owner ≡ true → reads r.state.access ≡ true
-      → IsBelow c.nodes r.state.copies → set.contains r.state.copies r.node ≡ false
+      → writes r.state.access ≡ false → IsBelow c.nodes r.state.copies → set.contains r.state.copies r.node ≡ false
       → Row c n f Silent
       (goes_on n r.node r.page
       (entry.AwaitAcks

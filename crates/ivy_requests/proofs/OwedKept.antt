@@ -134,7 +134,7 @@ module _ (n : Net) (x p from : ℕ) (r : PutOff) (e : Entry) (rest : List Letter
         (λ k w. inl (put_wants e r x p k w))
 
 -- who is in a set without a node is in the set
-was_in : (s : Nodes) (node q : ℕ) → set.contains (set.remove s node) q ≡ true
+pub was_in : (s : Nodes) (node q : ℕ) → set.contains (set.remove s node) q ≡ true
     → set.contains s q ≡ true
 was_in s node q h =
     elim (cases_Bool (set.contains s q)) [
@@ -241,7 +241,7 @@ module _ (c : Config) (config : IsConfig c) where
       asked c _ o r _ _ _ (λ j q h. absurd (none-some q h)) (λ k w. sym w)
   owed_by (Row.asks_page r hop plain away) order down o =
       asked c _ o r _ _ _ (λ j q h. absurd (none-some q h)) (λ k w. sym w)
-  owed_by (Row.ends_copies r owner reader low out) order down o =
+  owed_by (Row.ends_copies r owner reader unwritten low out) order down o =
       owner_owed _ r.node r.page r.call (entry.Idle r.state) r.state.copies
       (waiting_from r.word r.call) r.is o
       (few c config r.state.copies low) (λ j q h. absurd (none-some q h)) r.loose

@@ -25,7 +25,7 @@ use Rattle.ivy_routes.proofs.EitherWorlds.{RoutedBy, either-kept, either-first}
 use Rattle.ivy_routes.proofs.RoutedRuns.{runs_awaited, runs_routed}
 
 module _ (c : Config) (limits : IsConfig c) where
-  either_descends : (k : Kind) (m : ℕ → Managed) (n : Net) → IsOrderly c n → RoutedBy k c m n
+  pub either_descends : (k : Kind) (m : ℕ → Managed) (n : Net) → IsOrderly c n → RoutedBy k c m n
       → Descends n
   either_descends kind.Fixed m n order r = descends c r.0 n order r.2
   either_descends kind.Dynamic m n order r = hinted_descends c r.0 n order r.2

@@ -426,7 +426,7 @@ module _ (c : Config) (config : IsConfig c) where
   hinted_by (Row.asks_copy r hop plain unread away) of o h = rw of.1 (copy_asked c _ _ o h r plain)
   hinted_by (Row.asks_page r hop plain away) of o h =
       rw of.1 (page_asked c _ _ o h r plain (reads r.state.access))
-  hinted_by {m = m} (Row.ends_copies r owner reader low out) of o h =
+  hinted_by {m = m} (Row.ends_copies r owner reader unwritten low out) of o h =
       ordered_hinted c m _ o h r.node r.page m (entry.Idle r.state) _ r.call r.state.copies
       (none_told dynamic_ops m m r.node r.page (λ i. refl)) r.is
       (λ k q h. absurd (none-some q h)) refl (owns (ap is_owner r.is ∙ owner))

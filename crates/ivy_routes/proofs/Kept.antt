@@ -274,7 +274,7 @@ module _ (c : Config) (config : IsConfig c) where
       (began_to_read c _ _ o h (beginning r) plain r.call r.word r.loose)
   managed_by (Row.asks_page r hop plain away) of o h = rw of.1
       (began_to_write c _ _ o h (beginning r) plain r.call r.word r.loose)
-  managed_by {n = n} (Row.ends_copies r owner reader low out) of o h = still_managed c _ _ o h _
+  managed_by {n = n} (Row.ends_copies r owner reader unwritten low out) of o h = still_managed c _ _ o h _
       (orders_calmed n r.node r.page (entry.Idle r.state) _ r.call r.state.copies r.is
       (λ k q h. absurd (none-some q h))
       (none_gone n _

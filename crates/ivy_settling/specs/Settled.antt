@@ -30,7 +30,7 @@ HasNoAnswer m (Some (Free addr)) = ⊥
 
 -- Some legal order has exactly each node's history as its part, and in its last memory none of the
 -- nodes could be answered.
-pub record IsSettled (c : Config) (nodes : List Answered) : Type 0 where
+pub record AreSettled (c : Config) (nodes : List Answered) : Type 0 where
   pub order : List Record
   pub last : Memory
   pub legal : ServesAll c (first c) order last

@@ -7,7 +7,7 @@ use Rattle.ivy_pagetable.specs.declared.Entry.{Entry}
 use Rattle.ivy_pagetable.specs.declared.Entry.TheVariants as entry
 use Rattle.ivy_pagetable.specs.declared.Word.{Word}
 use Rattle.ivy_pagetable.specs.States.{IdleState}
-use Rattle.ivy_pagetable.specs.Accesses.{reads}
+use Rattle.ivy_pagetable.specs.Accesses.{reads, writes}
 use Rattle.ivy_pagetable.specs.Entries.{is_locked, is_owner}
 use Rattle.ivy_wire.specs.Data.{Parcel}
 use Rattle.ivy_pagetable.specs.Tables.{entry_at, page_at, with_entry, with_page}
@@ -157,9 +157,11 @@ module _ {S : Type 0} {ops : Ops S} {P : (ℕ → S) → Net → (ℕ → List �
       → Goes (faulted ops k p w call i)
   faulted-at i true true is none write own short =
       let good : IsSoundIdle k.config k.me i = (entry_is k p (entry.Idle i) sound is).idle i refl in
+      let unwritten : writes i.access ≡ false = rw write at short in
       rw (write, own) (waiting _ _
       (goes kept (first i is) tt k.manager (λ j. refl) _ _ []
-      (Row.ends_copies (begins i none) own (good.owned own) good.copies.below good.copies.apart))
+      (Row.ends_copies (begins i none) own (good.owned own) unwritten good.copies.below
+      good.copies.apart))
       (refl, refl))
   faulted-at i true false is none write own short =
       rw (write, own) (waiting _ _

@@ -1,0 +1,10 @@
+pub mod Shares
+pub mod Sharing
+pub mod Giving
+pub mod Covered
+pub mod Unlocked
+pub mod Asking
+pub mod Reached
+pub mod Stopped
+pub mod Settling
+pub mod StillWorlds
