@@ -2,6 +2,7 @@ use Rattle.std.proofs.Common.{rules, refl, ◌≡◌, slice_get, Some, sym, ◌<
 use Rattle.std.proofs.lemmas.Option.{slice_get_read}
 use Rattle.ivy_model.specs.declared.Config.{Config}
 use Rattle.ivy_memory.proofs.Beginning.{err_there}
+use Rattle.ivy_node.proofs.Idling.{idle_turn}
 use Rattle.ivy_node.proofs.Making.{turn_went, turn_refused, pulse_went, delivery_refused}
 use Rattle.ivy_node.proofs.GoingOn.{went_there, delivery_went}
 use Rattle.ivy_node.proofs.world.make.Goals as goal
@@ -229,3 +230,14 @@ returns-in_ok-pulse-in-Pulse-clause-programs g c =
     c.in_ok-pulse-in-Pulse.ensures.done c.in-Pulse.is c.collect-in-Pulse.ensures.site
     (c.collect-in-Pulse.ensures.sent
     ∙ ap (λ l. l ++ c.pulse.new.self.waiting) c.reserve-in-Pulse.ensures.items))).programs
+
+pub returns-in_ok-program_turn-in-Turn-clause-idle : goal.returns-in_ok-program_turn-in-Turn-clause-idle
+returns-in_ok-program_turn-in-Turn-clause-idle g c =
+    λ none. idle_turn c.args.config.now c.args.sites.now.items c.args.sent.now.items
+    c.collect.new.sent.items c.in-Turn.node c.index_mut-site.result.now c.program_turn.new.self
+    c.collect.new.site c.in_ok-program_turn-in-Turn.field-0 c.args.step c.requires.sites
+    (slice_get_read c.args.sites.now.items (length c.args.sites.now.items) c.in-Turn.node
+    c.index_mut-site.result.now refl (search rules) c.index_mut-site.ensures.value)
+    c.in_ok-program_turn-in-Turn.ensures.done ? c.in-Turn.is c.collect.ensures.site
+    (c.collect.ensures.sent
+    ∙ ap (λ l. l ++ c.program_turn.new.self.waiting) c.reserve.ensures.items)
