@@ -12,7 +12,7 @@ use Rattle.ivy_node.specs.declared.turn.Turn.TheVariants.{Idle, Moved, Ended}
 use Rattle.ivy_node.specs.Shown.{Shown}
 use Rattle.ivy_node.specs.Sites.{AfterTurn}
 use Rattle.ivy_node.specs.WorldSites.{world_of, AreSites}
-use Rattle.ivy_node.specs.Settling.{IsIdle, DoesNothing}
+use Rattle.ivy_node.specs.Settling.{HasIdleTurn, DoesNothing}
 
 set_same : {X : Type 0} (xs : List X) (i : ℕ) (x : X) → slice_get xs i ≡ Some x → set xs i x ≡ xs
 set_same [] i x e = absurd (none-some x e)
@@ -37,7 +37,7 @@ idle_turn c sites sent more i old done site t step are there after not is same a
     let none = are.none_waits i old there in
     let back : site ≡ old = same ∙ ap (λ (s : Shown). record s { waiting = [] }) q.1
     ∙ (λ k. record old { waiting = sym none k }) in
-    let idle : IsIdle (world_of sites sent) i =
+    let idle : HasIdleTurn (world_of sites sent) i =
     λ n e. (let s = get_map (λ (s : Shown). s.node) sites n i e in
     rw s.2 (rw (same_Some s.0 old (sym s.1 ∙ there)) q.0)) in
     (

@@ -20,13 +20,13 @@ use Rattle.ivy_node.specs.Shown.{Shown}
 use Rattle.ivy_node.specs.Sites.{Awaits}
 
 -- a turn of the node does nothing
-abbrev pub IsIdle : World (Host Managed) → ℕ → Type 0
-IsIdle w i = (n : Node (Host Managed)) → slice_get w.nodes i ≡ Some n
+abbrev pub HasIdleTurn : World (Host Managed) → ℕ → Type 0
+HasIdleTurn w i = (n : Node (Host Managed)) → slice_get w.nodes i ≡ Some n
     → turn_of managed_ops n.core ≡ None
 
 -- the move is a turn that does nothing
 abbrev pub DoesNothing : World (Host Managed) → Move → Type 0
-DoesNothing w (Turn i) = IsIdle w i
+DoesNothing w (Turn i) = HasIdleTurn w i
 DoesNothing w (Deliver index to) = ⊥
 DoesNothing w (Pulse from to) = ⊥
 
@@ -82,7 +82,7 @@ round_after round (Pulse from to) stirred = round
 
 -- where none of the round's turns did anything, none of them would now
 abbrev pub HadTurns : Run → Round → Type 0
-HadTurns r round = round.stirred ≡ false → (i : ℕ) → i < round.turn → IsIdle r.world i
+HadTurns r round = round.stirred ≡ false → (i : ℕ) → i < round.turn → HasIdleTurn r.world i
 
 -- there is a node that had no turn in this round yet
 pub record IsInRound (r : Run) (round : Round) : Type 0 where
