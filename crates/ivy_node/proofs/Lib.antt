@@ -6,6 +6,9 @@ pub mod Pulsing
 pub mod Turned
 pub mod Headline
 pub mod Leading
+pub mod Settled
+pub mod Rounds
+pub mod Idling
 pub mod Worlds
 pub mod Making
 pub mod Made

@@ -5,3 +5,4 @@ pub mod RunState
 pub mod Runs
 pub mod Keeping
 pub mod WorldSites
+pub mod Settling

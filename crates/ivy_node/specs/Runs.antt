@@ -1,5 +1,5 @@
 -- What a call of `run` did, and what holds of a world that was reached from its opening.
-use Rattle.std.specs.Prelude.{◌≡◌, ℕ, false, List, [], length, slice_get, take, Option, Some, None, Result, Ok, Err}
+use Rattle.std.specs.Prelude.{◌≡◌, ◌↔◌, ◌<◌, ℕ, Bool, false, List, [], ◌++◌, length, slice_get, take, Option, Some, None, Result, Ok, Err, IfErr}
 use Rattle.ivy_model.specs.declared.Config.{Config}
 use Rattle.ivy_model.specs.Config.{IsConfig}
 use Rattle.ivy_model.specs.declared.Fault.{Fault}
@@ -14,7 +14,7 @@ use Rattle.ivy_node.specs.RunState.{Run}
 use Rattle.ivy_node.specs.Shown.{Shown}
 
 -- the moves that were made: all, or those before the refused one
-abbrev pub made_of : Result (Unit {0}) (ℕ × Fault) → List Move → List Move
+abbrev pub made_of : {A : Type 0} → Result A (ℕ × Fault) → List Move → List Move
 made_of (Ok done) moves = moves
 made_of (Err e) moves = take e.0 moves
 
@@ -32,7 +32,7 @@ CannotBeNamed w (Some m) = is_named w m ≡ false
 CannotBeNamed w None = ⊥
 
 -- a move that can't be named is refused by that, whatever else
-abbrev pub IsNamedUnless : World (Host Managed) → Result (Unit {0}) Fault → Move → Type 0
+abbrev pub IsNamedUnless : World (Host Managed) → Result Bool Fault → Move → Type 0
 IsNamedUnless w result m = CannotBeNamed w (Some m) → result ≡ Err NoSuchFrame
 
 abbrev pub opening_of : Run → World (Host Managed)
@@ -60,3 +60,25 @@ pub record IsOfRun (s : Shown) : Type 0 where
 abbrev pub IsExplainedAlong : Run → List Move → Type 0
 IsExplainedAlong r moves =
     GoesOn (host_rules managed_ops) r.config answered_by (opening_of r) [] moves
+
+-- it is the same world: its configuration and its programs
+abbrev pub IsSameRun : Run → Run → Type 0
+IsSameRun old new = (new.config ≡ old.config) × (new.programs ≡ old.programs)
+
+-- a refusal is of one of the moves, and says which and why
+abbrev pub IsRefusedAt : {A : Type 0} → Result A (ℕ × Fault) → List Move → Run → Type 0
+IsRefusedAt result moves new = IfErr result (λ e. (e.0 < length moves)
+    × IsRefusedBy new.config new.world e.1 (slice_get moves e.0))
+
+-- it is by that number exactly where what the move names is not there
+abbrev pub IsNamedAt : {A : Type 0} → Result A (ℕ × Fault) → List Move → Run → Type 0
+IsNamedAt result moves new =
+    IfErr result (λ e. (e.1 ≡ NoSuchFrame) ↔ CannotBeNamed new.world (slice_get moves e.0))
+
+-- whatever moves led to the old world from the opening, those made lead on, and at each moment of
+-- all of them one order of records explains what the nodes were answered, growing from move to move
+abbrev pub IsExplainedOn : Run → List Move → Run → Type 0
+IsExplainedOn old made new = (before : List Move)
+    → IsLedTo old.config (opening_of old) before old.world
+    → IsLedTo old.config (opening_of old) (before ++ made) new.world
+    × IsExplainedAlong old (before ++ made)

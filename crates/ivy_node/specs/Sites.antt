@@ -1,5 +1,5 @@
 -- What the calls of a site do.
-use Rattle.std.specs.Prelude.{◌≡◌, ◌≢◌, ℕ, ◌+◌, List, [], ◌∷◌, ◌++◌, replicate, MatchOption, Bool, true, false, Option, Some, None, Contains}
+use Rattle.std.specs.Prelude.{◌≡◌, ◌≢◌, ℕ, ◌+◌, ◌<◌, List, [], ◌∷◌, ◌++◌, replicate, MatchOption, Bool, true, false, Option, Some, None, Contains}
 use Rattle.ivy_model.specs.declared.Config.{Config}
 use Rattle.ivy_model.specs.declared.Call.{Call}
 use Rattle.ivy_model.specs.declared.Fault.{Fault}
@@ -245,3 +245,10 @@ abbrev pub TakesFrame : Option (List ℕ) → Shown → Shown → Type 0
 TakesFrame None old new = (old.waiting ≡ []) × (new ≡ old)
 TakesFrame (Some bytes) old new =
     (old.waiting ≡ bytes ∷ new.waiting) × (new ≡ record old { waiting = new.waiting })
+
+-- the string spells a frame to this site whose message was not delivered here yet
+pub record Awaits (s : Shown) (bytes : List ℕ) : Type 0 where
+  pub frame : Frame
+  pub spelled : Spells s.config frame bytes
+  pub dest : frame.dest ≡ s.me
+  pub later : (peer_at s.node.link frame.source).delivered < frame.number

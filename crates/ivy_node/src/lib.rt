@@ -4,6 +4,8 @@
 #![tactic(auto)]
 
 mod outbox;
+mod rest;
+mod round;
 mod site;
 mod turn;
 mod world;
@@ -11,6 +13,7 @@ mod world;
 pub use ivy_events::Move;
 pub use ivy_link::Verdict;
 pub use ivy_program::{Program, parse};
+pub use rest::Rest;
 pub use site::Site;
 pub use turn::Turn;
 pub use world::World;

@@ -3,7 +3,7 @@ ghost use Rattle.std.specs.Prelude.{◌≡◌, ◌≢◌, ◌↔◌, ◌+◌, �
 ghost use Rattle.ivy_model.specs.Config.{IsConfig};
 ghost use Rattle.ivy_wire.specs.Lent.{owned_frame, owned_parcel};
 ghost use Rattle.ivy_wire.specs.Spelling.{spelling, Fits, FitsParcel};
-ghost use Rattle.ivy_link.specs.Linked.{first_link, frames_of, sends, has_numbers, AreWithin};
+ghost use Rattle.ivy_link.specs.Linked.{first_link, peer_at, frames_of, sends, has_numbers, AreWithin};
 ghost use Rattle.ivy_link.specs.Accepted.{offered};
 ghost use Rattle.ivy_link.specs.Fitting.{FitsLink};
 ghost use Rattle.ivy_link.specs.Windows.{first_window};
@@ -116,6 +116,22 @@ impl<A: Allocator + Copy> Outbox<A> {
         ensures fits { FitsLink self.now.config self.now.link }
     {
         self.config
+    }
+
+    /// How many messages were sent to a node.
+    pub(crate) fn sent_to(&self, to: u8) -> u64
+        requires to { to < self.now.config.nodes }
+        ensures { result ≡ (peer_at self.now.link to).sent }
+    {
+        self.link.sent_to(to)
+    }
+
+    /// How many messages of a node were delivered here.
+    pub(crate) fn delivered_from(&self, from: u8) -> u64
+        requires from { from < self.now.config.nodes }
+        ensures { result ≡ (peer_at self.now.link from).delivered }
+    {
+        self.link.delivered_from(from)
     }
 
     /// The first string that waits.

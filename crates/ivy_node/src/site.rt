@@ -9,14 +9,16 @@ ghost use Rattle.ivy_host.specs.Managers.{managed_ops};
 ghost use Rattle.ivy_events.specs.Nodes.{pulsing};
 ghost use Rattle.ivy_serving.specs.Limits.{most_posted};
 ghost use Rattle.ivy_link.specs.Limits.{most_ahead};
+ghost use Rattle.ivy_link.specs.Linked.{peer_at};
 ghost use Rattle.ivy_link.specs.Accepted.{offered};
 ghost use Rattle.ivy_link.specs.Holding.{ready_of};
 ghost use Rattle.ivy_node.specs.Outboxes.{most_sent, most_delivered, next_dest};
 ghost use Rattle.ivy_node.specs.Shown.{holding_at, after_pulse_to};
 ghost use Rattle.ivy_node.specs.Runs.{IsOfRun};
 ghost use Rattle.ivy_node.specs.Sites.{first_shown, host_of, is_served, kept_by, told_by, AfterHostTurn, HasNoNumbers, AfterTurn, AfterDelivery, Hears, Receives};
-ghost use Rattle.ivy_node.specs.Sites.{WentOnOnce, SiteWentOn, IsHeld, early_at, HoldsString, without_ready, IsSpentTurn, IsSpentDelivery, TakesFrame, IsSameNode, IsMadeByEvents, IsSentBy};
+ghost use Rattle.ivy_node.specs.Sites.{WentOnOnce, SiteWentOn, IsHeld, early_at, HoldsString, without_ready, IsSpentTurn, IsSpentDelivery, TakesFrame, IsSameNode, IsMadeByEvents, IsSentBy, Awaits};
 ghost use Rattle.ivy_events.specs.Marks.{marks};
+ghost use Rattle.ivy_settling.specs.Settled.{await_in};
 ghost use Rattle.ivy_model.specs.Legal.{HasWidth};
 
 use crate::outbox::Outbox;
@@ -216,6 +218,43 @@ impl<A: Allocator + Copy> Site<A> {
         ensures { IsTrue result ↔ HasEnded self.now.node.core.process }
     {
         self.machine.ended()
+    }
+
+    /// The count and the least value of the await in progress, where the call in progress is one. It takes no memory.
+    pub fn waits(&self) -> Option<(u64, u64)>
+        ensures { result ≡ await_in self.now.node.core.memory.asked }
+    {
+        match self.memory.asked()? {
+            Call::Await { k, least } => Some((k, least)),
+            _ => None,
+        }
+    }
+
+    /// How many messages this node sent to another one, each counted once. It takes no memory.
+    pub fn sent_to(&self, to: u8) -> u64
+        requires to { to < self.now.config.nodes }
+        ensures { result ≡ (peer_at self.now.node.link to).sent }
+    {
+        self.outbox.sent_to(to)
+    }
+
+    /// How many messages of another node were delivered to this one, each counted once. It takes no memory.
+    pub fn delivered_from(&self, from: u8) -> u64
+        requires from { from < self.now.config.nodes }
+        ensures { result ≡ (peer_at self.now.node.link from).delivered }
+    {
+        self.outbox.delivered_from(from)
+    }
+
+    /// Whether a string spells a frame to this node whose message was not delivered here yet. It takes no memory.
+    pub fn awaits(&self, bytes: &[u8]) -> bool
+        ensures { IsTrue result ↔ Awaits self.now bytes.now }
+    {
+        let config = self.outbox.config();
+        let Ok(frame) = read(&config, bytes) else {
+            return false;
+        };
+        frame.dest == self.outbox.me() && self.outbox.delivered_from(frame.source) < frame.number
     }
 
     /// How many messages fitted no rule, up to the greatest number: none where the site is one of a world that moves

@@ -1,18 +1,25 @@
 //! All nodes, and every string ever sent between them.
-ghost use Rattle.std.specs.Prelude.{◌≡◌, ◌+◌, ◌<◌, ◌≤◌, ◌↔◌, ◌++◌, ◌∷◌, [], List, Some, Err, length, map, take, slice_get, vec_len, vec_capacity, IsTrue, IfOk, IfErr, IfSome, OnOk, OnErr, IsErrOf};
+ghost use Rattle.std.specs.Prelude.{◌≡◌, ◌+◌, ◌<◌, ◌≤◌, ◌↔◌, ◌++◌, [], true, false, Some, Ok, length, slice_get, vec_len, vec_capacity, IsTrue, IfOk, IfErr, IfSome, OnOk, OnErr, IsErrOf};
 ghost use Rattle.ivy_model.specs.Config.{IsConfig};
 ghost use Rattle.ivy_program.specs.Steps.{HasEnded};
 ghost use Rattle.ivy_host.specs.Managers.{managed_ops};
 ghost use Rattle.ivy_events.specs.declared.Move.{Move};
-ghost use Rattle.ivy_events.specs.Worlds.{Moves};
+ghost use Rattle.ivy_events.specs.Worlds.{Moves, is_named};
 ghost use Rattle.ivy_host.specs.Hosts.{host_rules};
 ghost use Rattle.ivy_host.specs.Holding.{AllSpell};
 ghost use Rattle.ivy_node.specs.Keeping.{Keeps};
 ghost use Rattle.ivy_host.specs.Openings.{opening};
-ghost use Rattle.ivy_node.specs.Runs.{made_of, IsRefusedBy, CannotBeNamed, IsNamedUnless, IsLedTo, IsReached, IsExplainedAlong, opening_of};
+ghost use Rattle.ivy_node.specs.Runs.{made_of, IsRefusedBy, IsNamedUnless, IsLedTo, IsReached, IsSameRun, IsRefusedAt, IsNamedAt, IsExplainedOn};
+ghost use Rattle.ivy_settling.specs.Settled.{await_in};
+ghost use Rattle.ivy_settling.specs.Still.{IsStill};
+ghost use Rattle.ivy_node.specs.Settling.{DoesNothing, IsDelivered, IsOfRound, IsInRound, HasMadeOne, HasRefusedOne, HasSettledBy, Settles, HasSettled};
+ghost use Rattle.ivy_model.specs.Wants.{IsWant};
 ghost use Rattle.ivy_node.specs.WorldSites.{programs_of, world_of, AreSites, IsMemory, IsWorldWant, AreFirst};
 
+use crate::rest::Rest;
+use crate::round::{Round, is_delivered, next_move};
 use crate::site::Site;
+use crate::turn::Turn;
 use ivy_events::Move;
 use ivy_link::MOST_AHEAD;
 use ivy_model::{Config, Fault, MOST_NODES, Record};
@@ -37,6 +44,8 @@ pub struct World<A: Allocator> {
     config: Config,
     sites: Vec<Site<A>, A>,
     sent: Vec<Bytes<A>, A>,
+    /// No string before this place is under way any more.
+    passed: usize,
 }
 
 impl<A: Allocator> Model for World<A> {
@@ -67,13 +76,14 @@ fn collect<A: Allocator + Copy>(site: &mut Site<A>, sent: &mut Vec<Bytes<A>, A>)
     }
 }
 
-/// Makes one move over the sites and the strings, or changes nothing [1, 17, 19].
+/// Makes one move over the sites and the strings, or changes nothing [1, 17, 19]. It says whether it did anything,
+/// which a turn alone may not.
 fn make<A: Allocator + Copy>(
     sites: &mut Vec<Site<A>, A>,
     sent: &mut Vec<Bytes<A>, A>,
     config: &Config,
     step: Move,
-) -> Result<(), Fault>
+) -> Result<bool, Fault>
     requires sites { AreSites config.now sites.old.items }
     requires each { length sites.old.items ≡ config.now.nodes }
     requires limits { IsConfig config.now }
@@ -82,6 +92,7 @@ fn make<A: Allocator + Copy>(
     ensures sites { AreSites config.now sites.new.items }
     ensures each { length sites.new.items ≡ config.now.nodes }
     ensures programs { programs_of sites.new.items ≡ programs_of sites.old.items }
+    ensures idle { result ≡ Ok false → DoesNothing (world_of sites.old.items sent.old.items) step × (sites.new.items ≡ sites.old.items) × (sent.new.items ≡ sent.old.items) }
     ensures err { OnErr result ((sites.new.items ≡ sites.old.items) × (sent.new.items ≡ sent.old.items)) }
     ensures cause { IfErr result (λ fault. IsRefusedBy config.now (world_of sites.old.items sent.old.items) fault (Some step)) }
     ensures named { IsNamedUnless (world_of sites.old.items sent.old.items) result step }
@@ -94,8 +105,9 @@ fn make<A: Allocator + Copy>(
             }
             sent.reserve(MOST_SENT)?;
             let site = &mut sites[node as usize];
-            let _ = site.program_turn()?;
+            let turn = site.program_turn()?;
             collect(site, sent);
+            Ok(turn == Turn::Moved)
         }
         Move::Deliver { index, to } => {
             if to >= nodes || index >= sent.len() as u64 {
@@ -105,6 +117,7 @@ fn make<A: Allocator + Copy>(
             let site = &mut sites[to as usize];
             let _ = site.deliver_shared(&sent[index as usize])?;
             collect(site, sent);
+            Ok(true)
         }
         Move::Pulse { from, to } => {
             if from >= nodes || to >= nodes || from == to {
@@ -114,9 +127,9 @@ fn make<A: Allocator + Copy>(
             let site = &mut sites[from as usize];
             site.pulse(to as u8)?;
             collect(site, sent);
+            Ok(true)
         }
     }
-    Ok(())
 }
 
 /// The sites of the programs, in order.
@@ -157,6 +170,7 @@ impl<A: Allocator + Copy> World<A> {
             config,
             sites,
             sent: Vec::new(alloc),
+            passed: 0,
         })
     }
 
@@ -198,16 +212,25 @@ impl<A: Allocator + Copy> World<A> {
         self.sites[node as usize].ended()
     }
 
-    /// Makes one move, or changes nothing.
-    fn make(&mut self, step: Move) -> Result<(), Fault>
-        ensures stays { (self.new.config ≡ self.old.config) × (self.new.programs ≡ self.old.programs) }
+    /// The count and the least value of the await that a node has in progress, where its call in progress is one; the
+    /// node is one of the world's. It takes no memory.
+    pub fn waits(&self, node: u64) -> Option<(u64, u64)>
+        requires { node < self.now.config.nodes }
+        ensures { IfSome (slice_get self.now.world.nodes node) (λ n. result ≡ await_in n.core.memory.asked) }
+    {
+        self.sites[node as usize].waits()
+    }
+
+    /// Makes one move, or changes nothing. It says whether it did anything.
+    fn make(&mut self, step: Move) -> Result<bool, Fault>
+        ensures stays { IsSameRun self.old self.new }
         ensures ok { OnOk result (Moves (host_rules managed_ops) self.old.config self.old.world step self.new.world) }
+        ensures idle { result ≡ Ok false → DoesNothing self.old.world step × (self.new ≡ self.old) }
         ensures err { OnErr result (self.new ≡ self.old) }
         ensures cause { IfErr result (λ fault. IsRefusedBy self.old.config self.old.world fault (Some step)) }
         ensures named { IsNamedUnless self.old.world result step }
     {
-        make(&mut self.sites, &mut self.sent, &self.config, step)?;
-        Ok(())
+        make(&mut self.sites, &mut self.sent, &self.config, step)
     }
 
     /// What holds of a world that was reached.
@@ -222,10 +245,10 @@ impl<A: Allocator + Copy> World<A> {
     /// Makes the moves in order, up to the first that is refused, whose place is given with its fault. The moves
     /// before it were made, and it changed nothing.
     fn make_each(&mut self, moves: &[Move]) -> Result<(), (usize, Fault)>
-        ensures stays { (self.new.config ≡ self.old.config) × (self.new.programs ≡ self.old.programs) }
+        ensures stays { IsSameRun self.old self.new }
         ensures made { IsLedTo self.old.config self.old.world (made_of result moves.now) self.new.world }
-        ensures refused { IfErr result (λ e. (e.0 < length moves.now) × IsRefusedBy self.new.config self.new.world e.1 (slice_get moves.now e.0)) }
-        ensures named { IfErr result (λ e. (e.1 ≡ Fault.NoSuchFrame) ↔ CannotBeNamed self.new.world (slice_get moves.now e.0)) }
+        ensures refused { IsRefusedAt result moves.now self.new }
+        ensures named { IsNamedAt result moves.now self.new }
     {
         for (place, step) in moves.iter().enumerate() {
             if let Err(fault) = self.make(*step) {
@@ -253,10 +276,10 @@ impl<A: Allocator + Copy> World<A> {
     /// a node or a string that is not there, or a pulse to its own node.
     pub fn run(&mut self, moves: &[Move]) -> Result<(), (usize, Fault)>
         // The world is the same one, and exactly the moves before the refused one were made.
-        ensures stays { (self.new.config ≡ self.old.config) × (self.new.programs ≡ self.old.programs) }
+        ensures stays { IsSameRun self.old self.new }
         ensures made { IsLedTo self.old.config self.old.world (made_of result moves.now) self.new.world }
-        ensures refused { IfErr result (λ e. (e.0 < length moves.now) × IsRefusedBy self.new.config self.new.world e.1 (slice_get moves.now e.0)) }
-        ensures named { IfErr result (λ e. (e.1 ≡ Fault.NoSuchFrame) ↔ CannotBeNamed self.new.world (slice_get moves.now e.0)) }
+        ensures refused { IsRefusedAt result moves.now self.new }
+        ensures named { IsNamedAt result moves.now self.new }
 
         // Some moves led from the opening to the world before the call.
         ensures began { IsReached self.old }
@@ -264,11 +287,7 @@ impl<A: Allocator + Copy> World<A> {
         // Whatever moves led from the opening to the world before the call, those made lead on, and at each
         // moment of all of them one order of records explains what the nodes were answered, growing from move to
         // move.
-        ensures explained { (before : List Move)
-            → IsLedTo self.old.config (opening_of self.old) before self.old.world
-            → IsLedTo self.old.config (opening_of self.old)
-            (before ++ made_of result moves.now) self.new.world
-            × IsExplainedAlong self.old (before ++ made_of result moves.now) }
+        ensures explained { IsExplainedOn self.old (made_of result moves.now) self.new }
 
         // And what is promised at every moment holds: `reached`, `exclusive`, `runs`, `no_breach`, `spelled`,
         // `ordered`, `waits`, `routes` and `explained`.
@@ -276,6 +295,88 @@ impl<A: Allocator + Copy> World<A> {
     {
         self.reached();
         let result = self.make_each(moves);
+        self.keeps();
+        result
+    }
+
+    /// Whether all that nodes sent to each other was delivered.
+    fn is_delivered(&self) -> bool
+        ensures { IsTrue result → IsDelivered self.now.world }
+    {
+        is_delivered(&self.sites, &self.config)
+    }
+
+    /// The next move of a round. It is of what is there.
+    fn next_move(&mut self, round: Round) -> Move
+        requires { round.turn < self.old.config.nodes }
+        ensures same { self.new ≡ self.old }
+        ensures named { is_named self.old.world result ≡ true }
+        ensures next { IsOfRound round.turn result }
+    {
+        next_move(&self.sites, &self.sent, &mut self.passed, round)
+    }
+
+    /// Makes the next move of a round, or changes nothing. It says whether the world stands still.
+    fn settle_once(&mut self, round: &mut Round) -> Result<bool, Fault>
+        requires round { IsInRound self.old round.old }
+        ensures stays { IsSameRun self.old self.new }
+        ensures made { OnOk result (HasMadeOne self.old self.new) }
+        ensures round { OnOk result (IsInRound self.new round.new) }
+        ensures still { result ≡ Ok true → IsStill managed_ops self.new.world }
+        ensures refused { IfErr result (λ fault. IsWant fault × (self.new ≡ self.old) × HasRefusedOne self.new fault) }
+    {
+        let step = self.next_move(*round);
+        let stirred = self.make(step)?;
+        *round = round.after(step, stirred);
+        if round.turn < self.nodes() {
+            return Ok(false);
+        }
+        let is_still = !round.stirred && self.is_delivered();
+        *round = Round::first();
+        Ok(is_still)
+    }
+
+    /// Goes through rounds for so many moves, or until the world stands still.
+    fn settle_on(&mut self, moves: u64) -> Result<Rest, (u64, Fault)>
+        requires nodes { 0 < self.old.config.nodes }
+        ensures stays { IsSameRun self.old self.new }
+        ensures made { HasSettledBy moves result self.old self.new }
+        ensures still { result ≡ Ok Rest.Still → IsStill managed_ops self.new.world }
+        ensures want { IfErr result (λ e. IsWant e.1) }
+    {
+        let mut round = Round::first();
+        for made in 0..moves {
+            match self.settle_once(&mut round) {
+                Ok(false) => {}
+                Ok(true) => return Ok(Rest::Still),
+                Err(fault) => return Err((made, fault)),
+            }
+        }
+        Ok(Rest::Going)
+    }
+
+    /// Lets the world come to rest, with at most so many moves: it delivers what is under way, in the order sent, until
+    /// nothing is, gives each node a turn, and begins again, until nothing is under way and none of the turns
+    /// changed anything. A move that is refused changes nothing, and its fault is given with the number of moves
+    /// made before it [1, 17].
+    ///
+    /// A turn that changes nothing is a move as well, so a world of n nodes that stands still is found so after
+    /// n moves.
+    pub fn settle(&mut self, moves: u64) -> Result<Rest, (u64, Fault)>
+        // It is the same world. There are moves, at most so many, of which all holds that `run` says of its moves;
+        // and as many where the world is still going.
+        ensures stays { IsSameRun self.old self.new }
+        ensures began { IsReached self.old }
+        ensures made { Settles moves result self.old self.new }
+        ensures want { IfErr result (λ e. IsWant e.1) }
+        ensures keeps { Keeps self.new }
+
+        // At `Rest::Still`: some legal order has exactly each node's history as its part, and in its last memory each
+        // node has no call in progress, or awaits a count that is below its least value there.
+        ensures still { result ≡ Ok Rest.Still → HasSettled self.new }
+    {
+        self.reached();
+        let result = self.settle_on(moves);
         self.keeps();
         result
     }

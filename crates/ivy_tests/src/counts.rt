@@ -8,14 +8,14 @@ use std::process::Abort;
 use std::test::Fail;
 
 /// An advance of count 0, which is done.
-fn advanced(node: u8) -> Record {
+pub(crate) fn advanced(node: u8) -> Record {
     let call = Call::Advance { k: 0 };
     let reply = Reply::Done;
     Record { node, call, reply }
 }
 
 /// An await of count 0, which is answered a value.
-fn awaited(node: u8, least: u64, value: u64) -> Record {
+pub(crate) fn awaited(node: u8, least: u64, value: u64) -> Record {
     let call = Call::Await { k: 0, least };
     let reply = Reply::Value(value);
     Record { node, call, reply }

@@ -59,7 +59,7 @@ fn same_node<A: Allocator + Copy>(one: &World<A>, other: &World<A>, node: u64) -
 }
 
 /// Whether two worlds of the same configuration show the same.
-fn same_worlds<A: Allocator + Copy>(one: &World<A>, other: &World<A>) -> bool {
+pub(crate) fn same_worlds<A: Allocator + Copy>(one: &World<A>, other: &World<A>) -> bool {
     for node in 0..one.nodes() {
         if !same_node(one, other, node) {
             return false;

@@ -81,6 +81,8 @@ mod library;
 #[cfg(test)]
 mod schedules;
 #[cfg(test)]
+mod settling;
+#[cfg(test)]
 mod stores;
 #[cfg(test)]
 mod swaps;

@@ -2,6 +2,7 @@ use Rattle.std.proofs.Common.{rules, refl, ◌≡◌, slice_get, Some, sym, ◌<
 use Rattle.std.proofs.lemmas.Option.{slice_get_read}
 use Rattle.ivy_model.specs.declared.Config.{Config}
 use Rattle.ivy_memory.proofs.Beginning.{err_there}
+use Rattle.ivy_node.proofs.Idling.{idle_turn}
 use Rattle.ivy_node.proofs.Making.{turn_went, turn_refused, pulse_went, delivery_refused}
 use Rattle.ivy_node.proofs.GoingOn.{went_there, delivery_went}
 use Rattle.ivy_node.proofs.world.make.Goals as goal
@@ -97,80 +98,146 @@ collect-requires-in-Pulse g c =
     let ok = c.in_ok-reserve-in-Pulse.ensures.ok in
     record { room = omega (arith, few, none, room, len, ok) }
 
-pub returns-in_ok-program_turn-in-Turn : goal.returns-in_ok-program_turn-in-Turn
-returns-in_ok-program_turn-in-Turn g c =
-    let site =
-    slice_get_read c.args.sites.now.items (length c.args.sites.now.items) c.in-Turn.node
-    c.index_mut-site.result.now refl (search rules) c.index_mut-site.ensures.value in
-    let went =
-    went_there _ _ _ _ _ _
+pub returns-in_ok-program_turn-in-Turn-clause-ok : goal.returns-in_ok-program_turn-in-Turn-clause-ok
+returns-in_ok-program_turn-in-Turn-clause-ok g c =
+    (went_there _ _ _ _ _ _
     (turn_went c.args.config.now c.args.sites.now.items c.args.sent.now.items c.in-Turn.node
     c.index_mut-site.result.now c.program_turn.new.self c.collect.new.site
-    c.in_ok-program_turn-in-Turn.field-0 c.args.step c.collect.new.sent.items c.requires.sites site
+    c.in_ok-program_turn-in-Turn.field-0 c.args.step c.collect.new.sent.items c.requires.sites
+    (slice_get_read c.args.sites.now.items (length c.args.sites.now.items) c.in-Turn.node
+    c.index_mut-site.result.now refl (search rules) c.index_mut-site.ensures.value)
     c.in_ok-program_turn-in-Turn.ensures.done c.in-Turn.is c.collect.ensures.site
     (c.collect.ensures.sent
-    ∙ ap (λ l. l ++ c.program_turn.new.self.waiting) c.reserve.ensures.items)) in
-    record {
-      ok = went.made;
-      sites = went.are;
-      each = search rules;
-      programs = went.programs;
-      err = search rules;
-      cause = search rules;
-      named = search rules;
-    }
+    ∙ ap (λ l. l ++ c.program_turn.new.self.waiting) c.reserve.ensures.items))).made
 
-pub returns-in_ok-deliver_shared-in-Deliver : goal.returns-in_ok-deliver_shared-in-Deliver
-returns-in_ok-deliver_shared-in-Deliver g c =
+pub returns-in_ok-program_turn-in-Turn-clause-sites : goal.returns-in_ok-program_turn-in-Turn-clause-sites
+returns-in_ok-program_turn-in-Turn-clause-sites g c =
+    (went_there _ _ _ _ _ _
+    (turn_went c.args.config.now c.args.sites.now.items c.args.sent.now.items c.in-Turn.node
+    c.index_mut-site.result.now c.program_turn.new.self c.collect.new.site
+    c.in_ok-program_turn-in-Turn.field-0 c.args.step c.collect.new.sent.items c.requires.sites
+    (slice_get_read c.args.sites.now.items (length c.args.sites.now.items) c.in-Turn.node
+    c.index_mut-site.result.now refl (search rules) c.index_mut-site.ensures.value)
+    c.in_ok-program_turn-in-Turn.ensures.done c.in-Turn.is c.collect.ensures.site
+    (c.collect.ensures.sent
+    ∙ ap (λ l. l ++ c.program_turn.new.self.waiting) c.reserve.ensures.items))).are
+
+pub returns-in_ok-program_turn-in-Turn-clause-programs : goal.returns-in_ok-program_turn-in-Turn-clause-programs
+returns-in_ok-program_turn-in-Turn-clause-programs g c =
+    (went_there _ _ _ _ _ _
+    (turn_went c.args.config.now c.args.sites.now.items c.args.sent.now.items c.in-Turn.node
+    c.index_mut-site.result.now c.program_turn.new.self c.collect.new.site
+    c.in_ok-program_turn-in-Turn.field-0 c.args.step c.collect.new.sent.items c.requires.sites
+    (slice_get_read c.args.sites.now.items (length c.args.sites.now.items) c.in-Turn.node
+    c.index_mut-site.result.now refl (search rules) c.index_mut-site.ensures.value)
+    c.in_ok-program_turn-in-Turn.ensures.done c.in-Turn.is c.collect.ensures.site
+    (c.collect.ensures.sent
+    ∙ ap (λ l. l ++ c.program_turn.new.self.waiting) c.reserve.ensures.items))).programs
+
+pub returns-in_ok-deliver_shared-in-Deliver-clause-ok : goal.returns-in_ok-deliver_shared-in-Deliver-clause-ok
+returns-in_ok-deliver_shared-in-Deliver-clause-ok g c =
     let found : slice_get c.args.sent.now.items c.in-Deliver.index ≡ Some c.index.result.now =
     ap (λ l. slice_get l c.in-Deliver.index) (sym c.reserve-in-Deliver.ensures.items)
     ∙ (slice_get_read c.reserve-in-Deliver.new.self.items
     (length c.reserve-in-Deliver.new.self.items) c.in-Deliver.index c.index.result.now refl
     (search rules) c.index.ensures) in
-    let site =
-    slice_get_read c.args.sites.now.items (length c.args.sites.now.items) c.in-Deliver.to
-    c.index_mut-site-in-Deliver.result.now refl (search rules)
-    c.index_mut-site-in-Deliver.ensures.value in
-    let went =
-    delivery_went c.args.config.now c.args.sites.now.items c.args.sent.now.items c.in-Deliver.index
+    (delivery_went c.args.config.now c.args.sites.now.items c.args.sent.now.items c.in-Deliver.index
     c.in-Deliver.to c.index_mut-site-in-Deliver.result.now c.deliver_shared.new.self
     c.collect-in-Deliver.new.site c.index.result.now c.in_ok-deliver_shared-in-Deliver.field-0
-    c.args.step c.collect-in-Deliver.new.sent.items c.requires.limits c.requires.sites site found
+    c.args.step c.collect-in-Deliver.new.sent.items c.requires.limits c.requires.sites
+    (slice_get_read c.args.sites.now.items (length c.args.sites.now.items) c.in-Deliver.to
+    c.index_mut-site-in-Deliver.result.now refl (search rules)
+    c.index_mut-site-in-Deliver.ensures.value) found
     c.in_ok-deliver_shared-in-Deliver.ensures.done c.in-Deliver.is
     c.collect-in-Deliver.ensures.site
     (c.collect-in-Deliver.ensures.sent
-    ∙ ap (λ l. l ++ c.deliver_shared.new.self.waiting) c.reserve-in-Deliver.ensures.items) in
-    record {
-      ok = went.made;
-      sites = went.are;
-      each = search rules;
-      programs = went.programs;
-      err = search rules;
-      cause = search rules;
-      named = search rules;
-    }
+    ∙ ap (λ l. l ++ c.deliver_shared.new.self.waiting) c.reserve-in-Deliver.ensures.items)).made
 
-pub returns-in_ok-pulse-in-Pulse : goal.returns-in_ok-pulse-in-Pulse
-returns-in_ok-pulse-in-Pulse g c =
-    let site =
-    slice_get_read c.args.sites.now.items (length c.args.sites.now.items) c.in-Pulse.from
-    c.index_mut-site-in-Pulse.result.now refl (search rules)
-    c.index_mut-site-in-Pulse.ensures.value in
-    let went =
-    went_there _ _ _ _ _ _
+pub returns-in_ok-deliver_shared-in-Deliver-clause-sites : goal.returns-in_ok-deliver_shared-in-Deliver-clause-sites
+returns-in_ok-deliver_shared-in-Deliver-clause-sites g c =
+    let found : slice_get c.args.sent.now.items c.in-Deliver.index ≡ Some c.index.result.now =
+    ap (λ l. slice_get l c.in-Deliver.index) (sym c.reserve-in-Deliver.ensures.items)
+    ∙ (slice_get_read c.reserve-in-Deliver.new.self.items
+    (length c.reserve-in-Deliver.new.self.items) c.in-Deliver.index c.index.result.now refl
+    (search rules) c.index.ensures) in
+    (delivery_went c.args.config.now c.args.sites.now.items c.args.sent.now.items c.in-Deliver.index
+    c.in-Deliver.to c.index_mut-site-in-Deliver.result.now c.deliver_shared.new.self
+    c.collect-in-Deliver.new.site c.index.result.now c.in_ok-deliver_shared-in-Deliver.field-0
+    c.args.step c.collect-in-Deliver.new.sent.items c.requires.limits c.requires.sites
+    (slice_get_read c.args.sites.now.items (length c.args.sites.now.items) c.in-Deliver.to
+    c.index_mut-site-in-Deliver.result.now refl (search rules)
+    c.index_mut-site-in-Deliver.ensures.value) found
+    c.in_ok-deliver_shared-in-Deliver.ensures.done c.in-Deliver.is
+    c.collect-in-Deliver.ensures.site
+    (c.collect-in-Deliver.ensures.sent
+    ∙ ap (λ l. l ++ c.deliver_shared.new.self.waiting) c.reserve-in-Deliver.ensures.items)).are
+
+pub returns-in_ok-deliver_shared-in-Deliver-clause-programs : goal.returns-in_ok-deliver_shared-in-Deliver-clause-programs
+returns-in_ok-deliver_shared-in-Deliver-clause-programs g c =
+    let found : slice_get c.args.sent.now.items c.in-Deliver.index ≡ Some c.index.result.now =
+    ap (λ l. slice_get l c.in-Deliver.index) (sym c.reserve-in-Deliver.ensures.items)
+    ∙ (slice_get_read c.reserve-in-Deliver.new.self.items
+    (length c.reserve-in-Deliver.new.self.items) c.in-Deliver.index c.index.result.now refl
+    (search rules) c.index.ensures) in
+    (delivery_went c.args.config.now c.args.sites.now.items c.args.sent.now.items c.in-Deliver.index
+    c.in-Deliver.to c.index_mut-site-in-Deliver.result.now c.deliver_shared.new.self
+    c.collect-in-Deliver.new.site c.index.result.now c.in_ok-deliver_shared-in-Deliver.field-0
+    c.args.step c.collect-in-Deliver.new.sent.items c.requires.limits c.requires.sites
+    (slice_get_read c.args.sites.now.items (length c.args.sites.now.items) c.in-Deliver.to
+    c.index_mut-site-in-Deliver.result.now refl (search rules)
+    c.index_mut-site-in-Deliver.ensures.value) found
+    c.in_ok-deliver_shared-in-Deliver.ensures.done c.in-Deliver.is
+    c.collect-in-Deliver.ensures.site
+    (c.collect-in-Deliver.ensures.sent
+    ∙ ap (λ l. l ++ c.deliver_shared.new.self.waiting)
+    c.reserve-in-Deliver.ensures.items)).programs
+
+pub returns-in_ok-pulse-in-Pulse-clause-ok : goal.returns-in_ok-pulse-in-Pulse-clause-ok
+returns-in_ok-pulse-in-Pulse-clause-ok g c =
+    (went_there _ _ _ _ _ _
     (pulse_went c.args.config.now c.args.sites.now.items c.args.sent.now.items c.in-Pulse.from
     c.in-Pulse.to c.index_mut-site-in-Pulse.result.now c.pulse.new.self
-    c.collect-in-Pulse.new.site c.args.step c.collect-in-Pulse.new.sent.items c.requires.sites site
-    (search rules) (search rules) c.in_ok-pulse-in-Pulse.ensures.done c.in-Pulse.is
-    c.collect-in-Pulse.ensures.site
+    c.collect-in-Pulse.new.site c.args.step c.collect-in-Pulse.new.sent.items c.requires.sites
+    (slice_get_read c.args.sites.now.items (length c.args.sites.now.items) c.in-Pulse.from
+    c.index_mut-site-in-Pulse.result.now refl (search rules)
+    c.index_mut-site-in-Pulse.ensures.value) (search rules) (search rules)
+    c.in_ok-pulse-in-Pulse.ensures.done c.in-Pulse.is c.collect-in-Pulse.ensures.site
     (c.collect-in-Pulse.ensures.sent
-    ∙ ap (λ l. l ++ c.pulse.new.self.waiting) c.reserve-in-Pulse.ensures.items)) in
-    record {
-      ok = went.made;
-      sites = went.are;
-      each = search rules;
-      programs = went.programs;
-      err = search rules;
-      cause = search rules;
-      named = search rules;
-    }
+    ∙ ap (λ l. l ++ c.pulse.new.self.waiting) c.reserve-in-Pulse.ensures.items))).made
+
+pub returns-in_ok-pulse-in-Pulse-clause-sites : goal.returns-in_ok-pulse-in-Pulse-clause-sites
+returns-in_ok-pulse-in-Pulse-clause-sites g c =
+    (went_there _ _ _ _ _ _
+    (pulse_went c.args.config.now c.args.sites.now.items c.args.sent.now.items c.in-Pulse.from
+    c.in-Pulse.to c.index_mut-site-in-Pulse.result.now c.pulse.new.self
+    c.collect-in-Pulse.new.site c.args.step c.collect-in-Pulse.new.sent.items c.requires.sites
+    (slice_get_read c.args.sites.now.items (length c.args.sites.now.items) c.in-Pulse.from
+    c.index_mut-site-in-Pulse.result.now refl (search rules)
+    c.index_mut-site-in-Pulse.ensures.value) (search rules) (search rules)
+    c.in_ok-pulse-in-Pulse.ensures.done c.in-Pulse.is c.collect-in-Pulse.ensures.site
+    (c.collect-in-Pulse.ensures.sent
+    ∙ ap (λ l. l ++ c.pulse.new.self.waiting) c.reserve-in-Pulse.ensures.items))).are
+
+pub returns-in_ok-pulse-in-Pulse-clause-programs : goal.returns-in_ok-pulse-in-Pulse-clause-programs
+returns-in_ok-pulse-in-Pulse-clause-programs g c =
+    (went_there _ _ _ _ _ _
+    (pulse_went c.args.config.now c.args.sites.now.items c.args.sent.now.items c.in-Pulse.from
+    c.in-Pulse.to c.index_mut-site-in-Pulse.result.now c.pulse.new.self
+    c.collect-in-Pulse.new.site c.args.step c.collect-in-Pulse.new.sent.items c.requires.sites
+    (slice_get_read c.args.sites.now.items (length c.args.sites.now.items) c.in-Pulse.from
+    c.index_mut-site-in-Pulse.result.now refl (search rules)
+    c.index_mut-site-in-Pulse.ensures.value) (search rules) (search rules)
+    c.in_ok-pulse-in-Pulse.ensures.done c.in-Pulse.is c.collect-in-Pulse.ensures.site
+    (c.collect-in-Pulse.ensures.sent
+    ∙ ap (λ l. l ++ c.pulse.new.self.waiting) c.reserve-in-Pulse.ensures.items))).programs
+
+pub returns-in_ok-program_turn-in-Turn-clause-idle : goal.returns-in_ok-program_turn-in-Turn-clause-idle
+returns-in_ok-program_turn-in-Turn-clause-idle g c =
+    λ none. idle_turn c.args.config.now c.args.sites.now.items c.args.sent.now.items
+    c.collect.new.sent.items c.in-Turn.node c.index_mut-site.result.now c.program_turn.new.self
+    c.collect.new.site c.in_ok-program_turn-in-Turn.field-0 c.args.step c.requires.sites
+    (slice_get_read c.args.sites.now.items (length c.args.sites.now.items) c.in-Turn.node
+    c.index_mut-site.result.now refl (search rules) c.index_mut-site.ensures.value)
+    c.in_ok-program_turn-in-Turn.ensures.done ? c.in-Turn.is c.collect.ensures.site
+    (c.collect.ensures.sent
+    ∙ ap (λ l. l ++ c.program_turn.new.self.waiting) c.reserve.ensures.items)

@@ -1,0 +1,8 @@
+use Rattle.ivy_node.proofs.Settled.{world_delivered}
+use Rattle.ivy_node.proofs.world.World.is_delivered.Goals as goal
+
+pub returns : goal.returns
+returns g c =
+    rw (← c.self.view_is)
+    (λ all. world_delivered c.self.inside.sites.items c.self.inside.sent.items
+    (c.is_delivered.ensures.0 all))

@@ -1,0 +1,21 @@
+use Rattle.std.proofs.Common.{arith}
+use Rattle.ivy_node.proofs.Headline.{explained-on}
+use Rattle.ivy_node.proofs.Settled.{settled-on}
+use Rattle.ivy_node.proofs.world.World.settle.Goals as goal
+
+pub settle_on-result-requires : goal.settle_on-result-requires
+settle_on-result-requires g c =
+    record { nodes = omega (arith, c.reached.ensures.limits.nodes.0) }
+
+pub returns-clause-made : goal.returns-clause-made
+returns-clause-made g c = record {
+  by = c.settle_on-result.ensures.made;
+  explained = explained-on c.args.self.now c.reached.ensures.limits c.reached.ensures.each _ _
+      c.settle_on-result.ensures.made.made;
+}
+
+pub returns-clause-still : goal.returns-clause-still
+returns-clause-still g c =
+    λ is. settled-on c.args.self.now c.settle_on-result.new.self c.reached.ensures.limits
+    c.reached.ensures.each c.settle_on-result.ensures.stays c.keeps.ensures.reached
+    (c.settle_on-result.ensures.still is)

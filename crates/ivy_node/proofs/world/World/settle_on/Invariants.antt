@@ -1,0 +1,12 @@
+use Rattle.std.proofs.Common.{◌≡◌, List, length}
+use Rattle.ivy_events.specs.declared.Move.{Move}
+use Rattle.ivy_node.specs.Runs.{IsLedTo, IsSameRun}
+use Rattle.ivy_node.specs.Settling.{IsInRound}
+use Rattle.ivy_node.proofs.Settled.{SettlesSoFar}
+use Rattle.ivy_node.proofs.world.World.settle_on.Given as goal
+
+abbrev pub invariant-loop-made : goal.invariant-loop-made
+invariant-loop-made g l = record {
+  so_far : SettlesSoFar l.initial.self l.self l.made;
+  round : IsInRound l.self l.round;
+}
