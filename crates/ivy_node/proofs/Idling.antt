@@ -39,8 +39,7 @@ idle_turn c sites sent more i old done site t step are there after not is same a
     ∙ (λ k. record old { waiting = sym none k }) in
     let idle : HasIdleTurn (world_of sites sent) i =
     λ n e. (let s = get_map (λ (s : Shown). s.node) sites n i e in
-    rw s.2 (rw (same_Some s.0 old (sym s.1 ∙ there)) q.0)) in
-    (
+    rw s.2 (rw (same_Some s.0 old (sym s.1 ∙ there)) q.0)) in (
       rw is idle,
       ap (set sites i) back ∙ set_same sites i old there,
       added ∙ ap (λ (s : Shown). sent ++ s.waiting) q.1 ∙ ap (λ l. sent ++ l) none

@@ -1,21 +1,25 @@
 -- What is under way in a round, and what was delivered.
-use Rattle.std.proofs.Common.{◌≡◌, ◌≢◌, ◌<◌, ◌≤◌, ◌+◌, ◌↔◌, ℕ, true, false, ltb, List, length, slice_get, Some, None, sym, ap, ◌∙◌, arith, inl, inr}
+use Rattle.std.proofs.Common.{◌≡◌, ◌≢◌, ◌<◌, ◌+◌, ◌↔◌, ◌&&◌, nat_lt, ℕ, true, false, ltb, List, length, map, slice_get, Some, None, sym, ap, ◌∙◌, arith, inl, inr}
 use Rattle.std.proofs.lemmas.Bool.{cases_eq, lt-ltb}
-use Rattle.std.proofs.lemmas.Option.{same_Some, none-some, slice_get_cases}
+use Rattle.std.proofs.lemmas.List.{length-map}
+use Rattle.std.proofs.lemmas.Option.{same_Some, none-some, slice_get_cases, slice_get_within}
 use Rattle.ivy_model.specs.declared.Config.{Config}
 use Rattle.ivy_wire.specs.Data.{Frame}
 use Rattle.ivy_wire.specs.Spelling.{Spells}
 use Rattle.ivy_wire.specs.Destinations.{dest_of}
 use Rattle.ivy_link.specs.Linked.{peer_at}
+use Rattle.ivy_events.specs.declared.Move.{Move}
+use Rattle.ivy_events.specs.declared.Move.TheVariants.{Turn, Deliver, Pulse}
+use Rattle.ivy_events.specs.Worlds.{is_named}
 use Rattle.ivy_node.specs.Shown.{Shown}
 use Rattle.ivy_node.specs.Sites.{Awaits}
-use Rattle.ivy_node.specs.WorldSites.{AreSites}
-use Rattle.ivy_node.specs.Settling.{IsUnderWay, IsUnderWayTo, HasNoneUnderWay, IsDeliveredFrom}
+use Rattle.ivy_node.specs.WorldSites.{world_of, AreSites}
+use Rattle.ivy_node.specs.Settling.{IsUnderWayTo, HasNoneUnderWay, IsNextMove, IsDeliveredFrom}
 
 pub nowhere : {X : Type 0} (xs : List X) (i : ℕ) → ltb i (length xs) ≡ false → slice_get xs i ≡ None
-nowhere xs i no =
+nowhere xs i beyond =
     elim (slice_get_cases xs i).1 [
-      | inl h ↦ (let wrong : false ≡ true = sym no ∙ lt-ltb i (length xs) h.1 in absurd cc)
+      | inl h ↦ (let wrong : false ≡ true = sym beyond ∙ lt-ltb i (length xs) h.1 in absurd cc)
       | inr h ↦ h.1
     ]
 
@@ -33,12 +37,6 @@ awaits_exactly s bytes c f delivered config spelled only dest count = (
   },
   λ a. (let same = only a.frame (rw config a.spelled) in rw count (rw same a.later)),
 )
-
--- and none that is for another one
-pub awaits_its_own : (s : Shown) (bytes : List ℕ) (c : Config) (f : Frame) → c ≡ s.config
-    → ((a : Frame) → Spells c a bytes → f ≡ a) → f.dest ≢ s.me → Awaits s bytes → ⊥
-awaits_its_own s bytes c f config only apart a =
-    apart (ap (λ (g : Frame). g.dest) (only a.frame (rw config a.spelled)) ∙ a.dest)
 
 module _ (sites : List Shown) (string : List ℕ) where
   pub for_nobody : dest_of string ≡ None → (to : ℕ) → IsUnderWayTo sites string to → ⊥
@@ -109,3 +107,20 @@ one_more sites i to below here j s t within apart a b =
       | inl e ↦ rw e (here (λ same. apart (same ∙ sym e)) s t a (rw (← e) b))
       | inr ne ↦ below j s t (omega (arith, within, ne)) apart a b
     ]
+
+-- the next move is of what is there
+pub named_next : (sites : List Shown) (sent : List (List ℕ)) (from turn nodes : ℕ) (step : Move)
+    → length sites ≡ nodes → turn < nodes → IsNextMove sites sent from turn step
+    → is_named (world_of sites sent) step ≡ true
+named_next sites sent from turn nodes (Turn i) each within next =
+    let is : i ≡ turn = next.0 in
+    let count = length-map sites (λ (s : Shown). s.node) in
+    lt-ltb i (length (map (λ (s : Shown). s.node) sites)) (omega (arith, is, count, each, within))
+named_next sites sent from turn nodes (Deliver index to) each within next =
+    let way = next.1 in
+    let count = length-map sites (λ (s : Shown). s.node) in
+    let here = slice_get_within sites to way.way.site way.way.there in
+    ap (λ b. b && nat_lt index (length sent))
+    (lt-ltb to (length (map (λ (s : Shown). s.node) sites)) (omega (arith, here, count)))
+    ∙ lt-ltb index (length sent) (slice_get_within sent index way.string way.there)
+named_next sites sent from turn nodes (Pulse i j) each within next = absurd next

@@ -1,5 +1,5 @@
 -- Moves that a world makes to come to rest.
-use Rattle.std.proofs.Common.{◌≡◌, ◌≢◌, ◌<◌, ◌≤◌, ◌+◌, ◌↔◌, ◌||◌, ℕ, Bool, true, false, List, [], ◌∷◌, ◌++◌, length, take, slice_get, Some, Ok, Err, refl, sym, ap, subst, ◌∙◌, arith, inl, inr}
+use Rattle.std.proofs.Common.{◌≡◌, ◌<◌, ◌≤◌, ◌+◌, ◌||◌, ℕ, Bool, true, false, List, [], ◌∷◌, ◌++◌, length, slice_get, Some, Result, Ok, Err, refl, sym, ap, subst, ◌∙◌, arith, inl, inr}
 use Rattle.std.specs.Result.{result_ok}
 use Rattle.std.proofs.Math.Seq.{take-append_seam}
 use Rattle.std.proofs.lemmas.List.{length-append}
@@ -7,14 +7,10 @@ use Rattle.std.proofs.lemmas.Bool.{cases_eq}
 use Rattle.std.proofs.lemmas.Option.{same_Some, slice_get_within}
 use Rattle.ivy_model.specs.declared.Config.{Config}
 use Rattle.ivy_model.specs.declared.Fault.{Fault}
-use Rattle.ivy_model.specs.declared.Fault.TheVariants.{NoSuchFrame}
-use Rattle.ivy_model.specs.Wants.{IsWant}
 use Rattle.ivy_events.specs.declared.Move.{Move}
-use Rattle.ivy_events.specs.Nodes.{Node}
-use Rattle.ivy_events.specs.Worlds.{World, Moves}
-use Rattle.ivy_host.specs.Hosts.{Host, host_rules}
-use Rattle.ivy_host.specs.Managers.{Managed, managed_ops}
-use Rattle.ivy_link.specs.Linked.{peer_at}
+use Rattle.ivy_events.specs.Worlds.{Moves}
+use Rattle.ivy_host.specs.Hosts.{host_rules}
+use Rattle.ivy_host.specs.Managers.{managed_ops}
 use Rattle.ivy_events.specs.declared.Move.TheVariants.{Turn, Deliver, Pulse}
 use Rattle.ivy_rows.proofs.Places.{get_map}
 use Rattle.ivy_model.specs.Config.{IsConfig}
@@ -22,9 +18,9 @@ use Rattle.ivy_settling.specs.Still.{IsStill}
 use Rattle.ivy_settling.proofs.StillWorlds.{settled-led}
 use Rattle.ivy_node.specs.declared.round.Round.{Round}
 use Rattle.ivy_node.specs.declared.rest.Rest.{Rest}
-use Rattle.ivy_node.specs.declared.rest.Rest.TheVariants.{Still, Going}
+use Rattle.ivy_node.specs.declared.rest.Rest.TheVariants.{Going}
 use Rattle.ivy_node.specs.RunState.{Run}
-use Rattle.ivy_node.specs.Runs.{made_of, IsLedTo, IsRefusedBy, IsReached, IsSameRun, CannotBeNamed}
+use Rattle.ivy_node.specs.Runs.{IsLedTo, IsRefusedBy, IsReached, IsSameRun}
 use Rattle.ivy_node.specs.Shown.{Shown}
 use Rattle.ivy_node.specs.WorldSites.{world_of}
 use Rattle.ivy_node.specs.Settling.{DoesNothing, IsDelivered, IsDeliveredFrom, IsOfRound, round_after, HadTurns, IsInRound, HasMadeOne, HasRefusedOne, HasSettledBy, HasSettled}
@@ -52,8 +48,9 @@ none_made r = record { moves = []; count = refl; same = (refl, refl); led = refl
 pub one_made : (old now new : Run) (made : ℕ) → SettlesSoFar old now made → HasMadeOne now new
     → IsSameRun now new → SettlesSoFar old new (made + 1)
 one_made old now new made h one same =
-    let step = subst (λ c. Moves (host_rules managed_ops) c now.world one.0 new.world) h.same.0 one.1
-    in record {
+    let step =
+    subst (λ c. Moves (host_rules managed_ops) c now.world one.0 new.world) h.same.0 one.1 in
+    record {
       moves = h.moves ++ one.0 ∷ [];
       count = length-append h.moves (one.0 ∷ []) ∙ ap (λ n. n + 1) h.count;
       same = (same.0 ∙ h.same.0, same.1 ∙ h.same.1);
@@ -86,7 +83,7 @@ refused_after most made old new fault few h one =
     record {
       moves = list;
       few = omega (arith, count, few);
-      all = λ is. absurd is;
+      all = λ is. absurd cc;
       made = rw (← h.count) (rw (take-append_seam h.moves (one.0 ∷ [])) h.led);
       refused = (omega (arith, count), rw there one.1);
       named = rw there (
@@ -139,3 +136,15 @@ settled-on old new config each same reached still =
     settled-led new.config new.programs (subst IsConfig (sym same.0) config)
     (ap length same.1 ∙ each ∙ ap (λ (c : Config). c.nodes) (sym same.0)) reached.0 new.world
     reached.1 still
+
+-- the same, where only the place from which strings are looked at changed before
+module _ (old mid new : Run) (was : mid ≡ old) where
+  pub turned_on : (round : Round) (step : Move) (did : Bool) → IsInRound old round
+      → IsOfRound round.turn step
+      → (◌≡◌ {A = Result Bool Fault} (Ok did) (Ok false)
+      → DoesNothing mid.world step × (new ≡ mid))
+      → HadTurns new (round_after round step did)
+  turned_on round step did h is idle =
+      went_on old new round step did h is (λ no.
+      let none = idle (ap Ok no) in
+      (subst (λ (r : Run). DoesNothing r.world step) was none.0, none.1 ∙ was))

@@ -1,6 +1,6 @@
--- How a world comes to rest: rounds, in which what is under way is delivered, and then each node has
--- a turn.
-use Rattle.std.specs.Prelude.{◌≡◌, ◌≢◌, ◌<◌, ◌≤◌, ◌+◌, ◌||◌, ℕ, Bool, false, List, length, map, slice_get, Option, Some, None, Result, Ok, Err}
+-- How a world comes to rest: in rounds, in which what is under way is delivered, and then each node
+-- has a turn.
+use Rattle.std.specs.Prelude.{◌≡◌, ◌≢◌, ◌<◌, ◌≤◌, ◌+◌, ◌||◌, ℕ, Bool, false, List, length, map, slice_get, Some, None, Result, Ok}
 use Rattle.ivy_model.specs.declared.Fault.{Fault}
 use Rattle.ivy_wire.specs.Destinations.{dest_of}
 use Rattle.ivy_link.specs.Linked.{peer_at}
@@ -13,7 +13,7 @@ use Rattle.ivy_host.specs.Managers.{Managed, managed_ops}
 use Rattle.ivy_settling.specs.Settled.{AreSettled}
 use Rattle.ivy_node.specs.declared.round.Round.{Round}
 use Rattle.ivy_node.specs.declared.rest.Rest.{Rest}
-use Rattle.ivy_node.specs.declared.rest.Rest.TheVariants.{Still, Going}
+use Rattle.ivy_node.specs.declared.rest.Rest.TheVariants.{Going}
 use Rattle.ivy_node.specs.RunState.{Run}
 use Rattle.ivy_node.specs.Runs.{made_of, IsRefusedBy, IsLedTo, CannotBeNamed, IsRefusedAt, IsNamedAt, IsExplainedOn}
 use Rattle.ivy_node.specs.Shown.{Shown}

@@ -230,13 +230,15 @@ impl<A: Allocator + Copy> World<A> {
         ensures cause { IfErr result (λ fault. IsRefusedBy self.old.config self.old.world fault (Some step)) }
         ensures named { IsNamedUnless self.old.world result step }
     {
-        make(&mut self.sites, &mut self.sent, &self.config, step)
+        let did = make(&mut self.sites, &mut self.sent, &self.config, step)?;
+        Ok(did)
     }
 
     /// What holds of a world that was reached.
     fn reached(&self)
         ensures limits { IsConfig self.now.config }
         ensures each { length self.now.programs ≡ self.now.config.nodes }
+        ensures nodes { length self.now.world.nodes ≡ self.now.config.nodes }
         ensures reached { IsReached self.now }
     {
         let _ = &self.config;
@@ -318,6 +320,7 @@ impl<A: Allocator + Copy> World<A> {
 
     /// Makes the next move of a round, or changes nothing. It says whether the world stands still.
     fn settle_once(&mut self, round: &mut Round) -> Result<bool, Fault>
+        requires limits { IsConfig self.old.config }
         requires round { IsInRound self.old round.old }
         ensures stays { IsSameRun self.old self.new }
         ensures made { OnOk result (HasMadeOne self.old self.new) }
@@ -327,6 +330,7 @@ impl<A: Allocator + Copy> World<A> {
     {
         let step = self.next_move(*round);
         let stirred = self.make(step)?;
+        self.reached();
         *round = round.after(step, stirred);
         if round.turn < self.nodes() {
             return Ok(false);
@@ -338,7 +342,7 @@ impl<A: Allocator + Copy> World<A> {
 
     /// Goes through rounds for so many moves, or until the world stands still.
     fn settle_on(&mut self, moves: u64) -> Result<Rest, (u64, Fault)>
-        requires nodes { 0 < self.old.config.nodes }
+        requires limits { IsConfig self.old.config }
         ensures stays { IsSameRun self.old self.new }
         ensures made { HasSettledBy moves result self.old self.new }
         ensures still { result ≡ Ok Rest.Still → IsStill managed_ops self.new.world }

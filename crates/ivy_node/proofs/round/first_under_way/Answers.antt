@@ -1,4 +1,4 @@
-use Rattle.std.proofs.Common.{rules, length, refl, arith}
+use Rattle.std.proofs.Common.{length, refl, arith}
 use Rattle.std.proofs.lemmas.Option.{slice_get_read}
 use Rattle.ivy_node.proofs.Rounds.{none_here}
 use Rattle.ivy_node.proofs.round.first_under_way.Goals as goal

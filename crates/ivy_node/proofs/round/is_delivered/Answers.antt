@@ -1,4 +1,4 @@
-use Rattle.std.proofs.Common.{rules, ◌≡◌, ◌<◌, ◌↔◌, ℕ, true, false, length, refl, sym, ◌∙◌, arith, inl, inr}
+use Rattle.std.proofs.Common.{refl, sym, ◌∙◌, arith, inl, inr}
 use Rattle.std.proofs.lemmas.Bool.{cases_eq}
 use Rattle.std.proofs.lemmas.Option.{slice_get_within}
 use Rattle.ivy_node.specs.Settling.{IsDeliveredFrom}
@@ -22,8 +22,12 @@ loop-from-preserved g c =
 pub returns : goal.returns
 returns g c = (
   λ t from j s u apart here there.
-  c.loop-from.invariant from
-  (omega (arith, slice_get_within c.args.sites.now from s here, c.requires.each,
-  c.loop-from-test.false)) j s u apart here there,
+      c.loop-from.invariant from
+      (omega (
+        arith,
+        slice_get_within c.args.sites.now from s here,
+        c.requires.each,
+        c.loop-from-test.false,
+      )) j s u apart here there,
   λ all. refl,
 )

@@ -1,4 +1,4 @@
-use Rattle.std.proofs.Common.{rules, ◌≡◌, ◌≢◌, ◌<◌, ◌↔◌, ℕ, length, slice_get, Some, refl, sym, ap, ◌∙◌, arith}
+use Rattle.std.proofs.Common.{rules, ◌≡◌, length, slice_get, Some, refl, sym, arith}
 use Rattle.std.proofs.lemmas.Option.{slice_get_read, slice_get_within}
 use Rattle.ivy_link.specs.Linked.{peer_at}
 use Rattle.ivy_node.proofs.Rounds.{knows, not_delivered, delivered_there, one_more}
@@ -57,7 +57,11 @@ loop-to-preserved g c =
 pub returns : goal.returns
 returns g c = (
   λ t j s u apart here there. c.loop-to.invariant j s u
-      (omega (arith, slice_get_within c.args.sites.now j u there, c.requires.each,
-      c.loop-to-test.false)) apart here there,
+      (omega (
+        arith,
+        slice_get_within c.args.sites.now j u there,
+        c.requires.each,
+        c.loop-to-test.false,
+      )) apart here there,
   λ all. refl,
 )

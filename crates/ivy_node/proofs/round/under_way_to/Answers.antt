@@ -1,8 +1,7 @@
-use Rattle.std.proofs.Common.{rules, ◌≡◌, ℕ, Some, None, false, true, length, slice_get, refl, sym, ◌∙◌}
+use Rattle.std.proofs.Common.{rules, ◌≡◌, Some, None, false, true, length, slice_get, refl, sym, ◌∙◌}
 use Rattle.std.proofs.lemmas.Option.{slice_get_read}
 use Rattle.std.proofs.lemmas.Bool.{ltb-true}
 use Rattle.ivy_wire.specs.Destinations.{dest_of}
-use Rattle.ivy_node.specs.Sites.{Awaits}
 use Rattle.ivy_node.proofs.Rounds.{nowhere, for_nobody, for_none_there, not_awaited}
 use Rattle.ivy_node.proofs.round.under_way_to.Goals as goal
 

@@ -7,19 +7,19 @@ use Rattle.ivy_node.proofs.Making.{turn_went, turn_refused, pulse_went, delivery
 use Rattle.ivy_node.proofs.GoingOn.{went_there, delivery_went}
 use Rattle.ivy_node.proofs.world.make.Goals as goal
 
-pub returns-in_err-program_turn-in-Turn-clause-cause : goal.returns-in_err-program_turn-in-Turn-clause-cause
-returns-in_err-program_turn-in-Turn-clause-cause g c =
-    err_there c.from_residual-in_err-program_turn-in-Turn.result _ _
-    c.from_residual-in_err-program_turn-in-Turn.ensures.1
+pub returns-in_err-turn-in-Turn-clause-cause : goal.returns-in_err-turn-in-Turn-clause-cause
+returns-in_err-turn-in-Turn-clause-cause g c =
+    err_there c.from_residual-in_err-turn-in-Turn.result _ _
+    c.from_residual-in_err-turn-in-Turn.ensures.1
     (turn_refused c.args.config.now c.args.sites.now.items c.args.sent.now.items c.in-Turn.node
     c.index_mut-site.result.now c.args.step _
     (slice_get_read c.args.sites.now.items (length c.args.sites.now.items) c.in-Turn.node
     c.index_mut-site.result.now refl (search rules) c.index_mut-site.ensures.value) c.in-Turn.is
-    c.in_err-program_turn-in-Turn.ensures.spent c.in_err-program_turn-in-Turn.ensures.want)
+    c.in_err-turn-in-Turn.ensures.spent c.in_err-turn-in-Turn.ensures.want)
 
 pub collect-requires : goal.collect-requires
 collect-requires g c =
-    let few = c.in_ok-program_turn-in-Turn.ensures.few in
+    let few = c.in_ok-turn-in-Turn.ensures.few in
     let none =
     ap length
     (c.requires.sites.none_waits c.in-Turn.node c.index_mut-site.result.now
@@ -98,39 +98,39 @@ collect-requires-in-Pulse g c =
     let ok = c.in_ok-reserve-in-Pulse.ensures.ok in
     record { room = omega (arith, few, none, room, len, ok) }
 
-pub returns-in_ok-program_turn-in-Turn-clause-ok : goal.returns-in_ok-program_turn-in-Turn-clause-ok
-returns-in_ok-program_turn-in-Turn-clause-ok g c =
+pub returns-in_ok-turn-in-Turn-clause-ok : goal.returns-in_ok-turn-in-Turn-clause-ok
+returns-in_ok-turn-in-Turn-clause-ok g c =
     (went_there _ _ _ _ _ _
     (turn_went c.args.config.now c.args.sites.now.items c.args.sent.now.items c.in-Turn.node
     c.index_mut-site.result.now c.program_turn.new.self c.collect.new.site
-    c.in_ok-program_turn-in-Turn.field-0 c.args.step c.collect.new.sent.items c.requires.sites
+    c.in_ok-turn-in-Turn.turn c.args.step c.collect.new.sent.items c.requires.sites
     (slice_get_read c.args.sites.now.items (length c.args.sites.now.items) c.in-Turn.node
     c.index_mut-site.result.now refl (search rules) c.index_mut-site.ensures.value)
-    c.in_ok-program_turn-in-Turn.ensures.done c.in-Turn.is c.collect.ensures.site
+    c.in_ok-turn-in-Turn.ensures.done c.in-Turn.is c.collect.ensures.site
     (c.collect.ensures.sent
     ∙ ap (λ l. l ++ c.program_turn.new.self.waiting) c.reserve.ensures.items))).made
 
-pub returns-in_ok-program_turn-in-Turn-clause-sites : goal.returns-in_ok-program_turn-in-Turn-clause-sites
-returns-in_ok-program_turn-in-Turn-clause-sites g c =
+pub returns-in_ok-turn-in-Turn-clause-sites : goal.returns-in_ok-turn-in-Turn-clause-sites
+returns-in_ok-turn-in-Turn-clause-sites g c =
     (went_there _ _ _ _ _ _
     (turn_went c.args.config.now c.args.sites.now.items c.args.sent.now.items c.in-Turn.node
     c.index_mut-site.result.now c.program_turn.new.self c.collect.new.site
-    c.in_ok-program_turn-in-Turn.field-0 c.args.step c.collect.new.sent.items c.requires.sites
+    c.in_ok-turn-in-Turn.turn c.args.step c.collect.new.sent.items c.requires.sites
     (slice_get_read c.args.sites.now.items (length c.args.sites.now.items) c.in-Turn.node
     c.index_mut-site.result.now refl (search rules) c.index_mut-site.ensures.value)
-    c.in_ok-program_turn-in-Turn.ensures.done c.in-Turn.is c.collect.ensures.site
+    c.in_ok-turn-in-Turn.ensures.done c.in-Turn.is c.collect.ensures.site
     (c.collect.ensures.sent
     ∙ ap (λ l. l ++ c.program_turn.new.self.waiting) c.reserve.ensures.items))).are
 
-pub returns-in_ok-program_turn-in-Turn-clause-programs : goal.returns-in_ok-program_turn-in-Turn-clause-programs
-returns-in_ok-program_turn-in-Turn-clause-programs g c =
+pub returns-in_ok-turn-in-Turn-clause-programs : goal.returns-in_ok-turn-in-Turn-clause-programs
+returns-in_ok-turn-in-Turn-clause-programs g c =
     (went_there _ _ _ _ _ _
     (turn_went c.args.config.now c.args.sites.now.items c.args.sent.now.items c.in-Turn.node
     c.index_mut-site.result.now c.program_turn.new.self c.collect.new.site
-    c.in_ok-program_turn-in-Turn.field-0 c.args.step c.collect.new.sent.items c.requires.sites
+    c.in_ok-turn-in-Turn.turn c.args.step c.collect.new.sent.items c.requires.sites
     (slice_get_read c.args.sites.now.items (length c.args.sites.now.items) c.in-Turn.node
     c.index_mut-site.result.now refl (search rules) c.index_mut-site.ensures.value)
-    c.in_ok-program_turn-in-Turn.ensures.done c.in-Turn.is c.collect.ensures.site
+    c.in_ok-turn-in-Turn.ensures.done c.in-Turn.is c.collect.ensures.site
     (c.collect.ensures.sent
     ∙ ap (λ l. l ++ c.program_turn.new.self.waiting) c.reserve.ensures.items))).programs
 
@@ -231,13 +231,13 @@ returns-in_ok-pulse-in-Pulse-clause-programs g c =
     (c.collect-in-Pulse.ensures.sent
     ∙ ap (λ l. l ++ c.pulse.new.self.waiting) c.reserve-in-Pulse.ensures.items))).programs
 
-pub returns-in_ok-program_turn-in-Turn-clause-idle : goal.returns-in_ok-program_turn-in-Turn-clause-idle
-returns-in_ok-program_turn-in-Turn-clause-idle g c =
+pub returns-in_ok-turn-in-Turn-clause-idle : goal.returns-in_ok-turn-in-Turn-clause-idle
+returns-in_ok-turn-in-Turn-clause-idle g c =
     λ none. idle_turn c.args.config.now c.args.sites.now.items c.args.sent.now.items
     c.collect.new.sent.items c.in-Turn.node c.index_mut-site.result.now c.program_turn.new.self
-    c.collect.new.site c.in_ok-program_turn-in-Turn.field-0 c.args.step c.requires.sites
+    c.collect.new.site c.in_ok-turn-in-Turn.turn c.args.step c.requires.sites
     (slice_get_read c.args.sites.now.items (length c.args.sites.now.items) c.in-Turn.node
     c.index_mut-site.result.now refl (search rules) c.index_mut-site.ensures.value)
-    c.in_ok-program_turn-in-Turn.ensures.done ? c.in-Turn.is c.collect.ensures.site
+    c.in_ok-turn-in-Turn.ensures.done (search (rules, none)) c.in-Turn.is c.collect.ensures.site
     (c.collect.ensures.sent
     ∙ ap (λ l. l ++ c.program_turn.new.self.waiting) c.reserve.ensures.items)

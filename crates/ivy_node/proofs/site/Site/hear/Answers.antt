@@ -1,7 +1,6 @@
 use denote.Enum.Bare.{sameb}
-use Rattle.std.proofs.Common.{rules, true, ◌≡◌, ◌≢◌, ℕ, List, ◌++◌, ◌∷◌, [], None, Err, sym, refl, ap, subst, ◌∙◌}
+use Rattle.std.proofs.Common.{rules, true, ◌≡◌, ◌≢◌, ℕ, List, ◌++◌, ◌∷◌, [], None, sym, refl, ap, subst, ◌∙◌}
 use Rattle.ivy_model.specs.Config.{IsConfig}
-use Rattle.ivy_wire.specs.Faults.{checked}
 use Rattle.ivy_wire.specs.Spelling.{Spells}
 use Rattle.ivy_wire.specs.Lent.{owned_message, owned_body, owned_frame}
 use Rattle.ivy_link.specs.contracts.verdict.Verdict.{the_type}

@@ -1,3 +1,5 @@
+use Rattle.std.proofs.Common.{ℕ, subst}
+use Rattle.ivy_node.specs.Settling.{IsDeliveredFrom}
 use Rattle.ivy_node.proofs.Settled.{world_delivered}
 use Rattle.ivy_node.proofs.world.World.is_delivered.Goals as goal
 
@@ -5,4 +7,5 @@ pub returns : goal.returns
 returns g c =
     rw (← c.self.view_is)
     (λ all. world_delivered c.self.inside.sites.items c.self.inside.sent.items
-    (c.is_delivered.ensures.0 all))
+    (subst (λ sites. (i : ℕ) → IsDeliveredFrom sites i) c.deref.ensures.value
+    (c.is_delivered.ensures.0 all)))

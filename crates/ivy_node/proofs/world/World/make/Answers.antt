@@ -1,5 +1,6 @@
 use Rattle.std.proofs.Common.{◌≡◌, Result, Ok, Err, IsErrAnd, ap, ◌∙◌}
 use Rattle.ivy_memory.proofs.Beginning.{err_there}
+use Rattle.ivy_node.specs.WorldSites.{run_of}
 use Rattle.ivy_node.proofs.Worlds.{running_spelled, runs_on}
 use Rattle.ivy_node.proofs.world.World.make.Goals as goal
 
@@ -14,23 +15,30 @@ make-requires-clause-spelled g c =
     running_spelled c.self.inside.config c.self.inside.sites.items c.self.inside.sent.items
     c.self.invariant
 
-pub returns-in_err-make-clause-cause : goal.returns-in_err-make-clause-cause
-returns-in_err-make-clause-cause g c =
+pub returns-in_err-did-clause-cause : goal.returns-in_err-did-clause-cause
+returns-in_err-did-clause-cause g c =
     rw (← c.self.view_is)
-    (err_there c.from_residual.result _ _ c.from_residual.ensures.1 c.in_err-make.ensures.cause)
+    (err_there c.from_residual.result _ _ c.from_residual.ensures.1 c.in_err-did.ensures.cause)
 
-pub returns-in_err-make-clause-named : goal.returns-in_err-make-clause-named
-returns-in_err-make-clause-named g c =
+pub returns-in_err-did-clause-named : goal.returns-in_err-did-clause-named
+returns-in_err-did-clause-named g c =
     rw (← c.self.view_is)
     (λ n. err_is c.from_residual.result _ _ c.from_residual.ensures.1
-    (c.in_err-make.ensures.named n))
+    (c.in_err-did.ensures.named n))
 
 pub invariant_of-self-2 : goal.invariant_of-self-2
 invariant_of-self-2 g c =
     runs_on c.self.inside.config c.self.inside.sites.items c.make.new.sites.items
     c.self.inside.sent.items c.make.new.sent.items c.args.step c.self.invariant
-    c.in_ok-make.ensures.sites c.in_ok-make.ensures.each c.in_ok-make.ensures.programs
-    c.in_ok-make.ensures.ok
+    c.in_ok-did.ensures.sites c.in_ok-did.ensures.each c.in_ok-did.ensures.programs
+    c.in_ok-did.ensures.ok
 
 pub returns-clause-named : goal.returns-clause-named
-returns-clause-named g c = rw (← c.self.view_is) c.in_ok-make.ensures.named
+returns-clause-named g c = rw (← c.self.view_is) c.in_ok-did.ensures.named
+
+pub returns-clause-idle : goal.returns-clause-idle
+returns-clause-idle g c =
+    rw (← c.self.view_is)
+    (λ none.
+    let is = c.in_ok-did.ensures.idle none in
+    (is.0, λ k. run_of c.self.inside.config (is.1 k) (is.2 k)))

@@ -1,11 +1,6 @@
-use Rattle.std.proofs.Common.{arith}
 use Rattle.ivy_node.proofs.Headline.{explained-on}
 use Rattle.ivy_node.proofs.Settled.{settled-on}
 use Rattle.ivy_node.proofs.world.World.settle.Goals as goal
-
-pub settle_on-result-requires : goal.settle_on-result-requires
-settle_on-result-requires g c =
-    record { nodes = omega (arith, c.reached.ensures.limits.nodes.0) }
 
 pub returns-clause-made : goal.returns-clause-made
 returns-clause-made g c = record {

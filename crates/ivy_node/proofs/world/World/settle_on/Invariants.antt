@@ -1,6 +1,3 @@
-use Rattle.std.proofs.Common.{◌≡◌, List, length}
-use Rattle.ivy_events.specs.declared.Move.{Move}
-use Rattle.ivy_node.specs.Runs.{IsLedTo, IsSameRun}
 use Rattle.ivy_node.specs.Settling.{IsInRound}
 use Rattle.ivy_node.proofs.Settled.{SettlesSoFar}
 use Rattle.ivy_node.proofs.world.World.settle_on.Given as goal
