@@ -109,16 +109,27 @@ numbers-spent l ps within j some spent =
       | inr none ↦ none
     ]
 
+-- one parcel more is looked at
+pub count-on : (ps : List Parcel) (i : ℕ) (p : Parcel) → i < length ps → p ≡ get_or ps i p
+    → count_to (take (i + 1) ps) p.dest ≡ count_to (take i ps) p.dest + 1
+count-on ps i p lt read =
+    count_by_more_yes (λ q. q.dest == p.dest) ps i p lt
+    (eq-eqb (get_or ps i p).dest p.dest (ap (λ (q : Parcel). q.dest) (sym read)))
+
+pub count-past : (ps : List Parcel) (i : ℕ) (p : Parcel) → i < length ps → p ≡ get_or ps i p
+    → (j : ℕ) → p.dest ≢ j → count_to (take (i + 1) ps) j ≡ count_to (take i ps) j
+count-past ps i p lt read j ne =
+    let apart : (get_or ps i p).dest ≢ j =
+    λ e. ne (ap (λ (q : Parcel). q.dest) read ∙ e) in
+    count_by_more_no (λ q. q.dest == j) ps i p lt (ne_eqb (get_or ps i p).dest j apart)
+
 -- a parcel is not among the earlier ones
 pub count-part : (ps : List Parcel) (i : ℕ) (p : Parcel) → i < length ps → p ≡ get_or ps i p
     → count_to (take i ps) p.dest + 1 ≤ count_to ps p.dest
 count-part ps i p lt read =
-    let more : count_to (take (i + 1) ps) p.dest ≡ count_to (take i ps) p.dest + 1 =
-    count_by_more_yes (λ q. q.dest == p.dest) ps i p lt
-    (eq-eqb (get_or ps i p).dest p.dest (ap (λ (q : Parcel). q.dest) (sym read))) in
     let part : count_to (take (i + 1) ps) p.dest ≤ count_to ps p.dest =
     sum_by-take-le (λ q. one_if (q.dest == p.dest)) ps (i + 1) in
-    omega (arith, more, part)
+    omega (arith, count-on ps i p lt read, part)
 
 -- the frame of one of the parcels
 frame-there : (l : Linked) (ps : List Parcel) (i : ℕ) (p : Parcel) → i < length ps
@@ -188,10 +199,8 @@ room-more sides ps i n p new lt read here inside room before j below some =
           rw (get_or-set_at sides n j new (side_at [] 0) e inside)
           (omega (arith, room, ap (count_to ps) (e ∙ here)))
       | inr ne ↦
-          let apart : (get_or ps i p).dest ≢ j =
-          λ d. ne (sym d ∙ (ap (λ (q : Parcel). q.dest) (sym read) ∙ sym here)) in
           let same : count_to (take (i + 1) ps) j ≡ count_to (take i ps) j =
-          count_by_more_no (λ q. q.dest == j) ps i p lt (ne_eqb (get_or ps i p).dest j apart) in
+          count-past ps i p lt read j (λ d. ne (sym (here ∙ d))) in
           rw (get_or-set_other sides n j new (side_at [] 0) ne)
           (before j (omega (arith, below, length-set sides n new)) (omega (arith, some, same)))
     ]

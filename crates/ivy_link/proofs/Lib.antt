@@ -1,6 +1,7 @@
 pub mod Peers
 pub mod Counting
 pub mod Sending
+pub mod Passed
 pub mod Pulses
 pub mod Pairs
 pub mod Making

@@ -1,6 +1,7 @@
 -- What contracts see of a link's side to one node: what it knows, for how many more messages it has
 -- room, and the strings that it holds.
-use Rattle.std.specs.Prelude.{ℕ, ◌<◌, ◌≤◌, ◌==◌, List, length, map, slice_index_or, count_by}
+use Rattle.std.specs.Prelude.{◌≡◌, ℕ, ◌<◌, ◌≤◌, ◌==◌, List, length, map, slice_index_or, count_by}
+use Rattle.ivy_model.specs.Limits.{most_nodes}
 use Rattle.ivy_wire.specs.Data.{Message, Parcel}
 use Rattle.ivy_link.specs.Linked.{Peer, Linked, fresh}
 use Rattle.ivy_link.specs.Windows.{Window, first_window}
@@ -35,6 +36,10 @@ side_at sides j = slice_index_or sides j (record { peer = fresh; room = 0; held 
 -- how many of the parcels go to the node
 abbrev pub count_to : List Parcel → ℕ → ℕ
 count_to ps j = count_by (λ p. p.dest == j) ps
+
+-- they are how many of the parcels go to each node of a configuration
+abbrev pub IsCountOf : List ℕ → List Parcel → Type 0
+IsCountOf counts ps = (j : ℕ) → j < most_nodes → slice_index_or counts j 0 ≡ count_to ps j
 
 -- each node has room for the parcels that go there
 abbrev pub HasRoomFor : List Sided → List Parcel → Type 0

@@ -1,6 +1,6 @@
 -- The strings of one node that came before their turn. A receiver should hold such a string until
 -- those before it have come (RFC 9293, 3.10.7.4).
-use Rattle.std.specs.Prelude.{ℕ, ◌-◌, List, [], ◌∷◌, ◌++◌, drop, replicate, slice_index_or, slice_set, Bool, ◌&&◌, nat_lt, is_none, Option, Some, None, if◌then◌else◌}
+use Rattle.std.specs.Prelude.{ℕ, ◌-◌, List, [], ◌∷◌, ◌++◌, drop, replicate, slice_index_or, slice_set, Bool, ◌&&◌, nat_lt, is_none, Option, Some, None}
 use Rattle.ivy_link.specs.declared.verdict.Verdict.{Verdict}
 use Rattle.ivy_link.specs.declared.verdict.Verdict.TheVariants.{Next, Repeat, Ahead, NotMine}
 use Rattle.ivy_link.specs.Limits.{most_ahead}

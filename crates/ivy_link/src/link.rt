@@ -1,14 +1,16 @@
 //! The link of one node to all others.
-ghost use Rattle.std.specs.Prelude.{◌≡◌, ◌≢◌, ◌↔◌, ℕ, ◌<◌, List, [], ◌∷◌, ◌++◌, length, map, slice_get, true, false, Some, IfOk, IfErr, IsOk, OnOk, OnErr, IsErrOf, IsOkUnless};
+ghost use Rattle.std.specs.Prelude.{◌≡◌, ◌≢◌, ◌↔◌, ℕ, ◌<◌, List, [], ◌∷◌, ◌+◌, ◌++◌, length, map, take, slice_get, true, false, Some, IfOk, IfErr, IsOk, OnOk, OnErr, IsErrOf, IsOkUnless};
 ghost use Rattle.ivy_model.specs.Wants.{IsWant};
 ghost use Rattle.ivy_model.specs.declared.Fault.TheVariants.{Memory, NumbersSpent};
 ghost use Rattle.ivy_wire.specs.Lent.{owned_message, owned_parcel, owned_frame};
 ghost use Rattle.ivy_link.specs.Linked.{peer_at};
 ghost use Rattle.ivy_link.specs.Pulsed.{repeated};
+ghost use Rattle.ivy_link.specs.Sides.{IsCountOf};
 ghost use Rattle.ivy_link.specs.Holding.{link_of, first_holding, offered_at, accepted_at, after_sending, frames_for, has_numbers_for};
 ghost use Rattle.ivy_link.specs.Holding.{AreToPeers, frames_repeated, after_pulsing, after_hold, given_back, ready_of, after_taking};
 
-use crate::keeping::{count_to, has_numbers_to, keep_each, reserve};
+use crate::counts::Counts;
+use crate::keeping::{has_numbers_to, keep_each, reserve};
 use crate::lent::{add, copied, copies};
 use crate::side::Side;
 use crate::verdict::Verdict;
@@ -144,16 +146,24 @@ impl<A: Allocator + Copy> Link<A> {
         true
     }
 
-    /// The frame of the parcel at this index, one of those that [`Link::frames`] would give now.
-    pub fn frame<'p>(&self, parcels: &[Parcel<&'p [u8]>], index: usize) -> Frame<&'p [u8]>
+    /// The frame of the parcel at this index, one of those that [`Link::frames`] would give now. The parcels
+    /// before it were counted, and it is counted then, too: so a whole list is walked once.
+    pub fn frame<'p>(
+        &self,
+        parcels: &[Parcel<&'p [u8]>],
+        index: usize,
+        counts: &mut Counts,
+    ) -> Frame<&'p [u8]>
         requires within { AreToPeers self.now (map owned_parcel parcels.now) }
         requires numbers { has_numbers_for self.now (map owned_parcel parcels.now) ≡ true }
         requires inside { index < length parcels.now }
-        ensures { slice_get (frames_for self.now (map owned_parcel parcels.now)) index ≡ Some (owned_frame result) }
+        requires before { IsCountOf counts.old (map owned_parcel (take index parcels.now)) }
+        ensures frame { slice_get (frames_for self.now (map owned_parcel parcels.now)) index ≡ Some (owned_frame result) }
+        ensures after { IsCountOf counts.new (map owned_parcel (take (index + 1) parcels.now)) }
     {
         let parcel = &parcels[index];
         let side = &self.sides[usize::from(parcel.dest)];
-        let earlier = count_to(&parcels[..index], parcel.dest);
+        let earlier = counts.pass(parcels, index);
         Frame {
             source: self.me,
             dest: parcel.dest,
@@ -173,8 +183,9 @@ impl<A: Allocator + Copy> Link<A> {
         ensures sure { length parcels.now ≡ 0 → IsOk result }
     {
         let mut frames = Vec::with_capacity(self.alloc, parcels.len())?;
+        let mut counts = Counts::none();
         for index in 0..parcels.len() {
-            add(&mut frames, self.frame(parcels, index))?;
+            add(&mut frames, self.frame(parcels, index, &mut counts))?;
         }
         Ok(frames)
     }

@@ -11,7 +11,7 @@ ghost use Rattle.ivy_link.specs.Holding.{link_of, accepted_at, after_hold, ready
 ghost use Rattle.ivy_link.specs.Pulsed.{frames_again, pulsed};
 ghost use Rattle.ivy_node.specs.Outboxes.{holding_of, with_holding, with_waiting, with_sending, TakesFirst, most_sent, next_dest};
 
-use ivy_link::{Link, Verdict};
+use ivy_link::{Counts, Link, Verdict};
 use ivy_model::{Config, Fault};
 use ivy_wire::{Bytes, Frame, Parcel, Post, destination, encode};
 use std::alloc::Allocator;
@@ -77,8 +77,9 @@ fn spell<A: Allocator + Copy>(
     ensures memory { IsOkUnless result Fault.Memory }
 {
     strings.reserve(parcels.len())?;
+    let mut counts = Counts::none();
     for index in 0..parcels.len() {
-        let frame = link.frame(parcels, index);
+        let frame = link.frame(parcels, index, &mut counts);
         strings.push_back(Bytes::from_vec(alloc, encode(alloc, config, &frame)?)?)?;
     }
     Ok(())

@@ -1,6 +1,6 @@
 use Rattle.std.proofs.Common.{◌≡◌, ◌<◌, length, sym, ap, ◌∙◌, arith}
 use Rattle.ivy_link.specs.Linked.{Peer, peer_at}
-use Rattle.ivy_link.specs.Holding.{Holding, link_of, window_at, after_hold, with_window}
+use Rattle.ivy_link.specs.Holding.{Holding, link_of, window_at}
 use Rattle.ivy_link.specs.Windows.{Window}
 use Rattle.ivy_link.proofs.Peers.{view-read, seen-held, seen-window, window_held, holds-here}
 use Rattle.ivy_link.proofs.link.Link.hold.Goals as goal

@@ -20,12 +20,12 @@ loop-index-preserved g c =
     let added = c.in_ok-add.ensures in
     let more =
     take-read (frames_for c.args.self.now (map owned_parcel c.args.parcels.now))
-    c.loop-index.index (owned_frame c.frame.result) c.frame.ensures in
-    cc
+    c.loop-index.index (owned_frame c.frame.result) c.frame.ensures.frame in
+    record { frames = cc; counts = c.frame.ensures.after }
 
 pub returns-clause-ok : goal.returns-clause-ok
 returns-clause-ok g c =
-    c.loop-index.invariant
+    c.loop-index.invariant.frames
     ∙ take_all c.loop-index.index
     (frames_for c.args.self.now (map owned_parcel c.args.parcels.now))
     (omega (
