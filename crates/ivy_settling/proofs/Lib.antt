@@ -8,3 +8,7 @@ pub mod Reached
 pub mod Stopped
 pub mod Settling
 pub mod StillWorlds
+pub mod Totals
+pub mod Hops
+pub mod Works
+pub mod Handling
