@@ -12,3 +12,8 @@ pub mod Totals
 pub mod Hops
 pub mod Works
 pub mod Handling
+pub mod Loads
+pub mod Delivered
+pub mod Forwards
+pub mod Lowering
+pub mod Ending

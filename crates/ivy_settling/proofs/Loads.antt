@@ -1,7 +1,6 @@
 -- The load of the messages under way, and of those put off, and what one delivery does to it.
-use Rattle.std.proofs.Common.{◌≡◌, ◌≢◌, ◌≤◌, ◌<◌, ◌+◌, ◌*◌, ℕ, zero, suc, Bool, true, false, List, [], ◌∷◌, ◌++◌, drop, refl, sym, ap, ◌∙◌, inl, inr, ◌⊎◌, arith, subst}
+use Rattle.std.proofs.Common.{◌≡◌, ◌≢◌, ◌≤◌, ◌<◌, ◌+◌, ℕ, List, [], ◌∷◌, ◌++◌, ap, ◌∙◌, inl, inr, ◌⊎◌, arith}
 use Rattle.std.specs.Prelude.{sum_by}
-use Rattle.std.proofs.lemmas.Bool.{cases_eq}
 use Rattle.std.proofs.lemmas.List.Sums.{sum_by-cons, sum_by-append}
 use Rattle.ivy_wire.specs.Data.{Content, Message, Parcel}
 use Rattle.ivy_link.specs.Paired.{posted}
@@ -22,12 +21,12 @@ each_less f g le (x ∷ xs) =
     let e : f x ≤ g x = le x in
     omega (arith, a, b, d, e)
 
--- what a message weighs at a node; one under way weighs so much more
-module _ (nodes pages more : ℕ) where
+-- what a message weighs that is under way to a node, and one that is put off there
+module _ (nodes pages : ℕ) where
   -- the messages from each node to each other one, and the entries
-  module _ (weight : ℕ → Content → ℕ) (way : ℕ → ℕ → List Message) (at : ℕ → ℕ → Entry) where
+  module _ (heavy weight : ℕ → Content → ℕ) (way : ℕ → ℕ → List Message) (at : ℕ → ℕ → Entry) where
     abbrev pub way_load : ℕ → ℕ → ℕ
-    way_load i j = sum_by (λ (m : Message). more + weight j m.content) (way i j)
+    way_load i j = sum_by (λ (m : Message). heavy j m.content) (way i j)
 
     abbrev pub aside_load : ℕ → ℕ → ℕ
     aside_load i p = sum_by (λ (q : PutOff). weight i (content_of q.kind p)) (put_offs (at i p))
@@ -42,18 +41,18 @@ module _ (nodes pages more : ℕ) where
     load = way_loads + aside_loads
 
   -- where each weighs no more
-  pub lighter : (w v : ℕ → Content → ℕ) → ((i : ℕ) (b : Content) → w i b ≤ v i b)
-      → (way : ℕ → ℕ → List Message) (at : ℕ → ℕ → Entry) → load w way at ≤ load v way at
-  lighter w v le way at =
-      let a : way_loads w way at ≤ way_loads v way at =
-      sum_le nodes (λ i. sum_below nodes (way_load w way at i)) _ (λ i l.
-      sum_le nodes (way_load w way at i) _ (λ j d.
-      each_less (λ (m : Message). more + w j m.content) (λ (m : Message). more + v j m.content)
-      (λ m. (let e : w j m.content ≤ v j m.content = le j m.content in omega (arith, e)))
-      (way i j))) in
-      let b : aside_loads w way at ≤ aside_loads v way at =
-      sum_le nodes (λ i. sum_below pages (aside_load w way at i)) _ (λ i l.
-      sum_le pages (aside_load w way at i) _ (λ p d.
+  pub lighter : (g w h v : ℕ → Content → ℕ) → ((i : ℕ) (b : Content) → g i b ≤ h i b)
+      → ((i : ℕ) (b : Content) → w i b ≤ v i b) → (way : ℕ → ℕ → List Message)
+      (at : ℕ → ℕ → Entry) → load g w way at ≤ load h v way at
+  lighter g w h v less le way at =
+      let a : way_loads g w way at ≤ way_loads h v way at =
+      sum_le nodes (λ i. sum_below nodes (way_load g w way at i)) _ (λ i l.
+      sum_le nodes (way_load g w way at i) _ (λ j d.
+      each_less (λ (m : Message). g j m.content) (λ (m : Message). h j m.content)
+      (λ m. less j m.content) (way i j))) in
+      let b : aside_loads g w way at ≤ aside_loads h v way at =
+      sum_le nodes (λ i. sum_below pages (aside_load g w way at i)) _ (λ i l.
+      sum_le pages (aside_load g w way at i) _ (λ p d.
       each_less (λ (q : PutOff). w i (content_of q.kind p))
       (λ (q : PutOff). v i (content_of q.kind p))
       (λ q. le i (content_of q.kind p)) (put_offs (at i p)))) in
@@ -61,77 +60,77 @@ module _ (nodes pages more : ℕ) where
 
   -- One message from s to x is taken, the entry of one page is written there, and parcels are
   -- posted.
-  module _ (weight : ℕ → Content → ℕ) (way rest now : ℕ → ℕ → List Message)
+  module _ (heavy weight : ℕ → Content → ℕ) (way rest now : ℕ → ℕ → List Message)
       (at then : ℕ → ℕ → Entry) (s x p : ℕ) (m : Message) (ps : List Parcel) (from : s < nodes)
       (here : x < nodes) (inside : p < pages) where
     abbrev w : ℕ → Message → ℕ
-    w j n = more + weight j n.content
+    w j n = heavy j n.content
 
     taken_load : way s x ≡ m ∷ rest s x
         → ((i j : ℕ) → (i ≢ s) ⊎ (j ≢ x) → rest i j ≡ way i j)
-        → way_loads weight rest at + (more + weight x m.content) ≤ way_loads weight way at
+        → way_loads heavy weight rest at + heavy x m.content ≤ way_loads heavy weight way at
     taken_load first others =
-        let one : sum_below nodes (way_load weight rest at s) + way_load weight way at s x
-        ≤ sum_below nodes (way_load weight way at s) + way_load weight rest at s x =
-        sum_change nodes x (way_load weight way at s) (way_load weight rest at s) here
-        (λ j l ne. (let e : way_load weight rest at s j ≡ way_load weight way at s j =
+        let one : sum_below nodes (way_load heavy weight rest at s) + way_load heavy weight way at s x
+        ≤ sum_below nodes (way_load heavy weight way at s) + way_load heavy weight rest at s x =
+        sum_change nodes x (way_load heavy weight way at s) (way_load heavy weight rest at s) here
+        (λ j l ne. (let e : way_load heavy weight rest at s j ≡ way_load heavy weight way at s j =
         ap (sum_by (w j)) (others s j (inr ne)) in omega (arith, e))) in
-        let all : way_loads weight rest at + sum_below nodes (way_load weight way at s)
-        ≤ way_loads weight way at + sum_below nodes (way_load weight rest at s) =
-        sum_change nodes s (λ i. sum_below nodes (way_load weight way at i))
-        (λ i. sum_below nodes (way_load weight rest at i)) from
-        (λ i l ne. sum_le nodes (way_load weight rest at i) (way_load weight way at i)
-        (λ j d. (let e : way_load weight rest at i j ≡ way_load weight way at i j =
+        let all : way_loads heavy weight rest at + sum_below nodes (way_load heavy weight way at s)
+        ≤ way_loads heavy weight way at + sum_below nodes (way_load heavy weight rest at s) =
+        sum_change nodes s (λ i. sum_below nodes (way_load heavy weight way at i))
+        (λ i. sum_below nodes (way_load heavy weight rest at i)) from
+        (λ i l ne. sum_le nodes (way_load heavy weight rest at i) (way_load heavy weight way at i)
+        (λ j d. (let e : way_load heavy weight rest at i j ≡ way_load heavy weight way at i j =
         ap (sum_by (w j)) (others i j (inl ne)) in omega (arith, e)))) in
-        let it : way_load weight way at s x
-        ≡ more + weight x m.content + way_load weight rest at s x =
+        let it : way_load heavy weight way at s x
+        ≡ heavy x m.content + way_load heavy weight rest at s x =
         ap (sum_by (w x)) first ∙ sum_by-cons (w x) m (rest s x) in
         omega (arith, one, all, it)
 
     posted_load : ((i j : ℕ) → now i j ≡ rest i j ++ posted i j ps)
-        → way_loads weight now then ≤ way_loads weight rest at + parcels nodes w ps
+        → way_loads heavy weight now then ≤ way_loads heavy weight rest at + parcels nodes w ps
     posted_load is =
         let once : count_posted nodes w ps ≤ parcels nodes w ps = posted_once nodes w ps in
-        let split : sum_below nodes (λ i. sum_below nodes (way_load weight rest at i)
+        let split : sum_below nodes (λ i. sum_below nodes (way_load heavy weight rest at i)
         + sum_below nodes (λ j. sum_by (w j) (posted i j ps)))
-        ≡ way_loads weight rest at + count_posted nodes w ps =
-        sum_add nodes (λ i. sum_below nodes (way_load weight rest at i))
+        ≡ way_loads heavy weight rest at + count_posted nodes w ps =
+        sum_add nodes (λ i. sum_below nodes (way_load heavy weight rest at i))
         (λ i. sum_below nodes (λ j. sum_by (w j) (posted i j ps))) in
-        let less : way_loads weight now then
-        ≤ sum_below nodes (λ i. sum_below nodes (way_load weight rest at i)
+        let less : way_loads heavy weight now then
+        ≤ sum_below nodes (λ i. sum_below nodes (way_load heavy weight rest at i)
         + sum_below nodes (λ j. sum_by (w j) (posted i j ps))) =
-        sum_le nodes (λ i. sum_below nodes (way_load weight now then i)) _
-        (λ i l. (let a : sum_below nodes (λ j. way_load weight rest at i j
+        sum_le nodes (λ i. sum_below nodes (way_load heavy weight now then i)) _
+        (λ i l. (let a : sum_below nodes (λ j. way_load heavy weight rest at i j
         + sum_by (w j) (posted i j ps))
-        ≡ sum_below nodes (way_load weight rest at i)
+        ≡ sum_below nodes (way_load heavy weight rest at i)
         + sum_below nodes (λ j. sum_by (w j) (posted i j ps)) =
-        sum_add nodes (way_load weight rest at i) (λ j. sum_by (w j) (posted i j ps)) in
-        let b : sum_below nodes (way_load weight now then i)
-        ≤ sum_below nodes (λ j. way_load weight rest at i j + sum_by (w j) (posted i j ps)) =
-        sum_le nodes (way_load weight now then i) _
-        (λ j d. (let e : way_load weight now then i j
-        ≡ way_load weight rest at i j + sum_by (w j) (posted i j ps) =
+        sum_add nodes (way_load heavy weight rest at i) (λ j. sum_by (w j) (posted i j ps)) in
+        let b : sum_below nodes (way_load heavy weight now then i)
+        ≤ sum_below nodes (λ j. way_load heavy weight rest at i j + sum_by (w j) (posted i j ps)) =
+        sum_le nodes (way_load heavy weight now then i) _
+        (λ j d. (let e : way_load heavy weight now then i j
+        ≡ way_load heavy weight rest at i j + sum_by (w j) (posted i j ps) =
         ap (sum_by (w j)) (is i j) ∙ sum_by-append (w j) (rest i j) (posted i j ps) in
         omega (arith, e))) in
         omega (arith, a, b))) in
         omega (arith, once, split, less)
 
     written_load : ((i q : ℕ) → (i ≢ x) ⊎ (q ≢ p) → then i q ≡ at i q)
-        → aside_loads weight way then + aside_load weight way at x p
-        ≤ aside_loads weight way at + aside_load weight way then x p
+        → aside_loads heavy weight way then + aside_load heavy weight way at x p
+        ≤ aside_loads heavy weight way at + aside_load heavy weight way then x p
     written_load others =
-        let one : sum_below pages (aside_load weight way then x) + aside_load weight way at x p
-        ≤ sum_below pages (aside_load weight way at x) + aside_load weight way then x p =
-        sum_change pages p (aside_load weight way at x) (aside_load weight way then x) inside
-        (λ q l ne. (let e : aside_load weight way then x q ≡ aside_load weight way at x q =
+        let one : sum_below pages (aside_load heavy weight way then x) + aside_load heavy weight way at x p
+        ≤ sum_below pages (aside_load heavy weight way at x) + aside_load heavy weight way then x p =
+        sum_change pages p (aside_load heavy weight way at x) (aside_load heavy weight way then x) inside
+        (λ q l ne. (let e : aside_load heavy weight way then x q ≡ aside_load heavy weight way at x q =
         ap (λ z. sum_by (λ (r : PutOff). weight x (content_of r.kind q)) (put_offs z))
         (others x q (inr ne)) in omega (arith, e))) in
-        let all : aside_loads weight way then + sum_below pages (aside_load weight way at x)
-        ≤ aside_loads weight way at + sum_below pages (aside_load weight way then x) =
-        sum_change nodes x (λ i. sum_below pages (aside_load weight way at i))
-        (λ i. sum_below pages (aside_load weight way then i)) here
-        (λ i l ne. sum_le pages (aside_load weight way then i) (aside_load weight way at i)
-        (λ q d. (let e : aside_load weight way then i q ≡ aside_load weight way at i q =
+        let all : aside_loads heavy weight way then + sum_below pages (aside_load heavy weight way at x)
+        ≤ aside_loads heavy weight way at + sum_below pages (aside_load heavy weight way then x) =
+        sum_change nodes x (λ i. sum_below pages (aside_load heavy weight way at i))
+        (λ i. sum_below pages (aside_load heavy weight way then i)) here
+        (λ i l ne. sum_le pages (aside_load heavy weight way then i) (aside_load heavy weight way at i)
+        (λ q d. (let e : aside_load heavy weight way then i q ≡ aside_load heavy weight way at i q =
         ap (λ z. sum_by (λ (r : PutOff). weight i (content_of r.kind q)) (put_offs z))
         (others i q (inl ne)) in omega (arith, e)))) in
         omega (arith, one, all)
@@ -140,13 +139,13 @@ module _ (nodes pages more : ℕ) where
         → ((i j : ℕ) → (i ≢ s) ⊎ (j ≢ x) → rest i j ≡ way i j)
         → ((i j : ℕ) → now i j ≡ rest i j ++ posted i j ps)
         → ((i q : ℕ) → (i ≢ x) ⊎ (q ≢ p) → then i q ≡ at i q)
-        → load weight now then + (more + weight x m.content) + aside_load weight way at x p
-        ≤ load weight way at + parcels nodes w ps + aside_load weight now then x p
+        → load heavy weight now then + heavy x m.content + aside_load heavy weight way at x p
+        ≤ load heavy weight way at + parcels nodes w ps + aside_load heavy weight now then x p
     event_load first others is same =
-        let a : way_loads weight rest at + (more + weight x m.content)
-        ≤ way_loads weight way at = taken_load first others in
-        let b : way_loads weight now then ≤ way_loads weight rest at + parcels nodes w ps =
+        let a : way_loads heavy weight rest at + heavy x m.content
+        ≤ way_loads heavy weight way at = taken_load first others in
+        let b : way_loads heavy weight now then ≤ way_loads heavy weight rest at + parcels nodes w ps =
         posted_load is in
-        let d : aside_loads weight way then + aside_load weight way at x p
-        ≤ aside_loads weight way at + aside_load weight way then x p = written_load same in
+        let d : aside_loads heavy weight way then + aside_load heavy weight way at x p
+        ≤ aside_loads heavy weight way at + aside_load heavy weight way then x p = written_load same in
         omega (arith, a, b, d)

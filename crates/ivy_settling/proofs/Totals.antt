@@ -78,6 +78,10 @@ sum_only (suc n) x v f others most = elim (cases_eq x n) [
       omega (arith, a, b))
 ]
 
+pub and_right : (a b : Bool) → b ≡ false → (a && b) ≡ false
+and_right true b is = is
+and_right false b is = refl
+
 -- what is posted is counted once, at the pair of its nodes
 module _ (n : ℕ) (f : ℕ → Message → ℕ) where
   abbrev pub count_posted : List Parcel → ℕ
@@ -95,10 +99,6 @@ module _ (n : ℕ) (f : ℕ → Message → ℕ) where
   at_most : (b : Bool) (v : ℕ) → (if b then v else 0) ≤ v
   at_most true v = omega arith
   at_most false v = omega arith
-
-  and_right : (a b : Bool) → b ≡ false → (a && b) ≡ false
-  and_right true b is = is
-  and_right false b is = refl
 
   one_posted : (p : Parcel)
       → sum_below n (λ i. sum_below n (λ j. one_at p i j)) ≤ f p.dest p.message

@@ -3,6 +3,7 @@
 use Rattle.std.specs.Prelude.{◌≡◌, ◌≤◌, ◌+◌, ◌*◌, ℕ, zero, suc, List, [], ◌∷◌, length, drop, sum_by}
 use Rattle.ivy_model.specs.declared.Config.{Config}
 use Rattle.ivy_model.specs.Config.{IsConfig}
+use Rattle.ivy_model.specs.Limits.{most_nodes}
 use Rattle.ivy_wire.specs.declared.Content.TheVariants as content
 use Rattle.ivy_wire.specs.Data.{Content}
 use Rattle.ivy_pagetable.specs.Entries.{put_offs}
@@ -20,12 +21,12 @@ sum_below zero f = 0
 sum_below (suc n) f = sum_below n f + f n
 
 -- The work that a message makes: itself, and the messages that answer it. A page comes with the
--- nodes that have a copy, at most 32, of which each is sent an order and answers it.
+-- nodes that have a copy, of which each is sent an order and answers it.
 abbrev pub work_of : Content → ℕ
 work_of (content.ReadReq page) = 2
 work_of (content.ReadRep page bytes) = 1
-work_of (content.WriteReq page) = 66
-work_of (content.WriteRep page copies bytes) = 65
+work_of (content.WriteReq page) = 2 * most_nodes + 2
+work_of (content.WriteRep page copies bytes) = 2 * most_nodes + 1
 work_of (content.Inval page) = 2
 work_of (content.InvalAck page) = 1
 work_of (content.AllocReq size) = 2
@@ -48,8 +49,8 @@ module _ {S : Type 0} (c : Config) (o : Ordered (Host S)) where
   abbrev pub work_left : ℕ
   work_left = work_under_way + work_put_off
 
--- each message of the work left is sent on, or put off, at most once for each node between two of
--- the others
+-- Each delivery lessens the work, or puts a message off, or sends it on. Between two that lessen it
+-- each message is put off once at most, and sent on by each node once at most.
 abbrev pub most_deliveries : ℕ → ℕ → ℕ
 most_deliveries nodes work = (nodes + 1) * work * (work + 1)
 
