@@ -1,7 +1,7 @@
 -- What a delivery leaves: the messages that are under way then, and the nodes but for the one that
 -- was given the message.
 use Rattle.std.proofs.Common.{◌≡◌, ◌≢◌, ◌⊎◌, ℕ, ◌+◌, Bool, true, false, List, ◌∷◌, ◌++◌, drop, slice_get, Some, refl, sym, ap, ◌∙◌, inl, inr, eq-eqb, if◌then◌else◌, ◌==◌, ◌&&◌}
-use Rattle.std.proofs.lemmas.Bool.{ne_eqb}
+use Rattle.std.proofs.lemmas.Bool.{and_right, ne_eqb}
 use Rattle.std.proofs.lemmas.List.{drop-append-le}
 use Rattle.ivy_wire.specs.Data.{Message, Parcel}
 use Rattle.ivy_link.specs.Paired.{posted, extended}
@@ -10,7 +10,6 @@ use Rattle.ivy_events.specs.Ordered.{Ordered, Delivers, one_more}
 use Rattle.ivy_errands.proofs.Led.{get_set}
 use Rattle.ivy_errands.proofs.Filtered.{first_left}
 use Rattle.ivy_errands.proofs.HeapWays.{IsWithin, within_taken}
-use Rattle.ivy_settling.proofs.Totals.{and_right}
 
 -- the messages under way from one node to another
 abbrev pub under_way : {C : Type 0} → Ordered C → ℕ → ℕ → List Message

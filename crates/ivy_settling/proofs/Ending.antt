@@ -1,12 +1,11 @@
 -- Deliveries end: each lessens the work that is left, or lowers how far the messages have to go,
 -- and that is bounded by the work.
-use Rattle.std.proofs.Common.{◌≡◌, ◌≤◌, ◌<◌, ◌+◌, ◌*◌, ℕ, zero, suc, List, [], ◌∷◌, length, refl, sym, ap, subst, inl, inr, arith, mul-le-mul_left}
+use Rattle.std.proofs.Common.{◌≡◌, ◌≤◌, ◌<◌, ◌+◌, ◌*◌, ℕ, zero, suc, List, [], ◌∷◌, length, Option, Some, None, refl, sym, ap, subst, inl, inr, arith, mul-le-mul_left}
 use Rattle.std.proofs.lemmas.Bool.{cases_eq}
 use Rattle.std.specs.Prelude.{sum_by}
 use Rattle.std.proofs.lemmas.List.Sums.{sum_by-cons}
 use Rattle.ivy_model.specs.declared.Config.{Config}
 use Rattle.ivy_model.specs.Config.{IsConfig}
-use Rattle.ivy_wire.specs.declared.Content.TheVariants as content
 use Rattle.ivy_wire.specs.Data.{Content, Message}
 use Rattle.ivy_pagetable.specs.declared.PutOff.{PutOff}
 use Rattle.ivy_pagetable.specs.Entries.{put_offs}
@@ -21,7 +20,7 @@ use Rattle.ivy_settling.proofs.Hops.{hops_most}
 use Rattle.ivy_settling.proofs.Works.{work_some}
 use Rattle.ivy_settling.proofs.Loads.{way_loads, aside_loads}
 use Rattle.ivy_settling.proofs.Delivered.{under_way}
-use Rattle.ivy_settling.proofs.Lowering.{hops_of, entries, claiming, hop_at, hops_at, far, far_way, work, way, lowers}
+use Rattle.ivy_settling.proofs.Lowering.{page_asked, hops_to, fewer_hops, entries, claiming, hop_at, hops_at, far, far_way, work, way, lowers}
 
 -- each is at most so many times the other one
 scaled_below : (k n : ℕ) (f g : ℕ → ℕ) → ((i : ℕ) → f i ≤ k * g i)
@@ -43,43 +42,34 @@ scaled_by k f g le (x ∷ xs) =
     let e : f x ≤ k * g x = le x in
     omega (arith, a, b, d, e)
 
-hops_bounded : (most : ℕ) (hops : ℕ → ℕ → ℕ) → ((p i : ℕ) → hops p i ≤ most) → (i : ℕ)
-    (b : Content) → hops_of hops i b ≤ most
-hops_bounded most hops le i (content.ReadReq page) = le page i
-hops_bounded most hops le i (content.WriteReq page) = le page i
-hops_bounded most hops le i (content.ReadRep page bytes) = omega arith
-hops_bounded most hops le i (content.WriteRep page copies bytes) = omega arith
-hops_bounded most hops le i (content.Inval page) = omega arith
-hops_bounded most hops le i (content.InvalAck page) = omega arith
-hops_bounded most hops le i (content.AllocReq size) = omega arith
-hops_bounded most hops le i (content.AllocRep code addr) = omega arith
-hops_bounded most hops le i (content.FreeReq addr) = omega arith
-hops_bounded most hops le i (content.FreeRep code) = omega arith
+hops_within : (most i : ℕ) (asked : Option ℕ) → hops_to (λ p j. most) i asked ≤ most
+hops_within most i (Some page) = omega arith
+hops_within most i None = omega arith
 
 module _ (c : Config) (o : Ordered (Host Managed)) where
   -- one message
   one_way : (i : ℕ) (b : Content) → far_way c o i b ≤ (c.nodes + 1) * work_of b
   one_way i b =
-      let a : far c o i b ≤ c.nodes =
-      hops_bounded c.nodes (hops_at c o)
-      (λ p j. hops_most (claiming c o p) (hop_at c o p) c.nodes j) i b in
+      let a : far c o i b ≤ hops_to (λ p j. c.nodes) i (page_asked b) =
+      fewer_hops (hops_at c o) (λ p j. c.nodes)
+      (λ p j. hops_most (claiming c o p) (hop_at c o p) c.nodes j) i (page_asked b) in
+      let e : hops_to (λ p j. c.nodes) i (page_asked b) ≤ c.nodes =
+      hops_within c.nodes i (page_asked b) in
       let d : (c.nodes + 1) * 1 ≤ (c.nodes + 1) * work_of b =
       mul-le-mul_left (c.nodes + 1) (work_some b) in
-      omega (arith, a, d)
+      omega (arith, a, d, e)
 
   -- all of them
   way_most : way c o ≤ (c.nodes + 1) * work c o
   way_most =
-      let a : way_loads c.nodes c.pages (far_way c o) (far c o) (under_way o) (entries c o)
-      ≤ (c.nodes + 1)
-      * way_loads c.nodes c.pages (λ i. work_of) (λ i. work_of) (under_way o) (entries c o) =
+      let a : way_loads c.nodes c.pages (far_way c o) (under_way o)
+      ≤ (c.nodes + 1) * way_loads c.nodes c.pages (λ i. work_of) (under_way o) =
       scaled_below (c.nodes + 1) c.nodes _ _ (λ i.
       scaled_below (c.nodes + 1) c.nodes _ _ (λ j.
       scaled_by (c.nodes + 1) (λ (m : Message). far_way c o j m.content)
       (λ (m : Message). work_of m.content) (λ m. one_way j m.content) (under_way o i j))) in
-      let b : aside_loads c.nodes c.pages (far_way c o) (far c o) (under_way o) (entries c o)
-      ≤ (c.nodes + 1)
-      * aside_loads c.nodes c.pages (λ i. work_of) (λ i. work_of) (under_way o) (entries c o) =
+      let b : aside_loads c.nodes c.pages (far c o) (entries c o)
+      ≤ (c.nodes + 1) * aside_loads c.nodes c.pages (λ i. work_of) (entries c o) =
       scaled_below (c.nodes + 1) c.nodes _ _ (λ i.
       scaled_below (c.nodes + 1) c.pages _ _ (λ p.
       scaled_by (c.nodes + 1) (λ (q : PutOff). far c o i (content_of q.kind p))

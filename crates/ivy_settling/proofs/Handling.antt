@@ -1,7 +1,9 @@
 -- What a message about a page does to one node: it lessens the work that is left, is put off, or is
 -- sent on.
-use Rattle.std.proofs.Common.{◌≡◌, ◌≢◌, ◌≤◌, ◌<◌, ◌+◌, ◌*◌, ℕ, Bool, true, false, not, ◌&&◌, List, [], ◌∷◌, ◌++◌, length, Option, Some, None, refl, sym, ap, ◌∙◌, inl, inr, arith, subst, if◌then◌else◌, ◌==◌}
+use Rattle.std.proofs.Common.{◌≡◌, ◌≢◌, ◌≤◌, ◌<◌, ◌+◌, ◌*◌, ℕ, Bool, true, false, not, ◌&&◌, List, [], ◌∷◌}
+use Rattle.std.proofs.Common.{◌++◌, length, Option, Some, None, refl, sym, ap, ◌∙◌, inl, inr, arith, subst, if◌then◌else◌, ◌==◌}
 use Rattle.std.specs.FinSet as set
+use Rattle.ivy_model.specs.Limits.{most_nodes}
 use Rattle.ivy_wire.specs.declared.Content.TheVariants as content
 use Rattle.ivy_wire.specs.Data.{Content, Message}
 use Rattle.ivy_pagetable.specs.declared.Entry.{Entry}
@@ -16,18 +18,20 @@ use Rattle.ivy_pagetable.specs.Tables.{entry_at, page_at, with_entry}
 use Rattle.ivy_pagetable.specs.Words.{carried_out}
 use Rattle.ivy_pagetable.specs.Manager.{Ops}
 use Rattle.ivy_coherence.specs.Coherent.{Coherent}
-use Rattle.ivy_coherence.specs.Steps.{CoherenceEffect, is_none, breach, unlocked, put_by, put_aside, asked, copy_came, owned_with, page_came, left_with, still_collecting, collected, acknowledged, after_serving, handled, handled_as}
+use Rattle.ivy_coherence.specs.Steps.{CoherenceEffect, is_none, breach, unlocked, put_by, put_aside, asked, copy_came, owned_with}
+use Rattle.ivy_coherence.specs.Steps.{page_came, left_with, still_collecting, collected, acknowledged, after_serving, handled, handled_as}
 use Rattle.ivy_coherence.proofs.Changing.{entry_with}
 use Rattle.ivy_serving.specs.Serving.{Serving, serving, told, served_by_owner, served_by_other, invalidations, parcel_to}
 use Rattle.ivy_rows.specs.Letters.{content_of}
+use Rattle.ivy_rows.proofs.Needs.{page_of}
 use Rattle.ivy_requests.specs.Claiming.{claims}
 use Rattle.ivy_requests.proofs.Claims.{put_claims}
 use Rattle.ivy_settling.specs.Ending.{work_of}
 use Rattle.ivy_settling.proofs.Works.{work_posted, work_put, work_some, owner_work, all_served_work, nodes_few, orders_work}
 
 -- a message, as it is put off
-abbrev put_off_as : Request → ℕ → ℕ → PutOff
-put_off_as kind origin call = record { kind = kind; origin = origin; call = call }
+abbrev put_off_as : ℕ → ℕ → Request → PutOff
+put_off_as origin call kind = record { kind = kind; origin = origin; call = call }
 
 abbrev pub request_of : Bool → ℕ → Content
 request_of write page = if write then content.WriteReq page else content.ReadReq page
@@ -96,8 +100,8 @@ module _ {S : Type 0} (ops : Ops S) (k : Coherent S) (p : ℕ) where
         (s : WaitingState) (origin call : ℕ) (body : Content) → put_offs before ≡ s.put_off
         → Does origin call body (unlocked ops k from p idle reply bytes s)
     unlocked_does from idle reply bytes s origin call body is =
-        less_does origin call body (unlocked ops k from p idle reply bytes s) (entry.Idle _) (here _)
-        (there _)
+        less_does origin call body (unlocked ops k from p idle reply bytes s) (entry.Idle _)
+        (here _) (there _)
         (let a : work_posted (unlocked ops k from p idle reply bytes s).posted
         ≤ work_posted [] + work_put p s.put_off =
         all_served_work ops k.me p (carried_out s.word bytes).bytes
@@ -107,33 +111,33 @@ module _ {S : Type 0} (ops : Ops S) (k : Coherent S) (p : ℕ) where
         omega (arith, a, b, d))
 
     -- it is put off
-    put_does : (origin call : ℕ) (kind : Request) (e : Entry) → before ≡ e
-        → Does origin call (content_of kind p)
-        (put_aside ops k p e (record { kind = kind; origin = origin; call = call }))
-    put_does origin call kind e is = either (can_put_off e) refl
+    put_does : (q : PutOff) (e : Entry) → before ≡ e
+        → Does q.origin q.call (content_of q.kind p) (put_aside ops k p e q)
+    put_does q e is = either (can_put_off e) refl
       where
         last : (z : Entry) → can_put_off z ≡ true
-            → put_offs (with_put_off z (put_off_as kind origin call)) ≡ put_offs z ++ (put_off_as kind origin call) ∷ []
+            → put_offs (with_put_off z q) ≡ put_offs z ++ q ∷ []
         last (entry.Idle s) h = absurd (let f : false ≡ true = h in cc)
         last (entry.AwaitRead s) h = refl
         last (entry.AwaitWrite s) h = refl
         last (entry.AwaitAcks s) h = refl
 
         either : (b : Bool) → can_put_off e ≡ b
-            → Does origin call (content_of kind p) (if b then put_by ops k p e (put_off_as kind origin call) else breach ops k)
+            → Does q.origin q.call (content_of q.kind p)
+            (if b then put_by ops k p e q else breach ops k)
         either true room = record {
-          handles = puts_off (put_off_as kind origin call) refl refl refl
-              (ap put_offs (here (with_put_off e (put_off_as kind origin call))) ∙ last e room
-              ∙ ap (λ v. put_offs v ++ (put_off_as kind origin call) ∷ []) (sym is))
-              (ap claims (here (with_put_off e (put_off_as kind origin call))) ∙ put_claims e (put_off_as kind origin call) ∙ ap claims (sym is));
-          elsewhere = there (with_put_off e (put_off_as kind origin call));
+          handles = puts_off q refl refl refl
+              (ap put_offs (here (with_put_off e q)) ∙ last e room
+              ∙ ap (λ v. put_offs v ++ q ∷ []) (sym is))
+              (ap claims (here (with_put_off e q)) ∙ put_claims e q ∙ ap claims (sym is));
+          elsewhere = there (with_put_off e q);
         }
-        either false full = breach_does origin call (content_of kind p)
+        either false full = breach_does q.origin q.call (content_of q.kind p)
 
     -- it is served at an idle entry
     idle_does : (origin call : ℕ) (kind : Request) (s : IdleState) → before ≡ entry.Idle s
         → Does origin call (content_of kind p)
-        (asked ops k p (record { kind = kind; origin = origin; call = call }) (entry.Idle s))
+        (asked ops k p (put_off_as origin call kind) (entry.Idle s))
     idle_does origin call kind s is = either s.owner refl
       where
         none_before : work_put p (put_offs before) ≡ 0
@@ -155,7 +159,8 @@ module _ {S : Type 0} (ops : Ops S) (k : Coherent S) (p : ℕ) where
         }
 
         by_other : (j : Request) → s.owner ≡ false → Does origin call (content_of j p)
-            (after_serving ops k p (served_by_other ops k.me p (page_at k.table p) (unserved s) origin call j))
+            (after_serving ops k p
+            (served_by_other ops k.me p (page_at k.table p) (unserved s) origin call j))
         by_other request.Read plain = sent_on false plain
         by_other request.Write plain = sent_on true plain
         by_other request.Invalidate plain =
@@ -163,7 +168,8 @@ module _ {S : Type 0} (ops : Ops S) (k : Coherent S) (p : ℕ) where
             (let a = none_before in omega (arith, a))
 
         either : (own : Bool) → s.owner ≡ own → Does origin call (content_of kind p)
-            (after_serving ops k p (if own then served_by_owner ops k.me p (page_at k.table p) (unserved s) origin call kind
+            (after_serving ops k p (if own
+            then served_by_owner ops k.me p (page_at k.table p) (unserved s) origin call kind
             else served_by_other ops k.me p (page_at k.table p) (unserved s) origin call kind))
         either false plain = by_other kind plain
         either true own =
@@ -178,23 +184,23 @@ module _ {S : Type 0} (ops : Ops S) (k : Coherent S) (p : ℕ) where
     -- a request, or an order
     asked_does : (origin call : ℕ) (kind : Request) (e : Entry) → before ≡ e
         → Does origin call (content_of kind p)
-        (asked ops k p (record { kind = kind; origin = origin; call = call }) e)
+        (asked ops k p (put_off_as origin call kind) e)
     asked_does origin call kind (entry.Idle s) is = idle_does origin call kind s is
     asked_does origin call kind (entry.AwaitRead s) is =
-        put_does origin call kind (entry.AwaitRead s) is
+        put_does (put_off_as origin call kind) (entry.AwaitRead s) is
     asked_does origin call request.Read (entry.AwaitWrite s) is =
-        put_does origin call request.Read (entry.AwaitWrite s) is
+        put_does (put_off_as origin call request.Read) (entry.AwaitWrite s) is
     asked_does origin call request.Write (entry.AwaitWrite s) is =
-        put_does origin call request.Write (entry.AwaitWrite s) is
+        put_does (put_off_as origin call request.Write) (entry.AwaitWrite s) is
     asked_does origin call request.Invalidate (entry.AwaitWrite s) is =
         less_does origin call (content.Inval p) _ (entry.AwaitWrite _) (here _) (there _)
         (let a : work_put p (put_offs before) ≡ work_put p s.waiting.put_off =
         ap (λ z. work_put p (put_offs z)) is in
         omega (arith, a))
     asked_does origin call request.Read (entry.AwaitAcks s) is =
-        put_does origin call request.Read (entry.AwaitAcks s) is
+        put_does (put_off_as origin call request.Read) (entry.AwaitAcks s) is
     asked_does origin call request.Write (entry.AwaitAcks s) is =
-        put_does origin call request.Write (entry.AwaitAcks s) is
+        put_does (put_off_as origin call request.Write) (entry.AwaitAcks s) is
     asked_does origin call request.Invalidate (entry.AwaitAcks s) is =
         breach_does origin call (content.Inval p)
 
@@ -235,7 +241,7 @@ module _ {S : Type 0} (ops : Ops S) (k : Coherent S) (p : ℕ) where
             (there _)
             (let a : work_posted (invalidations k.me p call copies) ≡ 2 * length (nodes_of copies) =
             orders_work k.me p call (nodes_of copies) in
-            let b : length (nodes_of copies) ≤ 32 = nodes_few copies in
+            let b : length (nodes_of copies) ≤ most_nodes = nodes_few copies in
             let d : work_put p (put_offs before) ≡ work_put p s.waiting.put_off =
             ap (λ z. work_put p (put_offs z)) is in
             omega (arith, a, b, d))
@@ -277,16 +283,6 @@ module _ {S : Type 0} (ops : Ops S) (k : Coherent S) (p : ℕ) where
     ack_does from origin call (entry.AwaitRead s) is = breach_does origin call _
     ack_does from origin call (entry.AwaitWrite s) is = breach_does origin call _
 
--- at which page: one of the heap, at none
-abbrev pub page_in : Content → ℕ
-page_in (content.ReadReq page) = page
-page_in (content.ReadRep page bytes) = page
-page_in (content.WriteReq page) = page
-page_in (content.WriteRep page copies bytes) = page
-page_in (content.Inval page) = page
-page_in (content.InvalAck page) = page
-page_in body = 0
-
 module _ {S : Type 0} (ops : Ops S) (k : Coherent S) where
   unless : (p : ℕ) (b : Bool) (origin call : ℕ) (body : Content) (e f : CoherenceEffect S)
       → Does ops k p origin call body e → Does ops k p origin call body f
@@ -295,8 +291,8 @@ module _ {S : Type 0} (ops : Ops S) (k : Coherent S) where
   unless p false origin call body e f first second = second
 
   handled_does_as : (from origin call : ℕ) (body : Content)
-      → page_in body < length k.table.entries
-      → Does ops k (page_in body) origin call body (handled_as ops k from origin call body)
+      → page_of body < length k.table.entries
+      → Does ops k (page_of body) origin call body (handled_as ops k from origin call body)
   handled_does_as from origin call (content.ReadReq p) within =
       unless p (origin == k.me) origin call _ _ _ (breach_does ops k p within origin call _)
       (asked_does ops k p within origin call request.Read (entry_at k.table p) refl)
@@ -329,7 +325,7 @@ module _ {S : Type 0} (ops : Ops S) (k : Coherent S) where
   handled_does_as from origin call (content.FreeRep code) within =
       breach_does ops k 0 within origin call _
 
-  pub handled_does : (from : ℕ) (m : Message) → page_in m.content < length k.table.entries
-      → Does ops k (page_in m.content) m.origin m.call m.content (handled ops k from m)
+  pub handled_does : (from : ℕ) (m : Message) → page_of m.content < length k.table.entries
+      → Does ops k (page_of m.content) m.origin m.call m.content (handled ops k from m)
   unfolding handled
   handled_does from m within = handled_does_as from m.origin m.call m.content within

@@ -1,6 +1,6 @@
 -- Each delivery lessens the work that is left, or leaves it and lowers how far the messages under
 -- way have to go: itself, and the hops left to each request.
-use Rattle.std.proofs.Common.{◌≡◌, ◌≢◌, ◌⊎◌, ◌≤◌, ◌<◌, ◌+◌, ℕ, suc, Bool, true, false, List, [], ◌∷◌, ◌++◌, length, refl, sym, ap, ◌∙◌, inl, inr, arith, subst}
+use Rattle.std.proofs.Common.{◌≡◌, ◌≢◌, ◌⊎◌, ◌≤◌, ◌<◌, ◌+◌, ℕ, suc, Bool, true, false, List, [], ◌∷◌, ◌++◌, length, Option, Some, None, refl, sym, ap, ◌∙◌, inl, inr, arith, subst}
 use Rattle.std.specs.Prelude.{sum_by}
 use Rattle.std.proofs.lemmas.Bool.{cases_eq}
 use Rattle.std.proofs.lemmas.List.Sums.{sum_by_push}
@@ -32,6 +32,7 @@ use Rattle.ivy_host.specs.Sound.{IsSoundHost}
 use Rattle.ivy_host.proofs.Pages.{page_serving}
 use Rattle.ivy_rows.specs.Letters.{Underway, content_of}
 use Rattle.ivy_rows.specs.Orderly.{IsOrderly}
+use Rattle.ivy_rows.proofs.Needs.{page_of}
 use Rattle.ivy_errands.proofs.HeapDeliveries.{HeapDelivery, serves, learns}
 use Rattle.ivy_lifting.specs.Nets.{entry_of, manager_of, managers_of, net_of}
 use Rattle.ivy_lifting.specs.Runs.{IsReachedInOrder}
@@ -47,30 +48,30 @@ use Rattle.ivy_settling.specs.Ending.{work_of}
 use Rattle.ivy_settling.proofs.Totals.{parcels}
 use Rattle.ivy_settling.proofs.Hops.{hops_left, no_more_hops, one_hop}
 use Rattle.ivy_settling.proofs.Works.{work_posted, work_put, work_some}
-use Rattle.ivy_settling.proofs.Handling.{Handles, lessens, puts_off, sends_on, Does, request_of, page_in, handled_does}
+use Rattle.ivy_settling.proofs.Handling.{Handles, lessens, puts_off, sends_on, Does, request_of, handled_does}
 use Rattle.ivy_settling.proofs.Loads.{lighter, load, aside_load, event_load}
 use Rattle.ivy_settling.proofs.Delivered.{under_way, others_under_way, first_taken, others_stay, answers_follow, core_here, core_there}
 use Rattle.ivy_settling.proofs.Forwards.{forwarded}
 use Rattle.ivy_settling.proofs.Reached.{IsToldBy, reached_told}
 
--- the hops left to a message at a node, by those left to a request for a page there
-abbrev pub hops_of : (ℕ → ℕ → ℕ) → ℕ → Content → ℕ
-hops_of far node (content.ReadReq page) = far page node
-hops_of far node (content.WriteReq page) = far page node
-hops_of far node body = 0
+-- the page that a request is for
+abbrev pub page_asked : Content → Option ℕ
+page_asked (content.ReadReq page) = Some page
+page_asked (content.WriteReq page) = Some page
+page_asked body = None
 
-fewer_hops : (less far : ℕ → ℕ → ℕ) → ((p i : ℕ) → less p i ≤ far p i) → (i : ℕ) (b : Content)
-    → hops_of less i b ≤ hops_of far i b
-fewer_hops less far le i (content.ReadReq page) = le page i
-fewer_hops less far le i (content.WriteReq page) = le page i
-fewer_hops less far le i (content.ReadRep page bytes) = omega arith
-fewer_hops less far le i (content.WriteRep page copies bytes) = omega arith
-fewer_hops less far le i (content.Inval page) = omega arith
-fewer_hops less far le i (content.InvalAck page) = omega arith
-fewer_hops less far le i (content.AllocReq size) = omega arith
-fewer_hops less far le i (content.AllocRep code addr) = omega arith
-fewer_hops less far le i (content.FreeReq addr) = omega arith
-fewer_hops less far le i (content.FreeRep code) = omega arith
+-- the hops left to a message at a node, by those left to a request for a page there
+abbrev pub hops_to : (ℕ → ℕ → ℕ) → ℕ → Option ℕ → ℕ
+hops_to far node (Some page) = far page node
+hops_to far node None = 0
+
+abbrev pub hops_of : (ℕ → ℕ → ℕ) → ℕ → Content → ℕ
+hops_of far node body = hops_to far node (page_asked body)
+
+pub fewer_hops : (less far : ℕ → ℕ → ℕ) → ((p i : ℕ) → less p i ≤ far p i) → (i : ℕ)
+    (asked : Option ℕ) → hops_to less i asked ≤ hops_to far i asked
+fewer_hops less far le i (Some page) = le page i
+fewer_hops less far le i None = omega arith
 
 request_hops : (far : ℕ → ℕ → ℕ) (node page : ℕ) (write : Bool)
     → hops_of far node (request_of write page) ≡ far page node
@@ -79,7 +80,7 @@ request_hops far node page false = refl
 
 -- a message about a page is about one that there is
 page_inside : (c : Config) (b : Content) → is_of_pages b ≡ true → FitsContent c b
-    → page_in b < c.pages
+    → page_of b < c.pages
 page_inside c (content.ReadReq page) about fits = fits
 page_inside c (content.WriteReq page) about fits = fits
 page_inside c (content.ReadRep page bytes) about fits = fits.0
@@ -201,10 +202,10 @@ module _ (c : Config) (limits : IsConfig c) (programs : List (List Instruction))
     -- what the delivery does to each load
     loaded : (heavy w : ℕ → Content → ℕ)
         → load c.nodes c.pages heavy w (under_way o') (entries c o') + heavy x m.content
-        + aside_load c.nodes c.pages heavy w (under_way o) (entries c o) x p
+        + aside_load w (entries c o) x p
         ≤ load c.nodes c.pages heavy w (under_way o) (entries c o)
         + parcels c.nodes (λ j n. heavy j n.content) effect.posted
-        + aside_load c.nodes c.pages heavy w (under_way o') (entries c o') x p
+        + aside_load w (entries c o') x p
     loaded heavy w =
         event_load c.nodes c.pages heavy w (under_way o)
         (others_under_way (host_rules managed_ops) o o' source x t) (under_way o') (entries c o)
@@ -247,32 +248,28 @@ module _ (c : Config) (limits : IsConfig c) (programs : List (List Instruction))
           ]
         ]
 
-    -- the messages weigh no more than before, and so what the delivery does is this
+    -- the hops left to the requests among these messages that are put off
+    abbrev put_far : List PutOff → ℕ
+    put_far qs = sum_by (λ (q : PutOff). far c o x (content_of q.kind p)) qs
+
+    -- where no more hops are left to any
     way_loaded : ((q i : ℕ) → hops_at c o' q i ≤ hops_at c o q i)
-        → way c o' + (1 + far c o x m.content)
-        + sum_by (λ (q : PutOff). far c o x (content_of q.kind p)) (put_offs (entry_at k.table p))
+        → way c o' + (1 + far c o x m.content) + put_far (put_offs (entry_at k.table p))
         ≤ way c o + parcels c.nodes (λ j n. far_way c o j n.content) effect.posted
-        + sum_by (λ (q : PutOff). far c o x (content_of q.kind p))
-        (put_offs (entry_at effect.after.table p))
+        + put_far (put_offs (entry_at effect.after.table p))
     way_loaded fewer =
-        let less = fewer_hops (hops_at c o') (hops_at c o) fewer in
+        let less : (i : ℕ) (b : Content) → far c o' i b ≤ far c o i b =
+        λ i b. fewer_hops (hops_at c o') (hops_at c o) fewer i (page_asked b) in
         let light : way c o'
         ≤ load c.nodes c.pages (far_way c o) (far c o) (under_way o') (entries c o') =
         lighter c.nodes c.pages (far_way c o') (far c o') (far_way c o) (far c o)
         (λ i b. (let e = less i b in omega (arith, e))) less (under_way o') (entries c o') in
         let a = loaded (far_way c o) (far c o) in
-        let b : sum_by (λ (q : PutOff). far c o x (content_of q.kind p))
-        (put_offs (entries c o x p))
-        ≡ sum_by (λ (q : PutOff). far c o x (content_of q.kind p))
-        (put_offs (entry_at k.table p)) =
-        ap (λ z. sum_by (λ (q : PutOff). far c o x (content_of q.kind p)) (put_offs z))
-        (here_before p) in
-        let d : sum_by (λ (q : PutOff). far c o x (content_of q.kind p))
-        (put_offs (entries c o' x p))
-        ≡ sum_by (λ (q : PutOff). far c o x (content_of q.kind p))
-        (put_offs (entry_at effect.after.table p)) =
-        ap (λ z. sum_by (λ (q : PutOff). far c o x (content_of q.kind p)) (put_offs z))
-        (here_after p) in
+        let b : put_far (put_offs (entries c o x p)) ≡ put_far (put_offs (entry_at k.table p)) =
+        ap (λ z. put_far (put_offs z)) (here_before p) in
+        let d : put_far (put_offs (entries c o' x p))
+        ≡ put_far (put_offs (entry_at effect.after.table p)) =
+        ap (λ z. put_far (put_offs z)) (here_after p) in
         omega (arith, light, a, b, d)
 
     -- it is put off
@@ -280,31 +277,36 @@ module _ (c : Config) (limits : IsConfig c) (programs : List (List Instruction))
         → effect.after.manager ≡ k.manager
         → put_offs (entry_at effect.after.table p) ≡ put_offs (entry_at k.table p) ++ q ∷ []
         → claims (entry_at effect.after.table p) ≡ claims (entry_at k.table p) → Lowers c o o'
-    put_lowers q is none manager put stays = inr (
-      (let a = work_loaded in
-          let b : work_posted effect.posted ≡ 0 = ap work_posted none in
-          let d : work_put p (put_offs (entry_at effect.after.table p))
-          ≡ work_put p (put_offs (entry_at k.table p)) + work_of (content_of q.kind p) =
-          ap (work_put p) put
-          ∙ sum_by_push (λ (r : PutOff). work_of (content_of r.kind p))
-          (put_offs (entry_at k.table p)) q in
-          let e : work_of (content_of q.kind p) ≡ work_of m.content = ap work_of is in
-          omega (arith, a, b, d, e)),
-      (let a =
-          way_loaded (no_farther stays
-          (λ r. inl (hop_after r ∙ ap (λ s. managed_ops.next_hop s r) manager ∙ sym (hop_before r)))) in
-          let b : parcels c.nodes (λ j n. far_way c o j n.content) effect.posted ≡ 0 =
-          ap (parcels c.nodes (λ j n. far_way c o j n.content)) none in
-          let d : sum_by (λ (r : PutOff). far c o x (content_of r.kind p))
-          (put_offs (entry_at effect.after.table p))
-          ≡ sum_by (λ (r : PutOff). far c o x (content_of r.kind p))
-          (put_offs (entry_at k.table p)) + far c o x (content_of q.kind p) =
-          ap (sum_by (λ (r : PutOff). far c o x (content_of r.kind p))) put
-          ∙ sum_by_push (λ (r : PutOff). far c o x (content_of r.kind p))
-          (put_offs (entry_at k.table p)) q in
-          let e : far c o x (content_of q.kind p) ≡ far c o x m.content = ap (far c o x) is in
-          omega (arith, a, b, d, e)),
-    )
+    put_lowers q is none manager put stays = inr (same_work, less_way)
+      where
+        same_work : work c o' ≤ work c o
+        same_work =
+            let a = work_loaded in
+            let b : work_posted effect.posted ≡ 0 = ap work_posted none in
+            let d : work_put p (put_offs (entry_at effect.after.table p))
+            ≡ work_put p (put_offs (entry_at k.table p)) + work_of (content_of q.kind p) =
+            ap (work_put p) put
+            ∙ sum_by_push (λ (r : PutOff). work_of (content_of r.kind p))
+            (put_offs (entry_at k.table p)) q in
+            let e : work_of (content_of q.kind p) ≡ work_of m.content = ap work_of is in
+            omega (arith, a, b, d, e)
+
+        hop_stays : (r : ℕ) → hop_at c o' r x ≡ hop_at c o r x
+        hop_stays r =
+            hop_after r ∙ ap (λ s. managed_ops.next_hop s r) manager ∙ sym (hop_before r)
+
+        less_way : way c o' < way c o
+        less_way =
+            let a = way_loaded (no_farther stays (λ r. inl (hop_stays r))) in
+            let b : parcels c.nodes (λ j n. far_way c o j n.content) effect.posted ≡ 0 =
+            ap (parcels c.nodes (λ j n. far_way c o j n.content)) none in
+            let d : put_far (put_offs (entry_at effect.after.table p))
+            ≡ put_far (put_offs (entry_at k.table p)) + far c o x (content_of q.kind p) =
+            ap put_far put
+            ∙ sum_by_push (λ (r : PutOff). far c o x (content_of r.kind p))
+            (put_offs (entry_at k.table p)) q in
+            let e : far c o x (content_of q.kind p) ≡ far c o x m.content = ap (far c o x) is in
+            omega (arith, a, b, d, e)
 
     -- it is sent on: one hop less is left to it
     abbrev on : Parcel
@@ -317,7 +319,8 @@ module _ (c : Config) (limits : IsConfig c) (programs : List (List Instruction))
         record {
           at = Underway source x ((net_of o).delivered source x);
           letter = record { source = source; dest = x; message = m };
-          there = (omega arith, letter_first o source x m t.first (ap is_of_pages writes), refl, refl);
+          there =
+              (omega arith, letter_first o source x m t.first (ap is_of_pages writes), refl, refl);
           dest = refl;
           asker = refl;
           asks = writes;
@@ -375,28 +378,31 @@ module _ (c : Config) (limits : IsConfig c) (programs : List (List Instruction))
         → put_offs (entry_at effect.after.table p) ≡ [] → put_offs (entry_at k.table p) ≡ []
         → claims (entry_at k.table p) ≡ false → claims (entry_at effect.after.table p) ≡ false
         → Lowers c o o'
-    sent_lowers write is posts manager none_then none plain free = inr (
-      (let a = work_loaded in
-          let b : work_posted effect.posted ≡ 0 + work_of m.content =
-          ap work_posted posts in
-          let d : work_put p (put_offs (entry_at effect.after.table p)) ≡ 0 =
-          ap (work_put p) none_then in
-          omega (arith, a, b, d)),
-      (let a = way_loaded (no_farther (free ∙ sym plain) (hop_on write is manager)) in
-          let b : parcels c.nodes (λ j n. far_way c o j n.content) effect.posted
-          ≡ 0 + (1 + hops_at c o p (managed_ops.next_hop k.manager p)) =
-          ap (parcels c.nodes (λ j n. far_way c o j n.content)) posts
-          ∙ ap (λ v. 0 + (1 + v))
-          (ap (far c o (managed_ops.next_hop k.manager p)) is
-          ∙ request_hops (hops_at c o) (managed_ops.next_hop k.manager p) p write) in
-          let d : sum_by (λ (r : PutOff). far c o x (content_of r.kind p))
-          (put_offs (entry_at effect.after.table p)) ≡ 0 =
-          ap (sum_by (λ (r : PutOff). far c o x (content_of r.kind p))) none_then in
-          let e : far c o x m.content ≡ hops_at c o p x =
-          ap (far c o x) is ∙ request_hops (hops_at c o) x p write in
-          let f = one_less plain in
-          omega (arith, a, b, d, e, f)),
-    )
+    sent_lowers write is posts manager none_then none plain free = inr (same_work, less_way)
+      where
+        same_work : work c o' ≤ work c o
+        same_work =
+            let a = work_loaded in
+            let b : work_posted effect.posted ≡ 0 + work_of m.content = ap work_posted posts in
+            let d : work_put p (put_offs (entry_at effect.after.table p)) ≡ 0 =
+            ap (work_put p) none_then in
+            omega (arith, a, b, d)
+
+        less_way : way c o' < way c o
+        less_way =
+            let a = way_loaded (no_farther (free ∙ sym plain) (hop_on write is manager)) in
+            let b : parcels c.nodes (λ j n. far_way c o j n.content) effect.posted
+            ≡ 0 + (1 + hops_at c o p (managed_ops.next_hop k.manager p)) =
+            ap (parcels c.nodes (λ j n. far_way c o j n.content)) posts
+            ∙ ap (λ v. 0 + (1 + v))
+            (ap (far c o (managed_ops.next_hop k.manager p)) is
+            ∙ request_hops (hops_at c o) (managed_ops.next_hop k.manager p) p write) in
+            let d : put_far (put_offs (entry_at effect.after.table p)) ≡ 0 =
+            ap put_far none_then in
+            let e : far c o x m.content ≡ hops_at c o p x =
+            ap (far c o x) is ∙ request_hops (hops_at c o) x p write in
+            let f = one_less plain in
+            omega (arith, a, b, d, e, f)
 
     lowers_as : Handles managed_ops k p m.origin m.call m.content effect → Lowers c o o'
     lowers_as (lessens less) = (let a = work_loaded in inl (omega (arith, a, less)))
@@ -443,10 +449,10 @@ module _ (c : Config) (limits : IsConfig c) (programs : List (List Instruction))
     elsewhere = λ q ne. ap (λ (z : Coherent Managed). entry_at z.table q) (heap_table h);
   }
 
-  pages_does : is_of_pages m.content ≡ true → page_in m.content < c.pages
-      → Does managed_ops k (page_in m.content) m.origin m.call m.content effect
+  pages_does : is_of_pages m.content ≡ true → page_of m.content < c.pages
+      → Does managed_ops k (page_of m.content) m.origin m.call m.content effect
   pages_does about inside =
-      subst (λ z. Does managed_ops k (page_in m.content) m.origin m.call m.content (effect_of z))
+      subst (λ z. Does managed_ops k (page_of m.content) m.origin m.call m.content (effect_of z))
       (sym (page_serving managed_ops t.core source m about))
       (handled_does managed_ops k source m
       (let a = good.memory.coherent.entries in
@@ -456,7 +462,7 @@ module _ (c : Config) (limits : IsConfig c) (programs : List (List Instruction))
   lowers_if : (b : Bool) → is_of_pages m.content ≡ b → Lowers c o o'
   lowers_if true about =
       let inside = page_inside c m.content about sent.fits.content in
-      does_lower (page_in m.content) inside (pages_does about inside)
+      does_lower (page_of m.content) inside (pages_does about inside)
   lowers_if false heap =
       does_lower 0 (let a = limits.pages_from in omega (arith, a))
       (heap_does (fits_heap managed_ops c o o' sound source x t heap))

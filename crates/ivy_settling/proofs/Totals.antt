@@ -2,7 +2,7 @@
 -- nodes.
 use Rattle.std.proofs.Common.{◌≡◌, ◌≢◌, ◌≤◌, ◌<◌, ◌+◌, ℕ, zero, suc, Bool, true, false, List, [], ◌∷◌, refl, sym, ap, inl, inr, arith, subst, if◌then◌else◌, ◌==◌, ◌&&◌}
 use Rattle.std.specs.Prelude.{sum_by}
-use Rattle.std.proofs.lemmas.Bool.{cases_eq, ne_eqb}
+use Rattle.std.proofs.lemmas.Bool.{and_right, cases_eq, ne_eqb}
 use Rattle.std.proofs.lemmas.List.Sums.{sum_by-cons}
 use Rattle.ivy_wire.specs.Data.{Message, Parcel}
 use Rattle.ivy_link.specs.Paired.{posted}
@@ -77,10 +77,6 @@ sum_only (suc n) x v f others most = elim (cases_eq x n) [
       let b : f n ≡ 0 = others n (omega (arith, ne)) in
       omega (arith, a, b))
 ]
-
-pub and_right : (a b : Bool) → b ≡ false → (a && b) ≡ false
-and_right true b is = is
-and_right false b is = refl
 
 -- what is posted is counted once, at the pair of its nodes
 module _ (n : ℕ) (f : ℕ → Message → ℕ) where

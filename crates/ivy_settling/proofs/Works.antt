@@ -1,11 +1,12 @@
 -- What is posted where messages are served at an idle entry, and where copies are ordered back, is
 -- no more work than these messages were.
-use Rattle.std.proofs.Common.{◌≡◌, ◌≤◌, ◌<◌, ◌+◌, ◌*◌, ℕ, zero, suc, Bool, true, false, List, [], ◌∷◌, ◌++◌, length, map, refl, ap, ◌∙◌, inl, inr, arith, cond, if◌then◌else◌}
+use Rattle.std.proofs.Common.{◌≡◌, ◌≤◌, ◌<◌, ◌+◌, ◌*◌, ℕ, Bool, true, false, List, [], ◌∷◌, ◌++◌, length, map, refl, ap, ◌∙◌, arith, if◌then◌else◌}
 use Rattle.std.specs.Prelude.{sum_by}
-use Rattle.std.specs.List.{filter, range_with_len}
+use Rattle.std.specs.List.{range_with_len}
 use Rattle.std.specs.FinSet as set
-use Rattle.std.proofs.lemmas.Bool.{cases_Bool}
-use Rattle.std.proofs.lemmas.List.Sums.{sum_by-cons, sum_by_push}
+use Rattle.std.proofs.lemmas.List.Sums.{sum_by-cons, sum_by_push, length-filter, count_by-le-length}
+use Rattle.std.proofs.lemmas.List.FromFn.{length-range_with_len}
+use Rattle.ivy_model.specs.Limits.{most_nodes}
 use Rattle.ivy_wire.specs.declared.Content.TheVariants as content
 use Rattle.ivy_wire.specs.Data.{Content, Parcel}
 use Rattle.ivy_pagetable.specs.declared.PutOff.{PutOff}
@@ -52,7 +53,8 @@ module _ {S : Type 0} (ops : Ops S) (me page : ℕ) (bytes : List ℕ) where
       omega (arith, a)
   owner_work v o call request.Write =
       let a : work_posted (served_by_owner ops me page bytes v o call request.Write).posted
-      ≡ work_posted v.posted + 65 = one_more_posted v.posted _ 65 refl in
+      ≡ work_posted v.posted + (2 * most_nodes + 1) =
+      one_more_posted v.posted _ (2 * most_nodes + 1) refl in
       omega (arith, a)
   owner_work v o call request.Invalidate = omega arith
 
@@ -65,7 +67,8 @@ module _ {S : Type 0} (ops : Ops S) (me page : ℕ) (bytes : List ℕ) where
       omega (arith, a)
   other_work v o call request.Write =
       let a : work_posted (served_by_other ops me page bytes v o call request.Write).posted
-      ≡ work_posted v.posted + 66 = one_more_posted v.posted _ 66 refl in
+      ≡ work_posted v.posted + (2 * most_nodes + 2) =
+      one_more_posted v.posted _ (2 * most_nodes + 2) refl in
       omega (arith, a)
   other_work v o call request.Invalidate =
       let a : work_posted (served_by_other ops me page bytes v o call request.Invalidate).posted
@@ -102,31 +105,14 @@ module _ {S : Type 0} (ops : Ops S) (me page : ℕ) (bytes : List ℕ) where
       sum_by-cons (λ (r : PutOff). work_of (content_of r.kind page)) q qs in
       omega (arith, one, rest, sum)
 
--- the orders to give copies up are no more than 32
-filtered_few : (test : ℕ → Bool) (first most : ℕ)
-    → length (filter test (range_with_len first most)) ≤ most
-filtered_few test first zero = omega arith
-filtered_few test first (suc most) =
-    let a : length (filter test (range_with_len (first + 1) most)) ≤ most =
-    filtered_few test (first + 1) most in
-    elim (cases_Bool (test first)) [
-      | inl has ↦
-          (let b : length (filter test (range_with_len first (suc most)))
-          ≡ suc (length (filter test (range_with_len (first + 1) most))) =
-          ap (λ b. length (cond b (first ∷ filter test (range_with_len (first + 1) most))
-          (filter test (range_with_len (first + 1) most)))) has in
-          omega (arith, a, b))
-      | inr not_there ↦
-          (let b : length (filter test (range_with_len first (suc most)))
-          ≡ length (filter test (range_with_len (first + 1) most)) =
-          ap (λ b. length (cond b (first ∷ filter test (range_with_len (first + 1) most))
-          (filter test (range_with_len (first + 1) most)))) not_there in
-          omega (arith, a, b))
-    ]
-
-pub nodes_few : (s : Nodes) → length (nodes_of s) ≤ 32
+-- the orders to give copies up are no more than the nodes
+pub nodes_few : (s : Nodes) → length (nodes_of s) ≤ most_nodes
 unfolding nodes_of
-nodes_few s = filtered_few (set.contains s) 0 32
+nodes_few s =
+    let a = length-filter (set.contains s) (range_with_len 0 most_nodes) in
+    let b = count_by-le-length (set.contains s) (range_with_len 0 most_nodes) in
+    let d = length-range_with_len 0 most_nodes in
+    omega (arith, a, b, d)
 
 pub orders_work : (me page call : ℕ) (nodes : List ℕ)
     → work_posted (map (λ node. parcel_to me node me call (content.Inval page)) nodes)

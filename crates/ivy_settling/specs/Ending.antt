@@ -55,13 +55,14 @@ abbrev pub most_deliveries : ℕ → ℕ → ℕ
 most_deliveries nodes work = (nodes + 1) * work * (work + 1)
 
 module _ {S : Type 0} (ops : Ops S) where
-  -- from an ordered world each of these is led to by a delivery, the first one first
+  -- a delivery leads from the world to the first of these, one from that to the next, and so on
   abbrev pub AreDeliveries : Ordered (Host S) → List (Ordered (Host S)) → Type 0
   AreDeliveries o [] = Unit {0}
   AreDeliveries o (next ∷ rest) =
       ((source node : ℕ) × Delivers (host_rules ops) o source node next) × AreDeliveries next rest
 
-  -- the law
+  -- The law: from each ordered world that programs reach there are no more deliveries than that,
+  -- in whatever order they come.
   abbrev pub DeliveriesEnd : Type 0
   DeliveriesEnd = (c : Config) (programs : List (List Instruction)) → IsConfig c
       → length programs ≡ c.nodes → (o : Ordered (Host S)) → IsReachedInOrder ops c programs o
