@@ -178,7 +178,7 @@ put_offs_put (entry.AwaitRead s) q h = refl
 put_offs_put (entry.AwaitWrite s) q h = refl
 put_offs_put (entry.AwaitAcks s) q h = refl
 
-put_same : (e : Entry) (q : PutOff)
+pub put_same : (e : Entry) (q : PutOff)
     → (writable (with_put_off e q) ≡ writable e) × (is_owner (with_put_off e q) ≡ is_owner e)
     × (copies_of (with_put_off e q) ≡ copies_of e) × (readable (with_put_off e q) ≡ readable e)
 put_same (entry.Idle s) q = (refl, refl, refl, refl)
@@ -205,7 +205,7 @@ put_no_copy request.Read p q bytes h = cc
 put_no_copy request.Write p q bytes h = cc
 put_no_copy request.Invalidate p q bytes h = cc
 
-put_no_page : (kind : Request) (p q bits : ℕ) (bytes : List ℕ)
+pub put_no_page : (kind : Request) (p q bits : ℕ) (bytes : List ℕ)
     → content_of kind p ≡ content.WriteRep q bits bytes → ⊥
 put_no_page request.Read p q bits bytes h = cc
 put_no_page request.Write p q bits bytes h = cc

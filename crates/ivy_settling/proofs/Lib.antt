@@ -8,3 +8,12 @@ pub mod Reached
 pub mod Stopped
 pub mod Settling
 pub mod StillWorlds
+pub mod Totals
+pub mod Hops
+pub mod Works
+pub mod Handling
+pub mod Loads
+pub mod Delivered
+pub mod Forwards
+pub mod Lowering
+pub mod Ending

@@ -19,6 +19,7 @@ use Rattle.ivy_rows.specs.Rows.{letter, Served, Begins, PutsOff}
 use Rattle.ivy_rows.proofs.Needs.{page_of, collects_owner}
 use Rattle.ivy_rows.proofs.Places.{served}
 use Rattle.ivy_rows.proofs.Parcels.{IsThe, answer_step, ask_step}
+use Rattle.ivy_rows.proofs.RowsAsked.{put_same, put_no_page}
 use Rattle.ivy_rows.proofs.Sole.{first_fits, owned_here}
 use Rattle.ivy_rows.proofs.Steps.{IsStep}
 use Rattle.ivy_requests.proofs.Old.{put_off_stays, put_off_step}
@@ -210,28 +211,10 @@ put_no_share request.Read p = tt
 put_no_share request.Write p = tt
 put_no_share request.Invalidate p = tt
 
-put_no_page : (kind : Request) (p q : ℕ) → IsNoPage (content_of kind p) q
-put_no_page request.Read p q bits bytes h = cc
-put_no_page request.Write p q bits bytes h = cc
-put_no_page request.Invalidate p q bits bytes h = cc
-
 pub put_about : (kind : Request) (p : ℕ) → page_of (content_of kind p) ≡ p
 put_about request.Read p = refl
 put_about request.Write p = refl
 put_about request.Invalidate p = refl
-
-put_owner : (e : Entry) (q : PutOff) → is_owner (with_put_off e q) ≡ true
-    → (is_owner e ≡ true) × (copies_of (with_put_off e q) ≡ copies_of e)
-put_owner (entry.Idle s) q h = (h, refl)
-put_owner (entry.AwaitRead s) q h = (h, refl)
-put_owner (entry.AwaitWrite s) q h = (h, refl)
-put_owner (entry.AwaitAcks s) q h = (h, refl)
-
-put_readable : (e : Entry) (q : PutOff) → readable (with_put_off e q) ≡ readable e
-put_readable (entry.Idle s) q = refl
-put_readable (entry.AwaitRead s) q = refl
-put_readable (entry.AwaitWrite s) q = refl
-put_readable (entry.AwaitAcks s) q = refl
 
 put_occupied : (e : Entry) (q : PutOff) → IsOccupied e → IsOccupied (with_put_off e q)
 put_occupied (entry.Idle s) q h = h
@@ -273,7 +256,7 @@ module _ (c : Config) (n : Net) (k : IsCovered n) (r : PutsOff c n) where
             (IsThe (Aside x p (length (put_offs e))) (letter_of x p later)) puts
             (IsOnly put_letter) rest_remain
             (record {
-              owner = λ q h. put_owner e later h;
+              owner = λ q h. (sym (put_same e later).1 ∙ h, (put_same e later).2);
               moved =
                   λ a l bits bytes new brings. put_no_page later.kind p p bits bytes
                   (ap (λ (v : Letter). v.message.content) (sym new.1) ∙ brings);
@@ -284,7 +267,7 @@ module _ (c : Config) (n : Net) (k : IsCovered n) (r : PutsOff c n) where
             (IsOnly put_letter) rest_remain i y p
             (λ here q read. has (reads
             (ap (λ v. readable (put_net.entry v p)) here ∙ ap readable puts.after
-            ∙ put_readable e later ∙ read)))
+            ∙ (put_same e later).3 ∙ read)))
             (λ l gone is_share. absurd
             (only_no_share put_letter l i y p (put_no_share later.kind p) gone is_share)) share);
       }) k
