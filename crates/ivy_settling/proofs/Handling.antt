@@ -21,7 +21,8 @@ use Rattle.ivy_coherence.specs.Coherent.{Coherent}
 use Rattle.ivy_coherence.specs.Steps.{CoherenceEffect, is_none, breach, unlocked, put_by, put_aside, asked, copy_came, owned_with}
 use Rattle.ivy_coherence.specs.Steps.{page_came, left_with, still_collecting, collected, acknowledged, after_serving, handled, handled_as}
 use Rattle.ivy_coherence.proofs.Changing.{entry_with}
-use Rattle.ivy_serving.specs.Serving.{Serving, serving, told, served_by_owner, served_by_other, invalidations, parcel_to}
+use Rattle.ivy_serving.specs.Serving.{Serving, serving, told, served_by_owner, served_by_other, invalidations}
+use Rattle.ivy_wire.specs.Posts.{parcel_to}
 use Rattle.ivy_rows.specs.Letters.{content_of}
 use Rattle.ivy_rows.proofs.Needs.{page_of}
 use Rattle.ivy_requests.specs.Claiming.{claims}
@@ -96,7 +97,7 @@ module _ {S : Type 0} (ops : Ops S) (k : Coherent S) (p : ℕ) where
     }
 
     -- the word that waits is carried out, and what was put off is served
-    unlocked_does : (from : ℕ) (idle : IdleState) (reply : Option Bool) (bytes : List ℕ)
+    unlocked_does : (from : ℕ) (idle : IdleState) (reply : Option Request) (bytes : List ℕ)
         (s : WaitingState) (origin call : ℕ) (body : Content) → put_offs before ≡ s.put_off
         → Does origin call body (unlocked ops k from p idle reply bytes s)
     unlocked_does from idle reply bytes s origin call body is =
@@ -210,9 +211,9 @@ module _ {S : Type 0} (ops : Ops S) (k : Coherent S) (p : ℕ) where
     copy_does from origin call bytes (entry.AwaitRead s) is = either (s.call == call)
       where
         either : (b : Bool) → Does origin call (content.ReadRep p bytes)
-            (if b then unlocked ops k from p copying (Some false) bytes s else breach ops k)
+            (if b then unlocked ops k from p copying (Some request.Read) bytes s else breach ops k)
         either true =
-            unlocked_does from copying (Some false) bytes s origin call (content.ReadRep p bytes)
+            unlocked_does from copying (Some request.Read) bytes s origin call (content.ReadRep p bytes)
             (ap put_offs is)
         either false = breach_does origin call (content.ReadRep p bytes)
     copy_does from origin call bytes (entry.Idle s) is = breach_does origin call _
@@ -228,13 +229,13 @@ module _ {S : Type 0} (ops : Ops S) (k : Coherent S) (p : ℕ) where
         either (s.waiting.call == call && not (set.contains copies k.me))
       where
         collects : (b : Bool) → Does origin call (content.WriteRep p bits bytes)
-            (if b then unlocked ops k from p owning (Some true) bytes s.waiting
+            (if b then unlocked ops k from p owning (Some request.Write) bytes s.waiting
             else record {
               after = collected ops k from p copies bytes s.waiting;
               posted = invalidations k.me p call copies;
             })
         collects true =
-            unlocked_does from owning (Some true) bytes s.waiting origin call
+            unlocked_does from owning (Some request.Write) bytes s.waiting origin call
             (content.WriteRep p bits bytes) (ap put_offs is)
         collects false =
             less_does origin call (content.WriteRep p bits bytes) _ (entry.AwaitAcks _) (here _)

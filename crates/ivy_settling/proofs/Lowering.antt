@@ -15,7 +15,7 @@ use Rattle.ivy_pagetable.specs.declared.Entry.{Entry}
 use Rattle.ivy_pagetable.specs.declared.PutOff.{PutOff}
 use Rattle.ivy_pagetable.specs.Entries.{put_offs}
 use Rattle.ivy_pagetable.specs.Tables.{entry_at}
-use Rattle.ivy_serving.specs.Serving.{parcel_to}
+use Rattle.ivy_wire.specs.Posts.{parcel_to}
 use Rattle.ivy_coherence.specs.Coherent.{Coherent}
 use Rattle.ivy_coherence.specs.Steps.{CoherenceEffect}
 use Rattle.ivy_program.specs.declared.Instruction.{Instruction}

@@ -14,7 +14,8 @@ use Rattle.ivy_pagetable.specs.declared.Request.{Request}
 use Rattle.ivy_pagetable.specs.declared.Request.TheVariants as request
 use Rattle.ivy_pagetable.specs.NodeSets.{Nodes, nodes_of}
 use Rattle.ivy_pagetable.specs.Manager.{Ops}
-use Rattle.ivy_serving.specs.Serving.{Serving, served, served_by_owner, served_by_other, all_served, parcel_to}
+use Rattle.ivy_serving.specs.Serving.{Serving, served, served_by_owner, served_by_other, all_served}
+use Rattle.ivy_wire.specs.Posts.{parcel_to}
 use Rattle.ivy_rows.specs.Letters.{content_of}
 use Rattle.ivy_settling.specs.Ending.{work_of}
 
