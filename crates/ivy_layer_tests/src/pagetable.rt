@@ -69,20 +69,17 @@ fn numbers_have_their_highest_byte_first(rt: HostRuntime) -> Result<(), Fail> {
 #[test]
 fn swap_of_a_byte(rt: HostRuntime) -> Result<(), Fail> {
     let mut table = PageTable::new(rt.alloc(), &CONFIG, 0)?;
-    let swap = |value| Word::Swap {
+    let swap = Word::Swap {
         width: 1,
-        offset: 71,
-        value,
+        offset: 7,
+        value: 511,
     };
-    let load = Word::Load {
-        width: 8,
-        offset: 64,
-    };
-    assert!(rt; swap(2).needs_write());
-    assert_eq!(rt; (swap(2).width(), swap(2).offset()), (1, 71));
-    assert_eq!(rt; table.carry_out(1, swap(2)), Out::Value(0));
-    assert_eq!(rt; table.carry_out(1, swap(511)), Out::Value(2));
-    assert_eq!(rt; table.carry_out(1, load), Out::Value(255));
+    assert!(rt; swap.needs_write());
+    assert_eq!(rt; (swap.width(), swap.offset()), (1, 7));
+    assert_eq!(rt; table.carry_out(1, swap), Out::Value(0));
+    let mut bytes = [1u8; 8];
+    assert_eq!(rt; swap.carry_out(&mut bytes), Out::Value(1));
+    assert_eq!(rt; bytes, [1, 1, 1, 1, 1, 1, 1, 255]);
     Ok(())
 }
 

@@ -86,7 +86,7 @@ fn check_load<A: Allocator + Copy>(
     world: &World<A>,
     node: u8,
 ) -> Result<(), Fail> {
-    let index = 2 * usize::from(node) - 2;
+    let index = 2 * usize::from(node).saturating_sub(1);
     let asks = format!(in alloc;
         "49560201{node:02x}00000d 0000000000000001 0000000000000000 {node:02x} 0000000000000001 00000001"
     )?;
