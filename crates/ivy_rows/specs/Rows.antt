@@ -314,7 +314,8 @@ pub data Row (c : Config) (n : Net) (f : ℕ → List ℕ) : Notice → Net → 
       (parcel_to r.node hop r.node r.call
       (content.WriteReq r.page) ∷ [])) f
   ends_copies : (r : Begins c n) → r.state.owner ≡ true → reads r.state.access ≡ true
-      → writes r.state.access ≡ false → IsBelow c.nodes r.state.copies → set.contains r.state.copies r.node ≡ false
+      → writes r.state.access ≡ false → IsBelow c.nodes r.state.copies
+      → set.contains r.state.copies r.node ≡ false
       → Row c n f Silent
       (goes_on n r.node r.page
       (entry.AwaitAcks
