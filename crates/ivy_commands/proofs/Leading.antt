@@ -10,9 +10,9 @@ use Rattle.ivy_events.specs.Worlds.{World}
 use Rattle.ivy_host.specs.Hosts.{Host, host_rules}
 use Rattle.ivy_host.specs.Managers.{Managed, managed_ops}
 use Rattle.ivy_host.specs.Openings.{opening}
-use Rattle.ivy_node.specs.Runs.{IsLedTo}
-use Rattle.ivy_node.specs.RunState.{Run}
-use Rattle.ivy_node.proofs.Leading.{leads_on}
+use Rattle.ivy_headline.specs.Reached.{IsLedTo}
+use Rattle.ivy_headline.specs.RunState.{Run}
+use Rattle.ivy_events.proofs.Leading.{leads_on}
 use Rattle.ivy_texts.specs.Drawn.{seeded}
 use Rattle.ivy_commands.specs.Commands.{Adds, PrintsDrawn, PrintsMoves, config_of, world_text}
 use Rattle.ivy_commands.specs.Simulated.{DrawnTo}

@@ -6,7 +6,7 @@ use Rattle.ivy_events.specs.declared.Move.{Move}
 use Rattle.ivy_events.specs.Worlds.{World}
 use Rattle.ivy_host.specs.Hosts.{Host}
 use Rattle.ivy_host.specs.Managers.{Managed}
-use Rattle.ivy_node.specs.Runs.{IsLedTo}
+use Rattle.ivy_headline.specs.Reached.{IsLedTo}
 use Rattle.ivy_texts.specs.Drawn.{drawn}
 use Rattle.ivy_commands.specs.Simulated.{DrawnTo}
 

@@ -16,7 +16,7 @@ use Rattle.ivy_events.specs.Worlds.{World}
 use Rattle.ivy_host.specs.Hosts.{Host}
 use Rattle.ivy_host.specs.Managers.{Managed, managed_ops}
 use Rattle.ivy_host.specs.Openings.{opening}
-use Rattle.ivy_node.specs.Runs.{IsLedTo}
+use Rattle.ivy_headline.specs.Reached.{IsLedTo}
 use Rattle.ivy_session.specs.Faults.{IsSessionFault}
 use Rattle.ivy_session.specs.Reports.{NodeReport, IsReport}
 use Rattle.ivy_texts.specs.Drawn.{seeded}

@@ -5,7 +5,7 @@ use Rattle.ivy_model.specs.declared.Config.{Config}
 use Rattle.ivy_events.specs.Worlds.{World}
 use Rattle.ivy_host.specs.Hosts.{Host}
 use Rattle.ivy_host.specs.Managers.{Managed}
-use Rattle.ivy_node.specs.Runs.{IsLedTo}
+use Rattle.ivy_headline.specs.Reached.{IsLedTo}
 use Rattle.ivy_texts.specs.Drawn.{drawn}
 
 -- so many moves lead from one world to another, each drawn over the strings that were sent before

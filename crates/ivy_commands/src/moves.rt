@@ -1,7 +1,7 @@
 //! One move of a world that a command runs.
 ghost use Rattle.std.specs.Prelude.{◌≡◌, [], ◌∷◌, OnOk};
 ghost use Rattle.ivy_host.specs.Holding.{AllSpell};
-ghost use Rattle.ivy_node.specs.Runs.{IsLedTo, IsReached};
+ghost use Rattle.ivy_headline.specs.Reached.{IsLedTo, IsReached};
 
 use ivy_model::Fault;
 use ivy_node::{Move, World};

@@ -1,7 +1,7 @@
 //! Worlds that run by drawn moves.
 ghost use Rattle.std.specs.Prelude.{◌≡◌, OnOk};
 ghost use Rattle.ivy_model.specs.Config.{IsConfig};
-ghost use Rattle.ivy_node.specs.Runs.{IsReached};
+ghost use Rattle.ivy_headline.specs.Reached.{IsReached};
 ghost use Rattle.ivy_commands.specs.Simulated.{DrawnTo};
 ghost use Rattle.ivy_texts.specs.Drawn.{seeded};
 

@@ -1,7 +1,7 @@
 //! Worlds that run by a schedule, with a trace of each move.
 ghost use Rattle.std.specs.Prelude.{◌≡◌, [], ◌∷◌, OnOk};
 ghost use Rattle.ivy_model.specs.Config.{IsConfig};
-ghost use Rattle.ivy_node.specs.Runs.{IsLedTo};
+ghost use Rattle.ivy_headline.specs.Reached.{IsLedTo};
 ghost use Rattle.ivy_commands.specs.Commands.{Adds};
 
 use crate::failure::Failure;

@@ -31,7 +31,8 @@ use Rattle.ivy_events.specs.Worlds.{World, early_of, gone_on, world_goes_on, rem
 use Rattle.ivy_events.specs.Ordered.{rests, turns, delivers, one_more}
 use Rattle.ivy_events.specs.Following.{links_of, ordered_of, IsString, Follows, IsTame, FollowsStep}
 use Rattle.ivy_events.proofs.Places.{guarded, read-either, set-cases, set-same, set-there, link-of, core-of, more-here, more-other_source, more-other_dest}
-use Rattle.ivy_events.proofs.Sent.{sends-delivered, sends-peers, sends-numbers, sends-acks}
+use Rattle.ivy_link.proofs.Sending.{sends-peers}
+use Rattle.ivy_events.proofs.Sent.{sends-delivered, sends-numbers, sends-acks}
 use Rattle.ivy_events.proofs.Sent.{accepted-sent, repeat-delivered, ahead-delivered, next-delivered}
 use Rattle.ivy_events.proofs.Sent.{next-others, sends-offered, next-means, pulse-delivered}
 use Rattle.ivy_events.proofs.Sent.{pulse-sent, pulse-acks, made-fits, made-message, extended-fits}

@@ -8,3 +8,4 @@ pub mod Parts
 pub mod Splitting
 pub mod Early
 pub mod GoingOn
+pub mod Leading

@@ -2,7 +2,7 @@
 use Rattle.std.proofs.Common.{◌≡◌, ◌≢◌, ℕ, ◌+◌, ◌-◌, ◌^◌, ◌<◌, ◌≤◌, List, [], ◌∷◌, length, map, set}
 use Rattle.std.proofs.Common.{take, slice_get, All, Bool, true, false, Option, Some, None}
 use Rattle.std.proofs.Common.{MatchOption, if◌then◌else◌, ◌&&◌, ◌==◌, nat_lt, refl, sym, ap, subst}
-use Rattle.std.proofs.Common.{◌∙◌, arith, length-set}
+use Rattle.std.proofs.Common.{◌∙◌, arith}
 use Rattle.std.proofs.lemmas.Bool.{and_parts, ltb-true, eqb-true}
 use Rattle.std.proofs.lemmas.List.{set-get_or}
 use Rattle.std.proofs.lemmas.List.Elements.{All-nil, All-cons, All-head, All-tail, All-append}
@@ -17,6 +17,7 @@ use Rattle.ivy_link.specs.Accepted.{verdict_on, offered, heard, accepted}
 use Rattle.ivy_link.specs.Limits.{most_again}
 use Rattle.ivy_link.specs.Pulsed.{numbered, ack_alone, frames_of_pulse, frames_again, owing_nothing, after_pulse}
 use Rattle.ivy_link.specs.Paired.{posted, extended, IsBody, IsMade}
+use Rattle.ivy_link.proofs.Sending.{sends-me}
 use Rattle.ivy_events.proofs.Places.{peer-either, peer-there, peer-other}
 
 -- sends
@@ -32,16 +33,6 @@ pub sends-delivered : (l : Linked) (ps : List Parcel) (j : ℕ)
     → (peer_at (after_sends l ps) j).delivered ≡ (peer_at l j).delivered
 sends-delivered l [] j = refl
 sends-delivered l (p ∷ ps) j = sends-delivered (sent_one l p) ps j ∙ sent_one-delivered l p j
-
-pub sends-me : (l : Linked) (ps : List Parcel) → (after_sends l ps).me ≡ l.me
-sends-me l [] = refl
-sends-me l (p ∷ ps) = sends-me (sent_one l p) ps
-
-pub sends-peers : (l : Linked) (ps : List Parcel) → length (after_sends l ps).peers ≡ length l.peers
-sends-peers l [] = refl
-sends-peers l (p ∷ ps) =
-    sends-peers (sent_one l p) ps
-    ∙ length-set l.peers p.dest (with_message (peer_at l p.dest) p.message)
 
 sent_one-numbers : (l : Linked) (p : Parcel) → (peer_at l p.dest).sent < 2 ^ 64 - 1
     → ((j : ℕ) → (peer_at l j).sent < 2 ^ 64) → (j : ℕ) → (peer_at (sent_one l p) j).sent < 2 ^ 64

@@ -1,3 +1,4 @@
 pub mod Tame
 pub mod Pages
 pub mod Same
+pub mod Programs

@@ -6,5 +6,4 @@ pub mod Pulses
 pub mod Pairs
 pub mod Making
 pub mod Orderly
-pub mod Fits
 pub mod Holds

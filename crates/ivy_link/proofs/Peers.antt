@@ -224,3 +224,11 @@ holds-here h f s mine =
     rw (eq-eqb f.dest h.me mine)
     (kept-or-same (can_hold p.delivered (window_at h f.source) f.number) h f.source
     (with_string (window_at h f.source) (place_of p.delivered f.number) s))
+
+-- accepting leaves the node's own number
+pub accepted-me : {B : Type 0} (l : Linked) (f : frame.Frame B) → (accepted l f).me ≡ l.me
+accepted-me l f =
+    elim (cases_eq f.dest l.me) [
+      | inl e ↦ ap (λ (k : Linked). k.me) (accepted-mine l f e)
+      | inr ne ↦ ap (λ (k : Linked). k.me) (accepted-other l f ne)
+    ]

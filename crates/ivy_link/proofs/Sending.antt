@@ -300,3 +300,19 @@ sends-nodes l [] = refl
 sends-nodes l (p ∷ ps) =
     sends-nodes (sent_one l p) ps
     ∙ length-set l.peers p.dest (with_message (peer_at l p.dest) p.message)
+
+-- what sending leaves: the node's own number, and how many nodes there are
+pub sends-me : (l : Linked) (ps : List Parcel) → (after_sends l ps).me ≡ l.me
+sends-me l [] = refl
+sends-me l (p ∷ ps) = sends-me (sent_one l p) ps
+
+pub sends-peers : (l : Linked) (ps : List Parcel) → length (after_sends l ps).peers ≡ length l.peers
+sends-peers l [] = refl
+sends-peers l (p ∷ ps) =
+    sends-peers (sent_one l p) ps
+    ∙ length-set l.peers p.dest (with_message (peer_at l p.dest) p.message)
+
+-- how many frames there are
+pub length-frames_of : (l : Linked) (ps : List Parcel) → length (frames_of l ps) ≡ length ps
+length-frames_of l [] = refl
+length-frames_of l (p ∷ ps) = omega (arith, length-frames_of (sent_one l p) ps)

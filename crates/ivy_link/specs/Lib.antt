@@ -7,7 +7,6 @@ pub use Rattle.ivy_wire.specs.Data
 pub use Rattle.ivy_wire.specs.Lent
 pub mod Paired
 pub mod InOrder
-pub mod Fitting
 pub mod Windows
 pub mod Sides
 pub mod Holding

@@ -17,10 +17,10 @@ use Rattle.ivy_events.specs.Nodes.{Node, verdict_of, delivered}
 use Rattle.ivy_events.specs.Worlds as worlds
 use Rattle.ivy_events.proofs.Kept.{stays-there}
 use Rattle.ivy_events.proofs.Places.{set-there}
-use Rattle.ivy_node.specs.Shown.{Shown}
-use Rattle.ivy_node.specs.Sites.{early_at, IsMadeByEvents, SiteDelivers, without_ready, GoesOnOnce, SiteGoesOn, FollowsDelivery, AfterDelivery}
+use Rattle.ivy_site.specs.Shown.{Shown}
+use Rattle.ivy_site.specs.Sites.{early_at, IsMadeByEvents, SiteDelivers, without_ready, GoesOnOnce, SiteGoesOn, FollowsDelivery, AfterDelivery}
 use Rattle.ivy_node.specs.WorldSites.{programs_of, world_of, AreSites}
-use Rattle.ivy_node.proofs.Made.{delivery_made, delivery_early, all_taken}
+use Rattle.ivy_site.proofs.Made.{delivery_made, delivery_early, all_taken}
 use Rattle.ivy_node.proofs.Making.{IsGone, Went, node_there, quiet, changed_world, changed_are, same_map, delivery_gone, delivered_went}
 
 -- what a call of `make` did: the move, with one site changed

@@ -7,10 +7,10 @@ use Rattle.ivy_events.specs.declared.Move.{Move}
 use Rattle.ivy_events.specs.declared.Move.TheVariants as move
 use Rattle.ivy_host.specs.Hosts.{turn_of}
 use Rattle.ivy_host.specs.Managers.{managed_ops}
-use Rattle.ivy_node.specs.declared.turn.Turn as turn
-use Rattle.ivy_node.specs.declared.turn.Turn.TheVariants.{Idle, Moved, Ended}
-use Rattle.ivy_node.specs.Shown.{Shown}
-use Rattle.ivy_node.specs.Sites.{AfterTurn}
+use Rattle.ivy_site.specs.declared.turn.Turn as turn
+use Rattle.ivy_site.specs.declared.turn.Turn.TheVariants.{Idle, Moved, Ended}
+use Rattle.ivy_site.specs.Shown.{Shown}
+use Rattle.ivy_site.specs.Sites.{AfterTurn}
 use Rattle.ivy_node.specs.WorldSites.{world_of, AreSites}
 use Rattle.ivy_node.specs.Settling.{HasIdleTurn, DoesNothing}
 

@@ -22,19 +22,19 @@ use Rattle.ivy_events.specs.declared.Move.{Move}
 use Rattle.ivy_events.specs.declared.Move.TheVariants as move
 use Rattle.ivy_events.specs.Nodes.{Node, Effect, stays, turned, turned_to, pulsing, received_as, verdict_of, delivered}
 use Rattle.ivy_events.specs.Worlds as worlds
-use Rattle.ivy_node.specs.declared.turn.Turn as turn
-use Rattle.ivy_node.specs.declared.turn.Turn.TheVariants.{Idle, Moved, Ended}
+use Rattle.ivy_site.specs.declared.turn.Turn as turn
+use Rattle.ivy_site.specs.declared.turn.Turn.TheVariants.{Idle, Moved, Ended}
 use Rattle.ivy_host.specs.Hosts.{Host, host_rules}
 use Rattle.ivy_host.specs.Holding.{AllSpell}
 use Rattle.ivy_node.specs.Runs.{IsRefusedBy}
-use Rattle.ivy_node.specs.Shown.{Shown, after_pulse_to, after_delivery}
-use Rattle.ivy_node.specs.Sites.{early_at, IsMadeByEvents, AfterTurn, IsSpentTurn, SiteDelivers, IsSpentDelivery}
+use Rattle.ivy_site.specs.Shown.{Shown, after_pulse_to, after_delivery}
+use Rattle.ivy_site.specs.Sites.{early_at, IsMadeByEvents, AfterTurn, IsSpentTurn, SiteDelivers, IsSpentDelivery}
 use Rattle.ivy_node.specs.WorldSites.{programs_of, world_of, AreSites}
 use Rattle.ivy_events.specs.Early.{early_as}
 use Rattle.ivy_events.proofs.Places.{set-cases}
 use Rattle.ivy_events.proofs.Kept.{none-after}
-use Rattle.ivy_node.proofs.Made.{turn_made, turn_early, pulse_made-on, pulse_early, delivery_made, delivery_early, all_taken}
-use Rattle.ivy_node.proofs.Programs.{turned-program, posting-core, received-program, delivered-is}
+use Rattle.ivy_site.proofs.Made.{turn_made, turn_early, pulse_made-on, pulse_early, delivery_made, delivery_early, all_taken}
+use Rattle.ivy_host.proofs.Programs.{turned-program, posting-core, received-program, delivered-is}
 
 -- one site changed
 

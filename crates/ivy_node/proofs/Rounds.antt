@@ -1,18 +1,16 @@
 -- What is under way in a round, and what was delivered.
-use Rattle.std.proofs.Common.{◌≡◌, ◌≢◌, ◌<◌, ◌+◌, ◌↔◌, ◌&&◌, nat_lt, ℕ, true, false, ltb, List, length, map, slice_get, Some, None, sym, ap, ◌∙◌, arith, inl, inr}
+use Rattle.std.proofs.Common.{◌≡◌, ◌≢◌, ◌<◌, ◌+◌, ◌&&◌, nat_lt, ℕ, true, false, ltb, List, length, map, slice_get, Some, None, sym, ap, ◌∙◌, arith, inl, inr}
 use Rattle.std.proofs.lemmas.Bool.{cases_eq, lt-ltb}
 use Rattle.std.proofs.lemmas.List.{length-map}
 use Rattle.std.proofs.lemmas.Option.{same_Some, none-some, slice_get_cases, slice_get_within}
 use Rattle.ivy_model.specs.declared.Config.{Config}
-use Rattle.ivy_wire.specs.Data.{Frame}
-use Rattle.ivy_wire.specs.Spelling.{Spells}
 use Rattle.ivy_wire.specs.Destinations.{dest_of}
 use Rattle.ivy_link.specs.Linked.{peer_at}
 use Rattle.ivy_events.specs.declared.Move.{Move}
 use Rattle.ivy_events.specs.declared.Move.TheVariants.{Turn, Deliver, Pulse}
 use Rattle.ivy_events.specs.Worlds.{is_named}
-use Rattle.ivy_node.specs.Shown.{Shown}
-use Rattle.ivy_node.specs.Sites.{Awaits}
+use Rattle.ivy_site.specs.Shown.{Shown}
+use Rattle.ivy_site.specs.Sites.{Awaits}
 use Rattle.ivy_node.specs.WorldSites.{world_of, AreSites}
 use Rattle.ivy_node.specs.Settling.{IsUnderWayTo, HasNoneUnderWay, IsNextMove, IsDeliveredFrom}
 
@@ -22,21 +20,6 @@ nowhere xs i beyond =
       | inl h ↦ (let wrong : false ≡ true = sym beyond ∙ lt-ltb i (length xs) h.1 in absurd cc)
       | inr h ↦ h.1
     ]
-
--- a site awaits the string that spells this frame exactly where its number is above those delivered
-pub awaits_exactly : (s : Shown) (bytes : List ℕ) (c : Config) (f : Frame) (delivered : ℕ)
-    → c ≡ s.config → Spells c f bytes → ((a : Frame) → Spells c a bytes → f ≡ a) → f.dest ≡ s.me
-    → delivered ≡ (peer_at s.node.link f.source).delivered
-    → (delivered < f.number) ↔ Awaits s bytes
-awaits_exactly s bytes c f delivered config spelled only dest count = (
-  λ lt. record {
-    frame = f;
-    spelled = rw (← config) spelled;
-    dest = dest;
-    later = rw (← count) lt;
-  },
-  λ a. (let same = only a.frame (rw config a.spelled) in rw count (rw same a.later)),
-)
 
 module _ (sites : List Shown) (string : List ℕ) where
   pub for_nobody : dest_of string ≡ None → (to : ℕ) → IsUnderWayTo sites string to → ⊥

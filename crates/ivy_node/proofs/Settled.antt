@@ -19,12 +19,13 @@ use Rattle.ivy_settling.proofs.StillWorlds.{settled-led}
 use Rattle.ivy_node.specs.declared.round.Round.{Round}
 use Rattle.ivy_node.specs.declared.rest.Rest.{Rest}
 use Rattle.ivy_node.specs.declared.rest.Rest.TheVariants.{Going}
-use Rattle.ivy_node.specs.RunState.{Run}
-use Rattle.ivy_node.specs.Runs.{IsLedTo, IsRefusedBy, IsReached, IsSameRun}
-use Rattle.ivy_node.specs.Shown.{Shown}
+use Rattle.ivy_headline.specs.RunState.{Run}
+use Rattle.ivy_headline.specs.Reached.{IsLedTo, IsReached}
+use Rattle.ivy_node.specs.Runs.{IsRefusedBy, IsSameRun}
+use Rattle.ivy_site.specs.Shown.{Shown}
 use Rattle.ivy_node.specs.WorldSites.{world_of}
 use Rattle.ivy_node.specs.Settling.{DoesNothing, IsDelivered, IsDeliveredFrom, IsOfRound, round_after, HadTurns, IsInRound, HasMadeOne, HasRefusedOne, HasSettledBy, HasSettled}
-use Rattle.ivy_node.proofs.Leading.{leads_one}
+use Rattle.ivy_events.proofs.Leading.{leads_one}
 
 at_end : {A : Type 0} (xs : List A) (x : A) → slice_get (xs ++ x ∷ []) (length xs) ≡ Some x
 at_end [] x = refl

@@ -13,13 +13,14 @@ use Rattle.ivy_events.specs.declared.Move.{Move}
 use Rattle.ivy_events.specs.Worlds as worlds
 use Rattle.ivy_host.specs.Hosts.{Host, host_rules}
 use Rattle.ivy_host.specs.Openings.{first_nodes, opening}
-use Rattle.ivy_node.specs.Runs.{IsLedTo, IsRefusedBy, CannotBeNamed, IsNamedUnless}
+use Rattle.ivy_headline.specs.Reached.{IsLedTo}
+use Rattle.ivy_node.specs.Runs.{IsRefusedBy, CannotBeNamed, IsNamedUnless}
 use Rattle.ivy_host.specs.Holding.{AllSpell}
-use Rattle.ivy_node.specs.Shown.{Shown}
-use Rattle.ivy_node.proofs.Headline.{spelled-led}
-use Rattle.ivy_node.proofs.Leading.{leads_one}
-use Rattle.ivy_node.specs.Sites.{first_shown, early_at, IsMadeByEvents}
-use Rattle.ivy_node.proofs.Made.{first_made}
+use Rattle.ivy_site.specs.Shown.{Shown}
+use Rattle.ivy_headline.proofs.Headline.{spelled-led}
+use Rattle.ivy_events.proofs.Leading.{leads_one}
+use Rattle.ivy_site.specs.Sites.{first_shown, early_at, IsMadeByEvents}
+use Rattle.ivy_site.proofs.Made.{first_made}
 use Rattle.ivy_node.specs.WorldSites.{programs_of, world_of, run_of, AreSites, IsRunning, first_sites_from}
 
 -- the site of the first program left goes behind those that are there

@@ -1,17 +1,14 @@
--- What a call of `run` did, and what holds of a world that was reached from its opening.
-use Rattle.std.specs.Prelude.{◌≡◌, ◌↔◌, ◌<◌, ℕ, Bool, false, List, [], ◌++◌, length, slice_get, take, Option, Some, None, Result, Ok, Err, IfErr}
+-- What a call of `run` did.
+use Rattle.std.specs.Prelude.{◌≡◌, ◌↔◌, ◌<◌, ℕ, Bool, false, List, ◌++◌, length, slice_get, take, Option, Some, None, Result, Ok, Err, IfErr}
 use Rattle.ivy_model.specs.declared.Config.{Config}
-use Rattle.ivy_model.specs.Config.{IsConfig}
 use Rattle.ivy_model.specs.declared.Fault.{Fault}
 use Rattle.ivy_model.specs.declared.Fault.TheVariants.{Memory, NumbersSpent, NoSuchFrame}
 use Rattle.ivy_host.specs.Managers.{Managed, managed_ops}
 use Rattle.ivy_events.specs.declared.Move.{Move}
-use Rattle.ivy_events.specs.Worlds.{World, is_named, HasNoneAfter, Leads}
-use Rattle.ivy_events.specs.Explained.{GoesOn}
-use Rattle.ivy_host.specs.Hosts.{Host, host_rules, answered_by}
-use Rattle.ivy_host.specs.Openings.{opening}
-use Rattle.ivy_node.specs.RunState.{Run}
-use Rattle.ivy_node.specs.Shown.{Shown}
+use Rattle.ivy_events.specs.Worlds.{World, is_named, HasNoneAfter}
+use Rattle.ivy_host.specs.Hosts.{Host, host_rules}
+use Rattle.ivy_headline.specs.RunState.{Run}
+use Rattle.ivy_headline.specs.Reached.{opening_of, IsLedTo, IsExplainedAlong}
 
 -- the moves that were made: all, or those before the refused one
 abbrev pub made_of : {A : Type 0} → Result A (ℕ × Fault) → List Move → List Move
@@ -34,32 +31,6 @@ CannotBeNamed w None = ⊥
 -- a move that can't be named is refused by that, whatever else
 abbrev pub IsNamedUnless : World (Host Managed) → Result Bool Fault → Move → Type 0
 IsNamedUnless w result m = CannotBeNamed w (Some m) → result ≡ Err NoSuchFrame
-
-abbrev pub opening_of : Run → World (Host Managed)
-opening_of r = opening managed_ops r.config r.programs
-
--- the moves lead from the one world to the other
-abbrev pub IsLedTo : Config → World (Host Managed) → List Move → World (Host Managed) → Type 0
-IsLedTo c = Leads (host_rules managed_ops) c
-
--- some list of moves leads to this world from the opening of its programs
-abbrev pub IsReached : Run → Type 0
-IsReached r = (before : List Move) × IsLedTo r.config (opening_of r) before r.world
-
--- the node is one of a world that some moves lead to from the opening of as many programs as there
--- are nodes
-pub record IsOfRun (s : Shown) : Type 0 where
-  pub run : Run
-  pub limits : IsConfig run.config
-  pub programs : length run.programs ≡ run.config.nodes
-  pub reached : IsReached run
-  pub node : slice_get run.world.nodes s.me ≡ Some s.node
-
--- at the opening no record explains what the nodes were answered, and after each of the moves an
--- order that goes on from the one before does
-abbrev pub IsExplainedAlong : Run → List Move → Type 0
-IsExplainedAlong r moves =
-    GoesOn (host_rules managed_ops) r.config answered_by (opening_of r) [] moves
 
 -- it is the same world: its configuration and its programs
 abbrev pub IsSameRun : Run → Run → Type 0

@@ -14,10 +14,11 @@ use Rattle.ivy_settling.specs.Settled.{AreSettled}
 use Rattle.ivy_node.specs.declared.round.Round.{Round}
 use Rattle.ivy_node.specs.declared.rest.Rest.{Rest}
 use Rattle.ivy_node.specs.declared.rest.Rest.TheVariants.{Going}
-use Rattle.ivy_node.specs.RunState.{Run}
-use Rattle.ivy_node.specs.Runs.{made_of, IsRefusedBy, IsLedTo, CannotBeNamed, IsRefusedAt, IsNamedAt, IsExplainedOn}
-use Rattle.ivy_node.specs.Shown.{Shown}
-use Rattle.ivy_node.specs.Sites.{Awaits}
+use Rattle.ivy_headline.specs.RunState.{Run}
+use Rattle.ivy_node.specs.Runs.{made_of, IsRefusedBy, CannotBeNamed, IsRefusedAt, IsNamedAt, IsExplainedOn}
+use Rattle.ivy_headline.specs.Reached.{IsLedTo}
+use Rattle.ivy_site.specs.Shown.{Shown}
+use Rattle.ivy_site.specs.Sites.{Awaits}
 
 -- a turn of the node does nothing
 abbrev pub HasIdleTurn : World (Host Managed) → ℕ → Type 0

@@ -2,16 +2,16 @@
 use Rattle.std.specs.Prelude.{◌≡◌, ◌⊎◌, ℕ, ◌+◌, List, [], ◌∷◌, length, map, slice_get, Some}
 use Rattle.ivy_model.specs.declared.Fault.{Fault}
 use Rattle.ivy_model.specs.declared.Fault.TheVariants.{Memory, BadConfig}
-use Rattle.ivy_node.specs.Sites.{first_shown, early_at, IsMadeByEvents}
+use Rattle.ivy_site.specs.Sites.{first_shown, early_at, IsMadeByEvents}
 use Rattle.ivy_model.specs.declared.Config.{Config}
 use Rattle.ivy_model.specs.Config.{IsConfig}
 use Rattle.ivy_host.specs.Managers.{Managed}
 use Rattle.ivy_program.specs.declared.Instruction.{Instruction}
 use Rattle.ivy_events.specs.Worlds as worlds
 use Rattle.ivy_host.specs.Hosts.{Host}
-use Rattle.ivy_node.specs.Shown.{Shown}
-use Rattle.ivy_node.specs.RunState.{Run}
-use Rattle.ivy_node.specs.Runs.{IsReached}
+use Rattle.ivy_site.specs.Shown.{Shown}
+use Rattle.ivy_headline.specs.RunState.{Run}
+use Rattle.ivy_headline.specs.Reached.{IsReached}
 
 abbrev pub programs_of : List Shown → List (List Instruction)
 programs_of sites = map (λ (s : Shown). s.node.core.process.program) sites

@@ -1,19 +1,13 @@
-//! Nodes that run programs over one shared memory, and worlds of them.
+//! Worlds of nodes that run programs over one shared memory.
 //!
 //! In a comment, numbers in brackets as [1, 17] are the fault numbers that a call may answer.
 #![tactic(auto)]
 
-mod outbox;
 mod rest;
 mod round;
-mod site;
-mod turn;
 mod world;
 
 pub use ivy_events::Move;
-pub use ivy_link::Verdict;
-pub use ivy_program::{Program, parse};
+pub use ivy_site::{Program, Site, Turn, Verdict, parse};
 pub use rest::Rest;
-pub use site::Site;
-pub use turn::Turn;
 pub use world::World;

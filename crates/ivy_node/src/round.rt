@@ -3,9 +3,9 @@ ghost use Rattle.std.specs.Prelude.{◌≡◌, ◌↔◌, ℕ, ◌<◌, ◌≤�
 ghost use Rattle.ivy_node.specs.WorldSites.{AreSites};
 ghost use Rattle.ivy_node.specs.Settling.{IsUnderWay, IsUnderWayTo, HasNoneUnderWay, IsNextMove, IsDeliveredFrom, round_after};
 
-use crate::site::Site;
 use ivy_events::Move;
 use ivy_model::Config;
+use ivy_site::Site;
 use ivy_wire::{Bytes, destination};
 use std::alloc::Allocator;
 

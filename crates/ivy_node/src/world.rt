@@ -7,10 +7,11 @@ ghost use Rattle.ivy_events.specs.declared.Move.{Move};
 ghost use Rattle.ivy_events.specs.Worlds.{Moves, is_named};
 ghost use Rattle.ivy_host.specs.Hosts.{host_rules};
 ghost use Rattle.ivy_host.specs.Holding.{AllSpell};
-ghost use Rattle.ivy_node.specs.Keeping.{Keeps};
+ghost use Rattle.ivy_headline.specs.Keeping.{Keeps};
 ghost use Rattle.ivy_host.specs.Openings.{opening};
-ghost use Rattle.ivy_node.specs.Runs.{made_of, IsRefusedBy, IsNamedUnless, IsLedTo, IsReached, IsSameRun, IsRefusedAt, IsNamedAt, IsExplainedOn};
-ghost use Rattle.ivy_settling.specs.Settled.{await_in};
+ghost use Rattle.ivy_node.specs.Runs.{made_of, IsRefusedBy, IsNamedUnless, IsSameRun, IsRefusedAt, IsNamedAt, IsExplainedOn};
+ghost use Rattle.ivy_headline.specs.Reached.{IsLedTo, IsReached};
+ghost use Rattle.ivy_site.specs.Sites.{await_in};
 ghost use Rattle.ivy_settling.specs.Still.{IsStill};
 ghost use Rattle.ivy_node.specs.Settling.{DoesNothing, IsDelivered, IsOfRound, IsInRound, HasMadeOne, HasRefusedOne, HasSettledBy, Settles, HasSettled};
 ghost use Rattle.ivy_model.specs.Wants.{IsWant};
@@ -18,12 +19,11 @@ ghost use Rattle.ivy_node.specs.WorldSites.{programs_of, world_of, AreSites, IsM
 
 use crate::rest::Rest;
 use crate::round::{Round, is_delivered, next_move};
-use crate::site::Site;
-use crate::turn::Turn;
 use ivy_events::Move;
 use ivy_link::MOST_AHEAD;
 use ivy_model::{Config, Fault, MOST_NODES, Record};
 use ivy_program::Program;
+use ivy_site::{Site, Turn};
 use ivy_wire::Bytes;
 use std::alloc::Allocator;
 use std::marker::Model;
@@ -49,7 +49,7 @@ pub struct World<A: Allocator> {
 }
 
 impl<A: Allocator> Model for World<A> {
-    ghost use Rattle.ivy_node.specs.RunState.{Run};
+    ghost use Rattle.ivy_headline.specs.RunState.{Run};
     ghost use Rattle.ivy_node.specs.WorldSites.{run_of, IsRunning};
 
     ghost Value = { Run };

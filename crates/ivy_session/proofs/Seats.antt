@@ -30,12 +30,12 @@ use Rattle.ivy_ether.specs.Going.{IsListOf, ListGoesOn, Sends}
 use Rattle.ivy_ether.specs.Held.{Held, held}
 use Rattle.ivy_ether.specs.Programs.{beginning, MayGive, SendsFrom}
 use Rattle.ivy_ether.specs.Views.{View, newcomer, with_seat, with_events, with_taken}
-use Rattle.ivy_node.specs.declared.turn.Turn as turn
-use Rattle.ivy_node.specs.declared.turn.Turn.TheVariants.{Idle, Moved, Ended}
-use Rattle.ivy_node.specs.Shown.{Shown, after_hearing, after_delivery, after_pulse_to}
-use Rattle.ivy_node.specs.Sites.{first_shown, IsMadeByEvents, IsSentBy, AfterTurn, AfterDelivery, SiteDelivers, without_ready, GoesOnOnce, FollowsDelivery}
-use Rattle.ivy_node.specs.Sites as sites
-use Rattle.ivy_node.proofs.Programs.{turned-program, posting-core, delivered-program}
+use Rattle.ivy_site.specs.declared.turn.Turn as turn
+use Rattle.ivy_site.specs.declared.turn.Turn.TheVariants.{Idle, Moved, Ended}
+use Rattle.ivy_site.specs.Shown.{Shown, after_hearing, after_delivery, after_pulse_to}
+use Rattle.ivy_site.specs.Sites.{first_shown, IsMadeByEvents, IsSentBy, AfterTurn, AfterDelivery, SiteDelivers, without_ready, GoesOnOnce, FollowsDelivery}
+use Rattle.ivy_site.specs.Sites as sites
+use Rattle.ivy_host.proofs.Programs.{turned-program, posting-core, delivered-program}
 use Rattle.ivy_program.specs.Steps.{HasEnded}
 use Rattle.ivy_session.specs.Places.{HasGiven, IsSeated, IsFreshSeat}
 use Rattle.ivy_session.specs.Reports.{IsDone}

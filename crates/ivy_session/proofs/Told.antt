@@ -25,8 +25,8 @@ use Rattle.ivy_events.proofs.Splitting.{same-effect}
 use Rattle.ivy_host.specs.Hosts.{Host, host_rules, answered_by}
 use Rattle.ivy_host.specs.Managers.{Managed, managed_ops}
 use Rattle.ivy_host.specs.Holding.{AreRuns}
-use Rattle.ivy_node.specs.Shown.{Shown}
-use Rattle.ivy_node.proofs.Headline.{exclusive-led, no_breach-led, runs-led, explained-along, sound-led}
+use Rattle.ivy_site.specs.Shown.{Shown}
+use Rattle.ivy_headline.proofs.Headline.{exclusive-led, no_breach-led, runs-led, explained-along, sound-led}
 use Rattle.ivy_ether.specs.Programs.{beginning, Told}
 use Rattle.atomic_table.specs.Seated.{TableId}
 use Rattle.ivy_ether.specs.Held.{Held, held}

@@ -14,7 +14,7 @@ use Rattle.ivy_events.specs.Worlds.{World}
 use Rattle.ivy_host.specs.Holding.{IsExclusive, HasNoBreach}
 use Rattle.ivy_host.specs.Hosts.{Host, host_rules}
 use Rattle.ivy_host.specs.Managers.{Managed, managed_ops}
-use Rattle.ivy_node.specs.Shown.{Shown}
+use Rattle.ivy_site.specs.Shown.{Shown}
 use Rattle.ivy_ether.specs.Going.{IsListOf}
 use Rattle.ivy_ether.specs.Programs.{beginning}
 

@@ -2,7 +2,7 @@
 use Rattle.std.specs.Prelude.{◌≡◌, ℕ, List, slice_get, Some, Contains}
 use Rattle.ivy_model.specs.declared.Config.{Config}
 use Rattle.ivy_program.specs.declared.Instruction.{Instruction}
-use Rattle.ivy_node.specs.Shown.{Shown}
+use Rattle.ivy_site.specs.Shown.{Shown}
 use Rattle.ivy_ether.specs.Views.{View}
 use Rattle.ivy_session.specs.Reports.{IsDone}
 

@@ -5,7 +5,7 @@ ghost use Rattle.ivy_session.specs.Reports.{report_of};
 
 use ivy_events::Event;
 use ivy_model::Record;
-use ivy_node::Site;
+use ivy_site::Site;
 use ivy_wire::Bytes;
 use std::alloc::Allocator;
 use std::marker::Model;

@@ -12,7 +12,7 @@ ghost use Rattle.ivy_session.specs.Told.{AreTold};
 use crate::seated::Seated;
 use ivy_ether::{Ether, Pass, Setup, Wired};
 use ivy_model::{Config, Fault};
-use ivy_node::Site;
+use ivy_site::Site;
 use ivy_program::Program;
 use std::alloc::Allocator;
 use std::sync::{Mutex, Wait};

@@ -11,7 +11,7 @@ use crate::watch::{Watch, rest_program};
 use crate::wire_turn::WireTurn;
 use ivy_ether::Setup;
 use ivy_model::Fault;
-use ivy_node::Turn;
+use ivy_site::Turn;
 use std::alloc::Allocator;
 use std::sync::{Mutex, Wait};
 use std::thread;

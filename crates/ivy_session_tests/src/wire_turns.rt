@@ -9,7 +9,7 @@ use crate::common::TRIO;
 use ivy_ether::{Ether, Pass, Setup, Wired};
 use ivy_link::Verdict;
 use ivy_model::{Config, Kind};
-use ivy_node::{Site, Turn};
+use ivy_site::{Site, Turn};
 use ivy_program::{Program, parse};
 use ivy_session::{Seated, WireTurn};
 use std::alloc::Global;

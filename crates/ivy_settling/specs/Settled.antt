@@ -9,12 +9,6 @@ use Rattle.ivy_model.specs.Memory.{Memory, first}
 use Rattle.ivy_model.specs.Legal.{ServesAll}
 use Rattle.ivy_model.specs.Explains.{part, Answered}
 
--- the number of the count that a call in progress awaits, and the least value that it awaits
-abbrev pub await_in : Option Call → Option (ℕ × ℕ)
-await_in None = None
-await_in (Some (Await k least)) = Some (k, least)
-await_in (Some call) = None
-
 -- the flat memory has no answer to it: no call is in progress, or a count is awaited that is below
 -- the least value
 abbrev pub HasNoAnswer : Memory → Option Call → Type 0

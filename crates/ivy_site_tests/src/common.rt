@@ -3,7 +3,7 @@ ghost use Rattle.std.specs.Prelude.{◌≡◌, IfOk};
 
 use growths::Refusing;
 use ivy_model::{Config, Fault, Kind};
-use ivy_node::{Program, Site, Turn, Verdict, parse};
+use ivy_site::{Program, Site, Turn, Verdict, parse};
 use ivy_wire::{FrameKind, read};
 use std::alloc::{Allocator, Global};
 use std::process::Abort;

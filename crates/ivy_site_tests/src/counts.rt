@@ -4,7 +4,7 @@ use crate::common::{
     take_turns,
 };
 use ivy_model::{Call, Record, Reply};
-use ivy_node::{Site, Verdict};
+use ivy_site::{Site, Verdict};
 use std::alloc::Allocator;
 use std::process::Abort;
 use std::test::Fail;

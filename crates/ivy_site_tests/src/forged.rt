@@ -4,7 +4,7 @@ ghost use Rattle.std.specs.Prelude.{◌≡◌, ◌<◌};
 use crate::common::{LOADS, REPLY, Written, node_of, receive, string, take_turns};
 use crate::site_alone::is_misspelled;
 use ivy_model::Fault;
-use ivy_node::{Site, Verdict};
+use ivy_site::{Site, Verdict};
 use rand_core::SeedableRng;
 use rand_core::utils::NextWord;
 use rand_pcg::Lcg64Xsh32;

@@ -10,7 +10,7 @@ use crate::common::{
 };
 use growths::Refusing;
 use ivy_model::{Call, Fault, Record, Reply};
-use ivy_node::Site;
+use ivy_site::Site;
 use std::alloc::{Allocator, Global};
 use std::process::Abort;
 use std::test::Fail;

@@ -6,7 +6,7 @@ use crate::common::{
     take_turn, take_turns,
 };
 use ivy_model::{Config, Fault};
-use ivy_node::{Site, Turn, Verdict};
+use ivy_site::{Site, Turn, Verdict};
 use ivy_wire::FrameKind;
 use std::alloc::Allocator;
 use std::process::Abort;

@@ -1,6 +1,6 @@
 use Rattle.std.proofs.Common.{◌≡◌, ◌+◌, ◌≤◌, All, List, ℕ, [], ◌∷◌, length, subst, sym, ◌∙◌, refl, arith}
 use Rattle.ivy_host.specs.Holding.{AllSpell}
-use Rattle.ivy_node.specs.Runs.{IsLedTo}
+use Rattle.ivy_headline.specs.Reached.{IsLedTo}
 use Rattle.ivy_texts.specs.Drawn.{seeded, drawn}
 use Rattle.ivy_commands.specs.Simulated.{DrawnTo}
 use Rattle.ivy_texts.proofs.Drawing.{long_strings}

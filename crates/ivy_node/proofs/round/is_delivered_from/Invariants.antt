@@ -1,6 +1,6 @@
 use Rattle.std.proofs.Common.{◌≡◌, ◌≢◌, ◌<◌, ℕ, slice_get, Some}
 use Rattle.ivy_link.specs.Linked.{peer_at}
-use Rattle.ivy_node.specs.Shown.{Shown}
+use Rattle.ivy_site.specs.Shown.{Shown}
 use Rattle.ivy_node.proofs.round.is_delivered_from.Given as goal
 
 abbrev pub invariant-loop-to : goal.invariant-loop-to

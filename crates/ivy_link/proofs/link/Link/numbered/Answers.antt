@@ -5,7 +5,7 @@ use Rattle.std.specs.List.{slice_get}
 use Rattle.ivy_wire.specs.Data.{Frame}
 use Rattle.ivy_wire.specs.Lent.{owned_parcel, owned_frame}
 use Rattle.ivy_link.specs.Holding.{link_of, frames_for}
-use Rattle.ivy_link.proofs.Fits.{length-frames_of}
+use Rattle.ivy_link.proofs.Sending.{length-frames_of}
 use Rattle.ivy_link.proofs.link.Link.numbered.Goals as goal
 
 -- the frames up to one of them, and that one

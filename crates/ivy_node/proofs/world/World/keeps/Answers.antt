@@ -1,4 +1,4 @@
-use Rattle.ivy_node.proofs.Headline.{keeps-reached}
+use Rattle.ivy_headline.proofs.Headline.{keeps-reached}
 use Rattle.ivy_node.proofs.world.World.keeps.Goals as goal
 
 pub returns : goal.returns

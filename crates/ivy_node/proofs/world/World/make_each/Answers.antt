@@ -5,7 +5,7 @@ use Rattle.ivy_host.specs.Managers.{managed_ops}
 use Rattle.ivy_events.specs.declared.Move.TheVariants.{Turn}
 use Rattle.ivy_events.specs.Worlds.{Moves}
 use Rattle.ivy_host.specs.Hosts.{host_rules}
-use Rattle.ivy_node.proofs.Leading.{leads_one}
+use Rattle.ivy_events.proofs.Leading.{leads_one}
 use Rattle.ivy_node.proofs.Worlds.{named_exactly}
 use Rattle.ivy_node.proofs.world.World.make_each.Goals as goal
 

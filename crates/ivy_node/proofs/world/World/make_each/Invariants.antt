@@ -1,5 +1,5 @@
 use Rattle.std.proofs.Common.{◌≡◌, take}
-use Rattle.ivy_node.specs.Runs.{IsLedTo}
+use Rattle.ivy_headline.specs.Reached.{IsLedTo}
 use Rattle.ivy_node.proofs.world.World.make_each.Given as goal
 
 -- the moves so far were made

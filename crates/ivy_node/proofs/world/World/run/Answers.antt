@@ -1,4 +1,4 @@
-use Rattle.ivy_node.proofs.Headline.{explained-on}
+use Rattle.ivy_headline.proofs.Headline.{explained-on}
 use Rattle.ivy_node.proofs.world.World.run.Goals as goal
 
 pub returns-clause-explained : goal.returns-clause-explained

@@ -1,4 +1,4 @@
-use Rattle.ivy_node.proofs.Headline.{explained-on}
+use Rattle.ivy_headline.proofs.Headline.{explained-on}
 use Rattle.ivy_node.proofs.Settled.{settled-on}
 use Rattle.ivy_node.proofs.world.World.settle.Goals as goal
 

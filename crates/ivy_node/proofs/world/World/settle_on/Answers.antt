@@ -1,6 +1,6 @@
 use Rattle.std.proofs.Common.{◌+◌, sym, subst, arith}
 use Rattle.ivy_node.specs.declared.rest.Rest.TheVariants.{Still}
-use Rattle.ivy_node.specs.RunState.{Run}
+use Rattle.ivy_headline.specs.RunState.{Run}
 use Rattle.ivy_node.proofs.Settled.{SettlesSoFar, none_made, one_made, settled_by, refused_after, first_round}
 use Rattle.ivy_node.proofs.world.World.settle_on.Goals as goal
 

@@ -2,8 +2,8 @@ use Rattle.std.proofs.Common.{rules, refl, sym, subst, ap, ◌∙◌, arith, Con
 use Rattle.ivy_link.specs.declared.Verdict.TheVariants as verdict
 use Rattle.ivy_ether.specs.Held.{Held}
 use Rattle.ivy_ether.specs.Items.{strings_in}
-use Rattle.ivy_node.specs.Shown.{Shown}
-use Rattle.ivy_node.specs.Sites.{AfterDelivery}
+use Rattle.ivy_site.specs.Shown.{Shown}
+use Rattle.ivy_site.specs.Sites.{AfterDelivery}
 use Rattle.ivy_session.specs.Places.{SeatedState}
 use Rattle.ivy_session.proofs.seated.Seated.wire_turn.Goals as goal
 

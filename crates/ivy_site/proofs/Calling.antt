@@ -1,0 +1,242 @@
+-- A call of the program that begins, or is asked for its reply, as the code has it.
+use Rattle.std.proofs.Common.{◌≡◌, ℕ, ◌+◌, ◌<◌, ◌≤◌, ◌^◌, ◌⊎◌, inl, inr, Bool, true, false, List, [], ◌∷◌}
+use Rattle.std.proofs.Common.{◌++◌, length, Option, Some, None, Result, Ok, Err, OnErr, refl, sym}
+use Rattle.std.proofs.Common.{ap, ◌∙◌, subst, arith, if◌then◌else◌}
+use Rattle.std.proofs.lemmas.Bool.{lt-ltb}
+use Rattle.ivy_model.specs.declared.Call.{Call}
+use Rattle.ivy_model.specs.declared.Fault.{Fault}
+use Rattle.ivy_model.specs.declared.Fault.TheVariants as fault
+use Rattle.ivy_model.specs.declared.Record.{Record}
+use Rattle.ivy_model.specs.declared.Reply.{Reply}
+use Rattle.ivy_wire.specs.Data.{Parcel}
+use Rattle.ivy_link.specs.Linked.{has_numbers}
+use Rattle.ivy_coherence.specs.declared.Need.{Need}
+use Rattle.ivy_coherence.specs.declared.Need.TheVariants as need
+use Rattle.ivy_coherence.specs.Faults.{Begun, begun}
+use Rattle.ivy_host.specs.Managers.{Managed, managed_ops}
+use Rattle.ivy_program.specs.Steps.{Process, Asks, step_of, answered_with}
+use Rattle.ivy_events.specs.Cores.{Outcome}
+use Rattle.ivy_serving.specs.Limits.{most_posted}
+use Rattle.ivy_memory.specs.declared.Answer.{Answer}
+use Rattle.ivy_memory.specs.declared.Answer.TheVariants.{Given, Awaited, Unserved}
+use Rattle.ivy_memory.specs.declared.Asked.{Asked}
+use Rattle.ivy_memory.specs.declared.Asked.TheVariants as asked
+use Rattle.ivy_memory.specs.Asking.{asked_of}
+use Rattle.ivy_memory.specs.HeapCalls.{IsGrowth}
+use Rattle.ivy_memory.proofs.Sides.{heap_unserved}
+use Rattle.ivy_memory.specs.Memories.{NodeMemory, CallBegun, reply_of, reply_at, taken_out, answered, needed, again_unless, again, begun_as, call_begun, tried_as, polled_as, polled}
+use Rattle.ivy_memory.proofs.Polling.{polled_so}
+use Rattle.ivy_host.specs.Hosts.{Host, begins_as, begins_with, steps, turned_at, turn_of, number_of, recorded}
+use Rattle.ivy_outbox.specs.Outboxes.{Outbox, HasNumbers, RefusesParcels, IsRefused, posted_by, takes_none, after_none}
+use Rattle.ivy_site.specs.Sites.{HasTurn, AfterHostTurn, HasNoNumbers, host_of, is_served, kept_by, told_by}
+use Rattle.ivy_outbox.proofs.Boxes.{as_many-wait}
+
+abbrev H : Type 0
+H = Host Managed
+
+-- a call that does not begin posts nothing, and changes nothing
+abbrev ChangesNothing : NodeMemory Managed → CallBegun Managed → Type 0
+ChangesNothing m a = a.answer ≡ Unserved → (a.after ≡ m) × (a.posted ≡ [])
+
+answered-changes : (m : NodeMemory Managed) (k : Call) (number : ℕ) (b : Begun Managed)
+    (r : Option Reply) → ChangesNothing m (answered m k number b r)
+answered-changes m k number b None is = absurd cc
+answered-changes m k number b (Some r) is = absurd cc
+
+needed-changes : (m : NodeMemory Managed) (k : Call) (number : ℕ) (b : Begun Managed) (d : Need)
+    → ChangesNothing m (needed m k number b d)
+needed-changes m k number b (need.Have o) is = answered-changes m k number b (reply_of o) is
+needed-changes m k number b need.Started is = absurd cc
+needed-changes m k number b need.Busy is = (refl, refl)
+
+as-changes : (m : NodeMemory Managed) (k : Call) (number : ℕ) (x : Asked)
+    → ChangesNothing m (begun_as managed_ops m k number x)
+as-changes m k number (asked.Refused code) is = absurd cc
+as-changes m k number (asked.Word page w) is =
+    let b : Begun Managed = begun managed_ops m.coherence page w number in
+    needed-changes m k number b b.need is
+as-changes m k number (asked.Heap h) is = heap_unserved m k number h is
+
+unserved_is : (m : NodeMemory Managed) (k : Call) (number : ℕ)
+    → ChangesNothing m (call_begun managed_ops m k number)
+unfolding call_begun
+unserved_is m k number is = as-changes m k number (asked_of m.coherence.config k) is
+
+unless-changes : (m : NodeMemory Managed) (k : Call) (b : Begun Managed) (r : Option Reply)
+    → ChangesNothing m (again_unless m (answered (taken_out m) k m.number b r) r)
+unless-changes m k b None is = (refl, refl)
+unless-changes m k b (Some r) is = absurd cc
+
+again-changes : (m : NodeMemory Managed) (k : Call) (b : Begun Managed) (d : Need)
+    → ChangesNothing m (again m (needed (taken_out m) k m.number b d) d)
+again-changes m k b (need.Have o) is = unless-changes m k b (reply_of o) is
+again-changes m k b need.Started is = absurd cc
+again-changes m k b need.Busy is = (refl, refl)
+
+tried-changes : (m : NodeMemory Managed) (k : Call) (x : Asked)
+    → ChangesNothing m (tried_as managed_ops m k x)
+tried-changes m k (asked.Refused code) is = (refl, refl)
+tried-changes m k (asked.Word page w) is =
+    let b : Begun Managed = begun managed_ops (taken_out m).coherence page w m.number in
+    again-changes m k b b.need is
+tried-changes m k (asked.Heap h) is = (refl, refl)
+
+polled-changes : (m : NodeMemory Managed) (k : Call) (r : Option Reply)
+    → ChangesNothing m (polled_as managed_ops m k r)
+polled-changes m k None is = tried-changes m k (asked_of m.coherence.config k) is
+polled-changes m k (Some r) is = absurd cc
+
+-- what holds where a result is none of the value
+pub on_err : {A E : Type 0} (r : Result A E) (P : Type 0) → P → OnErr r P
+on_err (Ok a) P h = tt
+on_err (Err e) P h = h
+
+-- an outbox that was not asked, or refused, is as it was
+pub unposted : {B C D : Type 0} {box new : Outbox} → (B × C × (new ≡ box)) ⊎ (D × (new ≡ box))
+    → new ≡ box
+unposted (inl grows) = grows.2
+unposted (inr refuses) = refuses.1
+
+-- few strings are added
+pub called_few : (box after : Outbox) (posted : List Parcel) → length posted ≤ most_posted
+    → after ≡ posted_by box posted → length after.waiting ≤ length box.waiting + most_posted
+called_few box after posted few sent =
+    let grown : length after.waiting ≡ length box.waiting + length posted =
+    ap (λ (x : Outbox). length x.waiting) sent ∙ as_many-wait box posted in
+    omega (arith, grown, few)
+
+-- a turn in which a call begins, or is asked for its reply: what it comes to
+pub record IsCall (h : H) (k : Call) (a : CallBegun Managed) : Type 0 where
+  pub turn : turn_of managed_ops h ≡ begins_as h k a
+  pub nothing : ChangesNothing h.memory a
+
+-- the number of a call, as the code has it
+pub record IsNumbered (h : H) (number : ℕ) : Type 0 where
+  pub is : number ≡ length h.history + 1
+  pub below : number < 2 ^ 64
+
+pub begin_call : (h : H) (k : Call) (number : ℕ) → IsNumbered h number → h.memory.asked ≡ None
+    → step_of h.process ≡ Asks k → IsCall h k (call_begun managed_ops h.memory k number)
+unfolding turn_of
+begin_call h k number n idle asks =
+    let below : length h.history + 1 < 2 ^ 64 = subst (λ m. m < 2 ^ 64) n.is n.below in
+    record {
+      turn = ap (turned_at managed_ops h) idle
+          ∙ ap (steps managed_ops h) asks
+          ∙ ap (λ b. if b
+          then begins_as h k (call_begun managed_ops h.memory k (length h.history + 1))
+          else None) (lt-ltb (length h.history + 1) (2 ^ 64) below)
+          ∙ ap (λ m. begins_as h k (call_begun managed_ops h.memory k m)) (sym n.is);
+      nothing = unserved_is h.memory k number;
+    }
+
+pub poll_call : (h : H) (k : Call) → h.memory.asked ≡ Some k
+    → IsCall h k (polled managed_ops h.memory)
+unfolding turn_of
+poll_call h k asked = record {
+  turn = ap (turned_at managed_ops h) asked;
+  nothing =
+      subst (ChangesNothing h.memory) (sym (polled_so managed_ops h.memory k asked))
+      (polled-changes h.memory k (reply_at h.memory));
+}
+
+module _ (h : H) (k : Call) (a : CallBegun Managed) (calls : IsCall h k a) where
+  by_answer : (answer r : Answer) → answer ≡ a.answer → answer ≡ r
+      → turn_of managed_ops h ≡ begins_with h k a r
+  by_answer answer r same is = calls.turn ∙ ap (begins_with h k a) (sym same ∙ is)
+
+  -- it has a reply
+  called_answered : (box after : Outbox) (node : ℕ) (memory : NodeMemory Managed)
+      (process : Process) (history : List Record) (answer : Answer) (r : Reply)
+      → node ≡ number_of h → answer ≡ a.answer → answer ≡ Given r → memory ≡ a.after
+      → HasNumbers box a.posted → after ≡ posted_by box a.posted
+      → history ≡ h.history ++ record { node = node; call = k; reply = r } ∷ []
+      → process ≡ answered_with h.process r
+      → HasTurn h box (host_of memory process history) after
+  called_answered box after node memory process history answer r mine same is next numbers sent kept
+      goes = record {
+        outcome = record { after = recorded h a.after k r; posted = a.posted };
+        turn = by_answer answer (Given r) same is;
+        host = ap (λ m. host_of m process history) next ∙ (ap (λ p. host_of a.after p history) goes
+            ∙ (ap (λ rs. host_of a.after (answered_with h.process r) rs) kept
+            ∙ ap (λ i. host_of a.after (answered_with h.process r)
+            (h.history ++ record { node = i; call = k; reply = r } ∷ [])) mine));
+        numbers = numbers;
+        sent = sent;
+      }
+
+  -- its word waits
+  called_awaited : (box after : Outbox) (memory : NodeMemory Managed) (answer : Answer)
+      → answer ≡ a.answer → answer ≡ Awaited → memory ≡ a.after → HasNumbers box a.posted
+      → after ≡ posted_by box a.posted
+      → HasTurn h box (host_of memory h.process h.history) after
+  called_awaited box after memory answer same is next numbers sent = record {
+    outcome = record { after = record h { memory = a.after }; posted = a.posted };
+    turn = by_answer answer Awaited same is;
+    host = ap (λ m. host_of m h.process h.history) next;
+    numbers = numbers;
+    sent = sent;
+  }
+
+  -- nothing changes
+  not_called : (box after : Outbox) (memory : NodeMemory Managed) (answer : Answer)
+      → answer ≡ a.answer → answer ≡ Unserved → memory ≡ a.after → after ≡ posted_by box a.posted
+      → AfterHostTurn false h box (host_of memory h.process h.history) after
+  not_called box after memory answer same is next sent =
+      let none = calls.nothing (sym same ∙ is) in (
+        by_answer answer Unserved same is,
+        ap (λ m. host_of m h.process h.history) (next ∙ none.0),
+        sent ∙ (ap (posted_by box) none.1 ∙ after_none box),
+      )
+
+  -- one of the three
+  pub called : (box after : Outbox) (node : ℕ) (memory : NodeMemory Managed) (process : Process)
+      (history : List Record) (served : Bool) (answer : Answer) → node ≡ number_of h
+      → answer ≡ a.answer → memory ≡ a.after → HasNumbers box a.posted
+      → after ≡ posted_by box a.posted → served ≡ is_served answer
+      → history ≡ kept_by h.history node k answer → process ≡ told_by h.process answer
+      → AfterHostTurn served h box (host_of memory process history) after
+  called box after node memory process history served (Given r) mine same next numbers sent is kept
+      goes =
+      rw is (called_answered box after node memory process history (Given r) r mine same refl next
+      numbers sent kept goes)
+  called box after node memory process history served Awaited mine same next numbers sent is kept
+      goes =
+      rw (is, kept, goes) (called_awaited box after memory Awaited same refl next numbers sent)
+  called box after node memory process history served Unserved mine same next numbers sent is kept
+      goes =
+      rw (is, kept, goes) (not_called box after memory Unserved same refl next sent)
+
+  -- numbers are at an end for what it would post
+  cannot_by : (box : Outbox) → has_numbers box.link a.posted ≡ false → (r : Answer) → a.answer ≡ r
+      → (outcome : Outcome H) × (turn_of managed_ops h ≡ Some outcome)
+      × (has_numbers box.link outcome.posted ≡ false)
+  cannot_by box none (Given r) is = (
+    record { after = recorded h a.after k r; posted = a.posted },
+    calls.turn ∙ ap (begins_with h k a) is,
+    none,
+  )
+  cannot_by box none Awaited is = (
+    record { after = record h { memory = a.after }; posted = a.posted },
+    calls.turn ∙ ap (begins_with h k a) is,
+    none,
+  )
+  cannot_by box none Unserved is =
+      let t : has_numbers box.link a.posted ≡ true =
+      ap (has_numbers box.link) (calls.nothing is).1 ∙ takes_none box in
+      let f : true ≡ false = sym t ∙ none in absurd cc
+
+  pub cannot_call : (box : Outbox) (f : Fault) → RefusesParcels box a.posted f → HasNoNumbers h box f
+  cannot_call box f refuses spent =
+      cannot_by box (subst (λ (x : Fault). IsRefused x box a.posted) spent refuses) a.answer refl
+
+  -- nor is it for want of numbers that the heap does not grow
+  pub cannot_begin : (box new : Outbox) (f : Fault) (answer : Answer) (of_heap : Type 0)
+      → (of_heap × IsGrowth answer f × (new ≡ box)) ⊎ (RefusesParcels box a.posted f × (new ≡ box))
+      → HasNoNumbers h box f
+  cannot_begin box new f answer of_heap why spent =
+      elim why [
+        | inl grows ↦ let not : fault.Memory ≡ fault.NumbersSpent = sym grows.1.1 ∙ spent in
+            absurd cc
+        | inr refuses ↦ cannot_call box f refuses.0 spent
+      ]

@@ -1,0 +1,105 @@
+-- What a site's pulse is, from what its parts did. `v` is what the fields are seen as, `n` the
+-- value.
+use Rattle.std.proofs.Common.{◌≡◌, ◌≢◌, ℕ, Bool, true, false, List, [], ◌∷◌, ◌++◌, map, sym, ap, ◌∙◌, subst, append-nil}
+use Rattle.std.specs.Prelude.{IsTrue}
+use Rattle.ivy_wire.specs.Data.{Frame}
+use Rattle.ivy_wire.specs.Spelling.{spelling}
+use Rattle.ivy_link.specs.Pulsed.{frames_again, pulsed}
+use Rattle.ivy_events.specs.Marks.{Mark, Pulse}
+use Rattle.ivy_events.specs.Nodes.{pulsing}
+use Rattle.ivy_outbox.specs.Outboxes.{Outbox, with_sending}
+use Rattle.ivy_site.specs.Shown.{Shown, after_pulse_to}
+use Rattle.ivy_events.specs.Parts.{pulse_marks}
+use Rattle.ivy_site.specs.Sites.{IsSite}
+use Rattle.ivy_host.proofs.Tame.{IsAskingHost}
+use Rattle.ivy_link.specs.Linked.{peer_at}
+use Rattle.ivy_link.proofs.Holds.{pulsed-delivered}
+use Rattle.ivy_site.proofs.Made.{pulse_made-on, pulse_early}
+use Rattle.ivy_site.proofs.HeldStrings.{quiet-holds}
+
+-- a pulse is listed where a frame was made
+made-marks : (to : ℕ) (fs : List Frame) → fs ≢ []
+    → pulse_marks to (map spelling fs) ≡ Pulse to ∷ []
+made-marks to [] some = absurd (some refl)
+made-marks to (f ∷ fs) some = refl
+
+none-marks : (to : ℕ) (fs : List Frame) → (fs ≢ [] → ⊥) → pulse_marks to (map spelling fs) ≡ []
+none-marks to [] none = refl
+none-marks to (f ∷ fs) none = absurd (none (λ e. absurd cc))
+
+abbrev box_of : Shown → Outbox
+box_of v =
+    record { config = v.config; me = v.me; link = v.node.link; waiting = v.waiting; held = v.held }
+
+abbrev site_with : Shown → Outbox → List Mark → Shown
+site_with v box events =
+    record {
+      config = box.config;
+      me = box.me;
+      node = record { core = v.node.core; link = box.link };
+      events = events;
+      waiting = box.waiting;
+      held = box.held;
+    }
+
+pulse_is : (n v : Shown) → v ≡ n → (to : ℕ) (box : Outbox) (events : List Mark)
+    → box ≡ with_sending (box_of v) (pulsed v.node.link to)
+    → events ≡ v.events ++ pulse_marks to (map spelling (frames_again v.node.link to))
+    → site_with v box events ≡ after_pulse_to n to (pulsing n.node to)
+unfolding pulsing
+pulse_is n v same to box events sent listed =
+    subst (λ (x : Shown). site_with v box events ≡ after_pulse_to x to (pulsing x.node to)) same
+    (ap (λ (b : Outbox). site_with v b events) sent
+    ∙ ap (λ (es : List Mark). site_with v (with_sending (box_of v) (pulsed v.node.link to)) es)
+    listed)
+
+pub pulse_made : (n v : Shown) → v ≡ n → (to : ℕ) (box : Outbox) (reserved events : List Mark)
+    → box ≡ with_sending (box_of v) (pulsed v.node.link to)
+    → frames_again v.node.link to ≢ [] → reserved ≡ v.events → events ≡ reserved ++ Pulse to ∷ []
+    → site_with v box events ≡ after_pulse_to n to (pulsing n.node to)
+pulse_made n v same to box reserved events sent some room listed =
+    pulse_is n v same to box events sent
+    (listed ∙ (ap (λ (es : List Mark). es ++ Pulse to ∷ []) room
+    ∙ ap (λ (ms : List Mark). v.events ++ ms)
+    (sym (made-marks to (frames_again v.node.link to) some))))
+
+pub pulse_none : (n v : Shown) → v ≡ n → (to : ℕ) (box : Outbox) (events : List Mark)
+    → box ≡ with_sending (box_of v) (pulsed v.node.link to)
+    → (frames_again v.node.link to ≢ [] → ⊥) → events ≡ v.events
+    → site_with v box events ≡ after_pulse_to n to (pulsing n.node to)
+pulse_none n v same to box events sent none room =
+    pulse_is n v same to box events sent
+    (room ∙ (sym (append-nil v.events)
+    ∙ ap (λ (ms : List Mark). v.events ++ ms)
+    (sym (none-marks to (frames_again v.node.link to) none))))
+
+-- no frame was made
+pub not_made : {P : Type 0} (b : Bool) → b ≡ false → (P → IsTrue b) → P → ⊥
+not_made true is h p = absurd cc
+not_made false is h p =
+    let wrong : IsTrue false = h p in
+    absurd cc
+
+-- what holds of a site holds after a pulse
+pub pulsed_site : (v : Shown) → IsSite v → (to : ℕ) (new : Shown)
+    → new ≡ after_pulse_to v to (pulsing v.node to) → IsSite new
+unfolding pulsing
+pulsed_site v s to new after = record {
+  config =
+      ap (λ (x : Shown). x.node.core.memory.coherence.config) after ∙ s.config
+      ∙ sym (ap (λ (x : Shown). x.config) after);
+  me = ap (λ (x : Shown). x.node.core.memory.coherence.me) after ∙ s.me
+      ∙ sym (ap (λ (x : Shown). x.me) after);
+  asking = subst (λ (x : Shown). IsAskingHost x.node.core) (sym after) s.asking;
+  made = pulse_made-on to v new s.made after;
+  held = quiet-holds v new s.held (record {
+    held = ap (λ (x : Shown). x.held) after;
+    config = ap (λ (x : Shown). x.config) after;
+    me = ap (λ (x : Shown). x.node.link.me) after;
+    delivered =
+        λ j. ap (λ (x : Shown). (peer_at x.node.link j).delivered) after
+        ∙ pulsed-delivered v.node.link to j;
+    more = [];
+    early = pulse_early to v new s.made after;
+  });
+}

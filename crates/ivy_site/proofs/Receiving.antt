@@ -1,0 +1,334 @@
+-- What a site does with a string that comes and with one that it held, from what its parts did. `v`
+-- is what the fields are seen as, `n` the value.
+use Rattle.std.proofs.Common.{◌≡◌, ◌≢◌, ℕ, ◌+◌, List, [], ◌∷◌, ◌++◌, true, false, Option, Some, None, Contains, Result, Ok, Err, MatchResult, MatchOption, refl, sym, ap, subst, ◌∙◌, arith}
+use Rattle.std.specs.Prelude.{IfSome}
+use Rattle.std.proofs.lemmas.Bool.{eq-eqb}
+use Rattle.ivy_model.specs.declared.Config.{Config}
+use Rattle.ivy_model.specs.Config.{IsConfig}
+use Rattle.ivy_model.specs.declared.Fault.{Fault}
+use Rattle.ivy_wire.specs.declared.FrameKind.{FrameKind}
+use Rattle.ivy_wire.specs.declared.frame.Frame as frame
+use Rattle.ivy_wire.specs.Data.{Frame}
+use Rattle.ivy_wire.specs.Faults.{checked}
+use Rattle.ivy_wire.specs.Reading.{frame_at}
+use Rattle.ivy_wire.specs.Spelling.{Spells, frame_kind}
+use Rattle.ivy_wire.proofs.Frames.{spelled_once}
+use Rattle.ivy_link.specs.declared.Verdict.{Verdict}
+use Rattle.ivy_link.specs.declared.Verdict.TheVariants as verdict
+use Rattle.ivy_link.specs.Linked.{Linked, peer_at}
+use Rattle.ivy_link.specs.Accepted.{offered}
+use Rattle.ivy_link.specs.Windows.{with_string}
+use Rattle.ivy_link.specs.Holding.{Holding, link_of, window_at, can_hold_frame, place_in, after_hold, after_taking, ready_of}
+use Rattle.ivy_outbox.specs.Outboxes.{Outbox, holding_of, with_holding}
+use Rattle.ivy_site.specs.Shown.{Shown, holding_at, after_delivery}
+use Rattle.ivy_site.specs.Sites.{early_at, IsSite, IsHeld, SiteDelivers, CameEarlyAs, Holds}
+use Rattle.ivy_site.specs.Sites.{HoldsString, Hears, Receives, holding_in, without_ready}
+use Rattle.ivy_site.specs.Sites.{GoesOnOnce, SiteGoesOn, WentOnOnce, SiteWentOn, FollowsDelivery, AfterDelivery}
+use Rattle.ivy_site.proofs.HeldStrings.{CameEarly, IsNextOf, holding-holds, taking-holds, put-back-same}
+use Rattle.ivy_outbox.proofs.Boxes.{link-kept}
+
+-- a string spells one frame
+pub spelled_same : (c : Config) → IsConfig c → (f g : Frame) (bytes : List ℕ) → Spells c f bytes
+    → Spells c g bytes → f ≡ g
+spelled_same c limits f g bytes x y =
+    let a : (checked c bytes ≡ Ok (frame_kind f.body)) × (frame_at (frame_kind f.body) bytes ≡ f) =
+    spelled_once c f bytes limits x in
+    let b : (checked c bytes ≡ Ok (frame_kind g.body)) × (frame_at (frame_kind g.body) bytes ≡ g) =
+    spelled_once c g bytes limits y in
+    let both : Ok (frame_kind f.body) ≡ Ok (frame_kind g.body) = sym a.0 ∙ b.0 in
+    let kinds : frame_kind f.body ≡ frame_kind g.body = cc in
+    sym a.1 ∙ (ap (λ k. frame_at k bytes) kinds ∙ b.1)
+
+-- and then it is read
+refused-not : (r : Result FrameKind Fault) (k : FrameKind) (Q : Fault → Type 0) → r ≡ Ok k
+    → MatchResult r (λ x. false ≡ true) Q → ⊥
+refused-not (Ok x) k Q is why = absurd cc
+refused-not (Err e) k Q is why =
+    let wrong : Err e ≡ Ok k = is in absurd cc
+
+pub read_there : (c : Config) → IsConfig c → (f : Frame) (bytes : List ℕ) (Q : Fault → Type 0)
+    → Spells c f bytes → MatchResult (checked c bytes) (λ x. false ≡ true) Q → ⊥
+read_there c limits f bytes Q x why =
+    refused-not (checked c bytes) (frame_kind f.body) Q (spelled_once c f bytes limits x).0 why
+
+abbrev pub box_of : Shown → Outbox
+box_of v =
+    record { config = v.config; me = v.me; link = v.node.link; waiting = v.waiting; held = v.held }
+
+abbrev pub boxed : Shown → Outbox → Shown
+boxed v box =
+    record {
+      config = box.config;
+      me = box.me;
+      node = record { core = v.node.core; link = box.link };
+      events = v.events;
+      waiting = box.waiting;
+      held = box.held;
+    }
+
+-- a string is held
+held_link : {B : Type 0} (h : Holding) (f : frame.Frame B) (bytes : List ℕ)
+    → link_of (after_hold h f bytes) ≡ link_of h
+held_link h f bytes =
+    link-kept (can_hold_frame h f) h f.source
+    (with_string (window_at h f.source) (place_in h f) bytes)
+
+pub boxed_held : {B : Type 0} (v : Shown) (f : frame.Frame B) (bytes : List ℕ) (box : Outbox)
+    → box ≡ with_holding (box_of v) (after_hold (holding_of (box_of v)) f bytes)
+    → boxed v box ≡ record v { held = (after_hold (holding_at v) f bytes).held }
+boxed_held v f bytes box is =
+    ap (boxed v) is
+    ∙ ap (λ (l : Linked). record v {
+      node = record { core = v.node.core; link = l };
+      held = (after_hold (holding_at v) f bytes).held;
+    }) (held_link (holding_at v) f bytes)
+
+pub came_early : (n v : Shown) → v ≡ n → (k : Config) (f : Frame) (string bytes : List ℕ)
+    → Contains (early_at n) string → k ≡ v.config → Spells k f bytes → bytes ≡ string
+    → CameEarly v f string
+came_early n v same k f string bytes came config spelled is = record {
+  early = subst (λ (x : Shown). Contains (early_at x) string) (sym same) came;
+  spelled = subst (Spells v.config f) is (subst (λ c. Spells c f bytes) config spelled);
+}
+
+-- it is held where the frame in it says
+pub holds_string : (n v : Shown) → v ≡ n
+    → (k : Config) (f : Frame) (string bytes : List ℕ) (new : Shown) → IsConfig k → k ≡ v.config
+    → Spells k f bytes → bytes ≡ string → new ≡ holding_in v f string → HoldsString string n new
+holds_string n v same k f string bytes new limits config spelled is held g there =
+    let mine : Spells n.config f string =
+    subst (λ (x : Shown). Spells x.config f string) same
+    (subst (Spells v.config f) is (subst (λ c. Spells c f bytes) config spelled)) in
+    let well : IsConfig n.config =
+    subst (λ (x : Shown). IsConfig x.config) same (subst IsConfig config limits) in
+    held ∙ (ap (λ x. holding_in v x string) (spelled_same n.config well f g string mine there)
+    ∙ ap (λ x. holding_in x g string) same)
+
+pub never_refused : (n v : Shown) → v ≡ n
+    → (k : Config) (string bytes : List ℕ) (new : Shown) (Q : Fault → Type 0) → IsConfig k
+    → k ≡ v.config → bytes ≡ string → MatchResult (checked k bytes) (λ x. false ≡ true) Q
+    → HoldsString string n new
+never_refused n v same k string bytes new Q limits config is why g there =
+    let at : n.config ≡ k = sym (ap (λ (x : Shown). x.config) same) ∙ sym config in
+    absurd (read_there k limits g bytes Q
+    (subst (Spells k g) (sym is) (subst (λ c. Spells c g string) at there)) why)
+
+pub holding_site : (v : Shown) (f : Frame) (bytes : List ℕ) → IsSite v → CameEarly v f bytes
+    → IsSite (holding_in v f bytes)
+holding_site v f bytes s came = record {
+  config = s.config;
+  me = s.me;
+  asking = s.asking;
+  made = record {
+    effect = s.made.effect;
+    happen = s.made.happen;
+    node = s.made.node;
+    taken = s.made.taken;
+    waits = s.made.waits;
+  };
+  held = holding-holds v f bytes s.held came;
+}
+
+-- the string that is ready is taken out
+pub boxed_taken : (v : Shown) (from : ℕ) (box : Outbox)
+    → box ≡ with_holding (box_of v) (after_taking (holding_of (box_of v)) from)
+    → boxed v box ≡ without_ready v from
+boxed_taken v from box is = ap (boxed v) is
+
+pub taking_site : (v : Shown) (from : ℕ) → IsSite v → IsSite (without_ready v from)
+taking_site v from s = record {
+  config = s.config;
+  me = s.me;
+  asking = s.asking;
+  made = record {
+    effect = s.made.effect;
+    happen = s.made.happen;
+    node = s.made.node;
+    taken = s.made.taken;
+    waits = s.made.waits;
+  };
+  held = taking-holds v from s.held;
+}
+
+pub taken_held : (n v : Shown) → v ≡ n → IsSite v → (from : ℕ) (o : Option (List ℕ))
+    → o ≡ ready_of (holding_at v) from → IfSome o (IsHeld n from 0)
+taken_held n v same s from None is = tt
+taken_held n v same s from (Some bytes) is =
+    subst (λ (x : Shown). IsHeld x from 0 bytes) same (s.held from 0 bytes (sym is))
+
+-- a string that comes, before the site goes on
+nothing_held : (w : Verdict) (f : Frame) (bytes : List ℕ) (mid : Shown) → w ≢ verdict.Ahead
+    → Holds w f bytes mid mid
+nothing_held verdict.NotMine f bytes mid ne = refl
+nothing_held verdict.Next f bytes mid ne = refl
+nothing_held verdict.Repeat f bytes mid ne = refl
+nothing_held verdict.Ahead f bytes mid ne = absurd (ne refl)
+
+pub hears : (bytes : List ℕ) (w : Verdict) (from : ℕ) (early : Option (List ℕ)) (old new : Shown)
+    → IsConfig old.config → (f : Frame) → Spells old.config f bytes → f.source ≡ from
+    → SiteDelivers bytes w old new → CameEarlyAs w bytes new
+    → MatchOption early (w ≢ verdict.Ahead) (λ string. (string ≡ bytes) × (w ≡ verdict.Ahead))
+    → Hears bytes w from early old new
+hears bytes w from None old new limits f spelled source d came early = record {
+  first = d;
+  from = ap (λ (x : Frame). x.source)
+      (sym (spelled_same old.config limits f d.frame bytes spelled d.spelled)) ∙ source;
+  early = early;
+}
+hears bytes w from (Some string) old new limits f spelled source d came early = record {
+  first = d;
+  from = ap (λ (x : Frame). x.source)
+      (sym (spelled_same old.config limits f d.frame bytes spelled d.spelled)) ∙ source;
+  early = (
+    early.0,
+    subst (Contains (early_at new)) (sym early.0)
+        (subst (λ x. CameEarlyAs x bytes new) early.1 came),
+    early.1,
+  );
+}
+
+pub received_none : (bytes : List ℕ) (w : Verdict) (from : ℕ) (early : Option (List ℕ))
+    (old mid : Shown) → early ≡ None → Hears bytes w from early old mid
+    → Receives bytes w from old mid
+received_none bytes w from early old mid none h =
+    let ne : w ≢ verdict.Ahead =
+    subst (λ o. MatchOption o (w ≢ verdict.Ahead)
+    (λ string. (string ≡ bytes) × Contains (early_at mid) string × (w ≡ verdict.Ahead))) none
+    h.early in
+    record {
+      mid = mid;
+      first = h.first;
+      from = h.from;
+      holds = nothing_held w h.first.frame bytes mid ne;
+    }
+
+told_early : (bytes string : List ℕ) (w : Verdict) (from : ℕ) (early : Option (List ℕ))
+    (old mid : Shown) → early ≡ Some string → Hears bytes w from early old mid
+    → (string ≡ bytes) × Contains (early_at mid) string × (w ≡ verdict.Ahead)
+told_early bytes string w from early old mid some h =
+    subst (λ o. MatchOption o (w ≢ verdict.Ahead)
+    (λ s. (s ≡ bytes) × Contains (early_at mid) s × (w ≡ verdict.Ahead))) some h.early
+
+pub received_early : (bytes string : List ℕ) (w : Verdict) (from : ℕ) (early : Option (List ℕ))
+    (old mid : Shown) → early ≡ Some string → Hears bytes w from early old mid
+    → Contains (early_at mid) string
+received_early bytes string w from early old mid some h =
+    (told_early bytes string w from early old mid some h).1
+
+held_as : (w : Verdict) (f : Frame) (bytes : List ℕ) (mid new : Shown) → w ≡ verdict.Ahead
+    → new ≡ holding_in mid f bytes → Holds w f bytes mid new
+held_as w f bytes mid new ahead is = subst (λ x. Holds x f bytes mid new) (sym ahead) is
+
+pub received_some : (bytes string : List ℕ) (w : Verdict) (from : ℕ) (early : Option (List ℕ))
+    (old mid new : Shown) → early ≡ Some string → Hears bytes w from early old mid
+    → mid.config ≡ old.config → HoldsString string mid new → Receives bytes w from old new
+received_some bytes string w from early old mid new some h config held =
+    let told = told_early bytes string w from early old mid some h in
+    let there : Spells mid.config h.first.frame string =
+    subst (λ k. Spells k h.first.frame string) (sym config)
+    (subst (Spells old.config h.first.frame) (sym told.0) h.first.spelled) in
+    record {
+      mid = mid;
+      first = h.first;
+      from = h.from;
+      holds = held_as w h.first.frame bytes mid new told.2
+          (held h.first.frame there ∙ ap (holding_in mid h.first.frame) told.0);
+    }
+
+-- a string that was held
+next_of : (s : Shown) (from : ℕ) (bytes : List ℕ) (h : IsHeld s from 0 bytes)
+    → IsNextOf s from h.frame
+next_of s from bytes h =
+    record { source = h.source; dest = h.dest; number = let n = h.number in omega (arith, n) }
+
+offered-next : (s : Shown) (from : ℕ) (f : Frame) → IsNextOf s from f
+    → offered s.node.link f ≡ verdict.Next
+offered-next s from f n =
+    let number : f.number ≡ (peer_at s.node.link f.source).delivered + 1 =
+    n.number ∙ ap (λ i. (peer_at s.node.link i).delivered + 1) (sym n.source) in
+    rw (
+      eq-eqb f.dest s.node.link.me n.dest,
+      eq-eqb f.number ((peer_at s.node.link f.source).delivered + 1) number,
+    ) refl
+
+pub went_once : (old new : Shown) (from source : ℕ) (bytes : List ℕ) (w : Verdict)
+    → IsConfig old.config → Some bytes ≡ ready_of (holding_at old) from → IsHeld old from 0 bytes
+    → Receives bytes w source (without_ready old from) new → WentOnOnce from old new
+went_once old new from source bytes w limits ready h r =
+    let one : h.frame ≡ r.first.frame =
+    spelled_same old.config limits h.frame r.first.frame bytes h.spelled r.first.spelled in
+    let next : w ≡ verdict.Next =
+    r.first.is
+    ∙ (ap (offered old.node.link) (sym one)
+    ∙ offered-next old from h.frame (next_of old from bytes h)) in
+    let same : new ≡ r.mid = subst (λ x. Holds x r.first.frame bytes r.mid new) next r.holds in
+    let d : SiteDelivers bytes verdict.Next (without_ready old from) new =
+    subst (λ x. SiteDelivers bytes verdict.Next (without_ready old from) x) (sym same) (record {
+      frame = r.first.frame;
+      spelled = r.first.spelled;
+      is = sym next ∙ r.first.is;
+      effect = r.first.effect;
+      delivered = r.first.delivered;
+      after = r.first.after
+          ∙ ap (λ x. after_delivery (without_ready old from) bytes x r.first.frame.source
+          r.first.effect) next;
+    }) in (
+      bytes,
+      record {
+        ready = sym ready;
+        early = h.early;
+        next = d;
+        from = ap (λ (x : Frame). x.source) (sym one) ∙ h.source;
+      },
+    )
+
+-- refused, and held again
+pub held_again : (old mid new : Shown) (from : ℕ) (bytes : List ℕ)
+    → Some bytes ≡ ready_of (holding_at old) from → (h : IsHeld old from 0 bytes)
+    → mid ≡ without_ready old from
+    → ((g : Frame) → Spells mid.config g bytes → new ≡ holding_in mid g bytes) → new ≡ old
+held_again old mid new from bytes ready h is held =
+    held h.frame
+    (subst (λ k. Spells k h.frame bytes) (sym (ap (λ (x : Shown). x.config) is)) h.spelled)
+    ∙ (ap (λ x. holding_in x h.frame bytes) is
+    ∙ put-back-same old from h.frame bytes (next_of old from bytes h) (sym ready))
+
+-- one string more
+goes_more : (from : ℕ) (more : List (List ℕ)) (a b d : Shown) (bytes : List ℕ)
+    → SiteGoesOn from more a b → GoesOnOnce from bytes b d → SiteGoesOn from (more ++ bytes ∷ []) a d
+goes_more from [] a b d bytes same once =
+    (d, subst (λ x. GoesOnOnce from bytes x d) same once, refl)
+goes_more from (x ∷ more) a b d bytes on once =
+    (on.0, on.1, goes_more from more on.0 b d bytes on.2 once)
+
+pub went_more : (from : ℕ) (a b d : Shown) → SiteWentOn from a b → WentOnOnce from b d → SiteWentOn from a d
+went_more from a b d on once = (on.0 ++ once.0 ∷ [], goes_more from on.0 a b d once.0 on.1 once.1)
+
+-- a delivery
+rests : (w : Verdict) (f : Frame) (bytes : List ℕ) (mid new : Shown) → w ≢ verdict.Next
+    → Holds w f bytes mid new → FollowsDelivery w f bytes mid new
+rests verdict.NotMine f bytes mid new ne h = h
+rests verdict.Next f bytes mid new ne h = absurd (ne refl)
+rests verdict.Repeat f bytes mid new ne h = h
+rests verdict.Ahead f bytes mid new ne h = h
+
+pub after_rest : (bytes : List ℕ) (w : Verdict) (from : ℕ) (old new : Shown) → w ≢ verdict.Next
+    → Receives bytes w from old new → AfterDelivery bytes w old new
+after_rest bytes w from old new ne r =
+    record {
+      mid = r.mid;
+      first = r.first;
+      follows = rests w r.first.frame bytes r.mid new ne r.holds;
+    }
+
+pub after_next : (bytes : List ℕ) (w : Verdict) (from : ℕ) (old mid new : Shown) → w ≡ verdict.Next
+    → Receives bytes w from old mid → SiteWentOn from mid new → AfterDelivery bytes w old new
+after_next bytes w from old mid new next r on =
+    let same : mid ≡ r.mid = subst (λ x. Holds x r.first.frame bytes r.mid mid) next r.holds in
+    let went : SiteWentOn r.first.frame.source r.mid new =
+    subst (λ i. SiteWentOn i r.mid new) (sym r.from) (subst (λ x. SiteWentOn from x new) same on) in
+    record {
+      mid = r.mid;
+      first = r.first;
+      follows = subst (λ x. FollowsDelivery x r.first.frame bytes r.mid new) (sym next) went;
+    }

@@ -1,0 +1,225 @@
+-- A site's turn, from what its parts did: `v` is what the fields are seen as, `n` the value.
+use Rattle.std.proofs.Common.{◌≡◌, Bool, true, false, List, [], ◌∷◌, ◌++◌, None, refl, sym, ap, ◌∙◌, subst}
+use Rattle.ivy_model.specs.declared.Call.{Call}
+use Rattle.std.proofs.lemmas.Option.{none-some}
+use Rattle.ivy_model.specs.declared.Fault.{Fault}
+use Rattle.ivy_model.specs.declared.Record.{Record}
+use Rattle.ivy_host.specs.Managers.{Managed, managed_ops}
+use Rattle.ivy_program.specs.declared.machine.Next.{Next}
+use Rattle.ivy_program.specs.declared.machine.Next.TheVariants as next
+use Rattle.ivy_program.specs.Steps.{Process, Local, Ends, HasEnded, TellsStep, at_state}
+use Rattle.ivy_events.specs.Marks.{Mark, Turn}
+use Rattle.ivy_memory.specs.Memories.{NodeMemory}
+use Rattle.ivy_host.specs.Hosts.{Host, turn_of}
+use Rattle.ivy_outbox.specs.Outboxes.{Outbox}
+use Rattle.ivy_site.specs.Shown.{Shown}
+use Rattle.ivy_site.specs.Sites.{SiteTurns, HasTurn, AfterHostTurn, HasNoNumbers, IsSpentTurn, IsMadeByEvents, IsSite, host_of}
+use Rattle.ivy_host.proofs.Same.{turn-same}
+use Rattle.ivy_host.proofs.Tame.{IsAskingHost, turn-asking}
+use Rattle.ivy_site.specs.declared.turn.Turn.TheVariants as turn
+use Rattle.ivy_link.specs.Linked.{Linked, peer_at, after_sends}
+use Rattle.ivy_link.proofs.Sending.{sends-me}
+use Rattle.ivy_link.proofs.Holds.{sends-delivered}
+use Rattle.ivy_host.proofs.Programs.{posting-link}
+use Rattle.ivy_site.proofs.HeldStrings.{IsQuiet, quiet-holds}
+use Rattle.ivy_site.proofs.Made.{turn_made, turn_early}
+use Rattle.ivy_site.proofs.Turning.{turn_steps, moved_quietly, moved_by_call, spent_call}
+
+abbrev H : Type 0
+H = Host Managed
+
+abbrev box_of : Shown → Outbox
+box_of v =
+    record { config = v.config; me = v.me; link = v.node.link; waiting = v.waiting; held = v.held }
+
+-- the site with this core, and these events listed
+abbrev with_core : Shown → H → List Mark → Shown
+with_core v h events =
+    record {
+      config = v.config;
+      me = v.me;
+      node = record { core = h; link = v.node.link };
+      events = events;
+      waiting = v.waiting;
+      held = v.held;
+    }
+
+-- the site with this core and this outbox
+abbrev with_box : H → Outbox → List Mark → Shown
+with_box h box events =
+    record {
+      config = box.config;
+      me = box.me;
+      node = record { core = h; link = box.link };
+      events = events;
+      waiting = box.waiting;
+      held = box.held;
+    }
+
+hosts : (m m' : NodeMemory Managed) (p p' : Process) (hs hs' : List Record) → m ≡ m' → p ≡ p'
+    → hs ≡ hs' → host_of m p hs ≡ host_of m' p' hs'
+hosts m m' p p' hs hs' a b d =
+    ap (λ x. host_of x p hs) a ∙ (ap (λ x. host_of m' x hs) b ∙ ap (λ x. host_of m' p' x) d)
+
+stays_so : (v : Shown) (m : NodeMemory Managed) (p : Process) (hs : List Record)
+    (events : List Mark) → m ≡ v.node.core.memory → p ≡ v.node.core.process
+    → hs ≡ v.node.core.history → events ≡ v.events → with_core v (host_of m p hs) events ≡ v
+stays_so v m p hs events a b d e =
+    ap (λ h. with_core v h events)
+    (hosts m v.node.core.memory p v.node.core.process hs v.node.core.history a b d)
+    ∙ ap (λ es. with_core v v.node.core es) e
+
+-- the program has ended
+pub ended_turn : (n v : Shown) → v ≡ n
+    → (x : Next) (p : Process) (hs : List Record) (events : List Mark)
+    → v.node.core.memory.asked ≡ None → TellsStep x v.node.core.process p → x ≡ next.Ended
+    → hs ≡ v.node.core.history → events ≡ v.events
+    → HasEnded n.node.core.process × (turn_of managed_ops n.node.core ≡ None)
+    × (with_core v (host_of v.node.core.memory p hs) events ≡ n)
+ended_turn n v same x p hs events idle steps is history listed =
+    let s : TellsStep next.Ended v.node.core.process p =
+    subst (λ y. TellsStep y v.node.core.process p) is steps in (
+      subst (λ (y : Shown). HasEnded y.node.core.process) same s.0,
+      subst (λ (y : Shown). turn_of managed_ops y.node.core ≡ None) same
+          (turn_steps v.node.core Ends idle s.0),
+      stays_so v v.node.core.memory p hs events refl s.1 history listed ∙ same,
+    )
+
+-- an instruction of its own
+pub local_turn : (n v : Shown) → v ≡ n
+    → (x : Next) (p : Process) (hs : List Record) (events : List Mark)
+    → v.node.core.memory.asked ≡ None → TellsStep x v.node.core.process p → x ≡ next.Local
+    → hs ≡ v.node.core.history → events ≡ v.events ++ Turn ∷ []
+    → SiteTurns n (with_core v (host_of v.node.core.memory p hs) events)
+local_turn n v same x p hs events idle steps is history listed =
+    let s : TellsStep next.Local v.node.core.process p =
+    subst (λ y. TellsStep y v.node.core.process p) is steps in
+    let h : H =
+    host_of v.node.core.memory (at_state v.node.core.process p.state) v.node.core.history in
+    let so : host_of v.node.core.memory p hs ≡ h =
+    hosts v.node.core.memory v.node.core.memory p h.process hs h.history refl s.1 history in
+    subst (λ y. SiteTurns n (with_core v y events)) (sym so)
+    (moved_quietly n v same h events (turn_steps v.node.core (Local p.state) idle s.0) listed)
+
+-- the program and the history are as they were, as the code has them
+pub record IsAtRest (v : Shown) (p : Process) (hs : List Record) : Type 0 where
+  pub process : p ≡ v.node.core.process
+  pub history : hs ≡ v.node.core.history
+
+-- a program that makes a call does not go on yet
+pub makes_call : (q : Process) (c : Call) (x : Next) (p : Process) → TellsStep x q p
+    → x ≡ next.Call c → p ≡ q
+makes_call q c x p steps is =
+    let s : TellsStep (next.Call c) q p = subst (λ y. TellsStep y q p) is steps in s.1
+
+resting_host : (v : Shown) (p : Process) (hs : List Record) → IsAtRest v p hs
+    → host_of v.node.core.memory p hs ≡ v.node.core
+resting_host v p hs k =
+    hosts v.node.core.memory v.node.core.memory p v.node.core.process hs v.node.core.history refl
+    k.process k.history
+
+pub spent_turn : (n v : Shown) → v ≡ n → (p : Process) (hs : List Record) (f : Fault)
+    → IsAtRest v p hs → HasNoNumbers (host_of v.node.core.memory p hs) (box_of v) f
+    → IsSpentTurn n f
+spent_turn n v same p hs f k cannot =
+    spent_call n v same f (subst (λ h. HasNoNumbers h (box_of v) f) (resting_host v p hs k) cannot)
+
+pub called_turn : (n v : Shown) → v ≡ n
+    → (p : Process) (hs : List Record) (h : H) (box : Outbox) (reserved events : List Mark)
+    → IsAtRest v p hs → HasTurn (host_of v.node.core.memory p hs) (box_of v) h box
+    → reserved ≡ v.events → events ≡ reserved ++ Turn ∷ [] → SiteTurns n (with_box h box events)
+called_turn n v same p hs h box reserved events k b room listed =
+    moved_by_call n v same h box events
+    (subst (λ x. HasTurn x (box_of v) h box) (resting_host v p hs k) b)
+    (listed ∙ ap (λ es. es ++ Turn ∷ []) room)
+
+-- a turn delivers nothing
+turns_quietly : (old new : Shown) → IsMadeByEvents old → SiteTurns old new → IsQuiet old new
+turns_quietly old new made t =
+    let link : t.effect.after.link ≡ after_sends old.node.link t.outcome.posted =
+    posting-link old.node t.outcome.after t.outcome.posted t.effect t.sent in
+    record {
+      held = ap (λ (x : Shown). x.held) t.after;
+      config = ap (λ (x : Shown). x.config) t.after;
+      me = ap (λ (x : Shown). x.node.link.me) t.after
+          ∙ (ap (λ (l : Linked). l.me) link ∙ sends-me old.node.link t.outcome.posted);
+      delivered =
+          λ j. ap (λ (x : Shown). (peer_at x.node.link j).delivered) t.after
+          ∙ (ap (λ (l : Linked). (peer_at l j).delivered) link
+          ∙ sends-delivered old.node.link t.outcome.posted j);
+      more = [];
+      early = turn_early turn.Moved old new made t;
+    }
+
+pub called_site : (v : Shown) (p : Process) (hs : List Record) (h : H) (box : Outbox)
+    (reserved events : List Mark) → IsSite v → IsAtRest v p hs
+    → HasTurn (host_of v.node.core.memory p hs) (box_of v) h box
+    → reserved ≡ v.events → events ≡ reserved ++ Turn ∷ [] → IsSite (with_box h box events)
+called_site v p hs h box reserved events s k b0 room listed =
+    let b : HasTurn v.node.core (box_of v) h box =
+    subst (λ x. HasTurn x (box_of v) h box) (resting_host v p hs k) b0 in
+    let well = turn-same managed_ops v.node.core b.outcome b.turn in
+    record {
+      config =
+          ap (λ (x : H). x.memory.coherence.config) b.host
+          ∙ (well.config ∙ (s.config ∙ sym (ap (λ (x : Outbox). x.config) b.sent)));
+      me = ap (λ (x : H). x.memory.coherence.me) b.host
+          ∙ (well.me ∙ (s.me ∙ sym (ap (λ (x : Outbox). x.me) b.sent)));
+      asking =
+          subst IsAskingHost (sym b.host)
+          (turn-asking managed_ops v.node.core b.outcome s.asking b.turn);
+      made = turn_made turn.Moved v (with_box h box events) s.made
+          (called_turn v v refl p hs h box reserved events k b0 room listed);
+      held = quiet-holds v (with_box h box events) s.held
+          (turns_quietly v (with_box h box events) s.made
+          (called_turn v v refl p hs h box reserved events k b0 room listed));
+    }
+
+-- what holds of a site holds after an instruction of its own
+pub local_site : (v : Shown) (x : Next) (p : Process) (hs : List Record) (events : List Mark)
+    → IsSite v → v.node.core.memory.asked ≡ None → TellsStep x v.node.core.process p
+    → x ≡ next.Local
+    → hs ≡ v.node.core.history → events ≡ v.events ++ Turn ∷ []
+    → IsSite (with_core v (host_of v.node.core.memory p hs) events)
+local_site v x p hs events s idle steps is history listed = record {
+  config = s.config;
+  me = s.me;
+  asking = λ call asked. absurd (none-some call (sym idle ∙ asked));
+  made = turn_made turn.Moved v (with_core v (host_of v.node.core.memory p hs) events) s.made
+      (local_turn v v refl x p hs events idle steps is history listed);
+  held = quiet-holds v (with_core v (host_of v.node.core.memory p hs) events) s.held
+      (turns_quietly v (with_core v (host_of v.node.core.memory p hs) events) s.made
+      (local_turn v v refl x p hs events idle steps is history listed));
+}
+
+-- whether anything changed
+pub has_turned : (b : Bool) → b ≡ true → (old : H) (box : Outbox) (new : H) (after : Outbox)
+    → AfterHostTurn b old box new after → HasTurn old box new after
+has_turned true is old box new after h = h
+has_turned false is old box new after h = absurd cc
+
+pub not_turned : (b : Bool) → b ≡ false → (old : H) (box : Outbox) (new : H) (after : Outbox)
+    → AfterHostTurn b old box new after → AfterHostTurn false old box new after
+not_turned true is old box new after h = absurd cc
+not_turned false is old box new after h = h
+
+-- nothing changed
+pub record IsIdle (v : Shown) (p : Process) (hs : List Record) (h : H) (box : Outbox) : Type 0 where
+  pub rests : IsAtRest v p hs
+  pub after : AfterHostTurn false (host_of v.node.core.memory p hs) (box_of v) h box
+
+idle_same : (v : Shown) (p : Process) (hs : List Record) (h : H) (box : Outbox) (events : List Mark)
+    → IsIdle v p hs h box → events ≡ v.events → with_box h box events ≡ v
+idle_same v p hs h box events u listed =
+    ap (λ x. with_box x box events) (u.after.1 ∙ resting_host v p hs u.rests)
+    ∙ (ap (λ x. with_box v.node.core x events) u.after.2 ∙ ap (with_core v v.node.core) listed)
+
+pub idle_turn : (n v : Shown) → v ≡ n
+    → (p : Process) (hs : List Record) (h : H) (box : Outbox) (events : List Mark)
+    → IsIdle v p hs h box → events ≡ v.events
+    → (turn_of managed_ops n.node.core ≡ None) × (with_box h box events ≡ n)
+idle_turn n v same p hs h box events u listed = (
+  subst (λ (y : Shown). turn_of managed_ops y.node.core ≡ None) same
+      (subst (λ x. turn_of managed_ops x ≡ None) (resting_host v p hs u.rests) u.after.0),
+  idle_same v p hs h box events u listed ∙ same,
+)

@@ -1,0 +1,110 @@
+use Rattle.std.proofs.Common.{rules, refl, ap, sym, ◌∷◌, [], ◌++◌, ◌∙◌}
+use Rattle.ivy_events.specs.Marks.{Turn}
+use Rattle.ivy_memory.proofs.Beginning.{err_there}
+use Rattle.ivy_site.proofs.Turned.{idle_turn, ended_turn, local_turn, local_site, makes_call, spent_turn, called_turn, called_site, has_turned, not_turned}
+use Rattle.ivy_site.proofs.site.Site.program_turn.Goals as goal
+
+pub returns-in-Ended-clause-done : goal.returns-in-Ended-clause-done
+returns-in-Ended-clause-done g c =
+    ended_turn _ _ c.self.view_is c.in_ok-next.field-0 c.next.new.self c.reserve.new.self.items _
+    (sym c.asked.ensures ∙ c.in_default.is) c.in_ok-next.ensures.step c.in-Ended.is
+    c.in_ok-reserve.ensures.items c.in_ok-reserve-2.ensures.same
+
+pub returns-in-Local-clause-done : goal.returns-in-Local-clause-done
+returns-in-Local-clause-done g c =
+    local_turn _ _ c.self.view_is c.in_ok-next.field-0 c.next.new.self c.reserve.new.self.items _
+    (sym c.asked.ensures ∙ c.in_default.is) c.in_ok-next.ensures.step c.in-Local.is
+    c.in_ok-reserve.ensures.items
+    (c.push_turn-in-Local.ensures ∙ ap (λ ms. ms ++ Turn ∷ []) c.in_ok-reserve-2.ensures.same)
+
+pub returns-in_err-began-in-Call-clause-spent : goal.returns-in_err-began-in-Call-clause-spent
+returns-in_err-began-in-Call-clause-spent g c =
+    err_there c.from_residual-in_err-began-in-Call.result _ _
+    c.from_residual-in_err-began-in-Call.ensures.1
+    (spent_turn _ _ c.self.view_is c.next.new.self c.reserve.new.self.items _
+    (record {
+      process =
+          makes_call _ c.in-Call.call c.in_ok-next.field-0 c.next.new.self c.in_ok-next.ensures.step
+          c.in-Call.is;
+      history = c.in_ok-reserve.ensures.items;
+    })
+    c.in_err-began-in-Call.ensures.spent)
+
+pub returns-then-not-began-clause-done : goal.returns-then-not-began-clause-done
+returns-then-not-began-clause-done g c =
+    idle_turn _ _ c.self.view_is c.next.new.self c.reserve.new.self.items _ c.begin.new.outbox _
+    (record {
+      rests = (record {
+        process =
+            makes_call _ c.in-Call.call c.in_ok-next.field-0 c.next.new.self c.in_ok-next.ensures.step
+            c.in-Call.is;
+        history = c.in_ok-reserve.ensures.items;
+      });
+      after = not_turned c.in_ok-began-in-Call.began (search rules) _ _ _ _
+          c.in_ok-began-in-Call.ensures.ok;
+    })
+    c.in_ok-reserve-2.ensures.same
+
+pub invariant_of-self-in-Call : goal.invariant_of-self-in-Call
+invariant_of-self-in-Call g c =
+    called_site _ c.next.new.self c.reserve.new.self.items _ c.begin.new.outbox _ _ c.self.invariant
+    (record {
+      process =
+          makes_call _ c.in-Call.call c.in_ok-next.field-0 c.next.new.self c.in_ok-next.ensures.step
+          c.in-Call.is;
+      history = c.in_ok-reserve.ensures.items;
+    })
+    (has_turned c.in_ok-began-in-Call.began (search rules) _ _ _ _ c.in_ok-began-in-Call.ensures.ok)
+    c.in_ok-reserve-2.ensures.same c.push_turn-in-Call.ensures
+
+pub returns-else-not-began-clause-done : goal.returns-else-not-began-clause-done
+returns-else-not-began-clause-done g c =
+    called_turn _ _ c.self.view_is c.next.new.self c.reserve.new.self.items _ c.begin.new.outbox _ _
+    (record {
+      process =
+          makes_call _ c.in-Call.call c.in_ok-next.field-0 c.next.new.self c.in_ok-next.ensures.step
+          c.in-Call.is;
+      history = c.in_ok-reserve.ensures.items;
+    })
+    (has_turned c.in_ok-began-in-Call.began (search rules) _ _ _ _ c.in_ok-began-in-Call.ensures.ok)
+    c.in_ok-reserve-2.ensures.same c.push_turn-in-Call.ensures
+
+pub returns-in_err-changed-clause-spent : goal.returns-in_err-changed-clause-spent
+returns-in_err-changed-clause-spent g c =
+    err_there c.from_residual-in_err-changed.result _ _ c.from_residual-in_err-changed.ensures.1
+    (spent_turn _ _ c.self.view_is c.self.inside.machine c.reserve.new.self.items _
+    (record { process = refl; history = c.in_ok-reserve.ensures.items })
+    c.in_err-changed.ensures.spent)
+
+pub returns-then-not-changed-clause-done : goal.returns-then-not-changed-clause-done
+returns-then-not-changed-clause-done g c =
+    idle_turn _ _ c.self.view_is c.self.inside.machine c.reserve.new.self.items _ c.poll.new.outbox
+    _
+    (record {
+      rests = (record { process = refl; history = c.in_ok-reserve.ensures.items });
+      after = not_turned c.in_ok-changed.changed (search rules) _ _ _ _ c.in_ok-changed.ensures.ok;
+    })
+    c.in_ok-reserve-2.ensures.same
+
+pub invariant_of-self-in-Some : goal.invariant_of-self-in-Some
+invariant_of-self-in-Some g c =
+    called_site _ c.self.inside.machine c.reserve.new.self.items _ c.poll.new.outbox _ _
+    c.self.invariant
+    (record { process = refl; history = c.in_ok-reserve.ensures.items })
+    (has_turned c.in_ok-changed.changed (search rules) _ _ _ _ c.in_ok-changed.ensures.ok)
+    c.in_ok-reserve-2.ensures.same c.push_turn.ensures
+
+pub returns-in-Some-clause-done : goal.returns-in-Some-clause-done
+returns-in-Some-clause-done g c =
+    called_turn _ _ c.self.view_is c.self.inside.machine c.reserve.new.self.items _
+    c.poll.new.outbox _ _
+    (record { process = refl; history = c.in_ok-reserve.ensures.items })
+    (has_turned c.in_ok-changed.changed (search rules) _ _ _ _ c.in_ok-changed.ensures.ok)
+    c.in_ok-reserve-2.ensures.same c.push_turn.ensures
+
+pub invariant_of-self-in-Local : goal.invariant_of-self-in-Local
+invariant_of-self-in-Local g c =
+    local_site _ c.in_ok-next.field-0 c.next.new.self c.reserve.new.self.items _ c.self.invariant
+    (sym c.asked.ensures ∙ c.in_default.is) c.in_ok-next.ensures.step c.in-Local.is
+    c.in_ok-reserve.ensures.items
+    (c.push_turn-in-Local.ensures ∙ ap (λ ms. ms ++ Turn ∷ []) c.in_ok-reserve-2.ensures.same)

@@ -1,0 +1,283 @@
+-- What the calls of a site do.
+use Rattle.std.specs.Prelude.{◌≡◌, ◌≢◌, ℕ, ◌+◌, ◌*◌, ◌<◌, List, [], ◌∷◌, ◌++◌, length, replicate, slice_get, MatchOption, Bool, true, false, Option, Some, None, Contains}
+use Rattle.ivy_model.specs.declared.Config.{Config}
+use Rattle.ivy_model.specs.Config.{IsConfig}
+use Rattle.ivy_model.specs.declared.Call.{Call}
+use Rattle.ivy_model.specs.declared.Call.TheVariants.{Await}
+use Rattle.ivy_model.specs.declared.Fault.{Fault}
+use Rattle.ivy_model.specs.declared.Fault.TheVariants.{NumbersSpent}
+use Rattle.ivy_wire.specs.Data.{Frame}
+use Rattle.ivy_wire.specs.Spelling.{Spells}
+use Rattle.ivy_link.specs.Accepted.{offered}
+use Rattle.ivy_link.specs.declared.Verdict.{Verdict}
+use Rattle.ivy_link.specs.declared.Verdict.TheVariants as verdict
+use Rattle.ivy_link.specs.Windows.{first_window, place_at}
+use Rattle.ivy_link.specs.Holding.{window_of, after_hold, ready_of, after_taking}
+use Rattle.ivy_program.specs.declared.Instruction.{Instruction}
+use Rattle.ivy_program.specs.Steps.{HasEnded, Asks, step_of, answered_with}
+use Rattle.ivy_host.specs.Managers.{Managed, managed_ops}
+use Rattle.ivy_events.specs.Marks.{Turn}
+use Rattle.ivy_events.specs.Cores.{Outcome}
+use Rattle.ivy_events.specs.Nodes.{Effect, posting, turned, delivered}
+use Rattle.ivy_events.specs.Parts.{AllHappen}
+use Rattle.ivy_events.specs.Early.{early_in}
+use Rattle.ivy_site.specs.declared.turn.Turn as turn
+use Rattle.ivy_site.specs.declared.turn.Turn.TheVariants.{Idle, Moved, Ended}
+use Rattle.ivy_model.specs.declared.Record.{Record}
+use Rattle.ivy_link.specs.Linked.{peer_at, has_numbers}
+use Rattle.ivy_program.specs.Steps.{Process}
+use Rattle.ivy_memory.specs.declared.Answer.{Answer}
+use Rattle.ivy_memory.specs.declared.Answer.TheVariants.{Given, Unserved}
+use Rattle.ivy_memory.specs.Memories as memories
+use Rattle.ivy_outbox.specs.Outboxes.{Outbox, HasNumbers, posted_by}
+use Rattle.ivy_host.specs.Hosts.{Host, host_rules, turn_of}
+use Rattle.ivy_host.specs.Openings.{first_node}
+use Rattle.ivy_serving.specs.Limits.{most_posted}
+use Rattle.ivy_link.specs.Limits.{most_ahead}
+use Rattle.ivy_headline.specs.RunState.{Run}
+use Rattle.ivy_headline.specs.Reached.{IsReached}
+use Rattle.ivy_site.specs.Shown.{Shown, holding_at, after_event, after_delivery}
+
+-- how many strings one event sends at most: what is posted, and a pulse has no more frames
+abbrev pub most_sent : ℕ
+most_sent = most_posted
+
+-- and how many a delivery sends with all that a site goes on with, as many for each string
+abbrev pub most_delivered : ℕ
+most_delivered = most_sent + most_sent * most_ahead
+
+-- nothing was listed or held, and no string waits
+abbrev pub first_shown : Config → ℕ → List Instruction → Shown
+first_shown c me program = record {
+  config = c;
+  me = me;
+  node = first_node managed_ops c me program;
+  events = [];
+  waiting = [];
+  held = replicate c.nodes first_window;
+}
+
+-- what came to a site too early, told from its events
+abbrev pub early_at : Shown → List (List ℕ)
+early_at s = early_in (host_rules managed_ops) s.config
+    (first_node managed_ops s.config s.me s.node.core.process.program) s.events
+
+-- it is the same node, under the same configuration
+abbrev pub IsSameNode : Shown → Shown → Type 0
+IsSameNode old new = (new.config ≡ old.config) × (new.me ≡ old.me)
+
+-- the turn has an outcome: it is the turn of the definitions
+pub record SiteTurns (old new : Shown) : Type 0 where
+  pub outcome : Outcome (Host Managed)
+  pub turn : turn_of managed_ops old.node.core ≡ Some outcome
+  pub effect : Effect (Host Managed)
+  pub sent : posting old.node outcome.after outcome.posted ≡ Some effect
+  pub after : new ≡ after_event old Turn effect
+
+-- what a turn changes that came to this
+abbrev pub AfterTurn : turn.Turn → Shown → Shown → Type 0
+AfterTurn Idle old new = (turn_of managed_ops old.node.core ≡ None) × (new ≡ old)
+AfterTurn Moved old new = SiteTurns old new
+AfterTurn Ended old new =
+    HasEnded old.node.core.process × (turn_of managed_ops old.node.core ≡ None) × (new ≡ old)
+
+-- the string spells a frame, which is what the verdict says, and the delivery is that of the
+-- definitions
+pub record SiteDelivers (bytes : List ℕ) (verdict : Verdict) (old new : Shown) : Type 0 where
+  pub frame : Frame
+  pub spelled : Spells old.config frame bytes
+  pub is : verdict ≡ offered old.node.link frame
+  pub effect : Effect (Host Managed)
+  pub delivered : delivered (host_rules managed_ops) old.config old.node bytes ≡ Some effect
+  pub after : new ≡ after_delivery old bytes verdict frame.source effect
+
+-- a string with this verdict came too early, told from the events
+abbrev pub CameEarlyAs : Verdict → List ℕ → Shown → Type 0
+CameEarlyAs verdict.NotMine bytes s = Unit {0}
+CameEarlyAs verdict.Next bytes s = Unit {0}
+CameEarlyAs verdict.Repeat bytes s = Unit {0}
+CameEarlyAs verdict.Ahead bytes s = Contains (early_at s) bytes
+
+-- the string of a frame is held, where there is a place for it
+abbrev pub holding_in : Shown → Frame → List ℕ → Shown
+holding_in s f bytes = record s { held = (after_hold (holding_at s) f bytes).held }
+
+-- the frame in the string says where
+abbrev pub HoldsString : List ℕ → Shown → Shown → Type 0
+HoldsString bytes old new =
+    (f : Frame) → Spells old.config f bytes → new ≡ holding_in old f bytes
+
+-- the string that is ready is taken out
+abbrev pub without_ready : Shown → ℕ → Shown
+without_ready s source = record s { held = (after_taking (holding_at s) source).held }
+
+-- one string, before the site goes on: the string of a frame that came too early is held
+abbrev pub Holds : Verdict → Frame → List ℕ → Shown → Shown → Type 0
+Holds verdict.NotMine f bytes mid new = new ≡ mid
+Holds verdict.Next f bytes mid new = new ≡ mid
+Holds verdict.Repeat f bytes mid new = new ≡ mid
+Holds verdict.Ahead f bytes mid new = new ≡ holding_in mid f bytes
+
+-- also the source, and the string again where it came too early
+pub record Hears (bytes : List ℕ) (answer : Verdict) (source : ℕ) (again : Option (List ℕ))
+    (old new : Shown) : Type 0 where
+  pub first : SiteDelivers bytes answer old new
+  pub from : first.frame.source ≡ source
+  pub early : MatchOption again (answer ≢ verdict.Ahead)
+      (λ string. (string ≡ bytes) × Contains (early_at new) string × (answer ≡ verdict.Ahead))
+
+-- the string is delivered, and held where it came too early; the source is told
+pub record Receives (bytes : List ℕ) (verdict : Verdict) (source : ℕ) (old new : Shown) : Type 0
+  where
+    pub mid : Shown
+    pub first : SiteDelivers bytes verdict old mid
+    pub from : first.frame.source ≡ source
+    pub holds : Holds verdict first.frame bytes mid new
+
+-- the string that is held of the next number from this node, which came too early once, is
+-- delivered as the next one
+pub record GoesOnOnce (source : ℕ) (bytes : List ℕ) (old new : Shown) : Type 0 where
+  pub ready : ready_of (holding_at old) source ≡ Some bytes
+  pub early : Contains (early_at old) bytes
+  pub next : SiteDelivers bytes verdict.Next (without_ready old source) new
+  pub from : next.frame.source ≡ source
+
+-- one after another
+abbrev pub SiteGoesOn : ℕ → List (List ℕ) → Shown → Shown → Type 0
+SiteGoesOn source [] old new = new ≡ old
+SiteGoesOn source (bytes ∷ more) old new =
+    (mid : Shown) × GoesOnOnce source bytes old mid × SiteGoesOn source more mid new
+
+-- so it went on, with some string
+abbrev pub WentOnOnce : ℕ → Shown → Shown → Type 0
+WentOnOnce source old new = (bytes : List ℕ) × GoesOnOnce source bytes old new
+
+-- so it went on, with any number of strings
+abbrev pub SiteWentOn : ℕ → Shown → Shown → Type 0
+SiteWentOn source old new = (more : List (List ℕ)) × SiteGoesOn source more old new
+
+-- after the delivery of a frame that is the next one the site may go on, and one that came too
+-- early is held
+abbrev pub FollowsDelivery : Verdict → Frame → List ℕ → Shown → Shown → Type 0
+FollowsDelivery verdict.NotMine f bytes mid new = new ≡ mid
+FollowsDelivery verdict.Next f bytes mid new = SiteWentOn f.source mid new
+FollowsDelivery verdict.Repeat f bytes mid new = new ≡ mid
+FollowsDelivery verdict.Ahead f bytes mid new = new ≡ holding_in mid f bytes
+
+-- the string is delivered, and then the site goes on, or holds it
+pub record AfterDelivery (bytes : List ℕ) (verdict : Verdict) (old new : Shown) : Type 0 where
+  pub mid : Shown
+  pub first : SiteDelivers bytes verdict old mid
+  pub follows : FollowsDelivery verdict first.frame bytes mid new
+
+-- message numbers are at an end: the turn, or the delivery, is no event
+abbrev pub IsSpentTurn : Shown → Fault → Type 0
+IsSpentTurn old fault = fault ≡ NumbersSpent → turned (host_rules managed_ops) old.node ≡ None
+
+abbrev pub IsSpentDelivery : Shown → List ℕ → Fault → Type 0
+IsSpentDelivery old bytes fault =
+    fault ≡ NumbersSpent → delivered (host_rules managed_ops) old.config old.node bytes ≡ None
+
+-- the node is what its events make of the first one of its program, and the strings that wait are
+-- the last of those that the events sent
+pub record IsMadeByEvents (s : Shown) : Type 0 where
+  pub effect : Effect (Host Managed)
+  pub happen : AllHappen (host_rules managed_ops) s.config
+      (first_node managed_ops s.config s.me s.node.core.process.program) s.events effect
+  pub node : s.node ≡ effect.after
+  pub taken : List (List ℕ)
+  pub waits : effect.sent ≡ taken ++ s.waiting
+
+-- the site's events send the string
+pub record IsSentBy (s : Shown) (bytes : List ℕ) : Type 0 where
+  pub made : IsMadeByEvents s
+  pub sent : Contains made.effect.sent bytes
+
+-- a string that is held in this place of a node's window came too early, and spells the frame of
+-- that number from the node to this one
+pub record IsHeld (s : Shown) (from place : ℕ) (bytes : List ℕ) : Type 0 where
+  pub early : Contains (early_at s) bytes
+  pub frame : Frame
+  pub spelled : Spells s.config frame bytes
+  pub source : frame.source ≡ from
+  pub dest : frame.dest ≡ s.node.link.me
+  pub number : frame.number ≡ (peer_at s.node.link from).delivered + place + 1
+
+-- each string that is held came too early, and is held in its place
+abbrev pub HoldsEarly : Shown → Type 0
+HoldsEarly s = (source place : ℕ) (bytes : List ℕ)
+    → place_at (window_of s.held source) place ≡ Some bytes → IsHeld s source place bytes
+
+-- what holds of a site, beside what its parts keep
+pub record IsSite (s : Shown) : Type 0 where
+  pub config : s.node.core.memory.coherence.config ≡ s.config
+  pub me : s.node.core.memory.coherence.me ≡ s.me
+  pub asking : (call : Call) → s.node.core.memory.asked ≡ Some call
+      → step_of s.node.core.process ≡ Asks call
+  pub made : IsMadeByEvents s
+  pub held : HoldsEarly s
+
+abbrev pub host_of : memories.NodeMemory Managed → Process → List Record → Host Managed
+host_of memory process history = record { memory = memory; process = process; history = history }
+
+-- what an answer to a call of the program does: the reply is recorded, and the process goes on
+abbrev pub is_served : Answer → Bool
+is_served Unserved = false
+is_served answer = true
+
+abbrev pub kept_by : List Record → ℕ → Call → Answer → List Record
+kept_by history node k (Given r) = history ++ record { node = node; call = k; reply = r } ∷ []
+kept_by history node k answer = history
+
+abbrev pub told_by : Process → Answer → Process
+told_by process (Given r) = answered_with process r
+told_by process answer = process
+
+-- the node has a turn, by the rules of the definitions, and what is posted is sent
+pub record HasTurn (old : Host Managed) (box : Outbox) (new : Host Managed)
+    (after : Outbox) : Type 0 where
+  pub outcome : Outcome (Host Managed)
+  pub turn : turn_of managed_ops old ≡ Some outcome
+  pub host : new ≡ outcome.after
+  pub numbers : HasNumbers box outcome.posted
+  pub sent : after ≡ posted_by box outcome.posted
+
+-- or its turn changes nothing
+abbrev pub AfterHostTurn : Bool → Host Managed → Outbox → Host Managed → Outbox → Type 0
+AfterHostTurn true old box new after = HasTurn old box new after
+AfterHostTurn false old box new after =
+    (turn_of managed_ops old ≡ None) × (new ≡ old) × (after ≡ box)
+
+-- numbers are at an end for what it would post
+abbrev pub HasNoNumbers : Host Managed → Outbox → Fault → Type 0
+HasNoNumbers old box fault = fault ≡ NumbersSpent
+    → (outcome : Outcome (Host Managed)) × (turn_of managed_ops old ≡ Some outcome)
+    × (has_numbers box.link outcome.posted ≡ false)
+
+-- the first string that waits is taken, if there is one, and nothing else changes
+abbrev pub TakesFrame : Option (List ℕ) → Shown → Shown → Type 0
+TakesFrame None old new = (old.waiting ≡ []) × (new ≡ old)
+TakesFrame (Some bytes) old new =
+    (old.waiting ≡ bytes ∷ new.waiting) × (new ≡ record old { waiting = new.waiting })
+
+-- the string spells a frame to this site whose message was not delivered here yet
+pub record Awaits (s : Shown) (bytes : List ℕ) : Type 0 where
+  pub frame : Frame
+  pub spelled : Spells s.config frame bytes
+  pub dest : frame.dest ≡ s.me
+  pub later : (peer_at s.node.link frame.source).delivered < frame.number
+
+-- the node is one of a world that some moves lead to from the opening of as many programs as there
+-- are nodes
+pub record IsOfRun (s : Shown) : Type 0 where
+  pub run : Run
+  pub limits : IsConfig run.config
+  pub programs : length run.programs ≡ run.config.nodes
+  pub reached : IsReached run
+  pub node : slice_get run.world.nodes s.me ≡ Some s.node
+
+-- the number of the count that a call in progress awaits, and the least value that it awaits
+abbrev pub await_in : Option Call → Option (ℕ × ℕ)
+await_in None = None
+await_in (Some (Await k least)) = Some (k, least)
+await_in (Some call) = None

@@ -1,0 +1,12 @@
+//! One node whole: its program, its memory, its link, and the strings that wait to be put on the wire.
+//!
+//! In a comment, numbers in brackets as [1, 17] are the fault numbers that a call may answer.
+#![tactic(auto)]
+
+mod site;
+mod turn;
+
+pub use ivy_link::Verdict;
+pub use ivy_program::{Program, parse};
+pub use site::Site;
+pub use turn::Turn;

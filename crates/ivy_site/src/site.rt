@@ -1,0 +1,534 @@
+//! One node: its program, its memory, its link, and the strings that wait to be put on the wire.
+ghost use Rattle.std.specs.Prelude.{◌*◌, ◌≡◌, ◌↔◌, ◌≢◌, ◌+◌, ◌<◌, ◌≤◌, [], None, Some, Err, length, vec_len, vec_capacity};
+ghost use Rattle.std.specs.Prelude.{IsTrue, IfOk, IfErr, OnOk, OnErr, IfSome, IsOkUnless, MatchBool, MatchResult, MatchOption, Contains};
+ghost use Rattle.ivy_model.specs.Config.{IsConfig};
+ghost use Rattle.ivy_model.specs.Wants.{IsWant};
+ghost use Rattle.ivy_wire.specs.Faults.{checked};
+ghost use Rattle.ivy_program.specs.Steps.{HasEnded, Asks, step_of};
+ghost use Rattle.ivy_events.specs.Nodes.{pulsing};
+ghost use Rattle.ivy_serving.specs.Limits.{most_posted};
+ghost use Rattle.ivy_link.specs.Limits.{most_ahead};
+ghost use Rattle.ivy_link.specs.Linked.{peer_at};
+ghost use Rattle.ivy_link.specs.Holding.{ready_of};
+ghost use Rattle.ivy_outbox.specs.Outboxes.{next_dest};
+ghost use Rattle.ivy_site.specs.Shown.{holding_at, after_pulse_to};
+ghost use Rattle.ivy_site.specs.Sites.{most_sent, most_delivered, first_shown, host_of, is_served, kept_by, told_by, AfterHostTurn, HasNoNumbers, AfterTurn, AfterDelivery, Hears, Receives};
+ghost use Rattle.ivy_site.specs.Sites.{WentOnOnce, SiteWentOn, IsHeld, early_at, HoldsString, without_ready, IsSpentTurn, IsSpentDelivery, TakesFrame, IsSameNode, IsMadeByEvents, IsSentBy, IsOfRun, Awaits, await_in};
+ghost use Rattle.ivy_events.specs.Marks.{marks};
+ghost use Rattle.ivy_model.specs.Legal.{HasWidth};
+
+use crate::turn::Turn;
+use ivy_events::{Event, Events};
+use ivy_host::NodeManager;
+use ivy_link::{MOST_AHEAD, Verdict};
+use ivy_memory::{Answer, Memory};
+use ivy_model::{Call, Config, Fault, Record, Reply};
+use ivy_outbox::Outbox;
+use ivy_program::{Machine, Next, Program};
+use ivy_wire::{Bytes, Frame, read};
+use std::alloc::{AllocError, Allocator};
+use std::marker::Model;
+
+/// One node of a shared memory, with the program that it runs.
+#[derive(Drop)]
+pub struct Site<A: Allocator> {
+    alloc: A,
+    memory: Memory<NodeManager<A>, A>,
+    machine: Machine<A>,
+    history: Vec<Record, A>,
+    outbox: Outbox<A>,
+    events: Events<A>,
+}
+
+impl<A: Allocator> Model for Site<A> {
+    ghost use Rattle.ivy_site.specs.Shown.{Shown};
+    ghost use Rattle.ivy_site.specs.Sites.{IsSite};
+
+    ghost Value = { Shown };
+
+    ghost use Rattle.std.specs.Coded.{codes};
+    ghost use Rattle.ivy_pagetable.specs.NodeSets.{nodes_code};
+    ghost use Rattle.ivy_alloc.specs.Heap.{heap_state_code};
+
+    ghost coded = { Prim.hlevel (codes, nodes_code, heap_state_code) };
+
+    ghost view = { λ s. record {
+      config = s.outbox.config;
+      me = s.outbox.me;
+      node = record {
+        core = record {
+          memory = s.memory;
+          process = s.machine;
+          history = s.history.items;
+        };
+        link = s.outbox.link;
+      };
+      events = s.events.marks;
+      waiting = s.outbox.waiting;
+      held = s.outbox.held;
+    } };
+
+    ghost invariant = { λ s. IsSite (record {
+      config = s.outbox.config;
+      me = s.outbox.me;
+      node = record {
+        core = record {
+          memory = s.memory;
+          process = s.machine;
+          history = s.history.items;
+        };
+        link = s.outbox.link;
+      };
+      events = s.events.marks;
+      waiting = s.outbox.waiting;
+      held = s.outbox.held;
+    }) };
+}
+
+/// The string once more, where its frame came before its turn.
+fn if_ahead<A: Allocator + Copy>(
+    verdict: Verdict,
+    string: &Bytes<A>,
+) -> Result<Option<Bytes<A>>, AllocError>
+    ensures { IfOk result (λ o. MatchOption o (verdict ≢ Verdict.Ahead) (λ held. (held ≡ string.now) × (verdict ≡ Verdict.Ahead))) }
+{
+    if verdict == Verdict::Ahead {
+        return Ok(Some(string.share()?));
+    }
+    Ok(None)
+}
+
+/// Where a call was answered its reply is recorded, and the program goes on with it. It says whether the call
+/// was answered, or is in progress from now on.
+fn keep<A: Allocator + Copy>(
+    history: &mut Vec<Record, A>,
+    machine: &mut Machine<A>,
+    node: u8,
+    call: Call,
+    answer: Answer,
+) -> bool
+    requires room { vec_len history.old < vec_capacity history.old }
+    requires asks { step_of machine.old ≡ Asks call }
+    ensures served { result ≡ is_served answer }
+    ensures history { history.new.items ≡ kept_by history.old.items node call answer }
+    ensures machine { machine.new ≡ told_by machine.old answer }
+{
+    match answer {
+        Answer::Given(reply) => {
+            history.push_reserved(Record { node, call, reply });
+            machine.answer(reply);
+            true
+        }
+        Answer::Awaited => true,
+        Answer::Unserved => false,
+    }
+}
+
+/// A call that the program makes begins: it is answered at once, or in progress from now on [1, 17]. It says
+/// whether it began; where it did not, nothing changed.
+fn begin<A: Allocator + Copy>(
+    memory: &mut Memory<NodeManager<A>, A>,
+    outbox: &mut Outbox<A>,
+    machine: &mut Machine<A>,
+    history: &mut Vec<Record, A>,
+    call: Call,
+) -> Result<bool, Fault>
+    requires room { vec_len history.old < vec_capacity history.old }
+    requires idle { memory.old.asked ≡ None }
+    requires asks { step_of machine.old ≡ Asks call }
+    requires width { HasWidth call }
+    requires config { outbox.old.config ≡ memory.old.coherence.config }
+    requires me { outbox.old.me ≡ memory.old.coherence.me }
+    ensures ok { IfOk result (λ began. AfterHostTurn began (host_of memory.old machine.old history.old.items) outbox.old (host_of memory.new machine.new history.new.items) outbox.new) }
+    ensures err { OnErr result ((memory.new ≡ memory.old) × (outbox.new ≡ outbox.old) × (machine.new ≡ machine.old) × (history.new.items ≡ history.old.items)) }
+    ensures few { OnOk result (length outbox.new.waiting ≤ length outbox.old.waiting + most_posted) }
+    ensures spent { IfErr result (HasNoNumbers (host_of memory.old machine.old history.old.items) outbox.old) }
+    ensures want { IfErr result IsWant }
+{
+    let number = history.len() as u64 + 1;
+    let answer = memory.begin(call, number, outbox)?;
+    Ok(keep(history, machine, outbox.me(), call, answer))
+}
+
+/// The call in progress is asked for its reply [1, 17]. It says whether anything changed: the reply is recorded, or
+/// the call's word waits from now on.
+fn poll<A: Allocator + Copy>(
+    memory: &mut Memory<NodeManager<A>, A>,
+    outbox: &mut Outbox<A>,
+    machine: &mut Machine<A>,
+    history: &mut Vec<Record, A>,
+    call: Call,
+) -> Result<bool, Fault>
+    requires room { vec_len history.old < vec_capacity history.old }
+    requires asked { memory.old.asked ≡ Some call }
+    requires asks { step_of machine.old ≡ Asks call }
+    requires config { outbox.old.config ≡ memory.old.coherence.config }
+    requires me { outbox.old.me ≡ memory.old.coherence.me }
+    ensures ok { IfOk result (λ changed. AfterHostTurn changed (host_of memory.old machine.old history.old.items) outbox.old (host_of memory.new machine.new history.new.items) outbox.new) }
+    ensures err { OnErr result ((memory.new ≡ memory.old) × (outbox.new ≡ outbox.old) × (machine.new ≡ machine.old) × (history.new.items ≡ history.old.items)) }
+    ensures few { OnOk result (length outbox.new.waiting ≤ length outbox.old.waiting + most_posted) }
+    ensures spent { IfErr result (HasNoNumbers (host_of memory.old machine.old history.old.items) outbox.old) }
+    ensures want { IfErr result IsWant }
+{
+    let answer = memory.poll_reply(outbox)?;
+    Ok(keep(history, machine, outbox.me(), call, answer))
+}
+
+impl<A: Allocator + Copy> Site<A> {
+    /// Node `me` at the beginning of its program [1].
+    ///
+    /// The configuration is within its limits, and `me` is one of its nodes.
+    pub fn new(alloc: A, config: &Config, me: u8, program: Program<A>) -> Result<Site<A>, Fault>
+        requires limits { IsConfig config.now }
+        requires here { me < config.now.nodes }
+        ensures first { IfOk result (λ site. site ≡ first_shown config.now me program) }
+        ensures memory { IsOkUnless result Fault.Memory }
+    {
+        let manager = NodeManager::new(alloc, config, me)?;
+        Ok(Site {
+            alloc,
+            memory: Memory::new(alloc, config, me, manager)?,
+            machine: Machine::new(program),
+            history: Vec::new(alloc),
+            outbox: Outbox::new(alloc, config, me)?,
+            events: Events::new(alloc),
+        })
+    }
+
+    /// What the program was answered so far, in order. It takes no memory.
+    pub fn history(&self) -> &[Record]
+        ensures { result.now ≡ self.now.node.core.history }
+    {
+        &self.history
+    }
+
+    /// What the program printed so far. It takes no memory.
+    pub fn output(&self) -> &[u64]
+        ensures { result.now ≡ self.now.node.core.process.state.output }
+    {
+        self.machine.output()
+    }
+
+    /// Whether the program has ended. It takes no memory.
+    pub fn ended(&self) -> bool
+        ensures { IsTrue result ↔ HasEnded self.now.node.core.process }
+    {
+        self.machine.ended()
+    }
+
+    /// The count and the least value of the await in progress, where the call in progress is one. It takes no memory.
+    pub fn waits(&self) -> Option<(u64, u64)>
+        ensures { result ≡ await_in self.now.node.core.memory.asked }
+    {
+        match self.memory.asked()? {
+            Call::Await { k, least } => Some((k, least)),
+            _ => None,
+        }
+    }
+
+    /// How many messages this node sent to another one, each counted once. It takes no memory.
+    pub fn sent_to(&self, to: u8) -> u64
+        requires to { to < self.now.config.nodes }
+        ensures { result ≡ (peer_at self.now.node.link to).sent }
+    {
+        self.outbox.sent_to(to)
+    }
+
+    /// How many messages of another node were delivered to this one, each counted once. It takes no memory.
+    pub fn delivered_from(&self, from: u8) -> u64
+        requires from { from < self.now.config.nodes }
+        ensures { result ≡ (peer_at self.now.node.link from).delivered }
+    {
+        self.outbox.delivered_from(from)
+    }
+
+    /// Whether a string spells a frame to this node whose message was not delivered here yet. It takes no memory.
+    pub fn awaits(&self, bytes: &[u8]) -> bool
+        ensures { IsTrue result ↔ Awaits self.now bytes.now }
+    {
+        let config = self.outbox.config();
+        let Ok(frame) = read(&config, bytes) else {
+            return false;
+        };
+        frame.dest == self.outbox.me() && self.outbox.delivered_from(frame.source) < frame.number
+    }
+
+    /// How many messages fitted no rule, up to the greatest number: none where the site is one of a world that moves
+    /// led to. It takes no memory.
+    pub fn breaches(&self) -> u64
+        ensures breaches { result ≡ self.now.node.core.memory.coherence.breaches }
+        ensures none { IsOfRun self.now → result ≡ 0 }
+    {
+        self.memory.breaches()
+    }
+
+    /// The first string that waits to be put on the wire, taken out. The site's events sent it. It takes no memory.
+    pub fn take_frame(&mut self) -> Option<Bytes<A>>
+        ensures taken { TakesFrame result self.old self.new }
+        ensures sent { IfSome result (IsSentBy self.old) }
+        ensures same { IsSameNode self.old self.new }
+    {
+        self.outbox.take()
+    }
+
+    /// Whether a string waits to be put on the wire. It takes no memory.
+    pub fn has_frame(&self) -> bool
+        ensures { IsTrue result ↔ (self.now.waiting ≢ []) }
+    {
+        self.outbox.has_frame()
+    }
+
+    /// The node that the first string that waits is for. It takes no memory.
+    pub fn next_destination(&self) -> Option<u8>
+        ensures { result ≡ next_dest self.now.waiting }
+    {
+        self.outbox.next_destination()
+    }
+
+    /// One turn of the program: the call in progress is asked for its reply, which is recorded, or an instruction is
+    /// carried out, or a call begins [1, 17]. A refused turn changes nothing.
+    pub fn program_turn(&mut self) -> Result<Turn, Fault>
+        ensures same { IsSameNode self.old self.new }
+        ensures done { MatchResult result (λ turn. AfterTurn turn self.old self.new) (λ _. self.new ≡ self.old) }
+        ensures ended { IfOk result (λ turn. (turn ≡ Turn.Ended) ↔ HasEnded self.old.node.core.process) }
+        ensures few { length self.new.waiting ≤ length self.old.waiting + most_sent }
+        ensures spent { IfErr result (IsSpentTurn self.old) }
+        ensures want { IfErr result IsWant }
+    {
+        self.history.reserve(1)?;
+        self.events.reserve()?;
+        if let Some(call) = self.memory.asked() {
+            let changed = poll(
+                &mut self.memory,
+                &mut self.outbox,
+                &mut self.machine,
+                &mut self.history,
+                call,
+            )?;
+            if !changed {
+                return Ok(Turn::Idle);
+            }
+            self.events.push_turn();
+            return Ok(Turn::Moved);
+        }
+        match self.machine.next()? {
+            Next::Ended => Ok(Turn::Ended),
+            Next::Local => {
+                self.events.push_turn();
+                Ok(Turn::Moved)
+            }
+            Next::Call(call) => {
+                let began = begin(
+                    &mut self.memory,
+                    &mut self.outbox,
+                    &mut self.machine,
+                    &mut self.history,
+                    call,
+                )?;
+                if !began {
+                    return Ok(Turn::Idle);
+                }
+                self.events.push_turn();
+                Ok(Turn::Moved)
+            }
+        }
+    }
+
+    /// A string comes, and neither is it held nor does the site go on. The answer is the verdict, the node that the
+    /// frame comes from, and, of a frame that came before its turn, the string once more, to be held.
+    fn hear(&mut self, string: &Bytes<A>) -> Result<(Verdict, u8, Option<Bytes<A>>), Fault>
+        ensures same { IsSameNode self.old self.new }
+        ensures done { MatchResult result (λ h. Hears string.now h.0 h.1 h.2 self.old self.new) (λ _. self.new ≡ self.old) }
+        ensures from { IfOk result (λ h. h.1 < self.old.config.nodes) }
+        ensures refused { MatchResult (checked self.old.config string.now) (λ _. IfErr result IsWant) (λ fault. result ≡ Err fault) }
+        ensures few { length self.new.waiting ≤ length self.old.waiting + most_posted }
+        ensures spent { IfErr result (IsSpentDelivery self.old string.now) }
+    {
+        let config = self.outbox.config();
+        let mut frame = read(&config, string.bytes())?;
+        let from = frame.source;
+        let verdict = self.outbox.offer(&frame);
+        if verdict == Verdict::NotMine {
+            return Ok((verdict, from, None));
+        }
+        self.events.reserve()?;
+        let held = if_ahead(verdict, string)?;
+        let listed = string.share()?;
+        if verdict == Verdict::Next {
+            if let Some(message) = frame.body.take() {
+                self.memory.handle(from, message, &mut self.outbox)?;
+            }
+        }
+        self.outbox.accept(&frame);
+        self.events.push_delivery(listed);
+        Ok((verdict, from, held))
+    }
+
+    /// Holds a string that came too early.
+    fn hold(&mut self, string: Bytes<A>)
+        requires early { Contains (early_at self.old) string }
+        ensures same { IsSameNode self.old self.new }
+        ensures after { HoldsString string self.old self.new }
+    {
+        let config = self.outbox.config();
+        let Ok(frame) = read(&config, string.bytes()) else {
+            return;
+        };
+        let head = Frame::<()> {
+            source: frame.source,
+            dest: frame.dest,
+            number: frame.number,
+            ack: 0,
+            body: None,
+        };
+        self.outbox.hold(&head, string);
+    }
+
+    /// What [`Site::deliver`] does before the site goes on, with the node that the frame comes from.
+    fn receive(&mut self, string: &Bytes<A>) -> Result<(Verdict, u8), Fault>
+        ensures same { IsSameNode self.old self.new }
+        ensures done { MatchResult result (λ r. Receives string.now r.0 r.1 self.old self.new) (λ _. self.new ≡ self.old) }
+        ensures from { IfOk result (λ r. r.1 < self.old.config.nodes) }
+        ensures refused { MatchResult (checked self.old.config string.now) (λ _. IfErr result IsWant) (λ fault. result ≡ Err fault) }
+        ensures few { length self.new.waiting ≤ length self.old.waiting + most_posted }
+        ensures spent { IfErr result (IsSpentDelivery self.old string.now) }
+    {
+        let (verdict, from, early) = self.hear(string)?;
+        if let Some(held) = early {
+            self.hold(held);
+        }
+        Ok((verdict, from))
+    }
+
+    /// Takes out the string that is held of the next number from a node.
+    fn take_ready(&mut self, from: u8) -> Option<Bytes<A>>
+        requires from { from < self.old.config.nodes }
+        ensures same { IsSameNode self.old self.new }
+        ensures limits { IsConfig self.old.config }
+        ensures ready { result ≡ ready_of (holding_at self.old) from }
+        ensures after { self.new ≡ without_ready self.old from }
+        ensures held { IfSome result (IsHeld self.old from 0) }
+    {
+        self.outbox.take_ready(from)
+    }
+
+    /// Goes on with the string that is held of the next number from a node, if there is one, by the whole rule of
+    /// a delivery. It says whether the string was delivered: one that is refused is held again.
+    fn go_on_once(&mut self, from: u8) -> bool
+        requires from { from < self.old.config.nodes }
+        ensures same { IsSameNode self.old self.new }
+        ensures done { MatchBool result (WentOnOnce from self.old self.new) (self.new ≡ self.old) }
+        ensures few { length self.new.waiting ≤ length self.old.waiting + most_posted }
+    {
+        let Some(string) = self.take_ready(from) else {
+            return false;
+        };
+        match self.receive(&string) {
+            Ok(_) => true,
+            Err(_) => {
+                self.hold(string);
+                false
+            }
+        }
+    }
+
+    /// Goes on with the strings of a node that are ready, one after another, until none is, or one is refused.
+    fn go_on(&mut self, from: u8)
+        requires from { from < self.old.config.nodes }
+        ensures same { IsSameNode self.old self.new }
+        ensures done { SiteWentOn from self.old self.new }
+        ensures few { length self.new.waiting ≤ length self.old.waiting + most_posted * most_ahead }
+    {
+        for _ in 0..MOST_AHEAD {
+            if !self.go_on_once(from) {
+                return;
+            }
+        }
+    }
+
+    /// A string comes, any bytes at all [1, 11 to 17]. What the frame in it is to this node is the answer: one
+    /// for another node is left alone, and the message of the next one is served before the frame is accepted.
+    /// A page in it is lent to what serves the message. The event list has a copy of the bytes. A refused delivery
+    /// changes nothing.
+    ///
+    /// The string of a frame that came before its turn is held. After the next one the site goes on with the
+    /// strings of the same node that it holds and that are the next ones now, each by the whole rule of a
+    /// delivery. Where one of them is refused it is held again, and the site goes on no further.
+    pub fn deliver(&mut self, bytes: &[u8]) -> Result<Verdict, Fault>
+        ensures same { IsSameNode self.old self.new }
+        ensures done { MatchResult result (λ verdict. AfterDelivery bytes.now verdict self.old self.new) (λ _. self.new ≡ self.old) }
+        ensures refused { MatchResult (checked self.old.config bytes.now) (λ _. IfErr result IsWant) (λ fault. result ≡ Err fault) }
+        ensures few { length self.new.waiting ≤ length self.old.waiting + most_delivered }
+        ensures spent { IfErr result (IsSpentDelivery self.old bytes.now) }
+    {
+        let config = self.outbox.config();
+        read(&config, bytes)?;
+        let string = Bytes::new(self.alloc, bytes)?;
+        self.deliver_shared(&string)
+    }
+
+    /// A string comes, as [`Site::deliver`] says. The event list and the link share it, so its bytes are not
+    /// copied.
+    pub fn deliver_shared(&mut self, string: &Bytes<A>) -> Result<Verdict, Fault>
+        ensures same { IsSameNode self.old self.new }
+        ensures done { MatchResult result (λ verdict. AfterDelivery string.now verdict self.old self.new) (λ _. self.new ≡ self.old) }
+        ensures refused { MatchResult (checked self.old.config string.now) (λ _. IfErr result IsWant) (λ fault. result ≡ Err fault) }
+        ensures few { length self.new.waiting ≤ length self.old.waiting + most_delivered }
+        ensures spent { IfErr result (IsSpentDelivery self.old string.now) }
+    {
+        let (answer, from) = self.receive(string)?;
+        if answer == Verdict::Next {
+            self.go_on(from);
+        }
+        Ok(answer)
+    }
+
+    /// A pulse to another node: what that node has not acknowledged waits to be put on the wire again, at most
+    /// 32 frames, or an acknowledgement alone where one is owed [1]. A refused pulse changes nothing.
+    pub fn pulse(&mut self, to: u8) -> Result<(), Fault>
+        requires to { to < self.old.config.nodes }
+        requires other { to ≢ self.old.me }
+        ensures same { IsSameNode self.old self.new }
+        ensures done { MatchResult result (λ _. self.new ≡ after_pulse_to self.old to (pulsing self.old.node to)) (λ _. self.new ≡ self.old) }
+        ensures few { length self.new.waiting ≤ length self.old.waiting + most_sent }
+        ensures memory { IsOkUnless result Fault.Memory }
+    {
+        self.events.reserve()?;
+        if self.outbox.pulse(to)? {
+            self.events.push_pulse(to);
+        }
+        Ok(())
+    }
+
+    /// The events of this node so far, in order. Making them again, from the node as it begins, makes the node
+    /// again, and what waits to be put on the wire was sent by them. It takes no memory.
+    pub fn events(&self) -> &[Event<Bytes<A>>]
+        ensures is { marks result.now ≡ self.now.events }
+        ensures made { IsMadeByEvents self.now }
+    {
+        self.events.entries()
+    }
+
+    /// The list of those events, lent whole. It takes no memory.
+    pub fn event_list(&self) -> &Events<A>
+        ensures is { result.now.marks ≡ self.now.events }
+        ensures made { IsMadeByEvents self.now }
+    {
+        &self.events
+    }
+
+    /// The number of this node. It takes no memory.
+    pub fn me(&self) -> u8
+        ensures { result ≡ self.now.me }
+    {
+        self.outbox.me()
+    }
+
+    /// The configuration of the nodes, which is within its limits. It takes no memory.
+    pub fn config(&self) -> Config
+        ensures is { result ≡ self.now.config }
+        ensures limits { IsConfig result }
+    {
+        self.outbox.config()
+    }
+}
