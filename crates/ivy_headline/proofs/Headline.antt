@@ -23,6 +23,7 @@ use Rattle.ivy_lifting.proofs.Runs.{led_in_order}
 use Rattle.ivy_lifting.proofs.Worlds.{exclusive_led}
 use Rattle.ivy_routes.proofs.EitherRoutes.{either_awaited, either_routed}
 use Rattle.ivy_routes.proofs.EitherWorlds.{either_no_breach}
+use Rattle.ivy_settling.proofs.StillWorlds.{settled-led}
 use Rattle.ivy_headline.specs.RunState.{Run}
 use Rattle.ivy_headline.specs.Reached.{IsLedTo, IsReached, IsExplainedAlong, opening_of}
 use Rattle.ivy_headline.specs.Keeping.{Keeps}
@@ -66,6 +67,15 @@ module _ (c : Config) (programs : List (List Instruction)) (config : IsConfig c)
       let s : IsString c f.0 bytes = All-contains (IsString c f.0) w.sent bytes f.1.strings there in
       (s.0, s.1)
 
+  pub nodes-led : (moves : List Move) (w : World (Host Managed))
+      → Leads (host_rules managed_ops) c (opening managed_ops c programs) moves w
+      → length w.nodes ≡ c.nodes
+  nodes-led moves w h =
+      let f : (posted : ℕ → ℕ → List Message) × Follows c (IsSoundHost managed_ops c) w posted
+      = led (host_rules managed_ops) c (IsSoundHost managed_ops c) config tamed
+      (opening managed_ops c programs) w (λ i j. []) moves opened h in
+      f.1.nodes
+
   pub sound-led : (moves : List Move) (w : World (Host Managed))
       → Leads (host_rules managed_ops) c (opening managed_ops c programs) moves w
       → (i : ℕ) (n : Node (Host Managed)) → slice_get w.nodes i ≡ Some n
@@ -80,6 +90,9 @@ module _ (c : Config) (programs : List (List Instruction)) (config : IsConfig c)
 pub keeps-reached : (r : Run) → IsConfig r.config → length r.programs ≡ r.config.nodes → IsReached r
     → Keeps r
 keeps-reached r config each reached = record {
+  limits = config;
+  programs = each;
+  nodes = nodes-led r.config r.programs config each reached.0 r.world reached.1;
   reached = reached;
   exclusive = exclusive-led r.config r.programs config each reached.0 r.world reached.1;
   runs = runs-led r.config r.programs config each reached.0 r.world reached.1;
@@ -89,6 +102,7 @@ keeps-reached r config each reached = record {
   waits = either_awaited r.config config r.programs each;
   routes = either_routed r.config config r.programs each;
   explained = λ moves led. explained-along r.config r.programs config each moves;
+  still = settled-led r.config r.programs config each reached.0 r.world reached.1;
 }
 
 -- and moves that go on from there

@@ -1,14 +1,23 @@
 -- What is promised of a world at every moment, whatever moves led there.
-use Rattle.std.specs.Prelude.{List}
+use Rattle.std.specs.Prelude.{◌≡◌, List, length, map}
+use Rattle.ivy_model.specs.Config.{IsConfig}
 use Rattle.ivy_events.specs.declared.Move.{Move}
 use Rattle.ivy_host.specs.Holding.{IsExclusive, AreRuns, HasNoBreach, AllSpell}
-use Rattle.ivy_host.specs.Managers.{managed_ops}
+use Rattle.ivy_events.specs.Nodes.{Node}
+use Rattle.ivy_host.specs.Hosts.{Host, answered_by}
+use Rattle.ivy_host.specs.Managers.{Managed, managed_ops}
 use Rattle.ivy_lifting.specs.Runs.{FollowsInOrder}
 use Rattle.ivy_routes.specs.RoutedRuns.{AllAwaited, AllRouted}
+use Rattle.ivy_settling.specs.Settled.{AreSettled}
+use Rattle.ivy_settling.specs.Still.{IsStill}
 use Rattle.ivy_headline.specs.RunState.{Run}
 use Rattle.ivy_headline.specs.Reached.{IsLedTo, IsReached, IsExplainedAlong, opening_of}
 
 pub record Keeps (r : Run) : Type 0 where
+  -- the configuration is within its limits, and there is a program and a node for each of its numbers
+  pub limits : IsConfig r.config
+  pub programs : length r.programs ≡ r.config.nodes
+  pub nodes : length r.world.nodes ≡ r.config.nodes
   -- some moves led here from the opening
   pub reached : IsReached r
   -- no page is writable at one node and readable at another
@@ -29,3 +38,7 @@ pub record Keeps (r : Run) : Type 0 where
   -- the nodes were answered, growing from move to move
   pub explained : (moves : List Move) → IsLedTo r.config (opening_of r) moves r.world
       → IsExplainedAlong r moves
+  -- where it stands still, so would one flat memory: some legal order has exactly each node's history
+  -- as its part, and in its last memory each call in progress is an await of a count that is too low
+  pub still : IsStill managed_ops r.world → AreSettled r.config
+      (map (λ (n : Node (Host Managed)). answered_by n.core) r.world.nodes)

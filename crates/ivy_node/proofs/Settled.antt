@@ -1,30 +1,27 @@
 -- Moves that a world makes to come to rest.
-use Rattle.std.proofs.Common.{◌≡◌, ◌<◌, ◌≤◌, ◌+◌, ◌||◌, ℕ, Bool, true, false, List, [], ◌∷◌, ◌++◌, length, slice_get, Some, Result, Ok, Err, refl, sym, ap, subst, ◌∙◌, arith, inl, inr}
+use Rattle.std.proofs.Common.{◌≡◌, ◌<◌, ◌≤◌, ◌+◌, ◌||◌, ℕ, Bool, true, false, List, [], ◌∷◌, ◌++◌, length, slice_get, Some, None, Result, Ok, Err, refl, sym, ap, subst, ◌∙◌, arith, inl, inr}
 use Rattle.std.specs.Result.{result_ok}
 use Rattle.std.proofs.Math.Seq.{take-append_seam}
 use Rattle.std.proofs.lemmas.List.{length-append}
 use Rattle.std.proofs.lemmas.Bool.{cases_eq}
 use Rattle.std.proofs.lemmas.Option.{same_Some, slice_get_within}
-use Rattle.ivy_model.specs.declared.Config.{Config}
 use Rattle.ivy_model.specs.declared.Fault.{Fault}
 use Rattle.ivy_events.specs.declared.Move.{Move}
 use Rattle.ivy_events.specs.Worlds.{Moves}
-use Rattle.ivy_host.specs.Hosts.{host_rules}
-use Rattle.ivy_host.specs.Managers.{managed_ops}
+use Rattle.ivy_events.specs.Nodes.{Node}
+use Rattle.ivy_host.specs.Hosts.{Host, host_rules, turn_of}
+use Rattle.ivy_host.specs.Managers.{Managed, managed_ops}
 use Rattle.ivy_events.specs.declared.Move.TheVariants.{Turn, Deliver, Pulse}
 use Rattle.ivy_rows.proofs.Places.{get_map}
-use Rattle.ivy_model.specs.Config.{IsConfig}
-use Rattle.ivy_settling.specs.Still.{IsStill}
-use Rattle.ivy_settling.proofs.StillWorlds.{settled-led}
 use Rattle.ivy_node.specs.declared.round.Round.{Round}
 use Rattle.ivy_node.specs.declared.rest.Rest.{Rest}
 use Rattle.ivy_node.specs.declared.rest.Rest.TheVariants.{Going}
 use Rattle.ivy_headline.specs.RunState.{Run}
-use Rattle.ivy_headline.specs.Reached.{IsLedTo, IsReached}
+use Rattle.ivy_headline.specs.Reached.{IsLedTo}
 use Rattle.ivy_node.specs.Runs.{IsRefusedBy, IsSameRun}
 use Rattle.ivy_site.specs.Shown.{Shown}
 use Rattle.ivy_node.specs.WorldSites.{world_of}
-use Rattle.ivy_node.specs.Settling.{DoesNothing, IsDelivered, IsDeliveredFrom, IsOfRound, round_after, HadTurns, IsInRound, HasMadeOne, HasRefusedOne, HasSettledBy, HasSettled}
+use Rattle.ivy_node.specs.Settling.{DoesNothing, IsDelivered, IsDeliveredFrom, IsOfRound, round_after, HadTurns, IsInRound, HasMadeOne, HasRefusedOne, HasSettledBy, HasStopped, StandsStill}
 use Rattle.ivy_events.proofs.Leading.{leads_one}
 
 at_end : {A : Type 0} (xs : List A) (x : A) → slice_get (xs ++ x ∷ []) (length xs) ≡ Some x
@@ -123,20 +120,15 @@ world_delivered sites sent all i j n m apart a b =
 
 pub stands_still : (r : Run) (round : Round) → length r.world.nodes ≡ r.config.nodes
     → r.config.nodes ≤ round.turn → HadTurns r round → round.stirred ≡ false
-    → IsDelivered r.world → IsStill managed_ops r.world
-stands_still r round count over had none delivered = record {
-  delivered = delivered;
-  turns = λ i n e. had none i
-      (omega (arith, slice_get_within r.world.nodes i n e, count, over)) n e;
-}
-
--- and what is promised then
-pub settled-on : (old new : Run) → IsConfig old.config → length old.programs ≡ old.config.nodes
-    → IsSameRun old new → IsReached new → IsStill managed_ops new.world → HasSettled new
-settled-on old new config each same reached still =
-    settled-led new.config new.programs (subst IsConfig (sym same.0) config)
-    (ap length same.1 ∙ each ∙ ap (λ (c : Config). c.nodes) (sym same.0)) reached.0 new.world
-    reached.1 still
+    → IsDelivered r.world → StandsStill r
+stands_still r round count over had none delivered =
+    let idle : (i : ℕ) (n : Node (Host Managed)) → slice_get r.world.nodes i ≡ Some n
+        → (turn_of managed_ops n.core ≡ None) × HasStopped n.core =
+    λ i n e. had none i (omega (arith, slice_get_within r.world.nodes i n e, count, over)) n e in
+    record {
+      still = record { delivered = delivered; turns = λ i n e. (idle i n e).0 };
+      stopped = λ i n e. (idle i n e).1;
+    }
 
 -- the same, where only the place from which strings are looked at changed before
 module _ (old mid new : Run) (was : mid ≡ old) where

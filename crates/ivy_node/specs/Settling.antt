@@ -1,6 +1,6 @@
 -- How a world comes to rest: in rounds, in which what is under way is delivered, and then each node
 -- has a turn.
-use Rattle.std.specs.Prelude.{◌≡◌, ◌≢◌, ◌<◌, ◌≤◌, ◌+◌, ◌||◌, ℕ, Bool, false, List, length, map, slice_get, Some, None, Result, Ok}
+use Rattle.std.specs.Prelude.{◌≡◌, ◌≢◌, ◌<◌, ◌≤◌, ◌+◌, ◌||◌, ◌⊎◌, ℕ, Bool, false, List, length, map, slice_get, Some, None, IsSome, Result, Ok}
 use Rattle.ivy_model.specs.declared.Fault.{Fault}
 use Rattle.ivy_wire.specs.Destinations.{dest_of}
 use Rattle.ivy_link.specs.Linked.{peer_at}
@@ -11,6 +11,8 @@ use Rattle.ivy_events.specs.Worlds.{World, Moves}
 use Rattle.ivy_host.specs.Hosts.{Host, host_rules, turn_of, answered_by}
 use Rattle.ivy_host.specs.Managers.{Managed, managed_ops}
 use Rattle.ivy_settling.specs.Settled.{AreSettled}
+use Rattle.ivy_settling.specs.Still.{IsStill}
+use Rattle.ivy_program.specs.Steps.{HasEnded}
 use Rattle.ivy_node.specs.declared.round.Round.{Round}
 use Rattle.ivy_node.specs.declared.rest.Rest.{Rest}
 use Rattle.ivy_node.specs.declared.rest.Rest.TheVariants.{Going}
@@ -20,10 +22,14 @@ use Rattle.ivy_headline.specs.Reached.{IsLedTo}
 use Rattle.ivy_site.specs.Shown.{Shown}
 use Rattle.ivy_site.specs.Sites.{Awaits}
 
--- a turn of the node does nothing
+-- its program has ended, or it has a call in progress
+abbrev pub HasStopped : Host Managed → Type 0
+HasStopped n = HasEnded n.process ⊎ IsSome n.memory.asked
+
+-- a turn of the node does nothing, and it has stopped
 abbrev pub HasIdleTurn : World (Host Managed) → ℕ → Type 0
 HasIdleTurn w i = (n : Node (Host Managed)) → slice_get w.nodes i ≡ Some n
-    → turn_of managed_ops n.core ≡ None
+    → (turn_of managed_ops n.core ≡ None) × HasStopped n.core
 
 -- the move is a turn that does nothing
 abbrev pub DoesNothing : World (Host Managed) → Move → Type 0
@@ -115,7 +121,14 @@ pub record Settles (most : ℕ) (result : Result Rest (ℕ × Fault)) (old new :
   pub by : HasSettledBy most result old new
   pub explained : IsExplainedOn old (made_of result by.moves) new
 
--- what is promised of nodes that stand still holds of the world's
-abbrev pub HasSettled : Run → Type 0
-HasSettled r =
-    AreSettled r.config (map (λ (n : Node (Host Managed)). answered_by n.core) r.world.nodes)
+-- the world stands still, where each node has stopped
+pub record StandsStill (r : Run) : Type 0 where
+  pub still : IsStill managed_ops r.world
+  pub stopped : (i : ℕ) (n : Node (Host Managed)) → slice_get r.world.nodes i ≡ Some n
+      → HasStopped n.core
+
+-- and so would one flat memory: what is promised of nodes that stand still holds of the world's
+pub record HasSettled (r : Run) : Type 0 where
+  pub stands : StandsStill r
+  pub settled : AreSettled r.config
+      (map (λ (n : Node (Host Managed)). answered_by n.core) r.world.nodes)

@@ -12,8 +12,7 @@ ghost use Rattle.ivy_host.specs.Openings.{opening};
 ghost use Rattle.ivy_node.specs.Runs.{made_of, IsRefusedBy, IsNamedUnless, IsSameRun, IsRefusedAt, IsNamedAt, IsExplainedOn};
 ghost use Rattle.ivy_headline.specs.Reached.{IsLedTo, IsReached};
 ghost use Rattle.ivy_site.specs.Sites.{await_in};
-ghost use Rattle.ivy_settling.specs.Still.{IsStill};
-ghost use Rattle.ivy_node.specs.Settling.{DoesNothing, IsDelivered, IsOfRound, IsInRound, HasMadeOne, HasRefusedOne, HasSettledBy, Settles, HasSettled};
+ghost use Rattle.ivy_node.specs.Settling.{DoesNothing, IsDelivered, IsOfRound, IsInRound, HasMadeOne, HasRefusedOne, StandsStill, HasSettledBy, Settles, HasSettled};
 ghost use Rattle.ivy_model.specs.Wants.{IsWant};
 ghost use Rattle.ivy_node.specs.WorldSites.{programs_of, world_of, AreSites, IsMemory, IsWorldWant, AreFirst};
 
@@ -325,7 +324,7 @@ impl<A: Allocator + Copy> World<A> {
         ensures stays { IsSameRun self.old self.new }
         ensures made { OnOk result (HasMadeOne self.old self.new) }
         ensures round { OnOk result (IsInRound self.new round.new) }
-        ensures still { result ≡ Ok true → IsStill managed_ops self.new.world }
+        ensures still { result ≡ Ok true → StandsStill self.new }
         ensures refused { IfErr result (λ fault. IsWant fault × (self.new ≡ self.old) × HasRefusedOne self.new fault) }
     {
         let step = self.next_move(*round);
@@ -345,7 +344,7 @@ impl<A: Allocator + Copy> World<A> {
         requires limits { IsConfig self.old.config }
         ensures stays { IsSameRun self.old self.new }
         ensures made { HasSettledBy moves result self.old self.new }
-        ensures still { result ≡ Ok Rest.Still → IsStill managed_ops self.new.world }
+        ensures still { result ≡ Ok Rest.Still → StandsStill self.new }
         ensures want { IfErr result (λ e. IsWant e.1) }
     {
         let mut round = Round::first();
@@ -375,8 +374,9 @@ impl<A: Allocator + Copy> World<A> {
         ensures want { IfErr result (λ e. IsWant e.1) }
         ensures keeps { Keeps self.new }
 
-        // At `Rest::Still`: some legal order has exactly each node's history as its part, and in its last memory each
-        // node has no call in progress, or awaits a count that is below its least value there.
+        // At `Rest::Still` nothing is under way, and no node's turn does anything: its program has ended, or its call in
+        // progress waits. And some legal order has exactly each node's history as its part, in whose last memory each
+        // call in progress is an await of a count that is below its least value.
         ensures still { result ≡ Ok Rest.Still → HasSettled self.new }
     {
         self.reached();

@@ -1,6 +1,6 @@
 //! One node: its program, its memory, its link, and the strings that wait to be put on the wire.
 ghost use Rattle.std.specs.Prelude.{◌*◌, ◌≡◌, ◌↔◌, ◌≢◌, ◌+◌, ◌<◌, ◌≤◌, [], None, Some, Err, length, vec_len, vec_capacity};
-ghost use Rattle.std.specs.Prelude.{IsTrue, IfOk, IfErr, OnOk, OnErr, IfSome, IsOkUnless, MatchBool, MatchResult, MatchOption, Contains};
+ghost use Rattle.std.specs.Prelude.{IsTrue, IsSome, IfOk, IfErr, OnOk, OnErr, IfSome, IsOkUnless, MatchBool, MatchResult, MatchOption, Contains};
 ghost use Rattle.ivy_model.specs.Config.{IsConfig};
 ghost use Rattle.ivy_model.specs.Wants.{IsWant};
 ghost use Rattle.ivy_wire.specs.Faults.{checked};
@@ -12,7 +12,7 @@ ghost use Rattle.ivy_link.specs.Linked.{peer_at};
 ghost use Rattle.ivy_link.specs.Holding.{ready_of};
 ghost use Rattle.ivy_outbox.specs.Outboxes.{next_dest};
 ghost use Rattle.ivy_site.specs.Shown.{holding_at, after_pulse_to};
-ghost use Rattle.ivy_site.specs.Sites.{most_sent, most_delivered, first_shown, host_of, is_served, kept_by, told_by, AfterHostTurn, HasNoNumbers, AfterTurn, AfterDelivery, Hears, Receives};
+ghost use Rattle.ivy_site.specs.Sites.{most_sent, most_delivered, first_shown, host_of, is_served, kept_by, told_by, HasTurn, AfterHostTurn, HasNoNumbers, AfterTurn, AfterDelivery, Hears, Receives};
 ghost use Rattle.ivy_site.specs.Sites.{WentOnOnce, SiteWentOn, IsHeld, early_at, HoldsString, without_ready, IsSpentTurn, IsSpentDelivery, TakesFrame, IsSameNode, IsMadeByEvents, IsSentBy, IsOfRun, Awaits, await_in};
 ghost use Rattle.ivy_events.specs.Marks.{marks};
 ghost use Rattle.ivy_model.specs.Legal.{HasWidth};
@@ -124,22 +124,22 @@ fn keep<A: Allocator + Copy>(
     }
 }
 
-/// A call that the program makes begins: it is answered at once, or in progress from now on [1, 17]. It says
-/// whether it began; where it did not, nothing changed.
+/// A call that the program makes begins: it is answered at once, or in progress from now on [1, 17]. A refused one
+/// changes nothing.
 fn begin<A: Allocator + Copy>(
     memory: &mut Memory<NodeManager<A>, A>,
     outbox: &mut Outbox<A>,
     machine: &mut Machine<A>,
     history: &mut Vec<Record, A>,
     call: Call,
-) -> Result<bool, Fault>
+) -> Result<(), Fault>
     requires room { vec_len history.old < vec_capacity history.old }
     requires idle { memory.old.asked ≡ None }
     requires asks { step_of machine.old ≡ Asks call }
     requires width { HasWidth call }
     requires config { outbox.old.config ≡ memory.old.coherence.config }
     requires me { outbox.old.me ≡ memory.old.coherence.me }
-    ensures ok { IfOk result (λ began. AfterHostTurn began (host_of memory.old machine.old history.old.items) outbox.old (host_of memory.new machine.new history.new.items) outbox.new) }
+    ensures ok { OnOk result (HasTurn (host_of memory.old machine.old history.old.items) outbox.old (host_of memory.new machine.new history.new.items) outbox.new) }
     ensures err { OnErr result ((memory.new ≡ memory.old) × (outbox.new ≡ outbox.old) × (machine.new ≡ machine.old) × (history.new.items ≡ history.old.items)) }
     ensures few { OnOk result (length outbox.new.waiting ≤ length outbox.old.waiting + most_posted) }
     ensures spent { IfErr result (HasNoNumbers (host_of memory.old machine.old history.old.items) outbox.old) }
@@ -147,7 +147,8 @@ fn begin<A: Allocator + Copy>(
 {
     let number = history.len() as u64 + 1;
     let answer = memory.begin(call, number, outbox)?;
-    Ok(keep(history, machine, outbox.me(), call, answer))
+    let _ = keep(history, machine, outbox.me(), call, answer);
+    Ok(())
 }
 
 /// The call in progress is asked for its reply [1, 17]. It says whether anything changed: the reply is recorded, or
@@ -291,6 +292,7 @@ impl<A: Allocator + Copy> Site<A> {
         ensures same { IsSameNode self.old self.new }
         ensures done { MatchResult result (λ turn. AfterTurn turn self.old self.new) (λ _. self.new ≡ self.old) }
         ensures ended { IfOk result (λ turn. (turn ≡ Turn.Ended) ↔ HasEnded self.old.node.core.process) }
+        ensures waits { IfOk result (λ turn. turn ≡ Turn.Idle → IsSome self.old.node.core.memory.asked) }
         ensures few { length self.new.waiting ≤ length self.old.waiting + most_sent }
         ensures spent { IfErr result (IsSpentTurn self.old) }
         ensures want { IfErr result IsWant }
@@ -318,16 +320,13 @@ impl<A: Allocator + Copy> Site<A> {
                 Ok(Turn::Moved)
             }
             Next::Call(call) => {
-                let began = begin(
+                begin(
                     &mut self.memory,
                     &mut self.outbox,
                     &mut self.machine,
                     &mut self.history,
                     call,
                 )?;
-                if !began {
-                    return Ok(Turn::Idle);
-                }
                 self.events.push_turn();
                 Ok(Turn::Moved)
             }

@@ -238,6 +238,7 @@ returns-in_ok-turn-in-Turn-clause-idle g c =
     c.collect.new.site c.in_ok-turn-in-Turn.turn c.args.step c.requires.sites
     (slice_get_read c.args.sites.now.items (length c.args.sites.now.items) c.in-Turn.node
     c.index_mut-site.result.now refl (search rules) c.index_mut-site.ensures.value)
-    c.in_ok-turn-in-Turn.ensures.done (search (rules, none)) c.in-Turn.is c.collect.ensures.site
+    c.in_ok-turn-in-Turn.ensures.done c.in_ok-turn-in-Turn.ensures.waits (search (rules, none))
+    c.in-Turn.is c.collect.ensures.site
     (c.collect.ensures.sent
     ∙ ap (λ l. l ++ c.program_turn.new.self.waiting) c.reserve.ensures.items)

@@ -1,8 +1,17 @@
-use Rattle.std.proofs.Common.{rules, arith, ap, refl, ◌+◌}
+use Rattle.std.proofs.Common.{rules, ◌≡◌, ◌≢◌, true, arith, ap, refl, ◌+◌, ◌∙◌}
+use Rattle.ivy_memory.specs.declared.Answer.{Answer}
+use Rattle.ivy_memory.specs.declared.Answer.TheVariants.{Given, Awaited, Unserved}
 use Rattle.ivy_memory.proofs.Beginning.{err_there}
-use Rattle.ivy_site.specs.Sites.{host_of}
+use Rattle.ivy_site.specs.Sites.{host_of, is_served}
 use Rattle.ivy_site.proofs.Calling.{begin_call, cannot_begin, called, called_few, on_err, unposted}
+use Rattle.ivy_site.proofs.Turned.{has_turned}
 use Rattle.ivy_site.proofs.site.begin.Goals as goal
+
+-- what is not Unserved is served
+serves : (answer : Answer) → answer ≢ Unserved → is_served answer ≡ true
+serves (Given r) not = refl
+serves Awaited not = refl
+serves Unserved not = absurd (not refl)
 
 pub returns-in_err-answer-clause-err : goal.returns-in_err-answer-clause-err
 returns-in_err-answer-clause-err g c =
@@ -28,7 +37,9 @@ returns-in_err-answer-clause-spent g c =
 
 pub returns-clause-ok : goal.returns-clause-ok
 returns-clause-ok g c =
-    called (host_of c.args.memory.now c.args.machine.now c.args.history.now.items) c.args.call _
+    has_turned c.keep.result
+    (c.keep.ensures.served ∙ serves c.in_ok-answer.answer c.in_ok-answer.ensures.begins) _ _ _ _
+    (called (host_of c.args.memory.now c.args.machine.now c.args.history.now.items) c.args.call _
     (begin_call (host_of c.args.memory.now c.args.machine.now c.args.history.now.items) c.args.call
     (c.len.result + 1)
     (record {
@@ -39,7 +50,7 @@ returns-clause-ok g c =
     c.keep.new.history.items c.keep.result c.in_ok-answer.answer (search rules)
     c.in_ok-answer.ensures.reply c.in_ok-answer.ensures.ok c.in_ok-answer.ensures.took
     c.in_ok-answer.ensures.posted c.keep.ensures.served c.keep.ensures.history
-    c.keep.ensures.machine
+    c.keep.ensures.machine)
 
 pub returns-clause-few : goal.returns-clause-few
 returns-clause-few g c =

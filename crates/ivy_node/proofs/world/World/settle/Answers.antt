@@ -1,5 +1,4 @@
 use Rattle.ivy_headline.proofs.Headline.{explained-on}
-use Rattle.ivy_node.proofs.Settled.{settled-on}
 use Rattle.ivy_node.proofs.world.World.settle.Goals as goal
 
 pub returns-clause-made : goal.returns-clause-made
@@ -11,6 +10,5 @@ returns-clause-made g c = record {
 
 pub returns-clause-still : goal.returns-clause-still
 returns-clause-still g c =
-    λ is. settled-on c.args.self.now c.settle_on-result.new.self c.reached.ensures.limits
-    c.reached.ensures.each c.settle_on-result.ensures.stays c.keeps.ensures.reached
-    (c.settle_on-result.ensures.still is)
+    λ is. let stands = c.settle_on-result.ensures.still is in
+    record { stands = stands; settled = c.keeps.ensures.still stands.still }

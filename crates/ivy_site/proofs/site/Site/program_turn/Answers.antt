@@ -17,10 +17,10 @@ returns-in-Local-clause-done g c =
     c.in_ok-reserve.ensures.items
     (c.push_turn-in-Local.ensures ∙ ap (λ ms. ms ++ Turn ∷ []) c.in_ok-reserve-2.ensures.same)
 
-pub returns-in_err-began-in-Call-clause-spent : goal.returns-in_err-began-in-Call-clause-spent
-returns-in_err-began-in-Call-clause-spent g c =
-    err_there c.from_residual-in_err-began-in-Call.result _ _
-    c.from_residual-in_err-began-in-Call.ensures.1
+pub returns-in_err-begin-in-Call-clause-spent : goal.returns-in_err-begin-in-Call-clause-spent
+returns-in_err-begin-in-Call-clause-spent g c =
+    err_there c.from_residual-in_err-begin-in-Call.result _ _
+    c.from_residual-in_err-begin-in-Call.ensures.1
     (spent_turn _ _ c.self.view_is c.next.new.self c.reserve.new.self.items _
     (record {
       process =
@@ -28,22 +28,7 @@ returns-in_err-began-in-Call-clause-spent g c =
           c.in-Call.is;
       history = c.in_ok-reserve.ensures.items;
     })
-    c.in_err-began-in-Call.ensures.spent)
-
-pub returns-then-not-began-clause-done : goal.returns-then-not-began-clause-done
-returns-then-not-began-clause-done g c =
-    idle_turn _ _ c.self.view_is c.next.new.self c.reserve.new.self.items _ c.begin.new.outbox _
-    (record {
-      rests = (record {
-        process =
-            makes_call _ c.in-Call.call c.in_ok-next.field-0 c.next.new.self c.in_ok-next.ensures.step
-            c.in-Call.is;
-        history = c.in_ok-reserve.ensures.items;
-      });
-      after = not_turned c.in_ok-began-in-Call.began (search rules) _ _ _ _
-          c.in_ok-began-in-Call.ensures.ok;
-    })
-    c.in_ok-reserve-2.ensures.same
+    c.in_err-begin-in-Call.ensures.spent)
 
 pub invariant_of-self-in-Call : goal.invariant_of-self-in-Call
 invariant_of-self-in-Call g c =
@@ -54,11 +39,11 @@ invariant_of-self-in-Call g c =
           c.in-Call.is;
       history = c.in_ok-reserve.ensures.items;
     })
-    (has_turned c.in_ok-began-in-Call.began (search rules) _ _ _ _ c.in_ok-began-in-Call.ensures.ok)
+    c.in_ok-begin-in-Call.ensures.ok
     c.in_ok-reserve-2.ensures.same c.push_turn-in-Call.ensures
 
-pub returns-else-not-began-clause-done : goal.returns-else-not-began-clause-done
-returns-else-not-began-clause-done g c =
+pub returns-in-Call-clause-done : goal.returns-in-Call-clause-done
+returns-in-Call-clause-done g c =
     called_turn _ _ c.self.view_is c.next.new.self c.reserve.new.self.items _ c.begin.new.outbox _ _
     (record {
       process =
@@ -66,7 +51,7 @@ returns-else-not-began-clause-done g c =
           c.in-Call.is;
       history = c.in_ok-reserve.ensures.items;
     })
-    (has_turned c.in_ok-began-in-Call.began (search rules) _ _ _ _ c.in_ok-began-in-Call.ensures.ok)
+    c.in_ok-begin-in-Call.ensures.ok
     c.in_ok-reserve-2.ensures.same c.push_turn-in-Call.ensures
 
 pub returns-in_err-changed-clause-spent : goal.returns-in_err-changed-clause-spent
