@@ -8,6 +8,7 @@ use Rattle.ivy_program.specs.declared.parser.Numbered.{Numbered}
 use Rattle.ivy_program.specs.declared.instruction.Instruction.{Instruction}
 use Rattle.ivy_program.specs.declared.instruction.Instruction.TheVariants.{Jump, JumpIfZero}
 use Rattle.ivy_program.specs.Names.{Label}
+use Rattle.ivy_program.specs.Limits.{most_instructions}
 
 -- each label names one of so many instructions, or the end behind them
 abbrev pub AreInside : ℕ → List Label → Type 0
@@ -29,6 +30,6 @@ knows_place _ = false
 
 -- there are at most 4,096 lines, no jump knows its place, and the labels are inside
 pub record IsSoundDraft (lines : List Numbered) (labels : List Label) : Type 0 where
-  pub short : length lines ≤ 4096
+  pub short : length lines ≤ most_instructions
   pub by_label : All (λ line. has_place line.action ≡ false) lines
   pub inside : AreInside (length lines) labels

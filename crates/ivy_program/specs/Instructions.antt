@@ -6,6 +6,7 @@ use Rattle.ivy_program.specs.declared.instruction.Operation.{Operation}
 use Rattle.ivy_program.specs.declared.instruction.Operation.TheVariants.{Add, Sub, Mul}
 use Rattle.ivy_program.specs.declared.instruction.Instruction.{Instruction}
 use Rattle.ivy_program.specs.declared.instruction.Instruction.TheVariants.{Set, Move, Compute, Load, Store, Swap, Count, Advance, Await, Alloc, Free, Status, Print, Jump, JumpIfZero, Stop}
+use Rattle.ivy_program.specs.Limits.{register_count, most_instructions}
 
 abbrev pub bytes_in : Width → ℕ
 bytes_in One = 1
@@ -28,23 +29,27 @@ receiver_of (Await to count least) = Some to
 receiver_of (Alloc to size) = Some to
 receiver_of _ = None
 
+-- there is a register of this number
+abbrev pub IsRegister : ℕ → Type 0
+IsRegister r = r < register_count
+
 -- each register that it names is there
 abbrev pub NamesRegisters : Instruction → Type 0
-NamesRegisters (Set to value) = to < 16
-NamesRegisters (Move to from) = (to < 16) × (from < 16)
-NamesRegisters (Compute operation to left right) = (to < 16) × (left < 16) × (right < 16)
-NamesRegisters (Load width to addr) = (to < 16) × (addr < 16)
-NamesRegisters (Store width addr from) = (addr < 16) × (from < 16)
-NamesRegisters (Swap width to addr from) = (to < 16) × (addr < 16) × (from < 16)
-NamesRegisters (Count to count) = (to < 16) × (count < 16)
-NamesRegisters (Advance count) = count < 16
-NamesRegisters (Await to count least) = (to < 16) × (count < 16) × (least < 16)
-NamesRegisters (Alloc to size) = (to < 16) × (size < 16)
-NamesRegisters (Free addr) = addr < 16
-NamesRegisters (Status to) = to < 16
-NamesRegisters (Print from) = from < 16
+NamesRegisters (Set to value) = IsRegister to
+NamesRegisters (Move to from) = IsRegister to × IsRegister from
+NamesRegisters (Compute operation to left right) = IsRegister to × IsRegister left × IsRegister right
+NamesRegisters (Load width to addr) = IsRegister to × IsRegister addr
+NamesRegisters (Store width addr from) = IsRegister addr × IsRegister from
+NamesRegisters (Swap width to addr from) = IsRegister to × IsRegister addr × IsRegister from
+NamesRegisters (Count to count) = IsRegister to × IsRegister count
+NamesRegisters (Advance count) = IsRegister count
+NamesRegisters (Await to count least) = IsRegister to × IsRegister count × IsRegister least
+NamesRegisters (Alloc to size) = IsRegister to × IsRegister size
+NamesRegisters (Free addr) = IsRegister addr
+NamesRegisters (Status to) = IsRegister to
+NamesRegisters (Print from) = IsRegister from
 NamesRegisters (Jump place) = Unit {0}
-NamesRegisters (JumpIfZero from place) = from < 16
+NamesRegisters (JumpIfZero from place) = IsRegister from
 NamesRegisters Stop = Unit {0}
 
 -- where it jumps, if it does, is one of so many instructions or the end behind them
@@ -55,6 +60,6 @@ JumpsWithin count _ = Unit {0}
 
 -- a program is at most 4,096 instructions that name registers and jump inside it
 pub record IsProgram (program : List Instruction) : Type 0 where
-  pub short : length program ≤ 4096
+  pub short : length program ≤ most_instructions
   pub named : All NamesRegisters program
   pub inside : All (JumpsWithin (length program)) program

@@ -1,3 +1,4 @@
+pub mod Limits
 pub mod Instructions
 pub mod States
 pub mod Steps

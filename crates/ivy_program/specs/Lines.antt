@@ -7,7 +7,7 @@ use Rattle.ivy_program.specs.declared.line.Line.{Line}
 use Rattle.ivy_program.specs.declared.line.Line.TheVariants as line
 use Rattle.ivy_program.specs.declared.instruction.Instruction.{Instruction}
 use Rattle.ivy_program.specs.declared.instruction.Instruction.TheVariants.{Set, Move, Compute, Load, Store, Swap, Count, Advance, Await, Alloc, Free, Status, Print, Stop}
-use Rattle.ivy_program.specs.Instructions.{NamesRegisters}
+use Rattle.ivy_program.specs.Instructions.{NamesRegisters, IsRegister}
 use Rattle.ivy_program.specs.Numbers.{IsNumber}
 use Rattle.ivy_program.specs.Operands.{register_word, operation_word, IsWidthWord, IsName}
 
@@ -48,7 +48,7 @@ abbrev pub SpellsAction : List (List ℕ) → Action → Type 0
 SpellsAction words (action.Plain instruction) = NamesRegisters instruction
     × SpellsPlain words instruction
 SpellsAction words (action.Jump name) = IsName name × (words ≡ codes "jump" ∷ name ∷ [])
-SpellsAction words (action.JumpIfZero from name) = (from < 16) × IsName name
+SpellsAction words (action.JumpIfZero from name) = IsRegister from × IsName name
     × (words ≡ codes "jumpz" ∷ register_word from ∷ name ∷ [])
 
 -- the words of a line

@@ -8,6 +8,7 @@ use Rattle.ivy_program.specs.declared.instruction.Operation.{Operation}
 use Rattle.ivy_program.specs.declared.instruction.Operation.TheVariants.{Add, Sub, Mul}
 use Rattle.ivy_program.specs.Instructions.{bytes_in}
 use Rattle.ivy_program.specs.Numbers.{IsNumber}
+use Rattle.ivy_program.specs.Limits.{most_letters}
 
 -- an `r` and the number in decimal digits, of which it has one or two: 48 is `0`, 49 is `1`
 abbrev pub register_word : ℕ → List ℕ
@@ -30,7 +31,7 @@ is_name_byte b = is_ascii_lowercase b || is_ascii_digit b
 pub record IsName (word : List ℕ) : Type 0 where
   pub first : IsTrue (is_ascii_lowercase (slice_index word 0))
   pub all : IsTrue (list_all is_name_byte word)
-  pub short : length word ≤ 16
+  pub short : length word ≤ most_letters
 
 -- the bytes in front of the zeros that fill them up
 abbrev pub letters_of : List ℕ → List ℕ
@@ -38,4 +39,4 @@ letters_of bytes = filter (λ b. nat_lt 0 b) bytes
 
 -- 16 bytes: those of the word in place of the first zeros
 abbrev pub padded : List ℕ → List ℕ
-padded word = word ++ drop (length word) (replicate 16 0)
+padded word = word ++ drop (length word) (replicate most_letters 0)

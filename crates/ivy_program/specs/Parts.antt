@@ -5,6 +5,7 @@ use Rattle.ivy_program.specs.declared.line.Line.{Line}
 use Rattle.ivy_program.specs.declared.line.Line.TheVariants as line
 use Rattle.ivy_program.specs.declared.parser.Numbered.{Numbered}
 use Rattle.ivy_program.specs.Names.{Label, same_name}
+use Rattle.ivy_program.specs.Limits.{most_instructions, most_programs}
 
 -- the program of a node: its instructions, each with the number of its line, and its labels
 pub record Part : Type 0 where
@@ -32,7 +33,7 @@ labelled part name None = Some (record {
 -- the instruction is the next one, unless there are 4,096
 abbrev pub lengthened : Part → Numbered → Option Part
 lengthened part line =
-    if nat_lt (length part.lines) 4096
+    if nat_lt (length part.lines) most_instructions
     then Some (record { lines = part.lines ++ line ∷ []; labels = part.labels }) else None
 
 -- the parts with this last part, where it could be made
@@ -55,7 +56,7 @@ lengthen_last parts line None = None
 abbrev pub joined : List Part → ℕ → Option Line → Option (List Part)
 joined parts number (Some line.Blank) = Some parts
 joined parts number (Some (line.Node node)) =
-    if (node == length parts) && nat_lt node 32
+    if (node == length parts) && nat_lt node most_programs
     then Some (parts ++ (record { lines = []; labels = [] }) ∷ []) else None
 joined parts number (Some (line.Label name)) = label_last parts name (last_part parts)
 joined parts number (Some (line.Does action)) =

@@ -1,5 +1,6 @@
 -- What a program has while it runs.
 use Rattle.std.specs.Prelude.{ℕ, ◌+◌, List, [], ◌∷◌, ◌++◌, replicate, slice_index_or, slice_set}
+use Rattle.ivy_program.specs.Limits.{register_count}
 
 -- the place of the next instruction, the sixteen registers, the number of the last call's refusal
 -- or 0, and what was printed
@@ -11,7 +12,7 @@ pub record State : Type 0 where
 
 -- at the first instruction, with 0 in each register and nothing printed
 abbrev pub first_state : State
-first_state = record { place = 0; registers = replicate 16 0; status = 0; output = [] }
+first_state = record { place = 0; registers = replicate register_count 0; status = 0; output = [] }
 
 -- what the register holds
 abbrev pub value_in : State → ℕ → ℕ

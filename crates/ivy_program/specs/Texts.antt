@@ -9,6 +9,7 @@ use Rattle.ivy_program.specs.declared.line.Line.{Line}
 use Rattle.ivy_program.specs.Instructions.{IsProgram}
 use Rattle.ivy_program.specs.Parts.{Part}
 use Rattle.ivy_program.specs.Readings.{finds_all, IsAtFault, IsLeastOrNone, IsReadAs, IsReading, text_parts, program_of}
+use Rattle.ivy_program.specs.Limits.{most_programs}
 
 -- memory was refused, or a line, counted from 1, is at fault
 abbrev pub IsRefusal : Fault → Type 0
@@ -16,7 +17,7 @@ IsRefusal f = (f ≡ Memory) ⊎ ((line : ℕ) × (1 ≤ line) × (f ≡ Program
 
 -- at most 32 programs
 pub record ArePrograms (programs : List (List Instruction)) : Type 0 where
-  pub few : length programs ≤ 32
+  pub few : length programs ≤ most_programs
   pub each : All IsProgram programs
 
 -- no line is at fault, and these are the programs

@@ -1,4 +1,5 @@
 ghost use Rattle.std.specs.Prelude.{◌≡◌, ◌<◌, ◌↔◌, ℕ, IsSome, IfSome};
+ghost use Rattle.ivy_program.specs.Limits.{register_count};
 ghost use Rattle.ivy_model.specs.Legal.{IsWidth};
 
 use std::marker::Model;
@@ -19,13 +20,13 @@ impl Model for Register {
 
     ghost inverse = { λ n. record { number = n } };
 
-    ghost invariant = { λ r. r.number < 16 };
+    ghost invariant = { λ r. r.number < register_count };
 }
 
 impl Register {
     /// The register of this number, where there is one.
     pub fn new(number: u8) -> Option<Register>
-        ensures there { IsSome result ↔ number < 16 }
+        ensures there { IsSome result ↔ number < register_count }
         ensures number { IfSome result (λ r. r ≡ number) }
     {
         if usize::from(number) < REGISTERS {
@@ -38,7 +39,7 @@ impl Register {
     /// The register's number, from 0 to 15.
     pub fn number(self) -> u8
         ensures number { result ≡ self }
-        ensures bound { result < 16 }
+        ensures bound { result < register_count }
     {
         self.number
     }

@@ -1,5 +1,6 @@
 //! What one line of a text of programs says.
 ghost use Rattle.std.specs.Prelude.{◌≡◌, ◌≢◌, ◌<◌, ℕ, [], ◌∷◌, map, IfSome, IfNone, false};
+ghost use Rattle.ivy_program.specs.Limits.{register_count};
 ghost use Rattle.ivy_program.specs.Drafts.{has_place, knows_place};
 ghost use Rattle.ivy_program.specs.Lines.{SpellsLine, SpellsAction};
 ghost use Rattle.ivy_program.specs.Operands.{register_word, operation_word, IsWidthWord, IsName};
@@ -109,7 +110,7 @@ pub(crate) enum Action {
 /// The register that a word names.
 fn parse_register(word: &str) -> Option<Register>
     ensures found { IfSome result (λ r. word.now ≡ register_word r) }
-    ensures none { IfNone result ((r : ℕ) → r < 16 → word.now ≢ register_word r) }
+    ensures none { IfNone result ((r : ℕ) → r < register_count → word.now ≢ register_word r) }
 {
     match *word.as_bytes() {
         [b'r', digit @ b'0'..=b'9'] => Register::new(digit - b'0'),

@@ -1,4 +1,5 @@
 ghost use Rattle.std.specs.Prelude.{◌≡◌, ◌≤◌, ◌<◌, ◌+◌, ◌^◌, ℕ, List, [], Option, Some, length, All, IfOk, IfErr, OnErr, IfSome, IfNone, IsOkUnless, false};
+ghost use Rattle.ivy_program.specs.Limits.{most_programs};
 ghost use Rattle.std.specs.List.{list_all};
 ghost use Rattle.ivy_program.specs.declared.line.Line.{Line};
 ghost use Rattle.ivy_model.specs.declared.Fault.TheVariants.{Memory};
@@ -205,7 +206,7 @@ impl<A: Allocator> Model for Parser<A> {
 
     ghost view = { λ p. p.drafts.items };
 
-    ghost invariant = { λ p. length p.drafts.items ≤ 32 };
+    ghost invariant = { λ p. length p.drafts.items ≤ most_programs };
 }
 
 impl<A: Allocator + Copy> Parser<A> {
