@@ -1,5 +1,5 @@
 -- What a line of programs says.
-use Rattle.std.specs.Prelude.{◌≡◌, ℕ, ◌<◌, List, [], ◌∷◌, codes}
+use Rattle.std.specs.Prelude.{◌≡◌, ℕ, List, [], ◌∷◌, codes}
 use Rattle.std.specs.Str.Parse.{digits_value}
 use Rattle.ivy_program.specs.declared.line.Action.{Action}
 use Rattle.ivy_program.specs.declared.line.Action.TheVariants as action
