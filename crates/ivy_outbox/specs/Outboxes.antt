@@ -14,6 +14,8 @@ use Rattle.ivy_outbox.specs.Fitting.{FitsLink}
 use Rattle.ivy_link.specs.Windows.{Window}
 use Rattle.ivy_link.specs.Holding.{Holding, link_of, holding}
 
+-- `waiting` are the strings not yet put on the wire, the first first; `held` has a window for each
+-- node
 pub record Outbox : Type 0 where
   pub config : Config
   pub me : ℕ
@@ -27,6 +29,7 @@ pub record IsSoundOutbox (o : Outbox) : Type 0 where
   pub mine : o.link.me ≡ o.me
   pub fits : FitsLink o.config o.link
 
+-- the outbox with this link
 abbrev pub with_link : Outbox → Linked → Outbox
 with_link o link = record {
   config = o.config;
@@ -40,6 +43,7 @@ with_link o link = record {
 abbrev pub holding_of : Outbox → Holding
 holding_of o = holding o.link o.held
 
+-- the outbox with this link, and what it holds
 abbrev pub with_holding : Outbox → Holding → Outbox
 with_holding o h = record {
   config = o.config;
@@ -49,6 +53,7 @@ with_holding o h = record {
   held = h.held;
 }
 
+-- the outbox with these strings waiting
 abbrev pub with_waiting : Outbox → List (List ℕ) → Outbox
 with_waiting o waiting = record {
   config = o.config;

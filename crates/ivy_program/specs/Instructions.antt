@@ -7,6 +7,7 @@ use Rattle.ivy_program.specs.declared.instruction.Operation.TheVariants.{Add, Su
 use Rattle.ivy_program.specs.declared.instruction.Instruction.{Instruction}
 use Rattle.ivy_program.specs.declared.instruction.Instruction.TheVariants.{Set, Move, Compute, Load, Store, Swap, Count, Advance, Await, Alloc, Free, Status, Print, Jump, JumpIfZero, Stop}
 
+-- how many bytes a word of this width has
 abbrev pub bytes_in : Width → ℕ
 bytes_in One = 1
 bytes_in Two = 2

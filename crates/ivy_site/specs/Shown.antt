@@ -12,6 +12,8 @@ use Rattle.ivy_events.specs.Nodes.{Node, Effect}
 use Rattle.ivy_events.specs.Parts.{pulse_marks}
 use Rattle.ivy_host.specs.Hosts.{Host}
 
+-- `events` are all that the site ever listed; `waiting` are the strings not yet put on the wire,
+-- the first first; `held` has a window for each node
 pub record Shown : Type 0 where
   pub config : Config
   pub me : ℕ

@@ -170,10 +170,11 @@ pub record AfterDelivery (bytes : List ℕ) (verdict : Verdict) (old new : Shown
   pub first : SiteDelivers bytes verdict old mid
   pub follows : FollowsDelivery verdict first.frame bytes mid new
 
--- message numbers are at an end: the turn, or the delivery, is no event
+-- message numbers are at an end: the turn is no event
 abbrev pub IsSpentTurn : Shown → Fault → Type 0
 IsSpentTurn old fault = fault ≡ NumbersSpent → turned (host_rules managed_ops) old.node ≡ None
 
+-- message numbers are at an end: the delivery is no event
 abbrev pub IsSpentDelivery : Shown → List ℕ → Fault → Type 0
 IsSpentDelivery old bytes fault =
     fault ≡ NumbersSpent → delivered (host_rules managed_ops) old.config old.node bytes ≡ None
@@ -217,18 +218,21 @@ pub record IsSite (s : Shown) : Type 0 where
   pub made : IsMadeByEvents s
   pub held : HoldsEarly s
 
+-- the host of these
 abbrev pub host_of : memories.NodeMemory Managed → Process → List Record → Host Managed
 host_of memory process history = record { memory = memory; process = process; history = history }
 
--- what an answer to a call of the program does: the reply is recorded, and the process goes on
+-- whether the answer is a reply, or that the call waits
 abbrev pub is_served : Answer → Bool
 is_served Unserved = false
 is_served answer = true
 
+-- the history with a record of the reply, where one was given
 abbrev pub kept_by : List Record → ℕ → Call → Answer → List Record
 kept_by history node k (Given r) = history ++ record { node = node; call = k; reply = r } ∷ []
 kept_by history node k answer = history
 
+-- the process goes on with the reply, where one was given
 abbrev pub told_by : Process → Answer → Process
 told_by process (Given r) = answered_with process r
 told_by process answer = process
