@@ -83,14 +83,10 @@ posted_by o parcels = with_sending o (sends o.link parcels)
 
 -- why parcels were refused, of which there is one at least: memory, or one of them would need a
 -- number above the greatest one
-abbrev pub IsRefused : Fault → Outbox → List Parcel → Type 0
-IsRefused Memory o parcels = parcels ≢ []
-IsRefused NumbersSpent o parcels = has_numbers o.link parcels ≡ false
-IsRefused f o parcels = ⊥
-
--- the same, as a post says it
 abbrev pub RefusesParcels : Outbox → List Parcel → Fault → Type 0
-RefusesParcels o parcels f = IsRefused f o parcels
+RefusesParcels o parcels Memory = parcels ≢ []
+RefusesParcels o parcels NumbersSpent = has_numbers o.link parcels ≡ false
+RefusesParcels o parcels f = ⊥
 
 -- the first string is taken, if one waits
 abbrev pub TakesFirst : Option (List ℕ) → Outbox → Outbox → Type 0
