@@ -31,13 +31,7 @@ pub record IsSoundOutbox (o : Outbox) : Type 0 where
 
 -- the outbox with this link
 abbrev pub with_link : Outbox → Linked → Outbox
-with_link o link = record {
-  config = o.config;
-  me = o.me;
-  link = link;
-  waiting = o.waiting;
-  held = o.held;
-}
+with_link o link = record o { link = link }
 
 -- the link, with what it holds
 abbrev pub holding_of : Outbox → Holding
@@ -45,33 +39,15 @@ holding_of o = holding o.link o.held
 
 -- the outbox with this link, and what it holds
 abbrev pub with_holding : Outbox → Holding → Outbox
-with_holding o h = record {
-  config = o.config;
-  me = o.me;
-  link = link_of h;
-  waiting = o.waiting;
-  held = h.held;
-}
+with_holding o h = record o { link = link_of h; held = h.held }
 
 -- the outbox with these strings waiting
 abbrev pub with_waiting : Outbox → List (List ℕ) → Outbox
-with_waiting o waiting = record {
-  config = o.config;
-  me = o.me;
-  link = o.link;
-  waiting = waiting;
-  held = o.held;
-}
+with_waiting o waiting = record o { waiting = waiting }
 
 -- a link made frames: their spellings wait, in order
 abbrev pub with_sending : Outbox → Sending → Outbox
-with_sending o s = record {
-  config = o.config;
-  me = o.me;
-  link = s.after;
-  waiting = o.waiting ++ map spelling s.frames;
-  held = o.held;
-}
+with_sending o s = record o { link = s.after; waiting = o.waiting ++ map spelling s.frames }
 
 -- there are numbers for the parcels
 abbrev pub HasNumbers : Outbox → List Parcel → Type 0
@@ -106,9 +82,7 @@ takes_none o = refl
 
 -- to post nothing changes nothing
 pub after_none : (o : Outbox) → posted_by o [] ≡ o
-after_none o =
-    ap (λ w. record { config = o.config; me = o.me; link = o.link; waiting = w; held = o.held })
-    (append-nil o.waiting)
+after_none o = ap (λ w. record o { waiting = w }) (append-nil o.waiting)
 
 -- and is never refused
 pub refuses_none : (o : Outbox) (f : Fault) → RefusesParcels o [] f → ⊥
