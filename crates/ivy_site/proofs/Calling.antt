@@ -28,7 +28,7 @@ use Rattle.ivy_memory.specs.Memories.{NodeMemory, CallBegun, reply_of, reply_at,
 use Rattle.ivy_memory.proofs.Polling.{polled_so}
 use Rattle.ivy_host.specs.Hosts.{Host, begins_as, begins_with, steps, turned_at, turn_of, number_of, recorded}
 use Rattle.ivy_outbox.specs.Outboxes.{Outbox, HasNumbers, RefusesParcels, posted_by, takes_none, after_none}
-use Rattle.ivy_site.specs.Sites.{HasTurn, AfterHostTurn, HasNoNumbers, host_of, is_served, kept_by, told_by}
+use Rattle.ivy_site.specs.Inside.{HasTurn, AfterHostTurn, HasNoNumbers, host_of, is_served, kept_by, told_by}
 use Rattle.ivy_outbox.proofs.Boxes.{as_many-wait}
 
 abbrev H : Type 0

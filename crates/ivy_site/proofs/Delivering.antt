@@ -35,7 +35,8 @@ use Rattle.ivy_memory.specs.Memories.{NodeMemory, memory_handled, memory_told}
 use Rattle.ivy_host.specs.Hosts.{Host, host_rules, serving}
 use Rattle.ivy_outbox.specs.Outboxes.{Outbox, HasNumbers, RefusesParcels, holding_of, with_holding, posted_by}
 use Rattle.ivy_site.specs.Shown.{Shown, after_hearing, after_delivery}
-use Rattle.ivy_site.specs.Sites.{early_at, SiteDelivers, CameEarlyAs, IsSpentDelivery, IsSite}
+use Rattle.ivy_site.specs.Sites.{early_at, SiteDelivers, IsSpentDelivery, IsSite}
+use Rattle.ivy_site.specs.Inside.{CameEarlyAs}
 use Rattle.ivy_outbox.proofs.Boxes.{as_many}
 use Rattle.ivy_events.specs.Early.{early_as}
 use Rattle.ivy_site.proofs.Made.{delivery_made, delivery_early}

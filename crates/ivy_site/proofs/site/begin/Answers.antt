@@ -1,6 +1,6 @@
 use Rattle.std.proofs.Common.{rules, arith, ap, refl, ◌+◌}
 use Rattle.ivy_memory.proofs.Beginning.{err_there}
-use Rattle.ivy_site.specs.Sites.{host_of}
+use Rattle.ivy_site.specs.Inside.{host_of}
 use Rattle.ivy_site.proofs.Calling.{begin_call, cannot_begin, called, called_few, on_err, unposted}
 use Rattle.ivy_site.proofs.site.begin.Goals as goal
 
