@@ -24,7 +24,8 @@ use Rattle.ivy_headline.specs.Reached.{IsLedTo, IsReached}
 use Rattle.ivy_node.specs.Runs.{IsRefusedBy, IsSameRun}
 use Rattle.ivy_site.specs.Shown.{Shown}
 use Rattle.ivy_node.specs.WorldSites.{world_of}
-use Rattle.ivy_node.specs.Settling.{DoesNothing, IsDelivered, IsDeliveredFrom, IsOfRound, round_after, HadTurns, IsInRound, HasMadeOne, HasRefusedOne, HasSettledBy, HasSettled}
+use Rattle.ivy_node.specs.Settling.{HasSettledBy, HasSettled}
+use Rattle.ivy_node.specs.Rounds.{DoesNothing, IsDelivered, IsDeliveredFrom, IsOfRound, round_after, HadTurns, IsInRound, HasMadeOne, HasRefusedOne}
 use Rattle.ivy_events.proofs.Leading.{leads_one}
 
 at_end : {A : Type 0} (xs : List A) (x : A) → slice_get (xs ++ x ∷ []) (length xs) ≡ Some x

@@ -1,3 +1,4 @@
 pub mod Runs
 pub mod WorldSites
+pub mod Rounds
 pub mod Settling
