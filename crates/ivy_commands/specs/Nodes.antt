@@ -22,11 +22,13 @@ outputs_text outputs = numbered_texts output_text 0 outputs
 abbrev pub outputs_of : {S : Type 0} → List (Node (Host S)) → List (List ℕ)
 outputs_of nodes = map (λ n. n.core.process.state.output) nodes
 
+-- whether the step is the end
 abbrev pub is_end : Step → Bool
 is_end (Local s) = false
 is_end (Asks c) = false
 is_end Ends = true
 
+-- whether the program has ended
 abbrev pub has_ended : Process → Bool
 has_ended p = is_end (step_of p)
 
@@ -34,5 +36,6 @@ has_ended p = is_end (step_of p)
 abbrev pub end_text : {S : Type 0} → ℕ → Node (Host S) → List ℕ
 end_text node n = end_line node (has_ended n.core.process)
 
+-- these lines of all nodes
 abbrev pub ends_text : {S : Type 0} → List (Node (Host S)) → List ℕ
 ends_text nodes = numbered_texts end_text 0 nodes

@@ -6,5 +6,6 @@ pub record Held : Type 0 where
   pub ether : TableId
   pub known : View
 
+-- a pass of this ether that knows this
 abbrev pub held : TableId → View → Held
 held t v = record { ether = t; known = v }

@@ -2,6 +2,7 @@
 use Rattle.std.specs.Prelude.{ℕ, Bool, true, false, Option, Some, None, List, [], ◌∷◌, ◌++◌}
 use Rattle.ivy_events.specs.Marks.{Mark}
 
+-- what a pass knows
 pub record View : Type 0 where
   -- of the starter: that it is the one, the seats that it issued, the reports that it took
   pub starts : Bool

@@ -20,6 +20,7 @@ marks_of (Turns n) = turns n
 marks_of (Delivered bytes) = Delivery bytes ∷ []
 marks_of (Pulsed to) = Pulse to ∷ []
 
+-- the events of a whole recorded list, in order
 abbrev pub marks : List Event → List Mark
 marks [] = []
 marks (e ∷ es) = marks_of e ++ marks es

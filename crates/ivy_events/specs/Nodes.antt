@@ -16,6 +16,7 @@ use Rattle.ivy_link.specs.Accepted.{offered, accepted}
 use Rattle.ivy_link.specs.Pulsed.{pulsed}
 use Rattle.ivy_events.specs.Cores.{Core, Outcome}
 
+-- a node: its core, and its side of all links
 pub record Node (C : Type 0) : Type 0 where
   pub core : C
   pub link : Linked
@@ -55,6 +56,7 @@ module _ {C : Type 0} (rules : Core C) where
   turned_to n None = Some (stays n)
   turned_to n (Some o) = posting n o.after o.posted
 
+  -- a turn of the core; none where a number above the greatest one would be needed
   unfoldable pub turned : Node C → Option (Effect C)
   turned n = turned_to n (rules.turn n.core)
 
@@ -72,6 +74,7 @@ module _ {C : Type 0} (rules : Core C) where
   received_as verdict.Repeat n f = accepting f (Some (stays n))
   received_as verdict.Ahead n f = accepting f (Some (stays n))
 
+  -- a frame comes, and does what it is to the node; none where numbers are at an end
   unfoldable pub received : Node C → Frame → Option (Effect C)
   received n f = received_as (offered n.link f) n f
 
@@ -80,6 +83,7 @@ module _ {C : Type 0} (rules : Core C) where
   delivered_as (Err fault) n bytes = None
   delivered_as (Ok kind) n bytes = received n (frame_at kind bytes)
 
+  -- a string comes; none where it spells no frame, or numbers are at an end
   unfoldable pub delivered : Config → Node C → List ℕ → Option (Effect C)
   delivered c n bytes = delivered_as (checked c bytes) n bytes
 
@@ -89,6 +93,7 @@ module _ {C : Type 0} where
   verdict_as (Err fault) n bytes = verdict.NotMine
   verdict_as (Ok kind) n bytes = offered n.link (frame_at kind bytes)
 
+  -- so it is under this configuration
   abbrev pub verdict_of : Config → Node C → List ℕ → Verdict
   verdict_of c n bytes = verdict_as (checked c bytes) n bytes
 

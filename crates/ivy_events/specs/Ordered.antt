@@ -6,6 +6,7 @@ use Rattle.ivy_wire.specs.Data.{Message}
 use Rattle.ivy_link.specs.Paired.{extended}
 use Rattle.ivy_events.specs.Cores.{Core, Outcome}
 
+-- the cores by number, and what was posted and delivered between each two
 pub record Ordered (C : Type 0) : Type 0 where
   pub cores : List C
   -- all messages ever posted from one node to another

@@ -48,6 +48,7 @@ CanBeMade strings nodes j Turn = Unit {0}
 CanBeMade strings nodes j (Delivery bytes) = Contains strings bytes
 CanBeMade strings nodes j (Pulse to) = (to < nodes) × (j ≢ to)
 
+-- so it is for each of the events
 abbrev pub AllCanBeMade : List (List ℕ) → ℕ → ℕ → List Mark → Type 0
 AllCanBeMade strings nodes j [] = Unit {0}
 AllCanBeMade strings nodes j (m ∷ ms) =
@@ -162,11 +163,12 @@ module _ {C : Type 0} (rules : Core C) (c : Config) where
       pub sent : (j : ℕ) (n : Node C) → slice_get end.nodes j ≡ Some n → (e : Effect C)
           → AllHappen n (more j) e → (s : List ℕ) → Contains e.sent s → Contains further.sent s
 
-  -- the two laws
+  -- the first law: the nodes of a run, and the strings sent in it, are what its parts make
   abbrev pub RunsAreTheirParts : Type 0
   RunsAreTheirParts = (w end : World C) (parts : ℕ → List Mark) → AreParts w parts end
       → AreMadeByParts w parts end
 
+  -- the second law: parts of a run that go on by further events are parts of a further run
   abbrev pub PartsGoOn : Type 0
   PartsGoOn = (w end : World C) (parts more : ℕ → List Mark) → AreParts w parts end
       → GoOn end more → (further : World C) × WentOn w end parts more further

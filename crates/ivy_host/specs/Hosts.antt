@@ -16,6 +16,7 @@ use Rattle.ivy_memory.specs.declared.Answer.{Answer}
 use Rattle.ivy_memory.specs.declared.Answer.TheVariants.{Given, Awaited, Unserved}
 use Rattle.ivy_memory.specs.Memories.{NodeMemory, CallBegun, first_memory, call_begun, polled, memory_handled, memory_told}
 
+-- a node's memory, its program and where it stands, and what it was answered
 pub record Host (S : Type 0) : Type 0 where
   pub memory : NodeMemory S
   pub process : Process
@@ -50,6 +51,7 @@ module _ {S : Type 0} where
       Some (record { after = record n { memory = a.after }; posted = a.posted })
   begins_with n c a Unserved = None
 
+  -- by the answer that the call was given
   abbrev pub begins_as : Host S → Call → CallBegun S → Option (Outcome (Host S))
   begins_as n c a = begins_with n c a a.answer
 

@@ -18,10 +18,12 @@ abbrev pub of_either : {X : Type 0} → (Owners → X) → (Hints → X) → Man
 of_either f g (Fixed s) = f s
 of_either f g (Dynamic s) = g s
 
+-- what a node keeps at first, by the kind of the manager
 abbrev pub first_managed : Kind → Config → ℕ → Managed
 first_managed kind.Fixed c me = Fixed (fixed_ops.first c me)
 first_managed kind.Dynamic c me = Dynamic (dynamic_ops.first c me)
 
+-- the calls of whichever manager the node keeps
 abbrev pub managed_ops : Ops Managed
 managed_ops = record {
   me = of_either fixed_ops.me dynamic_ops.me;

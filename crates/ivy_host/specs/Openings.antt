@@ -10,6 +10,7 @@ use Rattle.ivy_events.specs.Worlds.{World}
 use Rattle.ivy_host.specs.Hosts.{Host, first_host}
 
 module _ {S : Type 0} (ops : Ops S) where
+  -- a node as it begins: no instruction was carried out, and nothing was sent either way
   abbrev pub first_node : Config → ℕ → List Instruction → Node (Host S)
   first_node c me program =
       record { core = first_host ops c me program; link = first_link me c.nodes }
@@ -19,6 +20,7 @@ module _ {S : Type 0} (ops : Ops S) where
   first_nodes c me [] = []
   first_nodes c me (p ∷ ps) = first_node c me p ∷ first_nodes c (me + 1) ps
 
+  -- the world before the first move
   abbrev pub opening : Config → List (List Instruction) → World (Host S)
   opening c programs =
       record { nodes = first_nodes c 0 programs; sent = []; early = map (λ p. []) programs }

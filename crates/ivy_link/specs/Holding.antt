@@ -29,9 +29,11 @@ holding l held = record { me = l.me; peers = l.peers; held = held }
 abbrev pub window_of : List Window → ℕ → Window
 window_of held j = slice_index_or held j []
 
+-- the window of a node
 abbrev pub window_at : Holding → ℕ → Window
 window_at h j = window_of h.held j
 
+-- the link with this window of a node
 abbrev pub with_window : Holding → ℕ → Window → Holding
 with_window h j w = holding (link_of h) (slice_set h.held j w)
 

@@ -61,6 +61,7 @@ done n (Pulse i j) = record {
   delivered = n.delivered;
 }
 
+-- the actions are done one after another
 abbrev pub all_done : LinkNet → List Action → LinkNet
 all_done n [] = n
 all_done n (a ∷ more) = all_done (done n a) more

@@ -28,6 +28,7 @@ first_link me nodes = record { me = me; peers = replicate nodes fresh }
 abbrev pub peer_at : Linked → ℕ → Peer
 peer_at l j = slice_index_or l.peers j fresh
 
+-- the link that knows this of a node
 abbrev pub with_peer : Linked → ℕ → Peer → Linked
 with_peer l j p = record { me = l.me; peers = slice_set l.peers j p }
 
@@ -56,6 +57,7 @@ abbrev pub after_sends : Linked → List Parcel → Linked
 after_sends l [] = l
 after_sends l (p ∷ ps) = after_sends (sent_one l p) ps
 
+-- the frames that carry them
 abbrev pub frames_of : Linked → List Parcel → List Frame
 frames_of l [] = []
 frames_of l (p ∷ ps) = frame_of l p ∷ frames_of (sent_one l p) ps

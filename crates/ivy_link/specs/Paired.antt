@@ -23,9 +23,11 @@ pub record IsParcelOf (nodes : ℕ) (me : ℕ) (p : Parcel) : Type 0 where
   pub dest : p.dest < nodes
   pub apart : p.dest ≢ me
 
+-- the first list is a beginning of the second
 abbrev pub IsBeginning : List Message → List Message → Type 0
 IsBeginning front whole = (rest : List Message) × (whole ≡ front ++ rest)
 
+-- the first list is an end of the second
 abbrev pub IsEnd : List Message → List Message → Type 0
 IsEnd back whole = (front : List Message) × (whole ≡ front ++ back)
 

@@ -40,8 +40,10 @@ frames_again l to = frames_of_pulse (peer_at l to).kept l.me to (peer_at l to)
 abbrev pub owing_nothing : Peer → Peer
 owing_nothing p = record { sent = p.sent; kept = p.kept; delivered = p.delivered; owed = false }
 
+-- the link after a pulse to this node
 abbrev pub after_pulse : Linked → ℕ → Linked
 after_pulse l to = with_peer l to (owing_nothing (peer_at l to))
 
+-- a pulse to this node: the link after it, and its frames
 abbrev pub pulsed : Linked → ℕ → Sending
 pulsed l to = record { after = after_pulse l to; frames = frames_again l to }

@@ -30,6 +30,7 @@ place_of delivered number = number - delivered - 1
 abbrev pub can_hold : ℕ → Window → ℕ → Bool
 can_hold delivered w number = nat_lt delivered number && is_free w (place_of delivered number)
 
+-- the window with this string in a place
 abbrev pub with_string : Window → ℕ → List ℕ → Window
 with_string w k s = slice_set w k (Some s)
 

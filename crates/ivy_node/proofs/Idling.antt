@@ -13,7 +13,8 @@ use Rattle.ivy_site.specs.declared.turn.Turn.TheVariants.{Idle, Moved, Ended}
 use Rattle.ivy_site.specs.Shown.{Shown}
 use Rattle.ivy_site.specs.Sites.{AfterTurn}
 use Rattle.ivy_node.specs.WorldSites.{world_of, AreSites}
-use Rattle.ivy_node.specs.Settling.{HasStopped, HasIdleTurn, DoesNothing}
+use Rattle.ivy_node.specs.Settling.{HasStopped}
+use Rattle.ivy_node.specs.Rounds.{HasIdleTurn, DoesNothing}
 
 set_same : {X : Type 0} (xs : List X) (i : ℕ) (x : X) → slice_get xs i ≡ Some x → set xs i x ≡ xs
 set_same [] i x e = absurd (none-some x e)

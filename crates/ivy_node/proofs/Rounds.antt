@@ -12,7 +12,7 @@ use Rattle.ivy_events.specs.Worlds.{is_named}
 use Rattle.ivy_site.specs.Shown.{Shown}
 use Rattle.ivy_site.specs.Sites.{Awaits}
 use Rattle.ivy_node.specs.WorldSites.{world_of, AreSites}
-use Rattle.ivy_node.specs.Settling.{IsUnderWayTo, HasNoneUnderWay, IsNextMove, IsDeliveredFrom}
+use Rattle.ivy_node.specs.Rounds.{IsUnderWayTo, HasNoneUnderWay, IsNextMove, IsDeliveredFrom}
 
 pub nowhere : {X : Type 0} (xs : List X) (i : ℕ) → ltb i (length xs) ≡ false → slice_get xs i ≡ None
 nowhere xs i beyond =

@@ -1,5 +1,5 @@
 -- Moves that a world makes to come to rest.
-use Rattle.std.proofs.Common.{◌≡◌, ◌<◌, ◌≤◌, ◌+◌, ◌||◌, ℕ, Bool, true, false, List, [], ◌∷◌, ◌++◌, length, slice_get, Some, None, Result, Ok, Err, refl, sym, ap, subst, ◌∙◌, arith, inl, inr}
+use Rattle.std.proofs.Common.{◌≡◌, ◌<◌, ◌≤◌, ◌+◌, ◌||◌, ℕ, Bool, true, false, List, [], ◌∷◌, ◌++◌, length, slice_get, Some, None, Result, Ok, Err, refl, ap, subst, ◌∙◌, arith, inl, inr}
 use Rattle.std.specs.Result.{result_ok}
 use Rattle.std.proofs.Math.Seq.{take-append_seam}
 use Rattle.std.proofs.lemmas.List.{length-append}
@@ -21,7 +21,8 @@ use Rattle.ivy_headline.specs.Reached.{IsLedTo}
 use Rattle.ivy_node.specs.Runs.{IsRefusedBy, IsSameRun}
 use Rattle.ivy_site.specs.Shown.{Shown}
 use Rattle.ivy_node.specs.WorldSites.{world_of}
-use Rattle.ivy_node.specs.Settling.{DoesNothing, IsDelivered, IsDeliveredFrom, IsOfRound, round_after, HadTurns, IsInRound, HasMadeOne, HasRefusedOne, HasSettledBy, HasStopped, StandsStill}
+use Rattle.ivy_node.specs.Settling.{HasSettledBy, HasStopped, StandsStill}
+use Rattle.ivy_node.specs.Rounds.{DoesNothing, IsDelivered, IsDeliveredFrom, IsOfRound, round_after, HadTurns, IsInRound, HasMadeOne, HasRefusedOne}
 use Rattle.ivy_events.proofs.Leading.{leads_one}
 
 at_end : {A : Type 0} (xs : List A) (x : A) → slice_get (xs ++ x ∷ []) (length xs) ≡ Some x

@@ -1,3 +1,4 @@
 pub mod Runs
 pub mod WorldSites
 pub mod Settling
+pub mod Rounds

@@ -13,6 +13,7 @@ use Rattle.ivy_site.specs.Shown.{Shown}
 use Rattle.ivy_headline.specs.RunState.{Run}
 use Rattle.ivy_headline.specs.Reached.{IsReached}
 
+-- the programs of the sites, in order
 abbrev pub programs_of : List Shown → List (List Instruction)
 programs_of sites = map (λ (s : Shown). s.node.core.process.program) sites
 
@@ -37,6 +38,7 @@ abbrev pub first_sites_from : Config → ℕ → List (List Instruction) → Lis
 first_sites_from c me [] = []
 first_sites_from c me (p ∷ ps) = first_shown c me p ∷ first_sites_from c (me + 1) ps
 
+-- that world, under this configuration, with its programs
 abbrev pub run_of : Config → List Shown → List (List ℕ) → Run
 run_of c sites sent =
     record { config = c; programs = programs_of sites; world = world_of sites sent }

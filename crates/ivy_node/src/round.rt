@@ -1,7 +1,7 @@
 //! The rounds in which a world settles.
 ghost use Rattle.std.specs.Prelude.{◌≡◌, ◌↔◌, ℕ, ◌<◌, ◌≤◌, ◌+◌, ◌^◌, length, false, IsTrue, IfSome, MatchOption};
 ghost use Rattle.ivy_node.specs.WorldSites.{AreSites};
-ghost use Rattle.ivy_node.specs.Settling.{IsUnderWay, IsUnderWayTo, HasNoneUnderWay, IsNextMove, IsDeliveredFrom, round_after};
+ghost use Rattle.ivy_node.specs.Rounds.{IsUnderWay, IsUnderWayTo, HasNoneUnderWay, IsNextMove, IsDeliveredFrom, round_after};
 
 use ivy_events::Move;
 use ivy_model::Config;

@@ -12,7 +12,8 @@ ghost use Rattle.ivy_host.specs.Openings.{opening};
 ghost use Rattle.ivy_node.specs.Runs.{made_of, IsRefusedBy, IsNamedUnless, IsSameRun, IsRefusedAt, IsNamedAt, IsExplainedOn};
 ghost use Rattle.ivy_headline.specs.Reached.{IsLedTo, IsReached};
 ghost use Rattle.ivy_site.specs.Sites.{await_in};
-ghost use Rattle.ivy_node.specs.Settling.{DoesNothing, IsDelivered, IsOfRound, IsInRound, HasMadeOne, HasRefusedOne, StandsStill, HasSettledBy, Settles, HasSettled};
+ghost use Rattle.ivy_node.specs.Settling.{StandsStill, HasSettledBy, Settles, HasSettled};
+ghost use Rattle.ivy_node.specs.Rounds.{DoesNothing, IsDelivered, IsOfRound, IsInRound, HasMadeOne, HasRefusedOne};
 ghost use Rattle.ivy_model.specs.Wants.{IsWant};
 ghost use Rattle.ivy_node.specs.WorldSites.{programs_of, world_of, AreSites, IsMemory, IsWorldWant, AreFirst};
 

@@ -14,6 +14,8 @@ use Rattle.ivy_outbox.specs.Fitting.{FitsLink}
 use Rattle.ivy_link.specs.Windows.{Window}
 use Rattle.ivy_link.specs.Holding.{Holding, link_of, holding}
 
+-- `waiting` are the strings not yet put on the wire, the first first; `held` has a window for each
+-- node
 pub record Outbox : Type 0 where
   pub config : Config
   pub me : ℕ
@@ -27,46 +29,25 @@ pub record IsSoundOutbox (o : Outbox) : Type 0 where
   pub mine : o.link.me ≡ o.me
   pub fits : FitsLink o.config o.link
 
+-- the outbox with this link
 abbrev pub with_link : Outbox → Linked → Outbox
-with_link o link = record {
-  config = o.config;
-  me = o.me;
-  link = link;
-  waiting = o.waiting;
-  held = o.held;
-}
+with_link o link = record o { link = link }
 
 -- the link, with what it holds
 abbrev pub holding_of : Outbox → Holding
 holding_of o = holding o.link o.held
 
+-- the outbox with this link, and what it holds
 abbrev pub with_holding : Outbox → Holding → Outbox
-with_holding o h = record {
-  config = o.config;
-  me = o.me;
-  link = link_of h;
-  waiting = o.waiting;
-  held = h.held;
-}
+with_holding o h = record o { link = link_of h; held = h.held }
 
+-- the outbox with these strings waiting
 abbrev pub with_waiting : Outbox → List (List ℕ) → Outbox
-with_waiting o waiting = record {
-  config = o.config;
-  me = o.me;
-  link = o.link;
-  waiting = waiting;
-  held = o.held;
-}
+with_waiting o waiting = record o { waiting = waiting }
 
 -- a link made frames: their spellings wait, in order
 abbrev pub with_sending : Outbox → Sending → Outbox
-with_sending o s = record {
-  config = o.config;
-  me = o.me;
-  link = s.after;
-  waiting = o.waiting ++ map spelling s.frames;
-  held = o.held;
-}
+with_sending o s = record o { link = s.after; waiting = o.waiting ++ map spelling s.frames }
 
 -- there are numbers for the parcels
 abbrev pub HasNumbers : Outbox → List Parcel → Type 0
@@ -78,14 +59,10 @@ posted_by o parcels = with_sending o (sends o.link parcels)
 
 -- why parcels were refused, of which there is one at least: memory, or one of them would need a
 -- number above the greatest one
-abbrev pub IsRefused : Fault → Outbox → List Parcel → Type 0
-IsRefused Memory o parcels = parcels ≢ []
-IsRefused NumbersSpent o parcels = has_numbers o.link parcels ≡ false
-IsRefused f o parcels = ⊥
-
--- the same, as a post says it
 abbrev pub RefusesParcels : Outbox → List Parcel → Fault → Type 0
-RefusesParcels o parcels f = IsRefused f o parcels
+RefusesParcels o parcels Memory = parcels ≢ []
+RefusesParcels o parcels NumbersSpent = has_numbers o.link parcels ≡ false
+RefusesParcels o parcels f = ⊥
 
 -- the first string is taken, if one waits
 abbrev pub TakesFirst : Option (List ℕ) → Outbox → Outbox → Type 0
@@ -105,9 +82,7 @@ takes_none o = refl
 
 -- to post nothing changes nothing
 pub after_none : (o : Outbox) → posted_by o [] ≡ o
-after_none o =
-    ap (λ w. record { config = o.config; me = o.me; link = o.link; waiting = w; held = o.held })
-    (append-nil o.waiting)
+after_none o = ap (λ w. record o { waiting = w }) (append-nil o.waiting)
 
 -- and is never refused
 pub refuses_none : (o : Outbox) (f : Fault) → RefusesParcels o [] f → ⊥

@@ -102,6 +102,7 @@ put_offs (entry.AwaitAcks s) = s.waiting.put_off
 abbrev pub can_put_off : Entry → Bool
 can_put_off e = is_locked e && nat_lt (length (put_offs e)) most_put_off
 
+-- one more message is put off, behind the others
 abbrev pub with_one_put_off : WaitingState → PutOff → WaitingState
 with_one_put_off s message =
     record { word = s.word; call = s.call; put_off = s.put_off ++ message ∷ [] }

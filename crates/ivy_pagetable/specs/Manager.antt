@@ -30,6 +30,7 @@ changed ops page s (Given to) = ops.on_given s page to
 changed ops page s (Replied write from) = ops.on_replied s page write from
 changed ops page s (Invalidated by) = ops.on_invalidated s page by
 
+-- the manager after these calls for the page, in order
 abbrev pub all_changed : {S : Type 0} → Ops S → ℕ → S → List Change → S
 all_changed ops page s [] = s
 all_changed ops page s (c ∷ cs) = all_changed ops page (changed ops page s c) cs

@@ -7,6 +7,7 @@ use Rattle.std.specs.FinSet as set
 use Rattle.std.specs.Coded.{Coded, coded_ℕ}
 use Rattle.ivy_model.specs.Limits.{most_nodes}
 
+-- a set of nodes, by their numbers
 abbrev pub Nodes : Type 0
 Nodes = set.FinSet nat_cmp
 

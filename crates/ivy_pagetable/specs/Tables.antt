@@ -5,17 +5,20 @@ use Rattle.ivy_pagetable.specs.declared.entry.Entry.{Entry}
 use Rattle.ivy_pagetable.specs.Entries.{nothing, owned}
 use Rattle.ivy_pagetable.specs.TableState.{Table}
 
--- beyond the pages: an entry of nothing, and no bytes
+-- the entry of a page; beyond the pages one of nothing
 abbrev pub entry_at : Table → ℕ → Entry
 entry_at t page = slice_index_or t.entries page nothing
 
+-- the bytes of a page; none beyond the pages
 abbrev pub page_at : Table → ℕ → List ℕ
 page_at t page = slice_index_or t.pages page []
 
+-- the table with this entry of the page
 abbrev pub with_entry : Table → ℕ → Entry → Table
 with_entry t page e =
     record { page_size = t.page_size; entries = slice_set t.entries page e; pages = t.pages }
 
+-- the table with these bytes of the page
 abbrev pub with_page : Table → ℕ → List ℕ → Table
 with_page t page bytes =
     record { page_size = t.page_size; entries = t.entries; pages = slice_set t.pages page bytes }
@@ -24,6 +27,7 @@ with_page t page bytes =
 abbrev pub first_entry : ℕ → Entry
 first_entry me = if me == 0 then owned else nothing
 
+-- the table of a node as the world begins
 abbrev pub first_table : Config → ℕ → Table
 first_table c me = record {
   page_size = c.page_size;

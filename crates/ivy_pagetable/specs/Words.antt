@@ -31,6 +31,7 @@ pub record IsWord (page_size : ℕ) (word : Word) : Type 0 where
   pub aligned : offset_of word % width_of word ≡ 0
   pub within : offset_of word + width_of word ≤ page_size
 
+-- whether the word may change its page, so that a copy is not enough for it
 abbrev pub needs_write : Word → Bool
 needs_write (Load width offset) = false
 needs_write (Store width offset value) = true
@@ -59,6 +60,7 @@ advanced count offset bytes =
 abbrev pub awaited : ℕ → ℕ → Out
 awaited count least = if nat_le least count then Value count else NotYet
 
+-- the word carried out on the bytes of its page
 abbrev pub carried_out : Word → List ℕ → Carried
 carried_out (Load width offset) bytes =
     record { out = Value (number_at width offset bytes); bytes = bytes }

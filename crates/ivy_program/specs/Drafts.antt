@@ -14,6 +14,7 @@ use Rattle.ivy_program.specs.Limits.{most_instructions}
 abbrev pub AreInside : ℕ → List Label → Type 0
 AreInside count labels = All (λ label. label.1 ≤ count) labels
 
+-- whether the instruction is a jump
 abbrev pub is_jump : Instruction → Bool
 is_jump (Jump place) = true
 is_jump (JumpIfZero from place) = true

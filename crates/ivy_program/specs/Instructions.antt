@@ -8,6 +8,7 @@ use Rattle.ivy_program.specs.declared.instruction.Instruction.{Instruction}
 use Rattle.ivy_program.specs.declared.instruction.Instruction.TheVariants.{Set, Move, Compute, Load, Store, Swap, Count, Advance, Await, Alloc, Free, Status, Print, Jump, JumpIfZero, Stop}
 use Rattle.ivy_program.specs.Limits.{register_count, most_instructions}
 
+-- how many bytes a word of this width has
 abbrev pub bytes_in : Width → ℕ
 bytes_in One = 1
 bytes_in Two = 2

@@ -24,6 +24,7 @@ operation_word Mul = codes "mul"
 abbrev pub IsWidthWord : List ℕ → Width → Type 0
 IsWidthWord word width = IsNumber word × (digits_value 10 word ≡ bytes_in width)
 
+-- whether the byte is a small letter or a digit
 abbrev pub is_name_byte : ℕ → Bool
 is_name_byte b = is_ascii_lowercase b || is_ascii_digit b
 

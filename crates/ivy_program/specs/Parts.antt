@@ -16,9 +16,11 @@ pub record Part : Type 0 where
 abbrev pub label_place : List Label → List ℕ → Option ℕ
 label_place labels name = lookup (same_name name) labels
 
+-- the last one of the parts, if there is one
 abbrev pub last_part : List Part → Option Part
 last_part parts = slice_get parts (length parts - 1)
 
+-- the parts with this one in place of the last
 abbrev pub with_last : List Part → Part → List Part
 with_last parts part = slice_set parts (length parts - 1) part
 

@@ -50,6 +50,7 @@ abbrev pub jump_to : Option ℕ → Option Instruction
 jump_to (Some place) = Some (Jump place)
 jump_to None = None
 
+-- so it is for a jump where a register is 0
 abbrev pub jump_if_zero_to : ℕ → Option ℕ → Option Instruction
 jump_if_zero_to from (Some place) = Some (JumpIfZero from place)
 jump_if_zero_to from None = None

@@ -45,6 +45,7 @@ printed s value = record {
   output = s.output ++ value ∷ [];
 }
 
+-- the state with this status
 abbrev pub with_status : State → ℕ → State
 with_status s status =
     record { place = s.place; registers = s.registers; status = status; output = s.output }

@@ -102,6 +102,7 @@ pub record Process : Type 0 where
 abbrev pub PrintsNext : Process → Type 0
 PrintsNext p = IsSomeAnd (slice_get p.program p.state.place) Prints
 
+-- the next step of the program
 abbrev pub step_of : Process → Step
 step_of p = step p.program p.state
 
@@ -109,6 +110,7 @@ step_of p = step p.program p.state
 abbrev pub IsAsking : Process → Type 0
 IsAsking p = (call : Call) × (step_of p ≡ Asks call)
 
+-- the program has ended
 abbrev pub HasEnded : Process → Type 0
 HasEnded p = step_of p ≡ Ends
 

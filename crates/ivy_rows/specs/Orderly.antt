@@ -70,6 +70,7 @@ pub data Key : Type 0 where
   Order : (origin target page : ℕ) → Key
   Call : (origin : ℕ) → Key
 
+-- the key of a letter that says this
 abbrev pub key_as : Letter → Content → Key
 key_as l (content.ReadReq page) = Own l.message.origin page
 key_as l (content.WriteReq page) = Own l.message.origin page
@@ -82,6 +83,7 @@ key_as l (content.AllocRep code addr) = Call l.message.origin
 key_as l (content.FreeReq addr) = Call l.message.origin
 key_as l (content.FreeRep code) = Call l.message.origin
 
+-- the key of a letter
 abbrev pub key_of : Letter → Key
 key_of l = key_as l l.message.content
 
@@ -119,6 +121,7 @@ IsExpectedAs c n l (content.AllocRep code addr) = ⊥
 IsExpectedAs c n l (content.FreeReq addr) = ⊥
 IsExpectedAs c n l (content.FreeRep code) = ⊥
 
+-- so it is for what the letter says
 abbrev pub IsExpected : Config → Net → Letter → Type 0
 IsExpected c n l = IsExpectedAs c n l l.message.content
 

@@ -25,6 +25,7 @@ use Rattle.ivy_events.specs.Ordered.{one_more}
 use Rattle.ivy_rows.specs.Letters.{Letter, Net, content_of, letter_of, goes_on, installs}
 use Rattle.ivy_rows.specs.Orderly.{AwaitsCopy, AwaitsPage, Collects}
 
+-- a letter from one node to another, for the origin's call of this number, that says this
 abbrev pub letter : ℕ → ℕ → ℕ → ℕ → Content → Letter
 letter source dest origin call body = record {
   source = source;

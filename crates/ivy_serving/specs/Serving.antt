@@ -87,6 +87,7 @@ module _ {S : Type 0} (ops : Ops S) (me page : ℕ) (bytes : List ℕ) where
   served v q = if v.idle.owner then served_by_owner v q.origin q.call q.kind
       else served_by_other v q.origin q.call q.kind
 
+  -- the messages are served one after another
   abbrev pub all_served : Serving S → List PutOff → Serving S
   all_served v [] = v
   all_served v (q ∷ qs) = all_served (served v q) qs

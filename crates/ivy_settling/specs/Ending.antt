@@ -35,17 +35,19 @@ work_of (content.FreeReq addr) = 2
 work_of (content.FreeRep code) = 1
 
 module _ {S : Type 0} (c : Config) (o : Ordered (Host S)) where
-  -- the work that is left: of the messages under way, and of those that are put off
+  -- the work that is left of the messages under way
   abbrev pub work_under_way : ℕ
   work_under_way =
       sum_below c.nodes (λ i. sum_below c.nodes (λ j.
       sum_by (λ m. work_of m.content) (drop (o.delivered i j) (o.posted i j))))
 
+  -- the work that is left of the messages that are put off
   abbrev pub work_put_off : ℕ
   work_put_off =
       sum_below c.nodes (λ i. sum_below c.pages (λ p.
       sum_by (λ q. work_of (content_of q.kind p)) (put_offs ((net_of o).entry i p))))
 
+  -- the work that is left
   abbrev pub work_left : ℕ
   work_left = work_under_way + work_put_off
 

@@ -27,8 +27,8 @@ use Rattle.ivy_memory.proofs.Sides.{heap_unserved}
 use Rattle.ivy_memory.specs.Memories.{NodeMemory, CallBegun, reply_of, reply_at, taken_out, answered, needed, again_unless, again, begun_as, call_begun, tried_as, polled_as, polled}
 use Rattle.ivy_memory.proofs.Polling.{polled_so}
 use Rattle.ivy_host.specs.Hosts.{Host, begins_as, begins_with, steps, turned_at, turn_of, number_of, recorded}
-use Rattle.ivy_outbox.specs.Outboxes.{Outbox, HasNumbers, RefusesParcels, IsRefused, posted_by, takes_none, after_none}
-use Rattle.ivy_site.specs.Sites.{HasTurn, AfterHostTurn, HasNoNumbers, host_of, is_served, kept_by, told_by}
+use Rattle.ivy_outbox.specs.Outboxes.{Outbox, HasNumbers, RefusesParcels, posted_by, takes_none, after_none}
+use Rattle.ivy_site.specs.Inside.{HasTurn, AfterHostTurn, HasNoNumbers, host_of, is_served, kept_by, told_by}
 use Rattle.ivy_outbox.proofs.Boxes.{as_many-wait}
 
 abbrev H : Type 0
@@ -228,7 +228,8 @@ module _ (h : H) (k : Call) (a : CallBegun Managed) (calls : IsCall h k a) where
 
   pub cannot_call : (box : Outbox) (f : Fault) → RefusesParcels box a.posted f → HasNoNumbers h box f
   cannot_call box f refuses spent =
-      cannot_by box (subst (λ (x : Fault). IsRefused x box a.posted) spent refuses) a.answer refl
+      cannot_by box
+      (subst (λ (x : Fault). RefusesParcels box a.posted x) spent refuses) a.answer refl
 
   -- nor is it for want of numbers that the heap does not grow
   pub cannot_begin : (box new : Outbox) (f : Fault) (answer : Answer) (of_heap : Type 0)

@@ -33,9 +33,10 @@ use Rattle.ivy_events.specs.Nodes.{Node, Effect, stays, posting, accepting, serv
 use Rattle.ivy_serving.specs.Limits.{most_posted}
 use Rattle.ivy_memory.specs.Memories.{NodeMemory, memory_handled, memory_told}
 use Rattle.ivy_host.specs.Hosts.{Host, host_rules, serving}
-use Rattle.ivy_outbox.specs.Outboxes.{Outbox, HasNumbers, IsRefused, holding_of, with_holding, posted_by}
+use Rattle.ivy_outbox.specs.Outboxes.{Outbox, HasNumbers, RefusesParcels, holding_of, with_holding, posted_by}
 use Rattle.ivy_site.specs.Shown.{Shown, after_hearing, after_delivery}
-use Rattle.ivy_site.specs.Sites.{early_at, SiteDelivers, CameEarlyAs, IsSpentDelivery, IsSite}
+use Rattle.ivy_site.specs.Sites.{early_at, SiteDelivers, IsSpentDelivery, IsSite}
+use Rattle.ivy_site.specs.Inside.{CameEarlyAs}
 use Rattle.ivy_outbox.proofs.Boxes.{as_many}
 use Rattle.ivy_events.specs.Early.{early_as}
 use Rattle.ivy_site.proofs.Made.{delivery_made, delivery_early}
@@ -107,9 +108,9 @@ not_mine n v same k f bytes w r not =
       after = sym (ap (λ x. after_delivery v bytes x f.source (stays v.node)) not);
     })
 
-numbers_out : (e : Fault) (o : Outbox) (ps : List Parcel) → IsRefused e o ps
+numbers_out : (e : Fault) (o : Outbox) (ps : List Parcel) → RefusesParcels o ps e
     → e ≡ fault.NumbersSpent → has_numbers o.link ps ≡ false
-numbers_out e o ps why spent = subst (λ x. IsRefused x o ps) spent why
+numbers_out e o ps why spent = subst (λ x. RefusesParcels o ps x) spent why
 
 not_sent : (m : Node H) (h : H) (ps : List Parcel) → has_numbers m.link ps ≡ false
     → posting m h ps ≡ None
@@ -126,7 +127,7 @@ is_sent m h ps numbers = rw numbers refl
 -- what the message of the next frame posts has no numbers
 spent_post : (n v : Shown) → v ≡ n → (k : Config) (f : Frame) (bytes : List ℕ) (w : Verdict)
     → IsRead v k f bytes w → w ≡ verdict.Next → (m : Message) → f.body ≡ Some m → (e : Fault)
-    → IsRefused e (box_of v) (memory_handled managed_ops v.node.core.memory f.source m).posted
+    → RefusesParcels (box_of v) (memory_handled managed_ops v.node.core.memory f.source m).posted e
     → IsSpentDelivery n bytes e
 unfolding serving
 spent_post n v same k f bytes w r next m body e why spent =
@@ -144,7 +145,8 @@ pub spent_message : {B C : Type 0} (n v : Shown) → v ≡ n
     → (k : Config) (f : Frame) (bytes : List ℕ) (w : Verdict) → IsRead v k f bytes w
     → w ≡ verdict.Next → (m : Message) → f.body ≡ Some m → (e : Fault)
     → (IsGrowthPosted (memory_handled managed_ops v.node.core.memory f.source m).posted e × B)
-    ⊎ (IsRefused e (box_of v) (memory_handled managed_ops v.node.core.memory f.source m).posted × C)
+    ⊎ (RefusesParcels (box_of v) (memory_handled managed_ops v.node.core.memory f.source m).posted e
+    × C)
     → IsSpentDelivery n bytes e
 spent_message n v same k f bytes w r next m body e why spent =
     elim why [

@@ -21,9 +21,10 @@ use Rattle.ivy_link.specs.Windows.{with_string}
 use Rattle.ivy_link.specs.Holding.{Holding, link_of, window_at, can_hold_frame, place_in, after_hold, after_taking, ready_of}
 use Rattle.ivy_outbox.specs.Outboxes.{Outbox, holding_of, with_holding}
 use Rattle.ivy_site.specs.Shown.{Shown, holding_at, after_delivery}
-use Rattle.ivy_site.specs.Sites.{early_at, IsSite, IsHeld, SiteDelivers, CameEarlyAs, Holds}
-use Rattle.ivy_site.specs.Sites.{HoldsString, Hears, Receives, holding_in, without_ready}
-use Rattle.ivy_site.specs.Sites.{GoesOnOnce, SiteGoesOn, WentOnOnce, SiteWentOn, FollowsDelivery, AfterDelivery}
+use Rattle.ivy_site.specs.Sites.{early_at, IsSite, IsHeld, SiteDelivers}
+use Rattle.ivy_site.specs.Sites.{holding_in, without_ready}
+use Rattle.ivy_site.specs.Sites.{GoesOnOnce, SiteGoesOn, SiteWentOn, FollowsDelivery, AfterDelivery}
+use Rattle.ivy_site.specs.Inside.{CameEarlyAs, Holds, HoldsString, Hears, Receives, WentOnOnce}
 use Rattle.ivy_site.proofs.HeldStrings.{CameEarly, IsNextOf, holding-holds, taking-holds, put-back-same}
 use Rattle.ivy_outbox.proofs.Boxes.{link-kept}
 

@@ -13,7 +13,8 @@ use Rattle.ivy_memory.specs.Memories.{NodeMemory}
 use Rattle.ivy_host.specs.Hosts.{Host, turn_of}
 use Rattle.ivy_outbox.specs.Outboxes.{Outbox}
 use Rattle.ivy_site.specs.Shown.{Shown}
-use Rattle.ivy_site.specs.Sites.{SiteTurns, HasTurn, AfterHostTurn, HasNoNumbers, IsSpentTurn, IsMadeByEvents, IsSite, host_of}
+use Rattle.ivy_site.specs.Sites.{SiteTurns, IsSpentTurn, IsMadeByEvents, IsSite}
+use Rattle.ivy_site.specs.Inside.{HasTurn, AfterHostTurn, HasNoNumbers, host_of}
 use Rattle.ivy_host.proofs.Same.{turn-same}
 use Rattle.ivy_host.proofs.Tame.{IsAskingHost, turn-asking}
 use Rattle.ivy_site.specs.declared.turn.Turn.TheVariants as turn

@@ -13,7 +13,8 @@ use Rattle.ivy_events.specs.Nodes.{Node, Effect, posting, turned, turned_to}
 use Rattle.ivy_host.specs.Hosts.{Host, host_rules, turn_of, turned_at, steps, quietly}
 use Rattle.ivy_outbox.specs.Outboxes.{Outbox}
 use Rattle.ivy_site.specs.Shown.{Shown}
-use Rattle.ivy_site.specs.Sites.{SiteTurns, HasTurn, HasNoNumbers, IsSpentTurn}
+use Rattle.ivy_site.specs.Sites.{SiteTurns, IsSpentTurn}
+use Rattle.ivy_site.specs.Inside.{HasTurn, HasNoNumbers}
 
 abbrev H : Type 0
 H = Host Managed

@@ -12,6 +12,8 @@ use Rattle.ivy_events.specs.Nodes.{Node, Effect}
 use Rattle.ivy_events.specs.Parts.{pulse_marks}
 use Rattle.ivy_host.specs.Hosts.{Host}
 
+-- `events` are all that the site ever listed; `waiting` are the strings not yet put on the wire,
+-- the first first; `held` has a window for each node
 pub record Shown : Type 0 where
   pub config : Config
   pub me : ℕ
@@ -26,13 +28,10 @@ holding_at s = holding s.node.link s.held
 
 -- the site after an event that it lists
 abbrev pub after_event : Shown → Mark → Effect (Host Managed) → Shown
-after_event s mark e = record {
-  config = s.config;
-  me = s.me;
+after_event s mark e = record s {
   node = e.after;
   events = s.events ++ mark ∷ [];
   waiting = s.waiting ++ e.sent;
-  held = s.held;
 }
 
 -- the string of a message that was delivered is held no more
@@ -49,11 +48,8 @@ after_delivery s bytes verdict.Ahead source e = after_hearing s bytes verdict.Ah
 
 -- a pulse without a frame is no event
 abbrev pub after_pulse_to : Shown → ℕ → Effect (Host Managed) → Shown
-after_pulse_to s to e = record {
-  config = s.config;
-  me = s.me;
+after_pulse_to s to e = record s {
   node = e.after;
   events = s.events ++ pulse_marks to e.sent;
   waiting = s.waiting ++ e.sent;
-  held = s.held;
 }

@@ -1,5 +1,5 @@
 -- What the calls of a site do.
-use Rattle.std.specs.Prelude.{◌≡◌, ◌≢◌, ℕ, ◌+◌, ◌*◌, ◌<◌, List, [], ◌∷◌, ◌++◌, length, replicate, slice_get, MatchOption, Bool, true, false, Option, Some, None, Contains}
+use Rattle.std.specs.Prelude.{◌≡◌, ℕ, ◌+◌, ◌*◌, ◌<◌, List, [], ◌∷◌, ◌++◌, length, replicate, slice_get, Option, Some, None, Contains}
 use Rattle.ivy_model.specs.declared.Config.{Config}
 use Rattle.ivy_model.specs.Config.{IsConfig}
 use Rattle.ivy_model.specs.declared.Call.{Call}
@@ -14,7 +14,7 @@ use Rattle.ivy_link.specs.declared.Verdict.TheVariants as verdict
 use Rattle.ivy_link.specs.Windows.{first_window, place_at}
 use Rattle.ivy_link.specs.Holding.{window_of, after_hold, ready_of, after_taking}
 use Rattle.ivy_program.specs.declared.Instruction.{Instruction}
-use Rattle.ivy_program.specs.Steps.{HasEnded, Asks, step_of, answered_with}
+use Rattle.ivy_program.specs.Steps.{HasEnded, Asks, step_of}
 use Rattle.ivy_host.specs.Managers.{Managed, managed_ops}
 use Rattle.ivy_events.specs.Marks.{Turn}
 use Rattle.ivy_events.specs.Cores.{Outcome}
@@ -23,13 +23,7 @@ use Rattle.ivy_events.specs.Parts.{AllHappen}
 use Rattle.ivy_events.specs.Early.{early_in}
 use Rattle.ivy_site.specs.declared.turn.Turn as turn
 use Rattle.ivy_site.specs.declared.turn.Turn.TheVariants.{Idle, Moved, Ended}
-use Rattle.ivy_model.specs.declared.Record.{Record}
-use Rattle.ivy_link.specs.Linked.{peer_at, has_numbers}
-use Rattle.ivy_program.specs.Steps.{Process}
-use Rattle.ivy_memory.specs.declared.Answer.{Answer}
-use Rattle.ivy_memory.specs.declared.Answer.TheVariants.{Given, Unserved}
-use Rattle.ivy_memory.specs.Memories as memories
-use Rattle.ivy_outbox.specs.Outboxes.{Outbox, HasNumbers, posted_by}
+use Rattle.ivy_link.specs.Linked.{peer_at}
 use Rattle.ivy_host.specs.Hosts.{Host, host_rules, turn_of}
 use Rattle.ivy_host.specs.Openings.{first_node}
 use Rattle.ivy_serving.specs.Limits.{most_posted}
@@ -91,48 +85,13 @@ pub record SiteDelivers (bytes : List ℕ) (verdict : Verdict) (old new : Shown)
   pub delivered : delivered (host_rules managed_ops) old.config old.node bytes ≡ Some effect
   pub after : new ≡ after_delivery old bytes verdict frame.source effect
 
--- a string with this verdict came too early, told from the events
-abbrev pub CameEarlyAs : Verdict → List ℕ → Shown → Type 0
-CameEarlyAs verdict.NotMine bytes s = Unit {0}
-CameEarlyAs verdict.Next bytes s = Unit {0}
-CameEarlyAs verdict.Repeat bytes s = Unit {0}
-CameEarlyAs verdict.Ahead bytes s = Contains (early_at s) bytes
-
 -- the string of a frame is held, where there is a place for it
 abbrev pub holding_in : Shown → Frame → List ℕ → Shown
 holding_in s f bytes = record s { held = (after_hold (holding_at s) f bytes).held }
 
--- the frame in the string says where
-abbrev pub HoldsString : List ℕ → Shown → Shown → Type 0
-HoldsString bytes old new =
-    (f : Frame) → Spells old.config f bytes → new ≡ holding_in old f bytes
-
 -- the string that is ready is taken out
 abbrev pub without_ready : Shown → ℕ → Shown
 without_ready s source = record s { held = (after_taking (holding_at s) source).held }
-
--- one string, before the site goes on: the string of a frame that came too early is held
-abbrev pub Holds : Verdict → Frame → List ℕ → Shown → Shown → Type 0
-Holds verdict.NotMine f bytes mid new = new ≡ mid
-Holds verdict.Next f bytes mid new = new ≡ mid
-Holds verdict.Repeat f bytes mid new = new ≡ mid
-Holds verdict.Ahead f bytes mid new = new ≡ holding_in mid f bytes
-
--- also the source, and the string again where it came too early
-pub record Hears (bytes : List ℕ) (answer : Verdict) (source : ℕ) (again : Option (List ℕ))
-    (old new : Shown) : Type 0 where
-  pub first : SiteDelivers bytes answer old new
-  pub from : first.frame.source ≡ source
-  pub early : MatchOption again (answer ≢ verdict.Ahead)
-      (λ string. (string ≡ bytes) × Contains (early_at new) string × (answer ≡ verdict.Ahead))
-
--- the string is delivered, and held where it came too early; the source is told
-pub record Receives (bytes : List ℕ) (verdict : Verdict) (source : ℕ) (old new : Shown) : Type 0
-  where
-    pub mid : Shown
-    pub first : SiteDelivers bytes verdict old mid
-    pub from : first.frame.source ≡ source
-    pub holds : Holds verdict first.frame bytes mid new
 
 -- the string that is held of the next number from this node, which came too early once, is
 -- delivered as the next one
@@ -147,10 +106,6 @@ abbrev pub SiteGoesOn : ℕ → List (List ℕ) → Shown → Shown → Type 0
 SiteGoesOn source [] old new = new ≡ old
 SiteGoesOn source (bytes ∷ more) old new =
     (mid : Shown) × GoesOnOnce source bytes old mid × SiteGoesOn source more mid new
-
--- so it went on, with some string
-abbrev pub WentOnOnce : ℕ → Shown → Shown → Type 0
-WentOnOnce source old new = (bytes : List ℕ) × GoesOnOnce source bytes old new
 
 -- so it went on, with any number of strings
 abbrev pub SiteWentOn : ℕ → Shown → Shown → Type 0
@@ -170,10 +125,11 @@ pub record AfterDelivery (bytes : List ℕ) (verdict : Verdict) (old new : Shown
   pub first : SiteDelivers bytes verdict old mid
   pub follows : FollowsDelivery verdict first.frame bytes mid new
 
--- message numbers are at an end: the turn, or the delivery, is no event
+-- message numbers are at an end: the turn is no event
 abbrev pub IsSpentTurn : Shown → Fault → Type 0
 IsSpentTurn old fault = fault ≡ NumbersSpent → turned (host_rules managed_ops) old.node ≡ None
 
+-- message numbers are at an end: the delivery is no event
 abbrev pub IsSpentDelivery : Shown → List ℕ → Fault → Type 0
 IsSpentDelivery old bytes fault =
     fault ≡ NumbersSpent → delivered (host_rules managed_ops) old.config old.node bytes ≡ None
@@ -216,43 +172,6 @@ pub record IsSite (s : Shown) : Type 0 where
       → step_of s.node.core.process ≡ Asks call
   pub made : IsMadeByEvents s
   pub held : HoldsEarly s
-
-abbrev pub host_of : memories.NodeMemory Managed → Process → List Record → Host Managed
-host_of memory process history = record { memory = memory; process = process; history = history }
-
--- what an answer to a call of the program does: the reply is recorded, and the process goes on
-abbrev pub is_served : Answer → Bool
-is_served Unserved = false
-is_served answer = true
-
-abbrev pub kept_by : List Record → ℕ → Call → Answer → List Record
-kept_by history node k (Given r) = history ++ record { node = node; call = k; reply = r } ∷ []
-kept_by history node k answer = history
-
-abbrev pub told_by : Process → Answer → Process
-told_by process (Given r) = answered_with process r
-told_by process answer = process
-
--- the node has a turn, by the rules of the definitions, and what is posted is sent
-pub record HasTurn (old : Host Managed) (box : Outbox) (new : Host Managed)
-    (after : Outbox) : Type 0 where
-  pub outcome : Outcome (Host Managed)
-  pub turn : turn_of managed_ops old ≡ Some outcome
-  pub host : new ≡ outcome.after
-  pub numbers : HasNumbers box outcome.posted
-  pub sent : after ≡ posted_by box outcome.posted
-
--- or its turn changes nothing
-abbrev pub AfterHostTurn : Bool → Host Managed → Outbox → Host Managed → Outbox → Type 0
-AfterHostTurn true old box new after = HasTurn old box new after
-AfterHostTurn false old box new after =
-    (turn_of managed_ops old ≡ None) × (new ≡ old) × (after ≡ box)
-
--- numbers are at an end for what it would post
-abbrev pub HasNoNumbers : Host Managed → Outbox → Fault → Type 0
-HasNoNumbers old box fault = fault ≡ NumbersSpent
-    → (outcome : Outcome (Host Managed)) × (turn_of managed_ops old ≡ Some outcome)
-    × (has_numbers box.link outcome.posted ≡ false)
 
 -- the first string that waits is taken, if there is one, and nothing else changes
 abbrev pub TakesFrame : Option (List ℕ) → Shown → Shown → Type 0

@@ -12,8 +12,9 @@ ghost use Rattle.ivy_link.specs.Linked.{peer_at};
 ghost use Rattle.ivy_link.specs.Holding.{ready_of};
 ghost use Rattle.ivy_outbox.specs.Outboxes.{next_dest};
 ghost use Rattle.ivy_site.specs.Shown.{holding_at, after_pulse_to};
-ghost use Rattle.ivy_site.specs.Sites.{most_sent, most_delivered, first_shown, host_of, is_served, kept_by, told_by, HasTurn, AfterHostTurn, HasNoNumbers, AfterTurn, AfterDelivery, Hears, Receives};
-ghost use Rattle.ivy_site.specs.Sites.{WentOnOnce, SiteWentOn, IsHeld, early_at, HoldsString, without_ready, IsSpentTurn, IsSpentDelivery, TakesFrame, IsSameNode, IsMadeByEvents, IsSentBy, IsOfRun, Awaits, await_in};
+ghost use Rattle.ivy_site.specs.Sites.{most_sent, most_delivered, first_shown, AfterTurn, AfterDelivery};
+ghost use Rattle.ivy_site.specs.Sites.{SiteWentOn, IsHeld, early_at, without_ready, IsSpentTurn, IsSpentDelivery, TakesFrame, IsSameNode, IsMadeByEvents, IsSentBy, IsOfRun, Awaits, await_in};
+ghost use Rattle.ivy_site.specs.Inside.{host_of, is_served, kept_by, told_by, HasTurn, AfterHostTurn, HasNoNumbers, Hears, Receives, WentOnOnce, HoldsString};
 ghost use Rattle.ivy_events.specs.Marks.{marks};
 ghost use Rattle.ivy_model.specs.Legal.{HasWidth};
 

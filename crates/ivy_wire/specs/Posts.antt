@@ -18,6 +18,7 @@ pub record PostOps (P : Type 0) : Type 1 where
   pub refuses : P → List Parcel → Fault → Type 0
   pub after_refusal : P → List Parcel → Fault → P
 
+-- the laws that the callers of a post rest on
 pub record PostLaws {P : Type 0} (ops : PostOps P) : Type 0 where
   -- there is always a place for a list of none, which changes nothing and is never refused
   pub takes_none : (post : P) → ops.takes post []

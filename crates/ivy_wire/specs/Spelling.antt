@@ -45,6 +45,7 @@ kind_of (contents.AllocRep code addr) = kinds.AllocRep
 kind_of (contents.FreeReq addr) = kinds.FreeReq
 kind_of (contents.FreeRep code) = kinds.FreeRep
 
+-- the kind of a frame with this body
 abbrev pub frame_kind : Option Message → FrameKind
 frame_kind None = kinds.Ack
 frame_kind (Some m) = kind_of m.content

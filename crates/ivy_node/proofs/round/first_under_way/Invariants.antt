@@ -1,4 +1,4 @@
-use Rattle.ivy_node.specs.Settling.{HasNoneUnderWay}
+use Rattle.ivy_node.specs.Rounds.{HasNoneUnderWay}
 use Rattle.ivy_node.proofs.round.first_under_way.Given as goal
 
 abbrev pub invariant-loop-index : goal.invariant-loop-index

@@ -1,5 +1,5 @@
 use Rattle.std.proofs.Common.{◌<◌, ℕ}
-use Rattle.ivy_node.specs.Settling.{IsDeliveredFrom}
+use Rattle.ivy_node.specs.Rounds.{IsDeliveredFrom}
 use Rattle.ivy_node.proofs.round.is_delivered.Given as goal
 
 abbrev pub invariant-loop-from : goal.invariant-loop-from

@@ -1,5 +1,5 @@
 use Rattle.std.proofs.Common.{ℕ, subst}
-use Rattle.ivy_node.specs.Settling.{IsDeliveredFrom}
+use Rattle.ivy_node.specs.Rounds.{IsDeliveredFrom}
 use Rattle.ivy_node.proofs.Settled.{world_delivered}
 use Rattle.ivy_node.proofs.world.World.is_delivered.Goals as goal
 

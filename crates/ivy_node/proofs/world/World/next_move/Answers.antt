@@ -1,7 +1,7 @@
 use Rattle.std.proofs.Common.{ℕ, ◌<◌, List, sym, subst}
 use Rattle.ivy_headline.specs.RunState.{Run}
 use Rattle.ivy_site.specs.Shown.{Shown}
-use Rattle.ivy_node.specs.Settling.{IsNextMove}
+use Rattle.ivy_node.specs.Rounds.{IsNextMove}
 use Rattle.ivy_node.proofs.Rounds.{named_next}
 use Rattle.ivy_node.proofs.world.World.next_move.Goals as goal
 

@@ -1,4 +1,4 @@
-use Rattle.ivy_node.specs.Settling.{IsInRound}
+use Rattle.ivy_node.specs.Rounds.{IsInRound}
 use Rattle.ivy_node.proofs.Settled.{SettlesSoFar}
 use Rattle.ivy_node.proofs.world.World.settle_on.Given as goal
 

@@ -1,7 +1,7 @@
 use Rattle.std.proofs.Common.{rules, ◌≡◌, true, false, not, sym, ap, subst, ◌∙◌}
 use Rattle.std.specs.Result.{result_ok}
 use Rattle.std.proofs.lemmas.Option.{same_Some}
-use Rattle.ivy_node.specs.Settling.{HadTurns}
+use Rattle.ivy_node.specs.Rounds.{HadTurns}
 use Rattle.ivy_node.proofs.Settled.{turned_on, stands_still}
 use Rattle.ivy_node.proofs.world.World.settle_once.Goals as goal
 use Rattle.ivy_node.proofs.world.World.settle_once.Goals.{then-not-round, else-not-round}

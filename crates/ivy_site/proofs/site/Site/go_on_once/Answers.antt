@@ -1,6 +1,7 @@
 use Rattle.std.proofs.Common.{Contains, subst, sym, ◌∙◌}
 use Rattle.ivy_site.specs.Shown.{Shown}
-use Rattle.ivy_site.specs.Sites.{early_at, Receives}
+use Rattle.ivy_site.specs.Sites.{early_at}
+use Rattle.ivy_site.specs.Inside.{Receives}
 use Rattle.ivy_site.proofs.Receiving.{went_once, held_again}
 use Rattle.ivy_site.proofs.site.Site.go_on_once.Goals as goal
 

@@ -10,7 +10,8 @@ use Rattle.ivy_link.specs.Holding.{Holding, accepted_at}
 use Rattle.ivy_events.specs.Marks.{Mark, Delivery}
 use Rattle.ivy_outbox.specs.Outboxes.{Outbox, holding_of, with_holding}
 use Rattle.ivy_site.specs.Shown.{Shown}
-use Rattle.ivy_site.specs.Sites.{IsSpentDelivery, CameEarlyAs, host_of}
+use Rattle.ivy_site.specs.Sites.{IsSpentDelivery}
+use Rattle.ivy_site.specs.Inside.{CameEarlyAs, host_of}
 use Rattle.ivy_memory.proofs.Beginning.{err_there}
 use Rattle.ivy_site.proofs.Delivering.{IsHeard, spent_reading, not_mine, spent_message, heard_quietly, heard_message, heard_delivers, heard_site, heard_early, heard_few}
 use Rattle.ivy_site.proofs.Receiving.{hears}
