@@ -24,8 +24,8 @@ use Rattle.ivy_node.specs.declared.turn.Turn.TheVariants.{Idle, Moved, Ended}
 use Rattle.ivy_model.specs.declared.Record.{Record}
 use Rattle.ivy_link.specs.Linked.{peer_at, has_numbers}
 use Rattle.ivy_program.specs.Steps.{Process}
-use Rattle.ivy_memory.specs.declared.Answer.{Answer}
-use Rattle.ivy_memory.specs.declared.Answer.TheVariants.{Given, Unserved}
+use Rattle.ivy_heap.specs.declared.Answer.{Answer}
+use Rattle.ivy_heap.specs.declared.Answer.TheVariants.{Given, Unserved}
 use Rattle.ivy_memory.specs.Memories as memories
 use Rattle.ivy_node.specs.Outboxes.{Outbox, HasNumbers, posted_by}
 use Rattle.ivy_host.specs.Hosts.{Host, host_rules, turn_of}
