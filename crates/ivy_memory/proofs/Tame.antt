@@ -34,7 +34,8 @@ use Rattle.ivy_coherence.specs.Coherent.{Coherent}
 use Rattle.ivy_coherence.specs.Steps.{unlocked, handled}
 use Rattle.ivy_coherence.specs.Faults.{Begun, started, hit, begun}
 use Rattle.ivy_coherence.specs.Sound.{IsSound}
-use Rattle.ivy_coherence.proofs.Keeping.{handled-keeps, begun-keeps, first-sound}
+use Rattle.ivy_coherence.proofs.SoundEntries.{first-sound}
+use Rattle.ivy_coherence.proofs.Keeping.{handled-keeps, begun-keeps}
 use Rattle.ivy_serving.specs.Limits.{most_posted}
 use Rattle.ivy_alloc.specs.Heap.{HeapState}
 use Rattle.ivy_serving.proofs.IdleServing.{all_none, all_one}
