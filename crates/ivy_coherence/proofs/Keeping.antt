@@ -1,17 +1,12 @@
 -- Each event keeps what holds of a node's coherence, and posts only what can be sent. For every
 -- manager that keeps the laws.
-use Rattle.std.proofs.Common.{◌≡◌, ◌≢◌, ℕ, zero, suc, ◌<◌, ◌≤◌, ◌^◌, ◌⊎◌, inl, inr, eq-eqb}
-use Rattle.std.proofs.Common.{replicate, Bool, true, false, List, [], ◌∷◌, ◌++◌, length}
-use Rattle.std.proofs.Common.{length-append, map, cond, ltb, get_or, set, Option, Some, None, refl}
-use Rattle.std.proofs.Common.{sym, ap, ◌∙◌, subst, arith, if◌then◌else◌, ◌==◌}
+use Rattle.std.proofs.Common.{◌≡◌, ◌≢◌, ℕ, ◌<◌, ◌≤◌, ◌^◌, inl, inr, Bool, true, false, List, [], ◌∷◌, length, map, cond, set, Option, Some, None, refl, sym, ap, ◌∙◌, subst, arith}
 use Rattle.std.specs.Prelude.{All}
 use Rattle.std.specs.List.{filter, range_with_len}
 use Rattle.std.specs.FinSet as nodes
-use Rattle.std.proofs.lemmas.Bool.{cases_Bool, ltb-true}
-use Rattle.std.proofs.lemmas.List.{length-replicate, get_or-replicate}
-use Rattle.std.proofs.lemmas.List.Elements.{All-cons, All-push}
+use Rattle.std.proofs.lemmas.Bool.{cases_Bool}
+use Rattle.std.proofs.lemmas.List.Elements.{All-cons}
 use Rattle.ivy_model.specs.declared.Config.{Config}
-use Rattle.ivy_model.specs.Config.{IsConfig}
 use Rattle.ivy_wire.specs.declared.Content.TheVariants as content
 use Rattle.ivy_wire.specs.Data.{Message, Parcel}
 use Rattle.ivy_wire.specs.Spelling.{FitsContent, FitsMessage, FitsParcel}
@@ -25,12 +20,11 @@ use Rattle.ivy_pagetable.specs.declared.Request.TheVariants as request
 use Rattle.ivy_pagetable.specs.declared.Word.{Word}
 use Rattle.ivy_pagetable.specs.Accesses.{reads}
 use Rattle.ivy_model.specs.Limits.{most_nodes}
-use Rattle.ivy_pagetable.specs.Limits.{most_put_off}
 use Rattle.ivy_pagetable.specs.NodeSets.{Nodes, nodes_of, nodes_with}
 use Rattle.ivy_pagetable.specs.States.{IdleState, WaitingState, AwaitWriteState, AwaitAcksState}
-use Rattle.ivy_pagetable.specs.Entries.{nothing, owned, is_owner, is_locked, with_put_off, can_put_off, without, copying, owning}
-use Rattle.ivy_pagetable.specs.Tables.{entry_at, page_at, with_page, first_entry}
-use Rattle.ivy_pagetable.specs.Words.{IsWord, needs_write, carried_out}
+use Rattle.ivy_pagetable.specs.Entries.{is_owner, is_locked, with_put_off, can_put_off, copying, owning}
+use Rattle.ivy_pagetable.specs.Tables.{entry_at, page_at, with_page}
+use Rattle.ivy_pagetable.specs.Words.{IsWord, carried_out}
 use Rattle.ivy_pagetable.specs.Manager.{Ops, Laws}
 use Rattle.ivy_pagetable.proofs.Bits.{with_below}
 use Rattle.ivy_pagetable.proofs.Words.{length-carried_out}
@@ -39,10 +33,11 @@ use Rattle.ivy_serving.specs.Serving.{Serving, serving, told, settled, invalidat
 use Rattle.ivy_coherence.specs.Steps.{CoherenceEffect, collected, still_collecting, IsWaiting, IsCollecting, unlocked_as, breach, after_serving, unlocked, put_by, given_up, asked, handled}
 use Rattle.ivy_coherence.specs.Faults.{Begun, hit, faulted, waiting_from, begun, suffices}
 use Rattle.ivy_serving.specs.Sound.{CanBeServed, AreOthers, IsSoundIdle}
-use Rattle.ivy_coherence.specs.Sound.{IsSoundEntry, IsSound, first_coherent}
-use Rattle.ivy_serving.proofs.IdleServing.{IsServing, all_none, all_one, parcel_fits, fewer_others, without-sound, copying-sound, owning-sound, keeps_all, all_served-keeps}
+use Rattle.ivy_coherence.specs.Sound.{IsSoundEntry, IsSound}
+use Rattle.ivy_serving.proofs.IdleServing.{IsServing, all_none, all_one, parcel_fits, fewer_others, copying-sound, owning-sound, keeps_all, all_served-keeps}
 use Rattle.ivy_coherence.proofs.Rows.{Rows, AccessRows, MayAsk, asking-fits, asker_foreign, handled-by_rows, fault-by_rows, begun-by_rows}
-use Rattle.ivy_coherence.proofs.Changing.{IsChange, AreLocks, change-sound, same_pages, other_page, same_locks, unlocks, locks, place, managed}
+use Rattle.ivy_coherence.proofs.Changing.{AreLocks, change-sound, same_pages, other_page, same_locks, unlocks, locks, place, managed}
+use Rattle.ivy_coherence.proofs.SoundEntries.{idle-sound, reading-sound, writing-sound, collecting-sound, owner_put, locked_put, put_entry-sound, entry_is, entry-sound}
 use Rattle.ivy_serving.proofs.NextHop.{IsManaged, replied-node, invalidated-node, read-away, invalidated-away}
 
 -- what an event has to keep
@@ -60,102 +55,6 @@ abbrev pub settled_with : {S : Type 0} → Ops S → Coherent S → ℕ → ℕ 
 settled_with ops c from page i reply bytes now done qs =
     after_serving ops (record c { table = with_page c.table page now; locked = None; done = done })
     page (settled ops c.me from page bytes i c.manager c.breaches reply qs)
-
--- entries of each kind
-pub idle-sound : (c : Config) (me : ℕ) (s : IdleState) → IsSoundIdle c me s
-    → IsSoundEntry c me (entry.Idle s)
-idle-sound c me s good = record {
-  idle = λ t h. (let e : s ≡ t = cc in subst (IsSoundIdle c me) e good);
-  reading = λ t h. absurd cc;
-  writing = λ t h. absurd cc;
-  collecting = λ t h. absurd cc;
-  put_off = all_none (CanBeServed c me);
-  few = omega arith;
-}
-
-reading-sound : (c : Config) (me : ℕ) (s : WaitingState) → IsWord c.page_size s.word
-    → needs_write s.word ≡ false → All (CanBeServed c me) s.put_off
-    → length s.put_off ≤ most_put_off → IsSoundEntry c me (entry.AwaitRead s)
-reading-sound c me s word reads can few = record {
-  idle = λ t h. absurd cc;
-  reading =
-      λ t h. (let e : s ≡ t = cc in
-      subst (λ (x : WaitingState). IsWord c.page_size x.word × (needs_write x.word ≡ false)) e
-      (word, reads));
-  writing = λ t h. absurd cc;
-  collecting = λ t h. absurd cc;
-  put_off = can;
-  few = few;
-}
-
-writing-sound : (c : Config) (me : ℕ) (s : AwaitWriteState) → IsWord c.page_size s.waiting.word
-    → needs_write s.waiting.word ≡ true → All (CanBeServed c me) s.waiting.put_off
-    → length s.waiting.put_off ≤ most_put_off → IsSoundEntry c me (entry.AwaitWrite s)
-writing-sound c me s word writes can few = record {
-  idle = λ t h. absurd cc;
-  reading = λ t h. absurd cc;
-  writing =
-      λ t h. (let e : s ≡ t = cc in
-      subst (λ (x : AwaitWriteState). IsWord c.page_size x.waiting.word
-      × (needs_write x.waiting.word ≡ true)) e (word, writes));
-  collecting = λ t h. absurd cc;
-  put_off = can;
-  few = few;
-}
-
-collecting-sound : (c : Config) (me : ℕ) (s : AwaitAcksState) → IsWord c.page_size s.waiting.word
-    → needs_write s.waiting.word ≡ true → AreOthers c me s.left
-    → All (CanBeServed c me) s.waiting.put_off → length s.waiting.put_off ≤ most_put_off
-    → IsSoundEntry c me (entry.AwaitAcks s)
-collecting-sound c me s word writes left can few = record {
-  idle = λ t h. absurd cc;
-  reading = λ t h. absurd cc;
-  writing = λ t h. absurd cc;
-  collecting =
-      λ t h. (let e : s ≡ t = cc in
-      subst (λ (x : AwaitAcksState).
-      (IsWord c.page_size x.waiting.word × (needs_write x.waiting.word ≡ true))
-      × AreOthers c me x.left) e ((word, writes), left));
-  put_off = can;
-  few = few;
-}
-
-pub owner_put : (e : Entry) (q : PutOff) → is_owner (with_put_off e q) ≡ is_owner e
-owner_put (entry.Idle s) q = refl
-owner_put (entry.AwaitRead s) q = refl
-owner_put (entry.AwaitWrite s) q = refl
-owner_put (entry.AwaitAcks s) q = refl
-
-pub locked_put : (e : Entry) (q : PutOff) → is_locked (with_put_off e q) ≡ is_locked e
-locked_put (entry.Idle s) q = refl
-locked_put (entry.AwaitRead s) q = refl
-locked_put (entry.AwaitWrite s) q = refl
-locked_put (entry.AwaitAcks s) q = refl
-
-room : (qs : List PutOff) (q : PutOff) → ltb (length qs) most_put_off ≡ true
-    → length (qs ++ q ∷ []) ≤ most_put_off
-room qs q h =
-    let e : length qs < most_put_off = ltb-true (length qs) most_put_off h in
-    omega (arith, e, length-append qs (q ∷ []))
-
--- an entry with one more message put off
-pub put_entry-sound : (c : Config) (me : ℕ) (e : Entry) (q : PutOff) → IsSoundEntry c me e
-    → CanBeServed c me q → can_put_off e ≡ true → IsSoundEntry c me (with_put_off e q)
-put_entry-sound c me (entry.Idle s) q good can h = absurd cc
-put_entry-sound c me (entry.AwaitRead w) q good can h =
-    let word = good.reading w refl in
-    reading-sound c me _ word.0 word.1 (All-push (CanBeServed c me) w.put_off q good.put_off can)
-    (room w.put_off q h)
-put_entry-sound c me (entry.AwaitWrite w) q good can h =
-    let word = good.writing w refl in
-    writing-sound c me _ word.0 word.1
-    (All-push (CanBeServed c me) w.waiting.put_off q good.put_off can)
-    (room w.waiting.put_off q h)
-put_entry-sound c me (entry.AwaitAcks w) q good can h =
-    let all = good.collecting w refl in
-    collecting-sound c me _ all.0.0 all.0.1 all.1
-    (All-push (CanBeServed c me) w.waiting.put_off q good.put_off can)
-    (room w.waiting.put_off q h)
 
 -- those that are told to give a copy up
 each_told : (P : Parcel → Type 0) (f : ℕ → Parcel) (p : ℕ → Bool) (xs : List ℕ)
@@ -203,25 +102,6 @@ module _ {S : Type 0} {ops : Ops S} where
     },
     all_none (FitsParcel c.config c.me),
   )
-
-  pub entry_is : (c : Coherent S) (page : ℕ) (e : Entry) → IsSound ops c → entry_at c.table page ≡ e
-      → IsSoundEntry c.config c.me e
-  entry_is c page e s is = subst (IsSoundEntry c.config c.me) is (s.each page)
-
-  -- another entry at a page, as locked as before and owned where that was
-  pub entry-sound : (c : Coherent S) (page : ℕ) (e f : Entry) → IsSound ops c
-      → page < c.config.pages → entry_at c.table page ≡ e → IsSoundEntry c.config c.me f
-      → is_owner f ≡ is_owner e → is_locked f ≡ is_locked e
-      → IsChange ops c page f c.table.pages c.manager c.locked
-  entry-sound c page e f s inside is good owner lock = record {
-    inside = inside;
-    entry = good;
-    sized = same_pages c s;
-    keeps = keeps_all c.manager page;
-    hop = s.hop page inside;
-    away = λ free. s.away page inside (ap is_owner is ∙ sym owner ∙ free);
-    locks = same_locks c page (is_locked f) s (lock ∙ sym (ap is_locked is));
-  }
 
   put_by-keeps : (c : Coherent S) (page : ℕ) (e : Entry) (q : PutOff) → IsSound ops c
       → page < c.config.pages → entry_at c.table page ≡ e → CanBeServed c.config c.me q
@@ -752,59 +632,3 @@ module _ {S : Type 0} {ops : Ops S} (laws : Laws ops) where
       → KeepsBegun ops c (begun ops c page w call)
   begun-keeps c page w call s inside word least most =
       begun-by_rows (access-rows c page w call s inside word least most)
-
-entry_first : (n p : ℕ) (e : Entry)
-    → (get_or (replicate n e) p nothing ≡ e) ⊎ (get_or (replicate n e) p nothing ≡ nothing)
-entry_first zero p e = inr refl
-entry_first (suc n) zero e = inl refl
-entry_first (suc n) (suc p) e = entry_first n p e
-
-first_entry-sound : (c : Config) (me : ℕ) (b : Bool)
-    → IsSoundEntry c me (if b then owned else nothing)
-first_entry-sound c me true = idle-sound c me owning (owning-sound c me)
-first_entry-sound c me false = idle-sound c me without (without-sound c me)
-
-first_entry-free : (b : Bool) → is_locked (if b then owned else nothing) ≡ false
-first_entry-free true = refl
-first_entry-free false = refl
-
-module _ {S : Type 0} {ops : Ops S} (laws : Laws ops) where
-  first_away : (c : Config) (me p : ℕ) → IsConfig c → me < c.nodes → p < c.pages
-      → is_owner (get_or (replicate c.pages (first_entry me)) p nothing) ≡ false
-      → ops.next_hop (ops.first c me) p ≢ me
-  first_away c me p limits here inside free h =
-      let zero_node : me ≡ 0 = laws.first_own c me p limits here inside h in
-      let test : (me == 0) ≡ true = eq-eqb me 0 zero_node in
-      let own : is_owner (get_or (replicate c.pages (first_entry me)) p nothing) ≡ true =
-      ap is_owner (get_or-replicate c.pages p (first_entry me) nothing inside)
-      ∙ ap (λ b. is_owner (if b then owned else nothing)) test in
-      absurd (let f : true ≡ false = sym own ∙ free in cc)
-
-  -- a node as it begins
-  pub first-sound : (c : Config) (me : ℕ) → IsConfig c → me < c.nodes
-      → IsSound ops (first_coherent ops c me)
-  first-sound c me limits here = record {
-    limits = limits;
-    here = here;
-    mine = laws.first_me c me limits here;
-    managed = laws.first_size c me limits here;
-    nodes = laws.first_nodes c me limits here;
-    size = refl;
-    entries = length-replicate c.pages (first_entry me);
-    pages = length-replicate c.pages (replicate c.page_size 0);
-    sized = λ p inside. ap length (get_or-replicate c.pages p (replicate c.page_size 0) [] inside)
-        ∙ length-replicate c.page_size 0;
-    each = λ p. elim (entry_first c.pages p (first_entry me)) [
-      | inl x ↦ subst (IsSoundEntry c me) (sym x) (first_entry-sound c me (me == 0))
-      | inr x ↦ subst (IsSoundEntry c me) (sym x) (first_entry-sound c me false)
-    ];
-    hop = λ p inside. laws.first_hop c me p limits here inside;
-    away = λ p inside free. first_away c me p limits here inside free;
-    locked = λ p h. absurd cc;
-    others = λ p h. elim (entry_first c.pages p (first_entry me)) [
-      | inl x ↦
-          absurd (let f : false ≡ true =
-          sym (first_entry-free (me == 0)) ∙ ap is_locked (sym x) ∙ h in cc)
-      | inr x ↦ absurd (let f : false ≡ true = ap is_locked (sym x) ∙ h in cc)
-    ];
-  }

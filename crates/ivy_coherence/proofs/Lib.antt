@@ -1,5 +1,6 @@
 pub mod Changing
 pub mod Rows
+pub mod SoundEntries
 pub mod Keeping
 pub mod Few
 pub mod Same

@@ -37,11 +37,9 @@ use Rattle.ivy_pagetable.specs.Entries.{can_put_off, with_put_off, owning}
 use Rattle.ivy_serving.proofs.IdleServing.{fewer_others}
 use Rattle.ivy_coherence.proofs.Changing.{change-sound}
 use Rattle.ivy_serving.proofs.Few.{nodes-few}
-use Rattle.ivy_coherence.proofs.Keeping.{entry_is, entry-sound, put_entry-sound, owner_put}
-use Rattle.ivy_coherence.proofs.Keeping.{locked_put, idle_asked-keeps, hit-keeps, fault-keeps}
-use Rattle.ivy_coherence.proofs.Keeping.{invalidations-fit, waiting_word, collecting_word}
-use Rattle.ivy_coherence.proofs.Keeping.{unlocking-keeps, last-keeps, giving-keeps}
-use Rattle.ivy_coherence.proofs.Keeping.{collecting-keeps, left-keeps}
+use Rattle.ivy_coherence.proofs.SoundEntries.{entry_is, entry-sound, put_entry-sound, owner_put, locked_put}
+use Rattle.ivy_coherence.proofs.Keeping.{idle_asked-keeps, hit-keeps, fault-keeps, invalidations-fit, waiting_word, collecting_word, unlocking-keeps, last-keeps, giving-keeps, collecting-keeps}
+use Rattle.ivy_coherence.proofs.Keeping.{left-keeps}
 
 pub none_of : (o : Option ℕ) → is_some o ≡ false → o ≡ None
 none_of None h = refl

@@ -19,14 +19,14 @@ use Rattle.ivy_alloc.proofs.Answered.{has_replies}
 use Rattle.ivy_events.specs.Cores.{Outcome}
 use Rattle.ivy_events.specs.Ordered.{Ordered, Turns, Delivers}
 use Rattle.ivy_memory.specs.declared.Asked.TheVariants as kinds
-use Rattle.ivy_memory.specs.declared.HeapCall.{HeapCall}
-use Rattle.ivy_memory.specs.declared.HeapCall.TheVariants.{Alloc, Free}
-use Rattle.ivy_memory.specs.declared.Errand.{Errand}
-use Rattle.ivy_memory.specs.declared.Errand.TheVariants as errand
+use Rattle.ivy_heap.specs.declared.HeapCall.{HeapCall}
+use Rattle.ivy_heap.specs.declared.HeapCall.TheVariants.{Alloc, Free}
+use Rattle.ivy_heap.specs.declared.Errand.{Errand}
+use Rattle.ivy_heap.specs.declared.Errand.TheVariants as errand
 use Rattle.ivy_memory.specs.Asking.{asked_of}
-use Rattle.ivy_memory.specs.HeapCalls.{told_of, request, answer_to, reply_told}
+use Rattle.ivy_heap.specs.HeapCalls.{told_of, request, answer_to, reply_told}
 use Rattle.ivy_memory.specs.Memories.{first_reply, reply_there, taken_out}
-use Rattle.ivy_memory.proofs.Errands.{request_heap, answer_heap, replied}
+use Rattle.ivy_heap.proofs.Errands.{request_heap, answer_heap, replied}
 use Rattle.ivy_memory.proofs.Pages.{is_of_pages, IsOfPages, begun-pages, no_errand_of}
 use Rattle.ivy_memory.proofs.Tame.{idle_side}
 use Rattle.ivy_host.specs.Hosts.{Host, serving, host_rules}

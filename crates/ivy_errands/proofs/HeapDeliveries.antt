@@ -10,9 +10,9 @@ use Rattle.ivy_wire.specs.Posts.{parcel_to}
 use Rattle.ivy_pagetable.specs.Manager.{Ops}
 use Rattle.ivy_alloc.specs.Heap.{HeapState}
 use Rattle.ivy_events.specs.Ordered.{Ordered, Delivers}
-use Rattle.ivy_memory.specs.declared.HeapCall.{HeapCall}
-use Rattle.ivy_memory.specs.declared.Errand.TheVariants as errand
-use Rattle.ivy_memory.specs.HeapCalls.{told_of, kept, request, answer_to, reply_in}
+use Rattle.ivy_heap.specs.declared.HeapCall.{HeapCall}
+use Rattle.ivy_heap.specs.declared.Errand.TheVariants as errand
+use Rattle.ivy_heap.specs.HeapCalls.{told_of, kept, request, answer_to, reply_in}
 use Rattle.ivy_memory.proofs.Errands.{request_handled, answer_handled}
 use Rattle.ivy_memory.proofs.Pages.{is_of_pages}
 use Rattle.ivy_host.specs.Hosts.{Host, serving, host_rules}

@@ -18,14 +18,14 @@ use Rattle.ivy_program.specs.States.{State}
 use Rattle.ivy_program.specs.Steps.{Step, Local, Asks, Ends, step_of, at_state}
 use Rattle.ivy_program.proofs.Running.{asked_legal}
 use Rattle.ivy_events.specs.Cores.{Outcome}
-use Rattle.ivy_memory.specs.declared.Answer.{Answer}
-use Rattle.ivy_memory.specs.declared.Answer.TheVariants.{Given, Awaited, Unserved}
+use Rattle.ivy_heap.specs.declared.Answer.{Answer}
+use Rattle.ivy_heap.specs.declared.Answer.TheVariants.{Given, Awaited, Unserved}
 use Rattle.ivy_memory.specs.declared.Asked.{Asked}
 use Rattle.ivy_memory.specs.declared.Asked.TheVariants as kinds
-use Rattle.ivy_memory.specs.declared.HeapCall.{HeapCall}
-use Rattle.ivy_memory.specs.declared.Errand.TheVariants as errand
+use Rattle.ivy_heap.specs.declared.HeapCall.{HeapCall}
+use Rattle.ivy_heap.specs.declared.Errand.TheVariants as errand
 use Rattle.ivy_memory.specs.Asking.{asked_of, CanAsk}
-use Rattle.ivy_memory.specs.HeapCalls.{HeapBegun, told_of, kept, request, number_in, heap_begun_at}
+use Rattle.ivy_heap.specs.HeapCalls.{HeapBegun, told_of, kept, request, number_in, heap_begun_at}
 use Rattle.ivy_memory.specs.Memories.{NodeMemory, CallBegun, answered, needed, again_unless, again, heap_answered, begun_as, call_begun, tried_as, polled_as, reply_of, reply_at, taken_out}
 use Rattle.ivy_memory.proofs.Asking.{can_ask}
 use Rattle.ivy_memory.proofs.Tame.{Begins, begun-begins, needed-posted}

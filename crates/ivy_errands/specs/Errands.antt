@@ -9,11 +9,11 @@ use Rattle.ivy_model.specs.Numbers.{fault_number}
 use Rattle.ivy_wire.specs.Data.{Content, Message}
 use Rattle.ivy_events.specs.Ordered.{Ordered}
 use Rattle.ivy_alloc.specs.Laws.{IsFreeReply}
-use Rattle.ivy_memory.specs.declared.HeapCall.{HeapCall}
-use Rattle.ivy_memory.specs.declared.HeapCall.TheVariants.{Alloc, Free}
-use Rattle.ivy_memory.specs.declared.Errand.{Errand}
-use Rattle.ivy_memory.specs.declared.Errand.TheVariants as errand
-use Rattle.ivy_memory.specs.HeapCalls.{is_of_pages, request, reply_in}
+use Rattle.ivy_heap.specs.declared.HeapCall.{HeapCall}
+use Rattle.ivy_heap.specs.declared.HeapCall.TheVariants.{Alloc, Free}
+use Rattle.ivy_heap.specs.declared.Errand.{Errand}
+use Rattle.ivy_heap.specs.declared.Errand.TheVariants as errand
+use Rattle.ivy_heap.specs.HeapCalls.{is_of_pages, request, reply_in}
 use Rattle.ivy_memory.specs.Sound.{IsInProgress}
 use Rattle.ivy_host.specs.Hosts.{Host}
 

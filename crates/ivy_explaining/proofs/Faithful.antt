@@ -15,7 +15,7 @@ use Rattle.ivy_alloc.specs.Heap.{HeapState}
 use Rattle.ivy_program.specs.declared.Instruction.{Instruction}
 use Rattle.ivy_program.specs.Runs.{IsRunTo}
 use Rattle.ivy_events.specs.Ordered.{Ordered}
-use Rattle.ivy_memory.specs.HeapCalls.{after_told}
+use Rattle.ivy_heap.specs.HeapCalls.{after_told}
 use Rattle.ivy_host.specs.Hosts.{Host, answered_by}
 use Rattle.ivy_host.specs.Sound.{IsSoundHost}
 use Rattle.ivy_rows.specs.Orderly.{IsOrderly}

@@ -15,10 +15,10 @@ use Rattle.ivy_pagetable.specs.Manager.{Ops}
 use Rattle.ivy_alloc.specs.Heap.{HeapState}
 use Rattle.ivy_events.specs.Ordered.{Ordered}
 use Rattle.ivy_memory.specs.declared.Asked.TheVariants as kinds
-use Rattle.ivy_memory.specs.declared.HeapCall.{HeapCall}
-use Rattle.ivy_memory.specs.declared.Errand.TheVariants as errand
+use Rattle.ivy_heap.specs.declared.HeapCall.{HeapCall}
+use Rattle.ivy_heap.specs.declared.Errand.TheVariants as errand
 use Rattle.ivy_memory.specs.Asking.{asked_of}
-use Rattle.ivy_memory.specs.HeapCalls.{kept, told_of, after_told, reply_in}
+use Rattle.ivy_heap.specs.HeapCalls.{kept, told_of, after_told, reply_in}
 use Rattle.ivy_memory.specs.Memories.{first_reply, reply_there}
 use Rattle.ivy_memory.specs.Sound.{IsErrandOf, IsInProgress}
 use Rattle.ivy_host.specs.Hosts.{Host, number_of}

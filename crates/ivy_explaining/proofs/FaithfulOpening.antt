@@ -16,7 +16,7 @@ use Rattle.ivy_pagetable.specs.Tables.{first_entry}
 use Rattle.ivy_pagetable.specs.Manager.{Ops, Laws}
 use Rattle.ivy_program.specs.declared.Instruction.{Instruction}
 use Rattle.ivy_alloc.specs.Heap.{HeapState, first_heap}
-use Rattle.ivy_memory.specs.HeapCalls.{first_side}
+use Rattle.ivy_heap.specs.HeapCalls.{first_side}
 use Rattle.ivy_events.specs.Ordered.{Ordered}
 use Rattle.ivy_events.specs.Following.{ordered_of}
 use Rattle.ivy_host.specs.Hosts.{Host, first_host}

@@ -16,9 +16,9 @@ use Rattle.ivy_pagetable.specs.Manager.{Ops, Laws}
 use Rattle.ivy_program.specs.declared.Instruction.{Instruction}
 use Rattle.ivy_events.specs.Cores.{Outcome}
 use Rattle.ivy_events.specs.Ordered.{Ordered, Steps, Delivers}
-use Rattle.ivy_memory.specs.declared.Errand.TheVariants as errand
-use Rattle.ivy_memory.specs.HeapCalls.{is_of_pages, told_of, request, answer_to}
-use Rattle.ivy_memory.proofs.Errands.{answer_heap, replied}
+use Rattle.ivy_heap.specs.declared.Errand.TheVariants as errand
+use Rattle.ivy_heap.specs.HeapCalls.{is_of_pages, told_of, request, answer_to}
+use Rattle.ivy_heap.proofs.Errands.{answer_heap, replied}
 use Rattle.ivy_memory.proofs.Pages.{IsOfPages, begun-pages}
 use Rattle.ivy_host.specs.Hosts.{Host, host_rules, serving}
 use Rattle.ivy_host.specs.Sound.{IsSoundHost}

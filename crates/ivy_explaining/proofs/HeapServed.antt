@@ -12,10 +12,10 @@ use Rattle.ivy_alloc.specs.Told.{alloc_told, free_told}
 use Rattle.ivy_alloc.specs.Laws.{with_blocks}
 use Rattle.ivy_alloc.proofs.Answered.{alloc_served, free_served}
 use Rattle.ivy_memory.specs.declared.Asked.TheVariants as asked
-use Rattle.ivy_memory.specs.declared.HeapCall.{HeapCall}
-use Rattle.ivy_memory.specs.declared.HeapCall.TheVariants as heap
+use Rattle.ivy_heap.specs.declared.HeapCall.{HeapCall}
+use Rattle.ivy_heap.specs.declared.HeapCall.TheVariants as heap
 use Rattle.ivy_memory.specs.Asking.{asked_of, count_asked, word_unless}
-use Rattle.ivy_memory.specs.HeapCalls.{told_of}
+use Rattle.ivy_heap.specs.HeapCalls.{told_of}
 
 -- the flat memory after the call, whose live blocks are those of the heap then
 abbrev pub memory_told : model.Memory → HeapState → HeapCall → model.Memory

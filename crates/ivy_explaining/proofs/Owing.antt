@@ -21,10 +21,10 @@ use Rattle.ivy_pagetable.specs.declared.Out.{Out}
 use Rattle.ivy_alloc.specs.Heap.{HeapState}
 use Rattle.ivy_alloc.specs.Told.{BlocksTold}
 use Rattle.ivy_memory.specs.declared.Asked.TheVariants as asked
-use Rattle.ivy_memory.specs.declared.Errand.{Errand}
-use Rattle.ivy_memory.specs.declared.Errand.TheVariants as errand
+use Rattle.ivy_heap.specs.declared.Errand.{Errand}
+use Rattle.ivy_heap.specs.declared.Errand.TheVariants as errand
 use Rattle.ivy_memory.specs.Asking.{asked_of}
-use Rattle.ivy_memory.specs.HeapCalls.{after_told, reply_told}
+use Rattle.ivy_heap.specs.HeapCalls.{after_told, reply_told}
 use Rattle.ivy_memory.specs.Memories.{first_reply, reply_there}
 use Rattle.ivy_host.specs.Hosts.{Host, number_of}
 use Rattle.ivy_errands.specs.Errands.{replied_by}

@@ -33,10 +33,10 @@ use Rattle.ivy_events.specs.Cores.{Outcome}
 use Rattle.ivy_memory.specs.declared.Asked.TheVariants as kinds
 use Rattle.ivy_memory.specs.Asking.{asked_of}
 use Rattle.ivy_alloc.specs.Heap.{HeapState}
-use Rattle.ivy_memory.specs.declared.HeapCall.{HeapCall}
-use Rattle.ivy_memory.specs.declared.Errand.{Errand}
-use Rattle.ivy_memory.specs.declared.Errand.TheVariants as errand
-use Rattle.ivy_memory.specs.HeapCalls.{kept, told_of, reply_told}
+use Rattle.ivy_heap.specs.declared.HeapCall.{HeapCall}
+use Rattle.ivy_heap.specs.declared.Errand.{Errand}
+use Rattle.ivy_heap.specs.declared.Errand.TheVariants as errand
+use Rattle.ivy_heap.specs.HeapCalls.{kept, told_of, reply_told}
 use Rattle.ivy_memory.specs.Memories.{NodeMemory, first_reply, reply_of, reply_there, reply_at, taken_out, answered, needed}
 use Rattle.ivy_memory.proofs.Tame.{without-sound}
 use Rattle.ivy_host.specs.Hosts.{Host, number_of, recorded, begins_as, serving}

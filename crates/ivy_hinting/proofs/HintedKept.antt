@@ -18,7 +18,7 @@ use Rattle.ivy_pagetable.specs.Accesses.{reads}
 use Rattle.ivy_pagetable.specs.Entries.{put_offs, is_owner, with_put_off, copying, owning, sharing}
 use Rattle.ivy_serving.specs.Serving.{invalidations}
 use Rattle.ivy_coherence.specs.Faults.{waiting_from}
-use Rattle.ivy_coherence.proofs.Keeping.{owner_put}
+use Rattle.ivy_coherence.proofs.SoundEntries.{owner_put}
 use Rattle.ivy_dynamic.specs.Dynamic.{Hints, hint_of, hinted, dynamic_ops}
 use Rattle.ivy_rows.specs.Letters.{Letter, Net, Place, Loose, content_of, letter_of, goes_on, installs}
 use Rattle.ivy_rows.specs.Orderly.{IsExpectedAs, IsOrderly}

@@ -20,8 +20,8 @@ use Rattle.ivy_program.proofs.Running.{asked_legal}
 use Rattle.ivy_events.specs.Cores.{Outcome}
 use Rattle.ivy_events.specs.Nodes.{Node}
 use Rattle.ivy_events.specs.Following.{IsTame, IsOpening}
-use Rattle.ivy_memory.specs.declared.Answer.{Answer}
-use Rattle.ivy_memory.specs.declared.Answer.TheVariants.{Given, Awaited, Unserved}
+use Rattle.ivy_heap.specs.declared.Answer.{Answer}
+use Rattle.ivy_heap.specs.declared.Answer.TheVariants.{Given, Awaited, Unserved}
 use Rattle.ivy_memory.specs.Memories.{CallBegun, call_begun, polled}
 use Rattle.ivy_memory.specs.Sound.{IsSoundMemory}
 use Rattle.ivy_host.specs.Sound.{IsSoundHost}

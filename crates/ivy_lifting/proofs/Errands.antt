@@ -6,9 +6,9 @@ use Rattle.ivy_model.specs.declared.Call.{Call}
 use Rattle.ivy_pagetable.specs.Manager.{Ops}
 use Rattle.ivy_events.specs.Ordered.{Ordered}
 use Rattle.ivy_memory.specs.declared.Asked.TheVariants as kinds
-use Rattle.ivy_memory.specs.declared.HeapCall.{HeapCall}
-use Rattle.ivy_memory.specs.declared.Errand.{Errand}
-use Rattle.ivy_memory.specs.declared.Errand.TheVariants as errand
+use Rattle.ivy_heap.specs.declared.HeapCall.{HeapCall}
+use Rattle.ivy_heap.specs.declared.Errand.{Errand}
+use Rattle.ivy_heap.specs.declared.Errand.TheVariants as errand
 use Rattle.ivy_memory.specs.Asking.{asked_of}
 use Rattle.ivy_memory.specs.Sound.{IsErrandOf, IsInProgress}
 use Rattle.ivy_host.specs.Hosts.{Host}

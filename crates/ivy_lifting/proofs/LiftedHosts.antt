@@ -8,9 +8,9 @@ use Rattle.ivy_coherence.specs.Coherent.{Coherent}
 use Rattle.ivy_coherence.specs.Steps.{handled}
 use Rattle.ivy_events.specs.Cores.{Outcome}
 use Rattle.ivy_events.specs.Ordered.{Ordered, Turns, Delivers, Steps, rests, turns, delivers}
-use Rattle.ivy_memory.specs.HeapCalls.{request}
+use Rattle.ivy_heap.specs.HeapCalls.{request}
 use Rattle.ivy_memory.specs.Memories.{taken_out}
-use Rattle.ivy_memory.proofs.Errands.{request_heap}
+use Rattle.ivy_heap.proofs.Errands.{request_heap}
 use Rattle.ivy_memory.proofs.Pages.{is_of_pages}
 use Rattle.ivy_host.specs.Hosts.{Host, host_rules}
 use Rattle.ivy_rows.specs.Letters.{Net}

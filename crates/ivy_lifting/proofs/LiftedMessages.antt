@@ -32,7 +32,8 @@ use Rattle.ivy_serving.specs.Sound.{CanBeServed}
 use Rattle.ivy_coherence.specs.Sound.{IsSoundEntry, IsSound}
 use Rattle.ivy_serving.proofs.IdleServing.{IsServing}
 use Rattle.ivy_coherence.proofs.Changing.{entry_with, page_with, place}
-use Rattle.ivy_coherence.proofs.Keeping.{entry_is, idle-start, copy-start, page-start, last-start}
+use Rattle.ivy_coherence.proofs.SoundEntries.{entry_is}
+use Rattle.ivy_coherence.proofs.Keeping.{idle-start, copy-start, page-start, last-start}
 use Rattle.ivy_rows.specs.Letters.{Letter, Net, content_of, letter_of}
 use Rattle.ivy_rows.specs.Orderly.{AwaitsCopy, AwaitsPage, Collects}
 use Rattle.ivy_rows.specs.Rows.{letter, with_manager, with_flat_page as with_flat, IsFull, Misfits, Comes, Row, IsKept}

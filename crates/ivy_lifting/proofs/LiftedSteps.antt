@@ -13,8 +13,8 @@ use Rattle.ivy_coherence.specs.Faults.{begun}
 use Rattle.ivy_coherence.proofs.Same.{handled-same}
 use Rattle.ivy_memory.proofs.Tame.{with_done-sound}
 use Rattle.ivy_events.specs.Ordered.{Ordered, Turns, Delivers, one_more}
-use Rattle.ivy_memory.specs.HeapCalls.{told_of, answer_to}
-use Rattle.ivy_memory.proofs.Errands.{answer_heap}
+use Rattle.ivy_heap.specs.HeapCalls.{told_of, answer_to}
+use Rattle.ivy_heap.proofs.Errands.{answer_heap}
 use Rattle.ivy_memory.proofs.Pages.{is_of_pages, handled-pages, begun-pages}
 use Rattle.ivy_host.specs.Hosts.{Host, host_rules, serving}
 use Rattle.ivy_events.specs.Cores.{Outcome}

@@ -19,7 +19,7 @@ use Rattle.ivy_coherence.specs.Faults.{Begun, hit, faulted, busy, accessed, begu
 use Rattle.ivy_serving.specs.Sound.{IsSoundIdle}
 use Rattle.ivy_coherence.specs.Sound.{IsSound}
 use Rattle.ivy_coherence.proofs.Changing.{entry_with, page_with}
-use Rattle.ivy_coherence.proofs.Keeping.{entry_is}
+use Rattle.ivy_coherence.proofs.SoundEntries.{entry_is}
 use Rattle.ivy_rows.specs.Letters.{Net, written}
 use Rattle.ivy_rows.specs.Rows.{with_manager, with_flat_page as with_flat, IsHop, Begins, Row, IsKept}
 use Rattle.ivy_lifting.proofs.LiftedNets.{reached, Stands, written-here, written-page}

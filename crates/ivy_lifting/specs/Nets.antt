@@ -6,7 +6,7 @@ use Rattle.ivy_pagetable.specs.declared.Entry.{Entry}
 use Rattle.ivy_pagetable.specs.Entries.{nothing}
 use Rattle.ivy_pagetable.specs.Tables.{entry_at, page_at}
 use Rattle.ivy_events.specs.Ordered.{Ordered}
-use Rattle.ivy_memory.specs.HeapCalls.{is_of_pages}
+use Rattle.ivy_heap.specs.HeapCalls.{is_of_pages}
 use Rattle.ivy_host.specs.Hosts.{Host}
 use Rattle.ivy_rows.specs.Letters.{Letter, Net}
 

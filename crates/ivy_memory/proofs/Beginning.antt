@@ -23,20 +23,21 @@ use Rattle.ivy_pagetable.specs.Entries.{is_locked}
 use Rattle.ivy_pagetable.specs.Tables.{entry_at}
 use Rattle.ivy_coherence.specs.Sound.{IsSound}
 use Rattle.ivy_coherence.specs.Steps.{handled}
-use Rattle.ivy_memory.specs.declared.answer.Answer.{Answer}
+use Rattle.ivy_heap.specs.declared.Answer.{Answer}
 use Rattle.ivy_coherence.proofs.Keeping.{begun-keeps}
 use Rattle.ivy_memory.specs.declared.asked.Asked.TheVariants as asked
-use Rattle.ivy_memory.specs.declared.heap_side.HeapCall.{HeapCall}
+use Rattle.ivy_heap.specs.declared.HeapCall.{HeapCall}
 use Rattle.ivy_memory.specs.Asking.{CanAsk, HasToAskFor, CallHasToAsk, MayBeRefused, asked_of}
 use Rattle.ivy_model.specs.declared.Fault.{Fault}
-use Rattle.ivy_memory.specs.HeapCalls.{IsAddressPosted, IsGrowthPosted, HeapBegun, HeapSide, HeapTold, heap_begun, heap_told}
+use Rattle.ivy_heap.specs.HeapCalls.{IsAddressPosted, IsGrowthPosted, HeapBegun, HeapSide, HeapTold, heap_begun, heap_told}
+use Rattle.ivy_heap.proofs.Rows.{misfit_stays}
 use Rattle.ivy_memory.specs.Memories.{NodeMemory, CallBegun, needed, asked_after, number_after}
 use Rattle.ivy_memory.specs.Memories.{heap_answered, begun_as, call_begun, MemoryEffect, by_side}
 use Rattle.ivy_memory.specs.Memories.{by_coherence, memory_handled_as, memory_handled, memory_told}
 use Rattle.ivy_memory.proofs.Asking.{can_ask}
 use Rattle.ivy_memory.specs.Sound.{IsInProgress, IsSoundMemory}
 use Rattle.ivy_memory.proofs.Tame.{Begins, begun-begins, one_wide, had-sound, started-sound, told-sound, needed-posted, call-few, call-sound, told-few}
-use Rattle.ivy_memory.proofs.Sides.{idle_words, word_words, misfit_stays}
+use Rattle.ivy_memory.proofs.Sides.{idle_words, word_words}
 use Rattle.ivy_serving.specs.Limits.{most_posted}
 
 none_of : {A : Type 0} (o : Option A) → is_some o ≡ false → o ≡ None

@@ -24,12 +24,12 @@ use Rattle.ivy_coherence.specs.Coherent.{Coherent}
 use Rattle.ivy_coherence.specs.Steps.{handled}
 use Rattle.ivy_coherence.specs.Faults.{begun}
 use Rattle.ivy_memory.specs.declared.asked.Asked.TheVariants as asked
-use Rattle.ivy_memory.specs.declared.heap_side.HeapCall.{HeapCall}
-use Rattle.ivy_memory.specs.declared.heap_side.Errand.{Errand}
-use Rattle.ivy_memory.specs.declared.heap_side.Errand.TheVariants as errand
+use Rattle.ivy_heap.specs.declared.HeapCall.{HeapCall}
+use Rattle.ivy_heap.specs.declared.Errand.{Errand}
+use Rattle.ivy_heap.specs.declared.Errand.TheVariants as errand
 use Rattle.ivy_memory.specs.Asking.{asked_of}
-pub use Rattle.ivy_memory.specs.HeapCalls.{is_of_pages}
-use Rattle.ivy_memory.specs.HeapCalls.{HeapSide, misfit, heap_told_as, heap_told}
+pub use Rattle.ivy_heap.specs.HeapCalls.{is_of_pages}
+use Rattle.ivy_heap.specs.HeapCalls.{HeapSide, misfit, heap_told_as, heap_told}
 use Rattle.ivy_memory.specs.Memories.{NodeMemory, by_coherence, memory_handled_as, memory_handled}
 use Rattle.ivy_memory.specs.Sound.{IsErrandOf}
 use Rattle.ivy_coherence.proofs.Rows.{Rows, AccessRows, handled-by_rows, begun-by_rows}

@@ -21,12 +21,12 @@ use Rattle.ivy_coherence.proofs.Keeping.{begun-keeps}
 use Rattle.ivy_serving.specs.Limits.{most_posted}
 use Rattle.ivy_serving.proofs.IdleServing.{all_none}
 use Rattle.ivy_coherence.proofs.Few.{begun-few}
-use Rattle.ivy_memory.specs.declared.answer.Answer.{Answer}
-use Rattle.ivy_memory.specs.declared.answer.Answer.TheVariants.{Given, Awaited, Unserved}
+use Rattle.ivy_heap.specs.declared.Answer.{Answer}
+use Rattle.ivy_heap.specs.declared.Answer.TheVariants.{Given, Awaited, Unserved}
 use Rattle.ivy_memory.specs.declared.asked.Asked.{Asked}
 use Rattle.ivy_memory.specs.declared.asked.Asked.TheVariants as asked
 use Rattle.ivy_memory.specs.Asking.{CanAsk, HasToAskFor, asked_of}
-use Rattle.ivy_memory.specs.HeapCalls.{HeapSide, closed}
+use Rattle.ivy_heap.specs.HeapCalls.{HeapSide, closed}
 use Rattle.ivy_memory.specs.Memories.{NodeMemory, CallBegun, HasToAskAgain, reply_of, reply_at, taken_out, answered, unserved, needed, again_unless, again, tried_as, polled_as, polled_at, polled}
 use Rattle.ivy_memory.specs.Sound.{IsSoundMemory}
 use Rattle.ivy_memory.proofs.Asking.{can_ask}

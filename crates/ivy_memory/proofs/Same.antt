@@ -5,9 +5,9 @@ use Rattle.ivy_pagetable.specs.Manager.{Ops}
 use Rattle.ivy_coherence.specs.Coherent.{Coherent}
 use Rattle.ivy_coherence.specs.Steps.{handled}
 use Rattle.ivy_coherence.proofs.Same as coherence
-use Rattle.ivy_memory.specs.HeapCalls.{HeapTold, heap_told}
+use Rattle.ivy_heap.specs.HeapCalls.{HeapTold, heap_told}
+use Rattle.ivy_heap.proofs.Rows.{either}
 use Rattle.ivy_memory.specs.Memories.{NodeMemory, MemoryEffect, by_side, by_coherence, memory_told}
-use Rattle.ivy_memory.proofs.Sides.{either}
 use Rattle.ivy_memory.proofs.Tame.{SameNode}
 
 module _ {S : Type 0} (ops : Ops S) where

@@ -34,21 +34,23 @@ use Rattle.ivy_coherence.specs.Coherent.{Coherent}
 use Rattle.ivy_coherence.specs.Steps.{unlocked, handled}
 use Rattle.ivy_coherence.specs.Faults.{Begun, started, hit, begun}
 use Rattle.ivy_coherence.specs.Sound.{IsSound}
-use Rattle.ivy_coherence.proofs.Keeping.{handled-keeps, begun-keeps, first-sound}
+use Rattle.ivy_coherence.proofs.SoundEntries.{first-sound}
+use Rattle.ivy_coherence.proofs.Keeping.{handled-keeps, begun-keeps}
 use Rattle.ivy_serving.specs.Limits.{most_posted}
 use Rattle.ivy_alloc.specs.Heap.{HeapState}
 use Rattle.ivy_serving.proofs.IdleServing.{all_none, all_one}
 use Rattle.ivy_coherence.proofs.Rows.{Rows, AccessRows, handled-by_rows, begun-by_rows}
 use Rattle.ivy_coherence.proofs.Few.{begun-few, handled-few}
-use Rattle.ivy_memory.specs.declared.answer.Answer.{Answer}
-use Rattle.ivy_memory.specs.declared.answer.Answer.TheVariants.{Given, Awaited, Unserved}
+use Rattle.ivy_heap.specs.declared.Answer.{Answer}
+use Rattle.ivy_heap.specs.declared.Answer.TheVariants.{Given, Awaited, Unserved}
 use Rattle.ivy_memory.specs.declared.asked.Asked.{Asked}
 use Rattle.ivy_memory.specs.declared.asked.Asked.TheVariants as asked
-use Rattle.ivy_memory.specs.declared.heap_side.HeapCall.{HeapCall}
-use Rattle.ivy_memory.specs.declared.heap_side.Errand.{Errand}
-use Rattle.ivy_memory.specs.declared.heap_side.Errand.TheVariants as errand
+use Rattle.ivy_heap.specs.declared.HeapCall.{HeapCall}
+use Rattle.ivy_heap.specs.declared.Errand.{Errand}
+use Rattle.ivy_heap.specs.declared.Errand.TheVariants as errand
 use Rattle.ivy_memory.specs.Asking.{CanAsk, asked_of}
-use Rattle.ivy_memory.specs.HeapCalls.{HeapBegun, HeapTold, number_in, request, heap_begun_at, heap_begun, heap_told, reply_told}
+use Rattle.ivy_heap.specs.HeapCalls.{HeapBegun, HeapTold, number_in, request, heap_begun_at, heap_begun, heap_told, reply_told}
+use Rattle.ivy_heap.proofs.Rows.{either}
 use Rattle.ivy_memory.specs.Memories.{NodeMemory, CallBegun, MemoryEffect, first_memory, reply_of}
 use Rattle.ivy_memory.specs.Memories.{reply_there, first_reply, reply_at, taken_out, answered}
 use Rattle.ivy_memory.specs.Memories.{unserved, needed, again_unless, again, asked_after}
@@ -56,7 +58,7 @@ use Rattle.ivy_memory.specs.Memories.{number_after, heap_answered, begun_as, cal
 use Rattle.ivy_memory.specs.Memories.{by_coherence, memory_handled, memory_told}
 use Rattle.ivy_memory.proofs.Asking.{can_ask}
 use Rattle.ivy_memory.specs.Sound.{IsInProgress, IsSoundMemory, IsSoundSide}
-use Rattle.ivy_memory.proofs.Sides.{KeepsSide, either, no_errand, same_side, quiet_side, idle_words, word_words, closed_side, kept_side, request_sent, told-keeps, first_sound-side, heap_begun-few}
+use Rattle.ivy_memory.proofs.Sides.{KeepsSide, no_errand, same_side, quiet_side, idle_words, word_words, closed_side, kept_side, request_sent, told-keeps, first_sound-side, heap_begun-few}
 
 -- the node stays who it is
 pub record SameNode {S : Type 0} (old new : Coherent S) : Type 0 where

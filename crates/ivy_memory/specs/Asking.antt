@@ -14,10 +14,10 @@ use Rattle.ivy_coherence.specs.Coherent.{Coherent}
 use Rattle.ivy_coherence.specs.Faults.{HasToAsk}
 use Rattle.ivy_memory.specs.declared.asked.Asked.{Asked}
 use Rattle.ivy_memory.specs.declared.asked.Asked.TheVariants as asked
-use Rattle.ivy_memory.specs.declared.heap_side.HeapCall.TheVariants as heap
-use Rattle.ivy_memory.specs.declared.answer.Answer.{Answer}
-use Rattle.ivy_memory.specs.declared.answer.Answer.TheVariants.{Awaited}
-use Rattle.ivy_memory.specs.HeapCalls.{IsAddress}
+use Rattle.ivy_heap.specs.declared.HeapCall.TheVariants as heap
+use Rattle.ivy_heap.specs.declared.Answer.{Answer}
+use Rattle.ivy_heap.specs.declared.Answer.TheVariants.{Awaited}
+use Rattle.ivy_heap.specs.HeapCalls.{IsAddress}
 
 -- the word of a page, unless it is refused
 abbrev pub word_unless : Option ℕ → ℕ → Word → Asked

@@ -15,12 +15,12 @@ use Rattle.ivy_coherence.specs.Coherent.{Coherent}
 use Rattle.ivy_coherence.specs.Sound.{first_coherent}
 use Rattle.ivy_coherence.specs.Steps.{handled}
 use Rattle.ivy_coherence.specs.Faults.{Begun, begun}
-use Rattle.ivy_memory.specs.declared.answer.Answer.{Answer}
-use Rattle.ivy_memory.specs.declared.answer.Answer.TheVariants.{Given, Awaited, Unserved}
+use Rattle.ivy_heap.specs.declared.Answer.{Answer}
+use Rattle.ivy_heap.specs.declared.Answer.TheVariants.{Given, Awaited, Unserved}
 use Rattle.ivy_memory.specs.declared.asked.Asked.{Asked}
 use Rattle.ivy_memory.specs.declared.asked.Asked.TheVariants as asked
 use Rattle.ivy_memory.specs.Asking.{asked_of, CallHasToAsk}
-use Rattle.ivy_memory.specs.HeapCalls.{HeapSide, HeapBegun, HeapTold, first_side, closed, heap_begun, heap_told, reply_told}
+use Rattle.ivy_heap.specs.HeapCalls.{HeapSide, HeapBegun, HeapTold, first_side, closed, heap_begun, heap_told, reply_told}
 
 -- `number` is that of the call in progress, or of the last one that was in progress where there is
 -- none

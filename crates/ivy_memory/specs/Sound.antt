@@ -8,11 +8,11 @@ use Rattle.ivy_pagetable.specs.Manager.{Ops}
 use Rattle.ivy_coherence.specs.Sound.{IsSound}
 use Rattle.ivy_alloc.specs.Heap.{HeapState}
 use Rattle.ivy_memory.specs.declared.asked.Asked.TheVariants as kinds
-use Rattle.ivy_memory.specs.declared.heap_side.HeapCall.{HeapCall}
-use Rattle.ivy_memory.specs.declared.heap_side.Errand.{Errand}
-use Rattle.ivy_memory.specs.declared.heap_side.Errand.TheVariants as errand
+use Rattle.ivy_heap.specs.declared.HeapCall.{HeapCall}
+use Rattle.ivy_heap.specs.declared.Errand.{Errand}
+use Rattle.ivy_heap.specs.declared.Errand.TheVariants as errand
 use Rattle.ivy_memory.specs.Asking.{asked_of}
-use Rattle.ivy_memory.specs.HeapCalls.{HeapSide}
+use Rattle.ivy_heap.specs.HeapCalls.{HeapSide}
 use Rattle.ivy_memory.specs.Memories.{NodeMemory}
 
 -- the call in progress is this one of the heap

@@ -5,8 +5,8 @@ ghost use Rattle.ivy_model.specs.Legal.{HasWidth, IsWidth};
 ghost use Rattle.ivy_model.specs.Serves.{access_refusal};
 ghost use Rattle.ivy_memory.specs.Asking.{count_asked, asked_of, word_unless};
 
-use crate::heap_side::HeapCall;
 use ivy_event::{advance, await_at_least, read};
+use ivy_heap::HeapCall;
 use ivy_model::{Call, Config, Fault, access_refusal};
 use ivy_pagetable::Word;
 

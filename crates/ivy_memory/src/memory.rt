@@ -7,14 +7,13 @@ ghost use Rattle.ivy_wire.specs.Lent.{owned_content, owned_message};
 ghost use Rattle.ivy_wire.specs.Spelling.{FitsMessage};
 ghost use Rattle.ivy_wire.specs.Posts.{IsPostOf, HasRefused};
 ghost use Rattle.ivy_memory.specs.Asking.{CallHasToAsk, IsOfHeap, MayBeRefused, asked_of};
-ghost use Rattle.ivy_memory.specs.HeapCalls.{IsGrowth, IsGrowthPosted};
+ghost use Rattle.ivy_heap.specs.HeapCalls.{IsGrowth, IsGrowthPosted};
 ghost use Rattle.ivy_memory.specs.Memories.{first_memory, reply_of, reply_at, HasToAskAgain, call_begun, polled, memory_handled, memory_told};
 ghost use Rattle.ivy_serving.specs.Limits.{most_posted};
 
-use crate::answer::Answer;
 use crate::asked::{Asked, asked_of};
-use crate::heap_side::HeapSide;
 use ivy_coherence::{Coherence, Need};
+use ivy_heap::{Answer, HeapSide};
 use ivy_model::{Call, Config, Fault, Reply};
 use ivy_pagetable::{Manager, Out};
 use ivy_wire::{Message, Post};

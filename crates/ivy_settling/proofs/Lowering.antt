@@ -21,9 +21,9 @@ use Rattle.ivy_coherence.specs.Steps.{CoherenceEffect}
 use Rattle.ivy_program.specs.declared.Instruction.{Instruction}
 use Rattle.ivy_events.specs.Cores.{Outcome}
 use Rattle.ivy_events.specs.Ordered.{Ordered, Delivers}
-use Rattle.ivy_memory.specs.declared.HeapCall.{HeapCall}
-use Rattle.ivy_memory.specs.declared.HeapCall.TheVariants as heap_call
-use Rattle.ivy_memory.specs.HeapCalls.{told_of, request, answer_to}
+use Rattle.ivy_heap.specs.declared.HeapCall.{HeapCall}
+use Rattle.ivy_heap.specs.declared.HeapCall.TheVariants as heap_call
+use Rattle.ivy_heap.specs.HeapCalls.{told_of, request, answer_to}
 use Rattle.ivy_memory.proofs.Pages.{is_of_pages}
 use Rattle.ivy_host.specs.Hosts.{Host, host_rules, serving}
 use Rattle.ivy_host.specs.Managers.{Managed, managed_ops}

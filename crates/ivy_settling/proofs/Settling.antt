@@ -19,11 +19,11 @@ use Rattle.ivy_pagetable.specs.Words.{number_at}
 use Rattle.ivy_wire.specs.Data.{Message}
 use Rattle.ivy_events.specs.Ordered.{Ordered}
 use Rattle.ivy_memory.specs.declared.Asked.TheVariants as kinds
-use Rattle.ivy_memory.specs.declared.Errand.{Errand}
-use Rattle.ivy_memory.specs.declared.Errand.TheVariants as errand
-use Rattle.ivy_memory.specs.declared.HeapCall.{HeapCall}
+use Rattle.ivy_heap.specs.declared.Errand.{Errand}
+use Rattle.ivy_heap.specs.declared.Errand.TheVariants as errand
+use Rattle.ivy_heap.specs.declared.HeapCall.{HeapCall}
 use Rattle.ivy_memory.specs.Asking.{asked_of}
-use Rattle.ivy_memory.specs.HeapCalls.{reply_told}
+use Rattle.ivy_heap.specs.HeapCalls.{reply_told}
 use Rattle.ivy_memory.specs.Memories.{first_reply, reply_at, reply_there}
 use Rattle.ivy_memory.proofs.Pages.{no_errand_of}
 use Rattle.ivy_host.specs.Hosts.{Host, answered_by, number_of, turn_of}

@@ -26,7 +26,7 @@ use Rattle.ivy_pagetable.specs.Words.{Carried, number_at, needs_write, carried_o
 use Rattle.ivy_coherence.specs.Faults.{Begun, suffices, hit, faulted, accessed, begun_at, begun}
 use Rattle.ivy_memory.specs.declared.Asked.{Asked}
 use Rattle.ivy_memory.specs.declared.Asked.TheVariants as kinds
-use Rattle.ivy_memory.specs.declared.HeapCall.{HeapCall}
+use Rattle.ivy_heap.specs.declared.HeapCall.{HeapCall}
 use Rattle.ivy_memory.specs.Asking.{asked_of, word_unless, count_asked}
 use Rattle.ivy_memory.specs.Memories.{NodeMemory, reply_of, reply_at, taken_out, answered, needed, again, again_unless, tried_as, polled_as}
 use Rattle.ivy_memory.proofs.Polling.{polled_so}

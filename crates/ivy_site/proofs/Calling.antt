@@ -17,12 +17,12 @@ use Rattle.ivy_host.specs.Managers.{Managed, managed_ops}
 use Rattle.ivy_program.specs.Steps.{Process, Asks, step_of, answered_with}
 use Rattle.ivy_events.specs.Cores.{Outcome}
 use Rattle.ivy_serving.specs.Limits.{most_posted}
-use Rattle.ivy_memory.specs.declared.Answer.{Answer}
-use Rattle.ivy_memory.specs.declared.Answer.TheVariants.{Given, Awaited, Unserved}
+use Rattle.ivy_heap.specs.declared.Answer.{Answer}
+use Rattle.ivy_heap.specs.declared.Answer.TheVariants.{Given, Awaited, Unserved}
 use Rattle.ivy_memory.specs.declared.Asked.{Asked}
 use Rattle.ivy_memory.specs.declared.Asked.TheVariants as asked
 use Rattle.ivy_memory.specs.Asking.{asked_of}
-use Rattle.ivy_memory.specs.HeapCalls.{IsGrowth}
+use Rattle.ivy_heap.specs.HeapCalls.{IsGrowth}
 use Rattle.ivy_memory.proofs.Sides.{heap_unserved}
 use Rattle.ivy_memory.specs.Memories.{NodeMemory, CallBegun, reply_of, reply_at, taken_out, answered, needed, again_unless, again, begun_as, call_begun, tried_as, polled_as, polled}
 use Rattle.ivy_memory.proofs.Polling.{polled_so}

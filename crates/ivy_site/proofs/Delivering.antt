@@ -41,7 +41,7 @@ use Rattle.ivy_outbox.proofs.Boxes.{as_many}
 use Rattle.ivy_events.specs.Early.{early_as}
 use Rattle.ivy_site.proofs.Made.{delivery_made, delivery_early}
 use Rattle.ivy_site.proofs.HeldStrings.{hearing-holds}
-use Rattle.ivy_memory.specs.HeapCalls.{IsGrowthPosted}
+use Rattle.ivy_heap.specs.HeapCalls.{IsGrowthPosted}
 use Rattle.ivy_memory.proofs.Same.{told-same, told-asked}
 use Rattle.ivy_host.proofs.Tame.{IsAskingHost}
 

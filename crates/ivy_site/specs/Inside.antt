@@ -12,8 +12,8 @@ use Rattle.ivy_host.specs.Managers.{Managed, managed_ops}
 use Rattle.ivy_events.specs.Cores.{Outcome}
 use Rattle.ivy_model.specs.declared.Record.{Record}
 use Rattle.ivy_link.specs.Linked.{has_numbers}
-use Rattle.ivy_memory.specs.declared.Answer.{Answer}
-use Rattle.ivy_memory.specs.declared.Answer.TheVariants.{Given, Unserved}
+use Rattle.ivy_heap.specs.declared.Answer.{Answer}
+use Rattle.ivy_heap.specs.declared.Answer.TheVariants.{Given, Unserved}
 use Rattle.ivy_memory.specs.Memories as memories
 use Rattle.ivy_outbox.specs.Outboxes.{Outbox, HasNumbers, posted_by}
 use Rattle.ivy_host.specs.Hosts.{Host, turn_of}

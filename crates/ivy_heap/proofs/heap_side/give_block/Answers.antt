@@ -1,6 +1,6 @@
 use Rattle.std.proofs.Common.{Err, inl, ap, ◌∙◌, refl}
-use Rattle.ivy_memory.proofs.Sides.{alloc_grows}
-use Rattle.ivy_memory.proofs.heap_side.give_block.Goals as goal
+use Rattle.ivy_heap.proofs.Growing.{alloc_grows}
+use Rattle.ivy_heap.proofs.heap_side.give_block.Goals as goal
 
 pub returns-in-Err-Memory-clause-fault : goal.returns-in-Err-Memory-clause-fault
 returns-in-Err-Memory-clause-fault g c =

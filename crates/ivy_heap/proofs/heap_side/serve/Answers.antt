@@ -1,8 +1,8 @@
 use Rattle.std.proofs.Common.{Err, sym, ap, ◌∙◌, subst, refl}
-use Rattle.ivy_memory.specs.declared.answer.Answer.TheVariants.{Given}
-use Rattle.ivy_memory.specs.HeapCalls.{IsAddress, told_of}
-use Rattle.ivy_memory.proofs.Sides.{alloc_grows}
-use Rattle.ivy_memory.proofs.heap_side.serve.Goals as goal
+use Rattle.ivy_heap.specs.declared.answer.Answer.TheVariants.{Given}
+use Rattle.ivy_heap.specs.HeapCalls.{IsAddress, told_of}
+use Rattle.ivy_heap.proofs.Growing.{alloc_grows}
+use Rattle.ivy_heap.proofs.heap_side.serve.Goals as goal
 
 pub returns-in-Err-Memory-clause-fault : goal.returns-in-Err-Memory-clause-fault
 returns-in-Err-Memory-clause-fault g c = (

@@ -10,12 +10,12 @@ use Rattle.ivy_wire.specs.Data.{Content, Message, Parcel}
 use Rattle.ivy_wire.specs.Posts.{parcel_to}
 use Rattle.ivy_alloc.specs.Heap.{HeapState, first_heap}
 use Rattle.ivy_alloc.specs.Told.{BlocksTold, alloc_told, free_told}
-use Rattle.ivy_memory.specs.declared.answer.Answer.{Answer}
-use Rattle.ivy_memory.specs.declared.answer.Answer.TheVariants.{Given, Awaited, Unserved}
-use Rattle.ivy_memory.specs.declared.heap_side.HeapCall.{HeapCall}
-use Rattle.ivy_memory.specs.declared.heap_side.HeapCall.TheVariants.{Alloc, Free}
-use Rattle.ivy_memory.specs.declared.heap_side.Errand.{Errand}
-use Rattle.ivy_memory.specs.declared.heap_side.Errand.TheVariants as errand
+use Rattle.ivy_heap.specs.declared.answer.Answer.{Answer}
+use Rattle.ivy_heap.specs.declared.answer.Answer.TheVariants.{Given, Awaited, Unserved}
+use Rattle.ivy_heap.specs.declared.heap_side.HeapCall.{HeapCall}
+use Rattle.ivy_heap.specs.declared.heap_side.HeapCall.TheVariants.{Alloc, Free}
+use Rattle.ivy_heap.specs.declared.heap_side.Errand.{Errand}
+use Rattle.ivy_heap.specs.declared.heap_side.Errand.TheVariants as errand
 
 -- `heap` is the heap, at node 0 alone; `errand` is where the call in progress stands that node 0
 -- was asked for

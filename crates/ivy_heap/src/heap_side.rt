@@ -5,10 +5,10 @@ ghost use Rattle.ivy_model.specs.Wants.{IsWant};
 ghost use Rattle.ivy_wire.specs.Lent.{owned_content, owned_message};
 ghost use Rattle.ivy_wire.specs.Spelling.{FitsMessage};
 ghost use Rattle.ivy_wire.specs.Posts.{parcel_to, HasRefused};
-ghost use Rattle.ivy_memory.specs.declared.answer.Answer.TheVariants as answers;
-ghost use Rattle.ivy_memory.specs.declared.heap_side.HeapCall.TheVariants as kinds;
-ghost use Rattle.ivy_memory.specs.HeapCalls.{first_side, closed, IsGrowth, IsGrowthPosted, told_of, after_told, request, answer_to};
-ghost use Rattle.ivy_memory.specs.HeapCalls.{block_told, end_told, reply_in, heap_begun, served_at, learns, heap_told, reply_told};
+ghost use Rattle.ivy_heap.specs.declared.answer.Answer.TheVariants as answers;
+ghost use Rattle.ivy_heap.specs.declared.heap_side.HeapCall.TheVariants as kinds;
+ghost use Rattle.ivy_heap.specs.HeapCalls.{first_side, closed, IsGrowth, IsGrowthPosted, told_of, after_told, request, answer_to};
+ghost use Rattle.ivy_heap.specs.HeapCalls.{block_told, end_told, reply_in, heap_begun, served_at, learns, heap_told, reply_told};
 
 use crate::answer::Answer;
 use ivy_alloc::Heap;
@@ -46,7 +46,7 @@ pub struct HeapSide<A: Allocator> {
 }
 
 impl<A: Allocator> Model for HeapSide<A> {
-    ghost use Rattle.ivy_memory.specs.HeapCalls as sides;
+    ghost use Rattle.ivy_heap.specs.HeapCalls as sides;
     ghost use Rattle.std.specs.Coded.{codes};
     ghost use Rattle.ivy_alloc.specs.Heap.{heap_state_code};
 
