@@ -125,11 +125,11 @@ pub record AfterDelivery (bytes : List ℕ) (verdict : Verdict) (old new : Shown
   pub first : SiteDelivers bytes verdict old mid
   pub follows : FollowsDelivery verdict first.frame bytes mid new
 
--- message numbers are at an end: the turn is no event
+-- where the fault is that message numbers are at an end, the turn is no event
 abbrev pub IsSpentTurn : Shown → Fault → Type 0
 IsSpentTurn old fault = fault ≡ NumbersSpent → turned (host_rules managed_ops) old.node ≡ None
 
--- message numbers are at an end: the delivery is no event
+-- where the fault is that message numbers are at an end, the delivery is no event
 abbrev pub IsSpentDelivery : Shown → List ℕ → Fault → Type 0
 IsSpentDelivery old bytes fault =
     fault ≡ NumbersSpent → delivered (host_rules managed_ops) old.config old.node bytes ≡ None
