@@ -21,7 +21,7 @@ use Rattle.ivy_serving.specs.Serving.{invalidations}
 use Rattle.ivy_coherence.specs.Steps.{unlocked, handled}
 use Rattle.ivy_coherence.specs.Faults.{begun}
 use Rattle.ivy_coherence.specs.Sound.{IsSound}
-use Rattle.ivy_serving.proofs.Few.{settled-few, invalidations-few}
+use Rattle.ivy_serving.proofs.Few.{put_off_served-few, invalidations-few}
 use Rattle.ivy_coherence.proofs.Rows.{Rows, AccessRows, handled-by_rows, begun-by_rows}
 
 module _ {S : Type 0} (ops : Ops S) where
@@ -29,7 +29,7 @@ module _ {S : Type 0} (ops : Ops S) where
       (bytes : List ℕ) (w : WaitingState) → length w.put_off ≤ most_put_off
       → length (unlocked ops c from page i reply bytes w).posted ≤ most_posted
   unlocked-few c from page i reply bytes w few =
-      let k = settled-few ops c.me page (carried_out w.word bytes).bytes from i c.manager c.breaches
+      let k = put_off_served-few ops c.me page (carried_out w.word bytes).bytes from i c.manager c.breaches
       reply w.put_off in omega (arith, k, few)
 
   put_off-few : (c : Coherent S) (page : ℕ) (e : Entry) → IsSound ops c → entry_at c.table page ≡ e
@@ -47,7 +47,7 @@ module _ {S : Type 0} (ops : Ops S) where
   message-rows c from origin call s = record {
     breach = λ m why fits. omega arith;
     served = λ kind page i may is order fits.
-        let k = settled-few ops c.me page (page_at c.table page) origin i c.manager c.breaches None
+        let k = put_off_served-few ops c.me page (page_at c.table page) origin i c.manager c.breaches None
         (record { kind = kind; origin = origin; call = call } ∷ []) in omega (arith, k);
     put_off = λ kind page e may is room at fits. omega arith;
     given_up = λ page w by is fits. omega arith;

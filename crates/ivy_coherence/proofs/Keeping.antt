@@ -29,7 +29,7 @@ use Rattle.ivy_pagetable.specs.Manager.{Ops, Laws}
 use Rattle.ivy_pagetable.proofs.Bits.{with_below}
 use Rattle.ivy_pagetable.proofs.Words.{length-carried_out}
 use Rattle.ivy_coherence.specs.Coherent.{Coherent}
-use Rattle.ivy_serving.specs.Serving.{Serving, serving, told, settled, invalidations}
+use Rattle.ivy_serving.specs.Serving.{Serving, serving, told, put_off_served, invalidations}
 use Rattle.ivy_coherence.specs.Steps.{CoherenceEffect, collected, still_collecting, IsWaiting, IsCollecting, unlocked_as, breach, after_serving, unlocked, put_by, given_up, asked, handled}
 use Rattle.ivy_coherence.specs.Faults.{Begun, hit, faulted, waiting_from, begun, suffices}
 use Rattle.ivy_serving.specs.Sound.{CanBeServed, AreOthers, IsSoundIdle}
@@ -54,7 +54,7 @@ abbrev pub settled_with : {S : Type 0} → Ops S → Coherent S → ℕ → ℕ 
     → List ℕ → List ℕ → Option Out → List PutOff → CoherenceEffect S
 settled_with ops c from page i reply bytes now done qs =
     after_serving ops (record c { table = with_page c.table page now; locked = None; done = done })
-    page (settled ops c.me from page bytes i c.manager c.breaches reply qs)
+    page (put_off_served ops c.me from page bytes i c.manager c.breaches reply qs)
 
 -- those that are told to give a copy up
 each_told : (P : Parcel → Type 0) (f : ℕ → Parcel) (p : ℕ → Bool) (xs : List ℕ)
@@ -133,7 +133,7 @@ module _ {S : Type 0} {ops : Ops S} (laws : Laws ops) where
       → Keeps ops c (asked ops c page q (entry.Idle i))
   idle_asked-keeps c page q i s inside is can =
       let v : Serving S =
-      settled ops c.me q.origin page (page_at c.table page) i c.manager c.breaches None
+      put_off_served ops c.me q.origin page (page_at c.table page) i c.manager c.breaches None
       (q ∷ []) in
       let h : IsServing ops c.config c.me page c.manager v
       = all_served-keeps laws c.config c.me page (page_at c.table page) c.manager
@@ -229,15 +229,15 @@ module _ {S : Type 0} {ops : Ops S} (laws : Laws ops) where
 
   -- what was put off is served with these bytes, and no word waits then; the page's own bytes may
   -- be others
-  settled-keeps : (c : Coherent S) (from page : ℕ) (i : IdleState) (reply : Option Request)
+  put_off_served-keeps : (c : Coherent S) (from page : ℕ) (i : IdleState) (reply : Option Request)
       (bytes now : List ℕ) (done : Option Out) (qs : List PutOff) → IsSound ops c
       → page < c.config.pages → length bytes ≡ c.config.page_size → length now ≡ c.config.page_size
       → is_locked (entry_at c.table page) ≡ true → All (CanBeServed c.config c.me) qs
       → IsServing ops c.config c.me page c.manager
       (serving i (told ops from page c.manager reply) c.breaches [])
       → Keeps ops c (settled_with ops c from page i reply bytes now done qs)
-  settled-keeps c from page i reply bytes now done qs s inside sized long lock can start =
-      let v : Serving S = settled ops c.me from page bytes i c.manager c.breaches reply qs in
+  put_off_served-keeps c from page i reply bytes now done qs s inside sized long lock can start =
+      let v : Serving S = put_off_served ops c.me from page bytes i c.manager c.breaches reply qs in
       let h : IsServing ops c.config c.me page c.manager v
       = all_served-keeps laws c.config c.me page bytes c.manager (place c page bytes s inside sized)
       (serving i (told ops from page c.manager reply) c.breaches []) qs start can in (
@@ -266,7 +266,7 @@ module _ {S : Type 0} {ops : Ops S} (laws : Laws ops) where
   unlocked-keeps c from page i reply bytes w s inside sized lock word can start =
       let long : length (carried_out w.word bytes).bytes ≡ c.config.page_size =
       length-carried_out w.word bytes (subst (λ n. IsWord n w.word) (sym sized) word) ∙ sized in
-      settled-keeps c from page i reply _ _ (Some (carried_out w.word bytes).out) w.put_off s inside
+      put_off_served-keeps c from page i reply _ _ (Some (carried_out w.word bytes).out) w.put_off s inside
       long long lock can start
 
   -- a copy comes for the word that waits to read; the page comes alone for one that waits to write;
@@ -402,7 +402,7 @@ module _ {S : Type 0} {ops : Ops S} (laws : Laws ops) where
       let h = writes-at (entry_at c.table page) w waits in
       let good : IsSoundEntry c.config c.me (entry.AwaitWrite h.0) =
       entry_is c page (entry.AwaitWrite h.0) s h.1.0 in
-      settled-keeps c from page owning (Some request.Write) bytes now done w.put_off s inside sized
+      put_off_served-keeps c from page owning (Some request.Write) bytes now done w.put_off s inside sized
       long
       (ap is_locked h.1.0)
       (subst (λ (x : WaitingState). All (CanBeServed c.config c.me) x.put_off) (sym h.1.1)
@@ -411,7 +411,7 @@ module _ {S : Type 0} {ops : Ops S} (laws : Laws ops) where
       waits =
       let is : entry_at c.table page ≡ entry.AwaitRead w =
       reads-at (entry_at c.table page) w waits in
-      settled-keeps c from page copying (Some request.Read) bytes now done w.put_off s inside sized
+      put_off_served-keeps c from page copying (Some request.Read) bytes now done w.put_off s inside sized
       long
       (ap is_locked is)
       (entry_is c page (entry.AwaitRead w) s is).put_off

@@ -28,7 +28,7 @@ use Rattle.ivy_pagetable.proofs.Words.{taken_back}
 use Rattle.ivy_pagetable.specs.Manager.{Ops, Laws}
 use Rattle.ivy_coherence.specs.Coherent.{Coherent}
 use Rattle.ivy_serving.specs.Limits.{most_posted}
-use Rattle.ivy_serving.specs.Serving.{settled, invalidations}
+use Rattle.ivy_serving.specs.Serving.{put_off_served, invalidations}
 use Rattle.ivy_coherence.specs.Steps.{asked, asked_at, IsWaiting, IsCollecting, is_none, unlocked_as}
 use Rattle.ivy_coherence.specs.Faults.{IsIdleAt, HasToAsk, suffices, fault_entry}
 use Rattle.ivy_serving.specs.Sound.{CanBeServed, AreOthers, IsSoundIdle}
@@ -227,7 +227,7 @@ module _ {S : Type 0} {ops : Ops S} (laws : Laws ops) (n v : Coherent S) (same :
       → IsWaiting (entry_at n.table page) kind w
       → i ≡ unlocked_as kind → qs ≡ w.put_off → k ≡ n.config → node ≡ n.me
       → All (FitsParcel k node)
-      (settled ops v.me from page bytes i v.manager v.breaches (Some kind) qs).posted
+      (put_off_served ops v.me from page bytes i v.manager v.breaches (Some kind) qs).posted
   unlock_fits from page kind bytes w i qs k node comes waits idle list config me =
       let at : Comes v from page bytes = came from page bytes comes in
       let keeps =
@@ -240,10 +240,10 @@ module _ {S : Type 0} {ops : Ops S} (laws : Laws ops) (n v : Coherent S) (same :
       → Comes n from page bytes → length now ≡ n.config.page_size
       → IsWaiting (entry_at n.table page) kind w
       → i ≡ unlocked_as kind → qs ≡ w.put_off
-      → after ≡ (settled ops v.me from page bytes i v.manager v.breaches (Some kind) qs).idle
+      → after ≡ (put_off_served ops v.me from page bytes i v.manager v.breaches (Some kind) qs).idle
       → t ≡ with_page (with_entry v.table page (entry.Idle after)) page now
-      → m ≡ (settled ops v.me from page bytes i v.manager v.breaches (Some kind) qs).manager
-      → b ≡ (settled ops v.me from page bytes i v.manager v.breaches (Some kind) qs).breaches
+      → m ≡ (put_off_served ops v.me from page bytes i v.manager v.breaches (Some kind) qs).manager
+      → b ≡ (put_off_served ops v.me from page bytes i v.manager v.breaches (Some kind) qs).breaches
       → IsSound ops
       (record {
         config = v.config;
@@ -281,7 +281,7 @@ module _ {S : Type 0} {ops : Ops S} (laws : Laws ops) (n v : Coherent S) (same :
       → now ≡ (carried_out w.word (page_at v.table page)).bytes → i ≡ owning → qs ≡ w.put_off
       → k ≡ n.config → node ≡ n.me
       → All (FitsParcel k node)
-      (settled ops v.me from page now i v.manager v.breaches None qs).posted
+      (put_off_served ops v.me from page now i v.manager v.breaches None qs).posted
   last_fits from page now w i qs k node inside waits bytes_are idle list config me =
       let keeps =
       last-keeps laws v from page w s
@@ -293,11 +293,11 @@ module _ {S : Type 0} {ops : Ops S} (laws : Laws ops) (n v : Coherent S) (same :
       (qs : List PutOff) (t : Table) (m : S) (o : Out) (b : ℕ) → page < n.config.pages
       → IsCollecting (entry_at n.table page) w
       → now ≡ (carried_out w.word (page_at v.table page)).bytes → i ≡ owning → qs ≡ w.put_off
-      → after ≡ (settled ops v.me from page now i v.manager v.breaches None qs).idle
+      → after ≡ (put_off_served ops v.me from page now i v.manager v.breaches None qs).idle
       → t ≡ with_entry (with_page v.table page now) page (entry.Idle after)
-      → m ≡ (settled ops v.me from page now i v.manager v.breaches None qs).manager
+      → m ≡ (put_off_served ops v.me from page now i v.manager v.breaches None qs).manager
       → o ≡ (carried_out w.word (page_at v.table page)).out
-      → b ≡ (settled ops v.me from page now i v.manager v.breaches None qs).breaches
+      → b ≡ (put_off_served ops v.me from page now i v.manager v.breaches None qs).breaches
       → IsSound ops
       (record {
         config = v.config;
@@ -343,7 +343,7 @@ module _ {S : Type 0} {ops : Ops S} (laws : Laws ops) (n v : Coherent S) (same :
       → CanBeServed n.config n.me q → bytes ≡ page_at v.table page → j ≡ i
       → k ≡ n.config → node ≡ n.me
       → All (FitsParcel k node)
-      (settled ops v.me q.origin page bytes j v.manager v.breaches None (q ∷ [])).posted
+      (put_off_served ops v.me q.origin page bytes j v.manager v.breaches None (q ∷ [])).posted
   asked_fits page q i j bytes k node inside is can bytes_are copied config me =
       let keeps =
       idle_asked-keeps laws v page q i s
@@ -354,10 +354,10 @@ module _ {S : Type 0} {ops : Ops S} (laws : Laws ops) (n v : Coherent S) (same :
   pub asked_sound : (page : ℕ) (q : PutOff) (i j after : IdleState) (bytes : List ℕ) (t : Table)
       (m : S) (b : ℕ) → page < n.config.pages → entry_at v.table page ≡ entry.Idle i
       → CanBeServed n.config n.me q → bytes ≡ page_at v.table page → j ≡ i
-      → after ≡ (settled ops v.me q.origin page bytes j v.manager v.breaches None (q ∷ [])).idle
+      → after ≡ (put_off_served ops v.me q.origin page bytes j v.manager v.breaches None (q ∷ [])).idle
       → t ≡ with_entry v.table page (entry.Idle after)
-      → m ≡ (settled ops v.me q.origin page bytes j v.manager v.breaches None (q ∷ [])).manager
-      → b ≡ (settled ops v.me q.origin page bytes j v.manager v.breaches None (q ∷ [])).breaches
+      → m ≡ (put_off_served ops v.me q.origin page bytes j v.manager v.breaches None (q ∷ [])).manager
+      → b ≡ (put_off_served ops v.me q.origin page bytes j v.manager v.breaches None (q ∷ [])).breaches
       → IsSound ops (record v { table = t; manager = m; breaches = b })
   asked_sound page q i j after bytes t m b inside is can bytes_are copied idle_is table manager
       breaches =
@@ -369,10 +369,10 @@ module _ {S : Type 0} {ops : Ops S} (laws : Laws ops) (n v : Coherent S) (same :
 
   pub asked_then : (page : ℕ) (q : PutOff) (i j after : IdleState) (bytes : List ℕ) (t : Table)
       (m : S) (b : ℕ) → entry_at v.table page ≡ entry.Idle i → bytes ≡ page_at v.table page → j ≡ i
-      → after ≡ (settled ops v.me q.origin page bytes j v.manager v.breaches None (q ∷ [])).idle
+      → after ≡ (put_off_served ops v.me q.origin page bytes j v.manager v.breaches None (q ∷ [])).idle
       → t ≡ with_entry v.table page (entry.Idle after)
-      → m ≡ (settled ops v.me q.origin page bytes j v.manager v.breaches None (q ∷ [])).manager
-      → b ≡ (settled ops v.me q.origin page bytes j v.manager v.breaches None (q ∷ [])).breaches
+      → m ≡ (put_off_served ops v.me q.origin page bytes j v.manager v.breaches None (q ∷ [])).manager
+      → b ≡ (put_off_served ops v.me q.origin page bytes j v.manager v.breaches None (q ∷ [])).breaches
       → record v { table = t; manager = m; breaches = b } ≡ (asked_at ops n page q).after
   asked_then page q i j after bytes t m b is bytes_are copied idle_is table manager breaches =
       subst (λ (x : Coherent S). record v { table = t; manager = m; breaches = b }

@@ -25,7 +25,7 @@ use Rattle.ivy_pagetable.specs.Tables.{entry_at, page_at, with_entry}
 use Rattle.ivy_pagetable.specs.Words.{needs_write}
 use Rattle.ivy_pagetable.specs.Manager.{Ops}
 use Rattle.ivy_coherence.specs.Coherent.{Coherent}
-use Rattle.ivy_serving.specs.Serving.{serving, settled, counted, served_by_owner, served_by_other, invalidations}
+use Rattle.ivy_serving.specs.Serving.{serving, put_off_served, counted, served_by_owner, served_by_other, invalidations}
 use Rattle.ivy_coherence.specs.Steps.{CoherenceEffect, collected, still_collecting, is_none}
 use Rattle.ivy_coherence.specs.Steps.{is_order, breach, after_serving, unlocked, put_aside, put_by}
 use Rattle.ivy_coherence.specs.Steps.{given_up, asked, copy_came, page_came, acknowledged, handled}
@@ -103,7 +103,7 @@ pub record Rows {S : Type 0} (ops : Ops S) (c : Coherent S) (from origin call : 
       → entry_at c.table page ≡ entry.Idle i → (is_order kind ≡ true → i.owner ≡ false)
       → P (asking kind page)
       (after_serving ops c page
-      (settled ops c.me origin page (page_at c.table page) i c.manager c.breaches None
+      (put_off_served ops c.me origin page (page_at c.table page) i c.manager c.breaches None
       (record { kind = kind; origin = origin; call = call } ∷ [])))
   pub put_off : (kind : Request) (page : ℕ) (e : Entry) → MayAsk c from origin kind
       → entry_at c.table page ≡ e → can_put_off e ≡ true → IsPutOffAt kind e

@@ -17,7 +17,7 @@ use Rattle.ivy_pagetable.specs.Tables.{entry_at, page_at, with_entry, with_page}
 use Rattle.ivy_pagetable.specs.Words.{carried_out}
 use Rattle.ivy_pagetable.specs.Manager.{Ops}
 use Rattle.ivy_coherence.specs.Coherent.{Coherent}
-use Rattle.ivy_serving.specs.Serving.{Serving, counted, is_write, settled, invalidations}
+use Rattle.ivy_serving.specs.Serving.{Serving, counted, is_write, put_off_served, invalidations}
 
 -- the coherence after a message, and what is posted
 pub record CoherenceEffect (S : Type 0) : Type 0 where
@@ -74,7 +74,7 @@ module _ {S : Type 0} (ops : Ops S) where
       after_serving
       (record c { table = with_page c.table page now.bytes; locked = None; done = Some now.out })
       page
-      (settled ops c.me from page now.bytes idle c.manager c.breaches reply s.put_off)
+      (put_off_served ops c.me from page now.bytes idle c.manager c.breaches reply s.put_off)
 
   -- with the copy, or the page, that was asked for
   abbrev pub unlocked_by_reply : Coherent S → ℕ → ℕ → Request → List ℕ → WaitingState
@@ -114,7 +114,7 @@ module _ {S : Type 0} (ops : Ops S) where
   -- a request for a copy or for the page, or the order to give a copy up
   abbrev pub asked : Coherent S → ℕ → PutOff → Entry → CoherenceEffect S
   asked c page q (entry.Idle s) = after_serving c page
-      (settled ops c.me q.origin page (page_at c.table page) s c.manager c.breaches None (q ∷ []))
+      (put_off_served ops c.me q.origin page (page_at c.table page) s c.manager c.breaches None (q ∷ []))
   asked c page q (entry.AwaitWrite s) = if is_order q.kind then given_up c page s.waiting q
       else put_aside c page (entry.AwaitWrite s) q
   asked c page q (entry.AwaitAcks s) =

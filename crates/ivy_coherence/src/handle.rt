@@ -20,7 +20,7 @@ use ivy_model::Fault;
 use ivy_pagetable::{
     Access, AwaitAcks, AwaitWrite, Entry, Idle, Manager, NodeSet, PutOff, Request, Waiting, Word,
 };
-use ivy_serving::{Place, count, invalidate, settle};
+use ivy_serving::{Place, count, invalidate, serve_put_off};
 use ivy_wire::{Content, Message, Post, post_one};
 use std::alloc::Allocator;
 
@@ -61,7 +61,7 @@ impl<M: Manager, A: Allocator> Coherence<M, A> {
                 };
                 let idle = idle.copied();
                 let breaches = &mut self.breaches;
-                let after = settle(
+                let after = serve_put_off(
                     at,
                     None,
                     idle,
@@ -165,7 +165,7 @@ impl<M: Manager, A: Allocator> Coherence<M, A> {
         let breaches = &mut self.breaches;
         let messages = waiting.put_offs();
         let reply = Some(kind);
-        let after = settle(at, reply, idle, &mut self.manager, breaches, messages, post)?;
+        let after = serve_put_off(at, reply, idle, &mut self.manager, breaches, messages, post)?;
         self.table.set_entry(page, Entry::Idle(after));
         self.table.install(page, self.spare.bytes());
         self.done = Some(out);
@@ -353,7 +353,7 @@ impl<M: Manager, A: Allocator> Coherence<M, A> {
         };
         let breaches = &mut self.breaches;
         let messages = waiting.put_offs();
-        match settle(
+        match serve_put_off(
             at,
             None,
             Idle::owned(),

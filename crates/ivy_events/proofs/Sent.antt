@@ -248,15 +248,15 @@ extended-fits c me sent ps old all i j =
     All-append (FitsMessage c) (sent i j) (posted i j ps) (old i j) (posted-fits c me ps i j all)
 
 -- a pulse that gives no frame changes nothing
-settled-silent : (p : Peer) (me to : ℕ) (kept : List Message) (owed : Bool) → p.kept ≡ kept
+paid-silent : (p : Peer) (me to : ℕ) (kept : List Message) (owed : Bool) → p.kept ≡ kept
     → p.owed ≡ owed → frames_of_pulse kept me to p ≡ [] → owing_nothing p ≡ p
-settled-silent p me to [] true kept owed none =
+paid-silent p me to [] true kept owed none =
     let some : ack_alone me to p.delivered ∷ [] ≡ [] =
     sym (ap (λ b. if b then ack_alone me to p.delivered ∷ [] else []) owed) ∙ none in
     absurd cc
-settled-silent p me to [] false kept owed none =
+paid-silent p me to [] false kept owed none =
     λ k. record { sent = p.sent; kept = p.kept; delivered = p.delivered; owed = sym owed k }
-settled-silent p me to (m ∷ ms) owed kept is none =
+paid-silent p me to (m ∷ ms) owed kept is none =
     let some : numbered me to p.delivered (p.sent - length p.kept + 1) (take most_again (m ∷ ms))
     ≡ [] = sym
     (ap (λ l. numbered me to p.delivered (p.sent - length p.kept + 1) (take most_again l)) kept)
@@ -271,7 +271,7 @@ pub silent-pulse : (l : Linked) (to : ℕ) → map spelling (frames_again l to) 
     → after_pulse l to ≡ l
 silent-pulse l to none =
     let same : owing_nothing (peer_at l to) ≡ peer_at l to =
-    settled-silent (peer_at l to) l.me to (peer_at l to).kept (peer_at l to).owed refl refl
+    paid-silent (peer_at l to) l.me to (peer_at l to).kept (peer_at l to).owed refl refl
     (none-mapped spelling (frames_again l to) none) in
     λ k. record {
       me = l.me;

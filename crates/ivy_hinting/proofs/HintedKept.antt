@@ -22,7 +22,7 @@ use Rattle.ivy_coherence.proofs.SoundEntries.{owner_put}
 use Rattle.ivy_dynamic.specs.Dynamic.{Hints, hint_of, hinted, dynamic_ops}
 use Rattle.ivy_rows.specs.Letters.{Letter, Net, Place, Loose, content_of, letter_of, goes_on, installs}
 use Rattle.ivy_rows.specs.Orderly.{IsExpectedAs, IsOrderly}
-use Rattle.ivy_rows.specs.Rows.{Served, Comes, Begins, PutsOff, Notice, Row, IsOf, noticed, letter, with_manager}
+use Rattle.ivy_rows.specs.Rows.{Served, Comes, Begins, PutsOff, Notice, Row, IsNamedBy, noticed, letter, with_manager}
 use Rattle.ivy_rows.proofs.Needs.{page_of, collects_owner}
 use Rattle.ivy_rows.proofs.Places.{served, freed}
 use Rattle.ivy_rows.proofs.Sole.{fits_as}
@@ -386,7 +386,7 @@ module _ (c : Config) (m : ℕ → Hints) (n : Net) (order : IsOrderly c n) (hin
 module _ (c : Config) (config : IsConfig c) where
   hinted_by : {m : ℕ → Hints} {n : Net} {f : ℕ → List ℕ} {notice : Notice} {n' : Net}
       {f' : ℕ → List ℕ} → Row c n f notice n' f'
-      → IsOf dynamic_ops c m notice → IsOrderly c n → IsHinted c m n
+      → IsNamedBy dynamic_ops c m notice → IsOrderly c n → IsHinted c m n
       → IsHinted c (noticed dynamic_ops m notice) n'
   hinted_by (Row.carries r) of o h = installed_hinted c _ _ r.node r.page _ h
   hinted_by {n = n} (Row.takes r) of o h =

@@ -24,7 +24,7 @@ use Rattle.ivy_pagetable.specs.Manager.{Ops, Laws}
 use Rattle.ivy_pagetable.proofs.Bits.{with_below}
 use Rattle.ivy_pagetable.proofs.Words.{length-carried_out}
 use Rattle.ivy_coherence.specs.Coherent.{Coherent}
-use Rattle.ivy_serving.specs.Serving.{Serving, serving, settled}
+use Rattle.ivy_serving.specs.Serving.{Serving, serving, put_off_served}
 use Rattle.ivy_coherence.specs.Serving as served
 use Rattle.ivy_coherence.specs.Steps.{CoherenceEffect, is_none, breach, unlocked, put_aside, asked, copy_came, owned_with, page_came, left_with, acknowledged, handled, handled_as}
 use Rattle.ivy_coherence.specs.Faults.{suffices}
@@ -307,7 +307,7 @@ module _ {S : Type 0} {ops : Ops S} {P : (ℕ → S) → Net → (ℕ → List �
   asked-goes kind o call (entry.Idle i) is can sender h =
       let q : PutOff = record { kind = kind; origin = o; call = call } in
       let v : Serving S =
-      settled ops k.me o p (page_at k.table p) i k.manager k.breaches None (q ∷ []) in (
+      put_off_served ops k.me o p (page_at k.table p) i k.manager k.breaches None (q ∷ []) in (
         f,
         entry_ended m n k sound p inside (entry.Idle v.idle) v.manager k.locked k.done v.breaches
             v.posted f
@@ -340,7 +340,7 @@ module _ {S : Type 0} {ops : Ops S} {P : (ℕ → S) → Net → (ℕ → List �
       let long : length now ≡ k.config.page_size =
       length-carried_out w.word bytes (subst (λ z. IsWord z w.word) (sym sized) word) ∙ sized in
       let s : S = served.told ops from p k.manager reply in
-      let v : Serving S = settled ops k.me from p now i k.manager k.breaches reply w.put_off in
+      let v : Serving S = put_off_served ops k.me from p now i k.manager k.breaches reply w.put_off in
       let flat : ℕ → List ℕ = with_flat f p (carried_out w.word (f p)).bytes in
       let after = carried_at kept h sound.here inside w.word word enough in (
         flat,

@@ -11,7 +11,7 @@ use Rattle.ivy_pagetable.specs.Manager.{Ops}
 use Rattle.ivy_serving.specs.Serving.{counted}
 use Rattle.ivy_coherence.specs.Faults.{suffices}
 use Rattle.ivy_rows.specs.Letters.{Letter, Net, goes_on, installs}
-use Rattle.ivy_rows.specs.Rows.{Notice, Row, Claim, Misfits, IsKept, IsOf, noticed, with_manager, with_flat_page}
+use Rattle.ivy_rows.specs.Rows.{Notice, Row, Claim, Misfits, IsKept, IsNamedBy, noticed, with_manager, with_flat_page}
 use Rattle.ivy_rows.proofs.Alike.{alike_holds}
 use Rattle.ivy_lifting.proofs.LiftedNets.{reached, Stands, written-here, told-here, extended-on, extended-none, goes-alike, comes-alike, installs-alike, drops-alike}
 
@@ -23,7 +23,7 @@ module _ {S : Type 0} {ops : Ops S} {P : Claim S} {c : Config} (kept : IsKept op
   abbrev Now : Net
   Now = reached n x p e b broken ps before
 
-  module _ {notice : Notice} (of : IsOf ops c (with_manager m x s) notice) (after : S)
+  module _ {notice : Notice} (of : IsNamedBy ops c (with_manager m x s) notice) (after : S)
       (managers : (i : ℕ) → with_manager m x after i ≡ noticed ops (with_manager m x s) notice i) where
     -- the node's entry is written, these letters are left, and parcels are posted
     pub goes : (z : Entry) (qs : List Parcel) (rest : List Letter)

@@ -129,7 +129,7 @@ impl<A: Allocator + Copy> Link<A> {
         ensures after { self.new ≡ after_pulsing self.old to }
         ensures nodes { length self.new.peers ≡ length self.old.peers }
     {
-        self.sides[usize::from(to)].settle();
+        self.sides[usize::from(to)].owe_nothing();
     }
 
     /// Whether a number is left for each of the parcels.

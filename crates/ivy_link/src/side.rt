@@ -147,7 +147,7 @@ impl<A: Allocator> Side<A> {
     }
 
     /// A frame was made: nothing is owed any more.
-    pub(crate) fn settle(&mut self)
+    pub(crate) fn owe_nothing(&mut self)
         ensures peer { self.new.peer ≡ owing_nothing self.old.peer }
         ensures held { self.new.held ≡ self.old.held }
     {

@@ -18,7 +18,7 @@ use Rattle.ivy_fixed.specs.Fixed.{Owners, owner_kept, hop_of, fixed_ops}
 use Rattle.ivy_fixed.specs.FixedLaws.{fixed_laws}
 use Rattle.ivy_rows.specs.Letters.{Letter, Net, goes_on, installs, Loose, content_of, letter_of}
 use Rattle.ivy_rows.specs.Orderly.{IsOrderly}
-use Rattle.ivy_rows.specs.Rows.{Served, Comes, PutsOff, Takes, Notice, Row, IsOf, noticed, with_manager, taken, letter}
+use Rattle.ivy_rows.specs.Rows.{Served, Comes, PutsOff, Takes, Notice, Row, IsNamedBy, noticed, with_manager, taken, letter}
 use Rattle.ivy_rows.proofs.Places.{served, freed}
 use Rattle.ivy_rows.proofs.Parcels.{IsNone, IsOrder, answer_step, orders_step, free_step, stay_step}
 use Rattle.ivy_rows.proofs.Fitting.{IsRequest}
@@ -230,7 +230,7 @@ copied_reader n r bytes q bytes' h =
 module _ (c : Config) (config : IsConfig c) where
   managed_by : {m : ℕ → Owners} {n : Net} {f : ℕ → List ℕ} {notice : Notice} {n' : Net}
       {f' : ℕ → List ℕ} → Row c n f notice n' f'
-      → IsOf fixed_ops c m notice → IsOrderly c n → IsManaged c m n
+      → IsNamedBy fixed_ops c m notice → IsOrderly c n → IsManaged c m n
       → IsManaged c (noticed fixed_ops m notice) n'
   managed_by (Row.carries r) of o h = still_managed c _ _ o h _ (bytes_calmed _ r.node r.page _)
   managed_by (Row.takes r) of o h = still_managed c _ _ o h _ (taken_calmed _ r)

@@ -14,7 +14,7 @@ use Rattle.ivy_pagetable.specs.declared.Request.TheVariants as request
 use Rattle.ivy_pagetable.specs.NodeSets.{Nodes, nodes_of, nodes_with}
 use Rattle.ivy_pagetable.specs.States.{IdleState}
 use Rattle.ivy_pagetable.specs.Manager.{Ops}
-use Rattle.ivy_serving.specs.Serving.{Serving, serving, served_by_owner, served_by_other, served, all_served, told, settled, invalidations}
+use Rattle.ivy_serving.specs.Serving.{Serving, serving, served_by_owner, served_by_other, served, all_served, told, put_off_served, invalidations}
 use Rattle.ivy_serving.proofs.IdleServing.{all_none, all_one}
 use Rattle.ivy_pagetable.specs.declared.Word.{Word}
 use Rattle.ivy_pagetable.specs.Tables.{page_at}
@@ -64,10 +64,10 @@ module _ {S : Type 0} (ops : Ops S) (me page : ℕ) (bytes : List ℕ) where
       (either_pages v.idle.owner _ _ (owner_pages v q.origin q.call q.kind all)
       (other_pages v q.origin q.call q.kind all))
 
-  pub settled-pages : (from : ℕ) (idle : IdleState) (m : S) (breaches : ℕ) (reply : Option Request)
+  pub put_off_served-pages : (from : ℕ) (idle : IdleState) (m : S) (breaches : ℕ) (reply : Option Request)
       (qs : List PutOff)
-      → All IsOfPages (settled ops me from page bytes idle m breaches reply qs).posted
-  settled-pages from idle m breaches reply qs =
+      → All IsOfPages (put_off_served ops me from page bytes idle m breaches reply qs).posted
+  put_off_served-pages from idle m breaches reply qs =
       all_served-pages (serving idle (told ops from page m reply) breaches []) qs
       (all_none IsOfPages)
 
@@ -86,20 +86,20 @@ module _ {S : Type 0} (ops : Ops S) where
   message-rows c from origin call = record {
     breach = λ m why. all_none IsOfPages;
     served =
-        λ kind page i may is order. settled-pages ops c.me page (page_at c.table page) origin i
+        λ kind page i may is order. put_off_served-pages ops c.me page (page_at c.table page) origin i
         c.manager c.breaches None (record { kind = kind; origin = origin; call = call } ∷ []);
     put_off = λ kind page e may is room at. all_none IsOfPages;
     given_up = λ page w by is. all_one IsOfPages _ refl;
-    copy = λ page bytes w mine is this. settled-pages ops c.me page (carried_out w.word bytes).bytes
+    copy = λ page bytes w mine is this. put_off_served-pages ops c.me page (carried_out w.word bytes).bytes
         from copying c.manager c.breaches (Some request.Read) w.put_off;
-    alone = λ page copies bytes w mine is this none. settled-pages ops c.me page
+    alone = λ page copies bytes w mine is this none. put_off_served-pages ops c.me page
         (carried_out w.waiting.word bytes).bytes from owning c.manager c.breaches
         (Some request.Write) w.waiting.put_off;
     shared =
         λ page copies bytes w mine is this some apart. invalidations-pages c.me page call
         (nodes_with copies);
     acknowledged = λ page w mine is this missing others. all_none IsOfPages;
-    last = λ page w mine is this missing none. settled-pages ops c.me page
+    last = λ page w mine is this missing none. put_off_served-pages ops c.me page
         (carried_out w.waiting.word (page_at c.table page)).bytes from owning c.manager c.breaches
         None w.waiting.put_off;
   }

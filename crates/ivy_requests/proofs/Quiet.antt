@@ -6,7 +6,7 @@ use Rattle.ivy_model.specs.Config.{IsConfig}
 use Rattle.ivy_pagetable.specs.Manager.{Ops}
 use Rattle.ivy_rows.specs.Letters.{Net}
 use Rattle.ivy_rows.specs.Orderly.{IsOrderly}
-use Rattle.ivy_rows.specs.Rows.{Notice, Row, Claim, IsOf, IsKept, noticed}
+use Rattle.ivy_rows.specs.Rows.{Notice, Row, Claim, IsNamedBy, IsKept, noticed}
 use Rattle.ivy_rows.proofs.OrderlyKept.{orderly_by}
 use Rattle.ivy_requests.specs.Descending.{Descends}
 use Rattle.ivy_requests.proofs.NoBreach.{no_breach}
@@ -28,7 +28,7 @@ pub record IsRoutedBy {S : Type 0} (ops : Ops S) (c : Config)
     (Routed : (ℕ → S) → Net → Type 0) : Type 0 where
   pub descends : (m : ℕ → S) (n : Net) → IsOrderly c n → Routed m n → Descends n
   pub by : {m : ℕ → S} {n : Net} {f : ℕ → List ℕ} {notice : Notice} {n' : Net} {f' : ℕ → List ℕ}
-      → Row c n f notice n' f' → IsOf ops c m notice → IsOrderly c n → Routed m n
+      → Row c n f notice n' f' → IsNamedBy ops c m notice → IsOrderly c n → Routed m n
       → Routed (noticed ops m notice) n'
 
 pub quiet-kept : {S : Type 0} {ops : Ops S} {c : Config} {Routed : (ℕ → S) → Net → Type 0}

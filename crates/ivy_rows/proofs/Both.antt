@@ -4,11 +4,11 @@ use Rattle.std.specs.Prelude.{ℕ, List}
 use Rattle.ivy_model.specs.declared.Config.{Config}
 use Rattle.ivy_pagetable.specs.Manager.{Ops}
 use Rattle.ivy_rows.specs.Letters.{Net}
-use Rattle.ivy_rows.specs.Rows.{Notice, Row, Claim, IsOf, IsKept, noticed}
+use Rattle.ivy_rows.specs.Rows.{Notice, Row, Claim, IsNamedBy, IsKept, noticed}
 
 pub record IsKeptBeside {S : Type 0} (ops : Ops S) (c : Config) (P Q : Claim S) : Type 0 where
   pub by : {m : ℕ → S} {n : Net} {f : ℕ → List ℕ} {notice : Notice} {n' : Net}
-      {f' : ℕ → List ℕ} → Row c n f notice n' f' → IsOf ops c m notice → P m n f
+      {f' : ℕ → List ℕ} → Row c n f notice n' f' → IsNamedBy ops c m notice → P m n f
       → P (noticed ops m notice) n' f' → Q m n f → Q (noticed ops m notice) n' f'
 
 pub both-kept : {S : Type 0} {ops : Ops S} {c : Config} {P Q : Claim S} → IsKept ops c P

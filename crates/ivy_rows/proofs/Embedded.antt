@@ -5,7 +5,7 @@ use Rattle.std.proofs.Common.{◌≡◌, ◌<◌, ℕ, Bool, true, false, List, 
 use Rattle.ivy_model.specs.declared.Config.{Config}
 use Rattle.ivy_pagetable.specs.Manager.{Ops}
 use Rattle.ivy_rows.specs.Letters.{Net}
-use Rattle.ivy_rows.specs.Rows.{Notice, Silent, Asked, Forwarded, Given, Replied, Invalidated, Claim, IsOf, IsKept, noticed, with_manager}
+use Rattle.ivy_rows.specs.Rows.{Notice, Silent, Asked, Forwarded, Given, Replied, Invalidated, Claim, IsNamedBy, IsKept, noticed, with_manager}
 
 -- the calls of a manager of the large kind, where it is one of the small kind
 pub record Embeds {S T : Type 0} (small : Ops S) (large : Ops T) (embed : S → T) : Type 0 where
@@ -44,7 +44,7 @@ module _ {S T : Type 0} {small : Ops S} {large : Ops T} (embed : S → T)
       → hop ≡ small.next_hop (s x) p
   same_hop x p hop here is = is ∙ ap (λ v. large.next_hop v p) (within x here) ∙ e.next_hop (s x) p
 
-  of_within : (notice : Notice) → IsOf large c m notice → IsOf small c s notice
+  of_within : (notice : Notice) → IsNamedBy large c m notice → IsNamedBy small c s notice
   of_within Silent of = of
   of_within (Asked x p hop) of = (of.0, same_hop x p hop of.0 of.1)
   of_within (Forwarded x p write origin hop) of = (of.0, same_hop x p hop of.0 of.1)
@@ -52,7 +52,7 @@ module _ {S T : Type 0} {small : Ops S} {large : Ops T} (embed : S → T)
   of_within (Replied x p write from) of = of
   of_within (Invalidated x p by) of = of
 
-  noticed_within : (notice : Notice) → IsOf large c m notice
+  noticed_within : (notice : Notice) → IsNamedBy large c m notice
       → AreWithin embed c (noticed small s notice) (noticed large m notice)
   noticed_within Silent of = within
   noticed_within (Asked x p hop) of = within

@@ -10,7 +10,7 @@ use Rattle.ivy_pagetable.specs.declared.PutOff.{PutOff}
 use Rattle.ivy_pagetable.specs.NodeSets.{Nodes}
 use Rattle.ivy_pagetable.specs.Entries.{put_offs, readable, writable, is_owner, copies_of, nothing, owned}
 use Rattle.ivy_rows.specs.Letters.{Letter, Net, Place, Underway, Aside, Loose, IsAt}
-use Rattle.ivy_rows.specs.Orderly.{HasCopy, reads, comes, Seat, At, In, IsOwned, IsOrderly}
+use Rattle.ivy_rows.specs.Orderly.{HasCopy, reads, comes, OwnerPlace, At, In, IsOwned, IsOrderly}
 
 -- beyond the pages node 0 has nothing either
 pub record IsFirst (n : Net) : Type 0 where
@@ -44,12 +44,12 @@ module _ (n : Net) (first : IsFirst n) where
     | inr y ↦ absurd (let f : true ≡ false = sym h ∙ ap is_owner y in cc)
   ]
 
-  pub seat_first : (p i : ℕ) (s : Nodes) (a : Seat) → IsOwned n p i s a
+  pub place_first : (p i : ℕ) (s : Nodes) (a : OwnerPlace) → IsOwned n p i s a
       → (a ≡ At 0) × (i ≡ 0) × (s ≡ set.empty)
-  seat_first p i s (At w) h =
+  place_first p i s (At w) h =
       (let f : (i ≡ 0) × (copies_of (n.entry i p) ≡ set.empty) = owner_first i p h.1 in
       (ap At (h.0 ∙ f.0), f.0, h.2 ∙ f.1))
-  seat_first p i s (In a) h = absurd (no_letter a h.0 h.3)
+  place_first p i s (In a) h = absurd (no_letter a h.0 h.3)
 
   reader_first : (i p : ℕ) → HasCopy n i p → i ≡ 0
   reader_first i p (reads h) =
@@ -66,11 +66,11 @@ module _ (n : Net) (first : IsFirst n) where
     one_letter = λ a b l m at. absurd (no_letter a l at);
     foreign = λ i p k q h. absurd (none_aside i p k q h);
     orders = λ i p k q h. absurd (none_aside i p k q h);
-    one_owner = λ p i j s t a b h k. (seat_first p i s a h).0 ∙ sym (seat_first p j t b k).0;
+    one_owner = λ p i j s t a b h k. (place_first p i s a h).0 ∙ sym (place_first p j t b k).0;
     counted =
-        λ p i x s a h ne has. absurd (ne (reader_first x p has ∙ sym (seat_first p i s a h).1));
+        λ p i x s a h ne has. absurd (ne (reader_first x p has ∙ sym (place_first p i s a h).1));
     others =
-        λ p i s a h. ap (λ t. set.contains t i) (seat_first p i s a h).2 ∙ contains-empty nat_cmp i;
+        λ p i s a h. ap (λ t. set.contains t i) (place_first p i s a h).2 ∙ contains-empty nat_cmp i;
     alone = of_each (λ e. writable e ≡ true → (is_owner e ≡ true) × (copies_of e ≡ set.empty))
         (λ h. (refl, refl)) (λ h. absurd (let f : false ≡ true = h in cc));
   }

@@ -8,14 +8,14 @@ use Rattle.ivy_pagetable.specs.declared.Entry.{Entry}
 use Rattle.ivy_pagetable.specs.NodeSets.{Nodes, nodes_with}
 use Rattle.ivy_pagetable.specs.Entries.{readable, is_owner, copies_of}
 use Rattle.ivy_rows.specs.Letters.{Letter, Net, Place, Loose, IsAt}
-use Rattle.ivy_rows.specs.Orderly.{HasCopy, reads, comes, Seat, At, In, IsOwned, IsOrderly}
+use Rattle.ivy_rows.specs.Orderly.{HasCopy, reads, comes, OwnerPlace, At, In, IsOwned, IsOrderly}
 use Rattle.ivy_rows.proofs.Needs.{page_of}
 use Rattle.ivy_rows.proofs.Steps.{IsAccounted, IsStep}
 
 -- where the ownership is after the step, if it stays
-abbrev pub seat_now : (Place → Place) → Seat → Seat
-seat_now now (At node) = At node
-seat_now now (In at) = In (now at)
+abbrev pub place_now : (Place → Place) → OwnerPlace → OwnerPlace
+place_now now (At node) = At node
+place_now now (In at) = In (now at)
 
 module _ (n n' : Net) (x p : ℕ) (e z : Entry) (now : Place → Place) (New : Place → Letter → Type 0)
     (step : IsStep n n' x p e z now New) where
@@ -67,8 +67,8 @@ module _ (n n' : Net) (x p : ℕ) (e z : Entry) (now : Place → Place) (New : P
     pub moved : (a : Place) (l : Letter) (bits : ℕ) (bytes : List ℕ) → New a l
         → l.message.content ≡ content.WriteRep q bits bytes → ⊥
 
-  pub owner_before : (q : ℕ) → IsNoMove q → (i : ℕ) (s : Nodes) (a : Seat) → IsOwned n' q i s a
-      → (b : Seat) × IsOwned n q i s b × (a ≡ seat_now now b)
+  pub owner_before : (q : ℕ) → IsNoMove q → (i : ℕ) (s : Nodes) (a : OwnerPlace) → IsOwned n' q i s a
+      → (b : OwnerPlace) × IsOwned n q i s b × (a ≡ place_now now b)
   owner_before q none i s (At w) h = elim (step.elsewhere i q) [
     | inr other ↦ (At w, (h.0, ap is_owner (sym other.1) ∙ h.1, h.2 ∙ ap copies_of other.1), refl)
     | inl same ↦ (
@@ -94,26 +94,26 @@ module _ (n n' : Net) (x p : ℕ) (e z : Entry) (now : Place → Place) (New : P
   ]
 
   one_owner_still : (c : Config) → IsOrderly c n → (q : ℕ) → IsNoMove q
-      → (i j : ℕ) (s t : Nodes) (a b : Seat) → IsOwned n' q i s a → IsOwned n' q j t b → a ≡ b
+      → (i j : ℕ) (s t : Nodes) (a b : OwnerPlace) → IsOwned n' q i s a → IsOwned n' q j t b → a ≡ b
   one_owner_still c o q none i j s t a b h k =
-      let was : (y : Seat) × IsOwned n q i s y × (a ≡ seat_now now y) =
+      let was : (y : OwnerPlace) × IsOwned n q i s y × (a ≡ place_now now y) =
       owner_before q none i s a h in
-      let too : (y : Seat) × IsOwned n q j t y × (b ≡ seat_now now y) =
+      let too : (y : OwnerPlace) × IsOwned n q j t y × (b ≡ place_now now y) =
       owner_before q none j t b k in
-      was.2 ∙ ap (seat_now now) (o.one_owner q i j s t was.0 too.0 was.1 too.1) ∙ sym too.2
+      was.2 ∙ ap (place_now now) (o.one_owner q i j s t was.0 too.0 was.1 too.1) ∙ sym too.2
 
   counted_still : (c : Config) → IsOrderly c n → (q : ℕ) → IsNoMove q → AreNoCopies q
-      → (i y : ℕ) (s : Nodes) (a : Seat) → IsOwned n' q i s a → y ≢ i → HasCopy n' y q
+      → (i y : ℕ) (s : Nodes) (a : OwnerPlace) → IsOwned n' q i s a → y ≢ i → HasCopy n' y q
       → set.contains s y ≡ true
   counted_still c o q none same i y s a h ne has =
-      let was : (b : Seat) × IsOwned n q i s b × (a ≡ seat_now now b) =
+      let was : (b : OwnerPlace) × IsOwned n q i s b × (a ≡ place_now now b) =
       owner_before q none i s a h in
       o.counted q i y s was.0 was.1 ne (no_copies q same y has)
 
   others_still : (c : Config) → IsOrderly c n → (q : ℕ) → IsNoMove q
-      → (i : ℕ) (s : Nodes) (a : Seat) → IsOwned n' q i s a → set.contains s i ≡ false
+      → (i : ℕ) (s : Nodes) (a : OwnerPlace) → IsOwned n' q i s a → set.contains s i ≡ false
   others_still c o q none i s a h =
-      let was : (b : Seat) × IsOwned n q i s b × (a ≡ seat_now now b) =
+      let was : (b : OwnerPlace) × IsOwned n q i s b × (a ≡ place_now now b) =
       owner_before q none i s a h in
       o.others q i s was.0 was.1
 
@@ -128,7 +128,7 @@ module _ (n n' : Net) (x p : ℕ) (e z : Entry) (now : Place → Place) (New : P
 
   -- A step after which the page has this owner, with these copies: before, no other node than that
   -- of the step owned it, and no letter that stays brought it.
-  pub record IsMove (owner : ℕ) (copies : Nodes) (seat : Seat) : Type 0 where
+  pub record IsMove (owner : ℕ) (copies : Nodes) (seat : OwnerPlace) : Type 0 where
     pub nobody : (w : ℕ) → w ≢ x → is_owner (n.entry w p) ≡ true → ⊥
     pub no_page : (b : Place) (l : Letter) (bits : ℕ) (bytes : List ℕ) → IsAt n b l → b ≢ Loose 0
         → l.message.content ≡ content.WriteRep p bits bytes → ⊥
@@ -141,8 +141,8 @@ module _ (n n' : Net) (x p : ℕ) (e z : Entry) (now : Place → Place) (New : P
     -- all new letters are about this page
     pub about : (a : Place) (l : Letter) → New a l → page_of l.message.content ≡ p
 
-  module _ (owner : ℕ) (copies : Nodes) (seat : Seat) (move : IsMove owner copies seat) where
-    only_owner : (i : ℕ) (s : Nodes) (a : Seat) → IsOwned n' p i s a
+  module _ (owner : ℕ) (copies : Nodes) (seat : OwnerPlace) (move : IsMove owner copies seat) where
+    only_owner : (i : ℕ) (s : Nodes) (a : OwnerPlace) → IsOwned n' p i s a
         → (a ≡ seat) × (i ≡ owner) × (s ≡ copies)
     only_owner i s (At w) h = elim (step.elsewhere i p) [
       | inr other ↦ elim other.0 [
@@ -181,17 +181,17 @@ module _ (n n' : Net) (x p : ℕ) (e z : Entry) (now : Place → Place) (New : P
       brought = λ a l bytes new is. ne (ap page_of (sym is) ∙ move.about a l new);
     }
 
-    one_owner_moved : (i j : ℕ) (s t : Nodes) (a b : Seat) → IsOwned n' p i s a → IsOwned n' p j t b
+    one_owner_moved : (i j : ℕ) (s t : Nodes) (a b : OwnerPlace) → IsOwned n' p i s a → IsOwned n' p j t b
         → a ≡ b
     one_owner_moved i j s t a b h k = (only_owner i s a h).0 ∙ sym (only_owner j t b k).0
 
-    counted_moved : (i y : ℕ) (s : Nodes) (a : Seat) → IsOwned n' p i s a → y ≢ i → HasCopy n' y p
+    counted_moved : (i y : ℕ) (s : Nodes) (a : OwnerPlace) → IsOwned n' p i s a → y ≢ i → HasCopy n' y p
         → set.contains s y ≡ true
     counted_moved i y s a h ne has =
         let only : (a ≡ seat) × (i ≡ owner) × (s ≡ copies) = only_owner i s a h in
         ap (λ t. set.contains t y) only.2 ∙ move.counted y (λ same. ne (same ∙ sym only.1)) has
 
-    others_moved : (i : ℕ) (s : Nodes) (a : Seat) → IsOwned n' p i s a → set.contains s i ≡ false
+    others_moved : (i : ℕ) (s : Nodes) (a : OwnerPlace) → IsOwned n' p i s a → set.contains s i ≡ false
     others_moved i s a h =
         let only : (a ≡ seat) × (i ≡ owner) × (s ≡ copies) = only_owner i s a h in
         ap (λ t. set.contains t i) only.2 ∙ ap (set.contains copies) only.1 ∙ move.others

@@ -10,11 +10,11 @@ use Rattle.ivy_pagetable.specs.NodeSets.{Nodes}
 use Rattle.ivy_pagetable.specs.Entries.{put_offs, readable, writable, is_owner, copies_of}
 use Rattle.ivy_events.specs.Ordered.{one_more}
 use Rattle.ivy_rows.specs.Letters.{Letter, Net, Place, Underway, Aside, Loose, IsAt, installs}
-use Rattle.ivy_rows.specs.Orderly.{CanWait, HasCopy, reads, comes, Seat, At, In, IsOwned, IsExpected, IsOrderly}
+use Rattle.ivy_rows.specs.Orderly.{CanWait, HasCopy, reads, comes, OwnerPlace, At, In, IsOwned, IsExpected, IsOrderly}
 use Rattle.ivy_rows.specs.Rows.{taken, dropped}
 use Rattle.ivy_rows.proofs.Places.{served}
 use Rattle.ivy_rows.proofs.Needs.{page_of, Needs, needs, refit}
-use Rattle.ivy_rows.proofs.Owners.{seat_now}
+use Rattle.ivy_rows.proofs.Owners.{place_now}
 
 pub record IsPart (n n' : Net) (now : Place → Place) : Type 0 where
   pub entries : (i q : ℕ) → n'.entry i q ≡ n.entry i q
@@ -26,8 +26,8 @@ module _ (n n' : Net) (now : Place → Place) (part : IsPart n n' now) where
   part_copy node q (comes a l bytes at dest is) =
       let f = part.letters a l at in comes f.0 l bytes f.1 dest is
 
-  part_owner : (q i : ℕ) (s : Nodes) (a : Seat) → IsOwned n' q i s a
-      → (b : Seat) × IsOwned n q i s b × (a ≡ seat_now now b)
+  part_owner : (q i : ℕ) (s : Nodes) (a : OwnerPlace) → IsOwned n' q i s a
+      → (b : OwnerPlace) × IsOwned n q i s b × (a ≡ place_now now b)
   part_owner q i s (At w) h = (
     At w,
     (
@@ -63,16 +63,16 @@ module _ (n n' : Net) (now : Place → Place) (part : IsPart n n' now) where
         λ i q k r h order. subst CanWait (sym (part.entries i q))
         (o.orders i q k r (ap (λ y. slice_get (put_offs y) k) (sym (part.entries i q)) ∙ h) order);
     one_owner = λ q i j s t a b h k. (
-        let f : (y : Seat) × IsOwned n q i s y × (a ≡ seat_now now y) = part_owner q i s a h in
-        let g : (y : Seat) × IsOwned n q j t y × (b ≡ seat_now now y) = part_owner q j t b k in
-        f.2 ∙ ap (seat_now now) (o.one_owner q i j s t f.0 g.0 f.1 g.1) ∙ sym g.2
+        let f : (y : OwnerPlace) × IsOwned n q i s y × (a ≡ place_now now y) = part_owner q i s a h in
+        let g : (y : OwnerPlace) × IsOwned n q j t y × (b ≡ place_now now y) = part_owner q j t b k in
+        f.2 ∙ ap (place_now now) (o.one_owner q i j s t f.0 g.0 f.1 g.1) ∙ sym g.2
         );
     counted = λ q i y s a h ne has. (
-        let f : (b : Seat) × IsOwned n q i s b × (a ≡ seat_now now b) = part_owner q i s a h in
+        let f : (b : OwnerPlace) × IsOwned n q i s b × (a ≡ place_now now b) = part_owner q i s a h in
         o.counted q i y s f.0 f.1 ne (part_copy y q has)
         );
     others = λ q i s a h. (
-        let f : (b : Seat) × IsOwned n q i s b × (a ≡ seat_now now b) = part_owner q i s a h in
+        let f : (b : OwnerPlace) × IsOwned n q i s b × (a ≡ place_now now b) = part_owner q i s a h in
         o.others q i s f.0 f.1
         );
     alone = λ i q. subst (λ y. writable y ≡ true → (is_owner y ≡ true) × (copies_of y ≡ set.empty))

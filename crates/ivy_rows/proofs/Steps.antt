@@ -10,17 +10,17 @@ use Rattle.ivy_pagetable.specs.declared.Request.TheVariants as request
 use Rattle.ivy_pagetable.specs.NodeSets.{Nodes}
 use Rattle.ivy_pagetable.specs.Entries.{put_offs, writable, is_owner, copies_of}
 use Rattle.ivy_rows.specs.Letters.{Letter, Net, Place, Loose, IsAt}
-use Rattle.ivy_rows.specs.Orderly.{CanWait, HasCopy, Seat, IsOwned, key_of, IsExpected, IsOrderly}
+use Rattle.ivy_rows.specs.Orderly.{CanWait, HasCopy, OwnerPlace, IsOwned, key_of, IsExpected, IsOrderly}
 use Rattle.ivy_rows.proofs.Places.{IsOld}
 use Rattle.ivy_rows.proofs.Needs.{page_of, Needs, needs, refit}
 
 -- the three conjuncts on who owns a page
 pub record IsAccounted (n : Net) : Type 0 where
-  pub one_owner : (p i j : ℕ) (s t : Nodes) (a b : Seat) → IsOwned n p i s a → IsOwned n p j t b
+  pub one_owner : (p i j : ℕ) (s t : Nodes) (a b : OwnerPlace) → IsOwned n p i s a → IsOwned n p j t b
       → a ≡ b
-  pub counted : (p i x : ℕ) (s : Nodes) (a : Seat) → IsOwned n p i s a → x ≢ i → HasCopy n x p
+  pub counted : (p i x : ℕ) (s : Nodes) (a : OwnerPlace) → IsOwned n p i s a → x ≢ i → HasCopy n x p
       → set.contains s x ≡ true
-  pub others : (p i : ℕ) (s : Nodes) (a : Seat) → IsOwned n p i s a → set.contains s i ≡ false
+  pub others : (p i : ℕ) (s : Nodes) (a : OwnerPlace) → IsOwned n p i s a → set.contains s i ≡ false
 
 -- one entry is written, and each letter is an old one or a new one
 pub record IsStep (n n' : Net) (x p : ℕ) (e z : Entry) (now : Place → Place)

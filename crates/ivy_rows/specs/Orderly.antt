@@ -49,12 +49,12 @@ pub data HasCopy (n : Net) (node page : ℕ) : Type 0 where
       → l.message.content ≡ content.ReadRep page bytes → HasCopy n node page
 
 -- where the ownership of a page is: at a node, or in the letter that brings it to one
-pub data Seat : Type 0 where
-  At : (node : ℕ) → Seat
-  In : (at : Place) → Seat
+pub data OwnerPlace : Type 0 where
+  At : (node : ℕ) → OwnerPlace
+  In : (at : Place) → OwnerPlace
 
 -- the page is this node's, or is to be; these others have a copy, or have not given theirs up yet
-abbrev pub IsOwned : Net → ℕ → ℕ → Nodes → Seat → Type 0
+abbrev pub IsOwned : Net → ℕ → ℕ → Nodes → OwnerPlace → Type 0
 IsOwned n page node copies (At owner) =
     (owner ≡ node) × (is_owner (n.entry node page) ≡ true)
     × (copies ≡ copies_of (n.entry node page))
@@ -136,11 +136,11 @@ pub record IsOrderly (c : Config) (n : Net) : Type 0 where
   pub orders : (x p k : ℕ) (q : PutOff) → slice_get (put_offs (n.entry x p)) k ≡ Some q
       → q.kind ≡ request.Invalidate → CanWait (n.entry x p)
   -- ownership
-  pub one_owner : (p i j : ℕ) (s t : Nodes) (a b : Seat) → IsOwned n p i s a → IsOwned n p j t b
+  pub one_owner : (p i j : ℕ) (s t : Nodes) (a b : OwnerPlace) → IsOwned n p i s a → IsOwned n p j t b
       → a ≡ b
-  pub counted : (p i x : ℕ) (s : Nodes) (a : Seat) → IsOwned n p i s a → x ≢ i → HasCopy n x p
+  pub counted : (p i x : ℕ) (s : Nodes) (a : OwnerPlace) → IsOwned n p i s a → x ≢ i → HasCopy n x p
       → set.contains s x ≡ true
-  pub others : (p i : ℕ) (s : Nodes) (a : Seat) → IsOwned n p i s a → set.contains s i ≡ false
+  pub others : (p i : ℕ) (s : Nodes) (a : OwnerPlace) → IsOwned n p i s a → set.contains s i ≡ false
   -- who may write owns the page, and no other node has a copy
   pub alone : (x p : ℕ) → writable (n.entry x p) ≡ true
       → (is_owner (n.entry x p) ≡ true) × (copies_of (n.entry x p) ≡ set.empty)

@@ -83,13 +83,13 @@ module _ {S : Type 0} (ops : Ops S) where
   noticed m (Invalidated x p by) = with_manager m x (ops.on_invalidated (m x) p by)
 
   -- the node is one of the nodes, and the hop is the one that its manager names
-  abbrev pub IsOf : Config → (ℕ → S) → Notice → Type 0
-  IsOf c m Silent = Unit {0}
-  IsOf c m (Asked x p hop) = (x < c.nodes) × (hop ≡ ops.next_hop (m x) p)
-  IsOf c m (Forwarded x p write origin hop) = (x < c.nodes) × (hop ≡ ops.next_hop (m x) p)
-  IsOf c m (Given x p to) = x < c.nodes
-  IsOf c m (Replied x p write from) = x < c.nodes
-  IsOf c m (Invalidated x p by) = x < c.nodes
+  abbrev pub IsNamedBy : Config → (ℕ → S) → Notice → Type 0
+  IsNamedBy c m Silent = Unit {0}
+  IsNamedBy c m (Asked x p hop) = (x < c.nodes) × (hop ≡ ops.next_hop (m x) p)
+  IsNamedBy c m (Forwarded x p write origin hop) = (x < c.nodes) × (hop ≡ ops.next_hop (m x) p)
+  IsNamedBy c m (Given x p to) = x < c.nodes
+  IsNamedBy c m (Replied x p write from) = x < c.nodes
+  IsNamedBy c m (Invalidated x p by) = x < c.nodes
 
 -- a node that sends a request on, or begins one: to another node
 pub record IsHop (c : Config) (x hop : ℕ) : Type 0 where
@@ -330,5 +330,5 @@ Claim S = (ℕ → S) → Net → (ℕ → List ℕ) → Type 0
 -- each step keeps it: where it holds before the step, it holds after it
 pub record IsKept {S : Type 0} (ops : Ops S) (c : Config) (P : Claim S) : Type 0 where
   pub by : {m : ℕ → S} {n : Net} {f : ℕ → List ℕ} {notice : Notice} {n' : Net}
-      {f' : ℕ → List ℕ} → Row c n f notice n' f' → IsOf ops c m notice → P m n f
+      {f' : ℕ → List ℕ} → Row c n f notice n' f' → IsNamedBy ops c m notice → P m n f
       → P (noticed ops m notice) n' f'

@@ -14,7 +14,7 @@ use Rattle.ivy_pagetable.specs.declared.Request.TheVariants as request
 use Rattle.ivy_pagetable.specs.NodeSets.{Nodes, IsBelow, nodes_of}
 use Rattle.ivy_pagetable.specs.States.{IdleState}
 use Rattle.ivy_pagetable.specs.Manager.{Ops}
-use Rattle.ivy_serving.specs.Serving.{Serving, serving, served_by_owner, served_by_other, served, all_served, told, settled, invalidations}
+use Rattle.ivy_serving.specs.Serving.{Serving, serving, served_by_owner, served_by_other, served, all_served, told, put_off_served, invalidations}
 
 one_more : (ps : List Parcel) (p : Parcel) → length (ps ++ p ∷ []) ≤ length ps + 1
 one_more ps p = omega (arith, length-append ps (p ∷ []))
@@ -52,10 +52,10 @@ module _ {S : Type 0} (ops : Ops S) (me page : ℕ) (bytes : List ℕ) where
       all_served-few (served ops me page bytes v q) qs in
       omega (arith, served_few v q, rest)
 
-  pub settled-few : (from : ℕ) (idle : IdleState) (m : S) (breaches : ℕ) (reply : Option Request)
+  pub put_off_served-few : (from : ℕ) (idle : IdleState) (m : S) (breaches : ℕ) (reply : Option Request)
       (qs : List PutOff)
-      → length (settled ops me from page bytes idle m breaches reply qs).posted ≤ length qs
-  settled-few from idle m breaches reply qs =
+      → length (put_off_served ops me from page bytes idle m breaches reply qs).posted ≤ length qs
+  put_off_served-few from idle m breaches reply qs =
       omega (arith, all_served-few (serving idle (told ops from page m reply) breaches []) qs)
 
 -- a test that fails from n on passes few numbers

@@ -6,7 +6,7 @@ use Rattle.ivy_pagetable.specs.declared.Request.{Request}
 use Rattle.ivy_pagetable.specs.declared.Request.TheVariants as request
 use Rattle.ivy_pagetable.specs.States.{IdleState}
 use Rattle.ivy_pagetable.specs.Manager.{Ops, Laws, Change, Forward, Given, Replied, Invalidated, changed, all_changed, brought_back}
-use Rattle.ivy_serving.specs.Serving.{Serving, serving, is_write, served_by_owner, served_by_other, served, all_served, told, settled}
+use Rattle.ivy_serving.specs.Serving.{Serving, serving, is_write, served_by_owner, served_by_other, served, all_served, told, put_off_served}
 
 -- a state of the manager that calls for one page made of another
 pub record IsMadeBy {S : Type 0} (ops : Ops S) (page : ℕ) (m new : S) : Type 0 where
@@ -70,10 +70,10 @@ module _ {S : Type 0} (ops : Ops S) (page : ℕ) where
         follows-in_turn v.manager _ _ (served-follows v q)
         (all_served-follows (served ops me page bytes v q) qs)
 
-    pub settled-follows : (from : ℕ) (idle : IdleState) (m : S) (breaches : ℕ)
+    pub put_off_served-follows : (from : ℕ) (idle : IdleState) (m : S) (breaches : ℕ)
         (reply : Option Request) (qs : List PutOff)
-        → IsMadeBy ops page m (settled ops me from page bytes idle m breaches reply qs).manager
-    settled-follows from idle m breaches reply qs =
+        → IsMadeBy ops page m (put_off_served ops me from page bytes idle m breaches reply qs).manager
+    put_off_served-follows from idle m breaches reply qs =
         follows-in_turn m _ _ (told-follows from m reply)
         (all_served-follows (serving idle (told ops from page m reply) breaches []) qs)
 

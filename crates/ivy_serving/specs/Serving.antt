@@ -103,7 +103,7 @@ told ops from page manager None = manager
 told ops from page manager (Some kind) = ops.on_replied manager page (is_write kind) from
 
 -- what was put off is served at an entry that is idle now, in order of arrival
-abbrev pub settled : {S : Type 0} → Ops S → ℕ → ℕ → ℕ → List ℕ → IdleState → S → ℕ
+abbrev pub put_off_served : {S : Type 0} → Ops S → ℕ → ℕ → ℕ → List ℕ → IdleState → S → ℕ
     → Option Request → List PutOff → Serving S
-settled ops me from page bytes idle manager breaches reply qs =
+put_off_served ops me from page bytes idle manager breaches reply qs =
     all_served ops me page bytes (serving idle (told ops from page manager reply) breaches []) qs

@@ -7,4 +7,4 @@
 
 mod serving;
 
-pub use serving::{Place, count, invalidate, settle};
+pub use serving::{Place, count, invalidate, serve_put_off};

@@ -7,9 +7,9 @@ ghost use Rattle.ivy_model.specs.Limits.{most_nodes};
 ghost use Rattle.ivy_wire.specs.Posts.{parcel_to, HasPosted};
 ghost use Rattle.ivy_pagetable.specs.NodeSets.{nodes_of};
 ghost use Rattle.ivy_pagetable.specs.Manager.{brought_back};
-ghost use Rattle.ivy_serving.specs.Serving.{serving, settled, counted, is_write, served_by_owner, served_by_other, served, all_served, invalidations};
+ghost use Rattle.ivy_serving.specs.Serving.{serving, put_off_served, counted, is_write, served_by_owner, served_by_other, served, all_served, invalidations};
 ghost use Rattle.ivy_serving.specs.Limits.{most_posted};
-ghost use Rattle.ivy_serving.specs.Outcomes.{IsSettled};
+ghost use Rattle.ivy_serving.specs.Outcomes.{HasServedPutOff};
 
 use arrayvec::ArrayVec;
 use ivy_model::{Fault, MOST_NODES};
@@ -197,7 +197,7 @@ fn is_write(kind: Request) -> bool
 /// Serves messages at an idle entry and posts what comes of it, or changes nothing [1, 17]. First the manager
 /// learns that `from` replied, to a request to write or to read, where that brings it about. What the entry is
 /// then.
-pub fn settle<M: Manager, P: Post>(
+pub fn serve_put_off<M: Manager, P: Post>(
     at: Place,
     reply: Option<Request>,
     idle: Idle,
@@ -210,11 +210,11 @@ pub fn settle<M: Manager, P: Post>(
     requires few { length messages.now ≤ most_posted }
     requires origins { All (λ q. q.origin < most_nodes) messages.now }
     requires fits { All (FitsParcel (P.ops.config post.old) (P.ops.node post.old))
-        (settled M.ops at.me at.from at.page at.bytes.now
+        (put_off_served M.ops at.me at.from at.page at.bytes.now
         idle manager.old breaches.old reply messages.now).posted }
-    ensures { IsSettled P.ops post.old post.new result
+    ensures { HasServedPutOff P.ops post.old post.new result
         manager.old manager.new breaches.old breaches.new
-        (settled M.ops at.entry.me at.entry.from at.entry.page at.entry.bytes.now
+        (put_off_served M.ops at.entry.me at.entry.from at.entry.page at.entry.bytes.now
         idle manager.old breaches.old reply messages.now) }
 {
     let hop = manager.next_hop(at.page);

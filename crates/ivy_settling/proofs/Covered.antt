@@ -22,7 +22,7 @@ use Rattle.ivy_rows.proofs.Both.{both-kept}
 use Rattle.ivy_rows.proofs.RowsCome.{page_came, page_came_shared, acknowledged, all_acknowledged}
 use Rattle.ivy_rows.proofs.Members.{without_itself}
 use Rattle.ivy_rows.proofs.Needs.{page_of}
-use Rattle.ivy_rows.proofs.Opening.{IsFirst, seat_first}
+use Rattle.ivy_rows.proofs.Opening.{IsFirst, place_first}
 use Rattle.ivy_rows.proofs.Parcels.{IsNone, IsOrder, free_step, stay_step, orders_step}
 use Rattle.ivy_rows.proofs.Places.{served, freed}
 use Rattle.ivy_rows.proofs.Sole.{first_there, page_under_way}
@@ -305,7 +305,7 @@ covered-kept ops c config Q kept known = both-kept kept (record {
 -- in the first net nobody but the owners has anything
 pub first_covered : (n : Net) → IsFirst n → IsCovered n
 first_covered n first = record {
-  members = λ p i y s a h held. absurd (empty_has s y (seat_first n first p i s a h).2 held);
+  members = λ p i y s a h held. absurd (empty_has s y (place_first n first p i s a h).2 held);
   occupied = λ i p. elim (first.entries i p) [
     | inl y ↦
         subst IsOccupied (sym y.1)

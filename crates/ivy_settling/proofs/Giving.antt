@@ -15,7 +15,7 @@ use Rattle.ivy_pagetable.specs.Entries.{readable, is_owner, copies_of, without, 
 use Rattle.ivy_pagetable.proofs.Bits.{with_bits_of, remove_below}
 use Rattle.ivy_wire.specs.Posts.{parcel_to}
 use Rattle.ivy_rows.specs.Letters.{Letter, Net, goes_on}
-use Rattle.ivy_rows.specs.Orderly.{Collects, HasCopy, reads, comes, Seat, At, In, IsOwned, IsOrderly}
+use Rattle.ivy_rows.specs.Orderly.{Collects, HasCopy, reads, comes, OwnerPlace, At, In, IsOwned, IsOrderly}
 use Rattle.ivy_rows.specs.Rows.{letter, Served}
 use Rattle.ivy_rows.proofs.Members.{with_itself, with_no_other}
 use Rattle.ivy_rows.proofs.Places.{served}
@@ -27,7 +27,7 @@ use Rattle.ivy_settling.proofs.Sharing.{answer, others_remain, answer_covered, o
 
 -- in an orderly net the node that owns a page is the only one
 pub sole_owner : (c : Config) (n : Net) → IsOrderly c n → (x p : ℕ) (z : Entry) → n.entry x p ≡ z
-    → is_owner z ≡ true → (i : ℕ) (s : Nodes) (a : Seat) → IsOwned n p i s a
+    → is_owner z ≡ true → (i : ℕ) (s : Nodes) (a : OwnerPlace) → IsOwned n p i s a
     → (i ≡ x) × (s ≡ copies_of z)
 sole_owner c n order x p z is own i s a h =
     let same : a ≡ At x =
@@ -60,7 +60,7 @@ module _ (c : Config) (n : Net) (order : IsOrderly c n) (counted : IsCounted n) 
   shared_net =
       goes_on n x p shared rest (parcel_to x o o call (content.ReadRep p (n.page x p)) ∷ [])
 
-  share_here : IsOrderly c shared_net → (i y : ℕ) (w : Nodes) (a : Seat)
+  share_here : IsOrderly c shared_net → (i y : ℕ) (w : Nodes) (a : OwnerPlace)
       → IsOwned shared_net p i w a → set.contains w y ≡ true → HasShare shared_net i y p
   share_here after i y w a h held =
       let step =
@@ -117,7 +117,7 @@ module _ (c : Config) (config : IsConfig c) (n : Net) (order : IsOrderly c n) (k
   own = ap is_owner is ∙ owner
 
   -- the copies that go with the page
-  given_copies : (i : ℕ) (w : Nodes) (a : Seat) → IsOwned given_net p i w a
+  given_copies : (i : ℕ) (w : Nodes) (a : OwnerPlace) → IsOwned given_net p i w a
       → w ≡ nodes_with (bits_of (set.remove s.copies o))
   given_copies i w (At v) h =
       let step = answer c n k r (entry.Idle without) o given (λ j q g. g) (λ j q g. g) in
@@ -146,7 +146,7 @@ module _ (c : Config) (config : IsConfig c) (n : Net) (order : IsOrderly c n) (k
             )
       ]
 
-  give_here : (i y : ℕ) (w : Nodes) (a : Seat) → IsOwned given_net p i w a
+  give_here : (i y : ℕ) (w : Nodes) (a : OwnerPlace) → IsOwned given_net p i w a
       → set.contains w y ≡ true → HasShare given_net i y p
   give_here i y w a h held =
       let left : set.contains (set.remove s.copies o) y ≡ true =

@@ -10,7 +10,7 @@ use Rattle.ivy_pagetable.specs.NodeSets.{Nodes}
 use Rattle.ivy_pagetable.specs.Accesses.{writes}
 use Rattle.ivy_pagetable.specs.Entries.{readable, is_owner, copies_of}
 use Rattle.ivy_rows.specs.Letters.{Letter, Net, Place, IsAt}
-use Rattle.ivy_rows.specs.Orderly.{HasCopy, reads, comes, Seat, At, In, IsOwned}
+use Rattle.ivy_rows.specs.Orderly.{HasCopy, reads, comes, OwnerPlace, At, In, IsOwned}
 use Rattle.ivy_rows.proofs.Needs.{page_of}
 use Rattle.ivy_rows.proofs.Owners.{IsNoMove, owner_before}
 use Rattle.ivy_rows.proofs.Steps.{IsStep}
@@ -31,7 +31,7 @@ IsOccupied (entry.AwaitWrite s) = Unit {0}
 IsOccupied (entry.AwaitAcks s) = s.left ≢ set.empty
 
 pub record IsCovered (n : Net) : Type 0 where
-  pub members : (p i y : ℕ) (s : Nodes) (a : Seat) → IsOwned n p i s a → set.contains s y ≡ true
+  pub members : (p i y : ℕ) (s : Nodes) (a : OwnerPlace) → IsOwned n p i s a → set.contains s y ≡ true
       → HasShare n i y p
   pub occupied : (i p : ℕ) → IsOccupied (n.entry i p)
 
@@ -68,7 +68,7 @@ module _ (n n' : Net) (same : (i q : ℕ) → n'.entry i q ≡ n.entry i q)
         says = k.says;
       })
 
-  owned : (p i : ℕ) (s : Nodes) (a : Seat) → IsOwned n' p i s a → (b : Seat) × IsOwned n p i s b
+  owned : (p i : ℕ) (s : Nodes) (a : OwnerPlace) → IsOwned n' p i s a → (b : OwnerPlace) × IsOwned n p i s b
   owned p i s (At w) h =
       (At w, (h.0, ap is_owner (sym (same i p)) ∙ h.1, h.2 ∙ ap copies_of (same i p)))
   owned p i s (In a) h =
@@ -116,11 +116,11 @@ module _ (n n' : Net) (x p : ℕ) (e z : Entry) (now : Place → Place) (New : P
     pub about : (l : Letter) → Gone l → page_of l.message.content ≡ p
     pub new_about : (a : Place) (l : Letter) → New a l → page_of l.message.content ≡ p
     pub entry : IsOccupied z
-    pub here : (i y : ℕ) (s : Nodes) (a : Seat) → IsOwned n' p i s a → set.contains s y ≡ true
+    pub here : (i y : ℕ) (s : Nodes) (a : OwnerPlace) → IsOwned n' p i s a → set.contains s y ≡ true
         → HasShare n' i y p
 
   module _ (covering : IsCovering) (k : IsCovered n) where
-    elsewhere : (q : ℕ) → q ≢ p → (i y : ℕ) (s : Nodes) (a : Seat) → IsOwned n' q i s a
+    elsewhere : (q : ℕ) → q ≢ p → (i y : ℕ) (s : Nodes) (a : OwnerPlace) → IsOwned n' q i s a
         → set.contains s y ≡ true → HasShare n' i y q
     elsewhere q ne i y s a h held =
         let was = owner_before n n' x p e z now New step q
@@ -152,9 +152,9 @@ module _ (n n' : Net) (x p : ℕ) (e z : Entry) (now : Place → Place) (New : P
 
   -- where neither the owner of the page nor its copies change, but for what is told of them
   pub stays_here : IsNoMove n n' x p e z now New step p → IsCovered n
-      → ((i y : ℕ) (s : Nodes) (b : Seat) → IsOwned n p i s b → set.contains s y ≡ true
+      → ((i y : ℕ) (s : Nodes) (b : OwnerPlace) → IsOwned n p i s b → set.contains s y ≡ true
       → HasShare n i y p → HasShare n' i y p)
-      → (i y : ℕ) (s : Nodes) (a : Seat) → IsOwned n' p i s a → set.contains s y ≡ true
+      → (i y : ℕ) (s : Nodes) (a : OwnerPlace) → IsOwned n' p i s a → set.contains s y ≡ true
       → HasShare n' i y p
   stays_here none k stays i y s a h held =
       let was = owner_before n n' x p e z now New step p none i s a h in

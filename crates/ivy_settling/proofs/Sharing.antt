@@ -14,7 +14,7 @@ use Rattle.ivy_pagetable.specs.NodeSets.{Nodes}
 use Rattle.ivy_pagetable.specs.Entries.{readable, is_owner, copies_of, put_offs, with_put_off}
 use Rattle.ivy_wire.specs.Posts.{parcel_to}
 use Rattle.ivy_rows.specs.Letters.{Letter, Net, Underway, Aside, content_of, letter_of, goes_on}
-use Rattle.ivy_rows.specs.Orderly.{reads, Seat, At, IsOwned, IsExpectedAs, IsOrderly}
+use Rattle.ivy_rows.specs.Orderly.{reads, OwnerPlace, At, IsOwned, IsExpectedAs, IsOrderly}
 use Rattle.ivy_rows.specs.Rows.{letter, Served, Begins, PutsOff}
 use Rattle.ivy_rows.proofs.Needs.{page_of, collects_owner}
 use Rattle.ivy_rows.proofs.Places.{served}
@@ -55,7 +55,7 @@ IsNoPage body page = (bits : ℕ) (bytes : List ℕ) → body ≡ content.WriteR
 -- An order to give a copy up comes from the owner: whoever counts the node as one with a copy.
 pub order_owner : (c : Config) (n : Net) (order : IsOrderly c n) (l : Letter) (rest : List Letter)
     (p : ℕ) → n.loose ≡ l ∷ rest → l.message.content ≡ content.Inval p
-    → (i : ℕ) (s : Nodes) (b : Seat) → IsOwned n p i s b → l.message.origin ≡ i
+    → (i : ℕ) (s : Nodes) (b : OwnerPlace) → IsOwned n p i s b → l.message.origin ≡ i
 order_owner c n order l rest p loose is i s b h =
     let fit : IsExpectedAs c n l (content.Inval p) =
     subst (IsExpectedAs c n l) is (first_fits c n order l rest loose) in
@@ -89,7 +89,7 @@ module _ (c : Config) (n : Net) (k : IsCovered n) {T : Type 0} {at : T → Entry
       still
 
   pub answer_covered : page_of (ask p) ≡ p → page_of body ≡ p → IsOccupied z
-      → ((i y : ℕ) (w : Nodes) (a : Seat) → IsOwned answered_net p i w a
+      → ((i y : ℕ) (w : Nodes) (a : OwnerPlace) → IsOwned answered_net p i w a
       → set.contains w y ≡ true → HasShare answered_net i y p) → IsCovered answered_net
   answer_covered about new_about occupied here =
       step_covered n answered_net x p (at s) z served
@@ -105,7 +105,7 @@ module _ (c : Config) (n : Net) (k : IsCovered n) {T : Type 0} {at : T → Entry
   pub unmoved_covered : page_of (ask p) ≡ p → page_of body ≡ p → IsOccupied z → IsNoPage body p
       → (is_owner z ≡ true → (is_owner (at s) ≡ true) × (copies_of z ≡ copies_of (at s)))
       → IsNoShare (ask p)
-      → ((i : ℕ) (w : Nodes) (b : Seat) → IsOwned n p i w b → readable (at s) ≡ true
+      → ((i : ℕ) (w : Nodes) (b : OwnerPlace) → IsOwned n p i w b → readable (at s) ≡ true
       → HasShare answered_net i x p) → IsCovered answered_net
   unmoved_covered about new_about occupied page same none reader =
       answer_covered about new_about occupied

@@ -2,8 +2,8 @@ use Rattle.std.proofs.Common.{rules, sym, ◌∙◌}
 use Rattle.ivy_coherence.proofs.Opened.{asked_fits, asked_sound, asked_then}
 use Rattle.ivy_coherence.proofs.coherence.Coherence.asked.Goals as goal
 
-pub settle-requires-clause-fits : goal.settle-requires-clause-fits
-settle-requires-clause-fits g c =
+pub serve_put_off-requires-clause-fits : goal.serve_put_off-requires-clause-fits
+serve_put_off-requires-clause-fits g c =
     asked_fits g.met.M.Manager.laws _ _ c.self.view_is c.self.invariant.0 c.args.page c.args.message
     c.in-Idle.idle _ _ _ _ c.requires.page (sym c.entry.ensures ∙ c.in-Idle.is)
     c.requires.message c.page.ensures.bytes c.copied-idle.ensures c.requires.post.config

@@ -13,8 +13,8 @@ carry_out-out-requires g c =
     (unlock_word g.met.M.Manager.laws _ _ c.self.view_is c.self.invariant.0 c.args.page c.args.kind
     c.args.bytes.now c.args.waiting.now c.requires.waits c.requires.sized)
 
-pub settle-requires-clause-fits : goal.settle-requires-clause-fits
-settle-requires-clause-fits g c =
+pub serve_put_off-requires-clause-fits : goal.serve_put_off-requires-clause-fits
+serve_put_off-requires-clause-fits g c =
     let sized : length c.bytes.result.now ≡ c.args.self.now.config.page_size = cc in
     unlock_fits g.met.M.Manager.laws _ _ c.self.view_is c.self.invariant.0 c.args.from c.args.page
     c.args.kind c.bytes.result.now c.args.waiting.now _ _ _ _

@@ -5,8 +5,8 @@ use Rattle.ivy_pagetable.specs.Tables.{page_at, with_entry, with_page}
 use Rattle.ivy_coherence.proofs.Opened.{restored, page_then, pages_inside, last_word_at, last_fits, last_sound}
 use Rattle.ivy_coherence.proofs.coherence.Coherence.write.Goals as goal
 
-pub settle-requires-clause-fits : goal.settle-requires-clause-fits
-settle-requires-clause-fits g c =
+pub serve_put_off-requires-clause-fits : goal.serve_put_off-requires-clause-fits
+serve_put_off-requires-clause-fits g c =
     let inside = pages_inside _ _ c.self.view_is c.self.invariant.0 c.args.page c.requires.page in
     last_fits g.met.M.Manager.laws _ _ c.self.view_is c.self.invariant.0 c.args.from c.args.page _
     c.args.waiting.now _ _ _ _ c.requires.page c.requires.waits

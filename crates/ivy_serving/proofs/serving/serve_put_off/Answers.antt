@@ -4,16 +4,16 @@ use Rattle.ivy_pagetable.specs.declared.PutOff.{PutOff}
 use Rattle.ivy_pagetable.specs.declared.Request.{Request}
 use Rattle.ivy_pagetable.specs.States.{IdleState}
 use Rattle.ivy_pagetable.specs.Manager.{Ops}
-use Rattle.ivy_serving.specs.Serving.{Serving, serving, all_served, told, settled}
-use Rattle.ivy_serving.proofs.Undoing.{IsMadeBy, settled-follows, me-follows, undone}
-use Rattle.ivy_serving.proofs.serving.settle.Goals as goal
+use Rattle.ivy_serving.specs.Serving.{Serving, serving, all_served, told, put_off_served}
+use Rattle.ivy_serving.proofs.Undoing.{IsMadeBy, put_off_served-follows, me-follows, undone}
+use Rattle.ivy_serving.proofs.serving.serve_put_off.Goals as goal
 
 -- the manager learns of the reply first, then all messages are served
 settled_then : {S : Type 0} (ops : Ops S) (me from page : ℕ) (bytes : List ℕ) (idle : IdleState)
     (m : S) (breaches : ℕ) (reply : Option Request) (qs : List PutOff) (n : S) (v : Serving S)
     → n ≡ told ops from page m reply
     → v ≡ all_served ops me page bytes (serving idle n breaches []) qs
-    → v ≡ settled ops me from page bytes idle m breaches reply qs
+    → v ≡ put_off_served ops me from page bytes idle m breaches reply qs
 settled_then ops me from page bytes idle m breaches reply qs n v replied each =
     each ∙ ap (λ x. all_served ops me page bytes (serving idle x breaches []) qs) replied
 
@@ -25,7 +25,7 @@ follows_then : {S : Type 0} (ops : Ops S) (me from page : ℕ) (bytes : List ℕ
     → IsMadeBy ops page m v.manager
 follows_then ops me from page bytes idle m breaches reply qs n v replied each =
     rw (settled_then ops me from page bytes idle m breaches reply qs n v replied each)
-    (settled-follows ops page me bytes from idle m breaches reply qs)
+    (put_off_served-follows ops page me bytes from idle m breaches reply qs)
 
 pub post-requires : goal.post-requires
 post-requires g c =
