@@ -114,7 +114,8 @@ module _ {S : Type 0} (ops : Ops S) where
   -- a request for a copy or for the page, or the order to give a copy up
   abbrev pub asked : Coherent S → ℕ → PutOff → Entry → CoherenceEffect S
   asked c page q (entry.Idle s) = after_serving c page
-      (put_off_served ops c.me q.origin page (page_at c.table page) s c.manager c.breaches None (q ∷ []))
+      (put_off_served ops c.me q.origin page (page_at c.table page) s c.manager c.breaches None
+      (q ∷ []))
   asked c page q (entry.AwaitWrite s) = if is_order q.kind then given_up c page s.waiting q
       else put_aside c page (entry.AwaitWrite s) q
   asked c page q (entry.AwaitAcks s) =

@@ -136,8 +136,8 @@ pub record IsOrderly (c : Config) (n : Net) : Type 0 where
   pub orders : (x p k : ℕ) (q : PutOff) → slice_get (put_offs (n.entry x p)) k ≡ Some q
       → q.kind ≡ request.Invalidate → CanWait (n.entry x p)
   -- ownership
-  pub one_owner : (p i j : ℕ) (s t : Nodes) (a b : OwnerPlace) → IsOwned n p i s a → IsOwned n p j t b
-      → a ≡ b
+  pub one_owner : (p i j : ℕ) (s t : Nodes) (a b : OwnerPlace) → IsOwned n p i s a
+      → IsOwned n p j t b → a ≡ b
   pub counted : (p i x : ℕ) (s : Nodes) (a : OwnerPlace) → IsOwned n p i s a → x ≢ i → HasCopy n x p
       → set.contains s x ≡ true
   pub others : (p i : ℕ) (s : Nodes) (a : OwnerPlace) → IsOwned n p i s a → set.contains s i ≡ false

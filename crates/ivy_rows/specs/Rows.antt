@@ -77,7 +77,8 @@ module _ {S : Type 0} (ops : Ops S) where
   abbrev pub noticed : (ℕ → S) → Notice → ℕ → S
   noticed m Silent = m
   noticed m (Asked x p hop) = m
-  noticed m (Forwarded x p write origin hop) = with_manager m x (ops.on_forward (m x) p write origin)
+  noticed m (Forwarded x p write origin hop) =
+      with_manager m x (ops.on_forward (m x) p write origin)
   noticed m (Given x p to) = with_manager m x (ops.on_given (m x) p to)
   noticed m (Replied x p write from) = with_manager m x (ops.on_replied (m x) p write from)
   noticed m (Invalidated x p by) = with_manager m x (ops.on_invalidated (m x) p by)

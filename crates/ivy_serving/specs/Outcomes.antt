@@ -9,7 +9,7 @@ use Rattle.ivy_serving.specs.Serving.{Serving}
 
 -- Messages were served, and what comes of that was posted: what the entry is then; the manager and
 -- the count of messages that fitted no rule, as they were and are.
-pub record HasServedPutOff {P S : Type 0} (ops : PostOps P) (post then : P) (r : Result IdleState Fault)
+pub record HasServed {P S : Type 0} (ops : PostOps P) (post then : P) (r : Result IdleState Fault)
     (old new : S) (count counted : ℕ) (v : Serving S) : Type 0 where
   pub idle : IfOk r (λ i. i ≡ v.idle)
   pub manager : OnOk r (new ≡ v.manager)

@@ -9,7 +9,7 @@ ghost use Rattle.ivy_pagetable.specs.NodeSets.{nodes_of};
 ghost use Rattle.ivy_pagetable.specs.Manager.{brought_back};
 ghost use Rattle.ivy_serving.specs.Serving.{serving, put_off_served, counted, is_write, served_by_owner, served_by_other, served, all_served, invalidations};
 ghost use Rattle.ivy_serving.specs.Limits.{most_posted};
-ghost use Rattle.ivy_serving.specs.Outcomes.{HasServedPutOff};
+ghost use Rattle.ivy_serving.specs.Outcomes.{HasServed};
 
 use arrayvec::ArrayVec;
 use ivy_model::{Fault, MOST_NODES};
@@ -212,7 +212,7 @@ pub fn serve_put_off<M: Manager, P: Post>(
     requires fits { All (FitsParcel (P.ops.config post.old) (P.ops.node post.old))
         (put_off_served M.ops at.me at.from at.page at.bytes.now
         idle manager.old breaches.old reply messages.now).posted }
-    ensures { HasServedPutOff P.ops post.old post.new result
+    ensures { HasServed P.ops post.old post.new result
         manager.old manager.new breaches.old breaches.new
         (put_off_served M.ops at.entry.me at.entry.from at.entry.page at.entry.bytes.now
         idle manager.old breaches.old reply messages.now) }
