@@ -34,7 +34,7 @@ use Rattle.ivy_serving.specs.Limits.{most_posted}
 use Rattle.ivy_memory.specs.Memories.{NodeMemory, memory_handled, memory_told}
 use Rattle.ivy_host.specs.Hosts.{Host, host_rules, serving}
 use Rattle.ivy_outbox.specs.Outboxes.{Outbox, HasNumbers, RefusesParcels, holding_of, with_holding, posted_by}
-use Rattle.ivy_site.specs.Shown.{Shown, after_hearing, after_delivery}
+use Rattle.ivy_site.specs.Shown.{Shown, after_hearing, after_delivery, box_of, shown_of}
 use Rattle.ivy_site.specs.Sites.{early_at, SiteDelivers, IsSpentDelivery, IsSite}
 use Rattle.ivy_site.specs.Inside.{CameEarlyAs}
 use Rattle.ivy_outbox.proofs.Boxes.{as_many}
@@ -50,10 +50,6 @@ H = Host Managed
 
 abbrev rules : Core H
 rules = host_rules managed_ops
-
-abbrev box_of : Shown → Outbox
-box_of v =
-    record { config = v.config; me = v.me; link = v.node.link; waiting = v.waiting; held = v.held }
 
 -- a frame was read from the string, and this is what it is to the node
 pub record IsRead (v : Shown) (k : Config) (f : Frame) (bytes : List ℕ) (w : Verdict) : Type 0 where
@@ -252,16 +248,6 @@ heard_message v f w m memory box next body told numbers few posted =
     (told_message v f w m next body numbers few))
 
 -- then the frame is accepted, and the event listed
-abbrev pub shown_of : H → Outbox → List Mark → Shown
-shown_of h box events =
-    record {
-      config = box.config;
-      me = box.me;
-      node = record { core = h; link = box.link };
-      events = events;
-      waiting = box.waiting;
-      held = box.held;
-    }
 
 -- what the frame is does not change while its message is served
 offered_same : (v : Shown) (f : Frame) (w : Verdict) (h : H) (box : Outbox)

@@ -27,7 +27,7 @@ use Rattle.ivy_site.specs.declared.turn.Turn as turn
 use Rattle.ivy_site.specs.declared.turn.Turn.TheVariants.{Idle, Moved, Ended}
 use Rattle.ivy_host.proofs.Programs.{turned-program, posting-core, delivered-program}
 use Rattle.ivy_outbox.specs.Outboxes.{Outbox, TakesFirst}
-use Rattle.ivy_site.specs.Shown.{Shown, after_hearing, after_delivery, after_pulse_to}
+use Rattle.ivy_site.specs.Shown.{Shown, after_hearing, after_delivery, after_pulse_to, box_of, boxed}
 use Rattle.ivy_site.specs.Sites.{early_at, IsSite, HoldsEarly, IsMadeByEvents, AfterTurn, SiteDelivers, first_shown, IsSentBy}
 
 abbrev rules : Core (Host Managed)
@@ -192,21 +192,6 @@ pulse_made-on to old new h after =
     (ap (λ (s : Shown). s.waiting) after)
 
 -- a string that waited is taken
-abbrev box_of : Shown → Outbox
-box_of v =
-    record { config = v.config; me = v.me; link = v.node.link; waiting = v.waiting; held = v.held }
-
-abbrev boxed : Shown → Outbox → Shown
-boxed v box =
-    record {
-      config = box.config;
-      me = box.me;
-      node = record { core = v.node.core; link = box.link };
-      events = v.events;
-      waiting = box.waiting;
-      held = box.held;
-    }
-
 pub take_site : (v : Shown) (bytes : Option (List ℕ)) (box : Outbox) → IsSite v
     → TakesFirst bytes (box_of v) box → IsSite (boxed v box)
 take_site v None box s takes = subst (λ b. IsSite (boxed v b)) (sym takes.1) s

@@ -8,7 +8,7 @@ use Rattle.ivy_link.specs.Pulsed.{frames_again, pulsed}
 use Rattle.ivy_events.specs.Marks.{Mark, Pulse}
 use Rattle.ivy_events.specs.Nodes.{pulsing}
 use Rattle.ivy_outbox.specs.Outboxes.{Outbox, with_sending}
-use Rattle.ivy_site.specs.Shown.{Shown, after_pulse_to}
+use Rattle.ivy_site.specs.Shown.{Shown, after_pulse_to, box_of, shown_of}
 use Rattle.ivy_events.specs.Parts.{pulse_marks}
 use Rattle.ivy_site.specs.Sites.{IsSite}
 use Rattle.ivy_host.proofs.Tame.{IsAskingHost}
@@ -27,36 +27,21 @@ none-marks : (to : ℕ) (fs : List Frame) → (fs ≢ [] → ⊥) → pulse_mark
 none-marks to [] none = refl
 none-marks to (f ∷ fs) none = absurd (none (λ e. absurd cc))
 
-abbrev box_of : Shown → Outbox
-box_of v =
-    record { config = v.config; me = v.me; link = v.node.link; waiting = v.waiting; held = v.held }
-
-abbrev site_with : Shown → Outbox → List Mark → Shown
-site_with v box events =
-    record {
-      config = box.config;
-      me = box.me;
-      node = record { core = v.node.core; link = box.link };
-      events = events;
-      waiting = box.waiting;
-      held = box.held;
-    }
-
 pulse_is : (n v : Shown) → v ≡ n → (to : ℕ) (box : Outbox) (events : List Mark)
     → box ≡ with_sending (box_of v) (pulsed v.node.link to)
     → events ≡ v.events ++ pulse_marks to (map spelling (frames_again v.node.link to))
-    → site_with v box events ≡ after_pulse_to n to (pulsing n.node to)
+    → shown_of v.node.core box events ≡ after_pulse_to n to (pulsing n.node to)
 unfolding pulsing
 pulse_is n v same to box events sent listed =
-    subst (λ (x : Shown). site_with v box events ≡ after_pulse_to x to (pulsing x.node to)) same
-    (ap (λ (b : Outbox). site_with v b events) sent
-    ∙ ap (λ (es : List Mark). site_with v (with_sending (box_of v) (pulsed v.node.link to)) es)
+    subst (λ (x : Shown). shown_of v.node.core box events ≡ after_pulse_to x to (pulsing x.node to)) same
+    (ap (λ (b : Outbox). shown_of v.node.core b events) sent
+    ∙ ap (λ (es : List Mark). shown_of v.node.core (with_sending (box_of v) (pulsed v.node.link to)) es)
     listed)
 
 pub pulse_made : (n v : Shown) → v ≡ n → (to : ℕ) (box : Outbox) (reserved events : List Mark)
     → box ≡ with_sending (box_of v) (pulsed v.node.link to)
     → frames_again v.node.link to ≢ [] → reserved ≡ v.events → events ≡ reserved ++ Pulse to ∷ []
-    → site_with v box events ≡ after_pulse_to n to (pulsing n.node to)
+    → shown_of v.node.core box events ≡ after_pulse_to n to (pulsing n.node to)
 pulse_made n v same to box reserved events sent some room listed =
     pulse_is n v same to box events sent
     (listed ∙ (ap (λ (es : List Mark). es ++ Pulse to ∷ []) room
@@ -66,7 +51,7 @@ pulse_made n v same to box reserved events sent some room listed =
 pub pulse_none : (n v : Shown) → v ≡ n → (to : ℕ) (box : Outbox) (events : List Mark)
     → box ≡ with_sending (box_of v) (pulsed v.node.link to)
     → (frames_again v.node.link to ≢ [] → ⊥) → events ≡ v.events
-    → site_with v box events ≡ after_pulse_to n to (pulsing n.node to)
+    → shown_of v.node.core box events ≡ after_pulse_to n to (pulsing n.node to)
 pulse_none n v same to box events sent none room =
     pulse_is n v same to box events sent
     (room ∙ (sym (append-nil v.events)

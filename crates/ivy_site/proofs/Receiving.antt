@@ -20,7 +20,7 @@ use Rattle.ivy_link.specs.Accepted.{offered}
 use Rattle.ivy_link.specs.Windows.{with_string}
 use Rattle.ivy_link.specs.Holding.{Holding, link_of, window_at, can_hold_frame, place_in, after_hold, after_taking, ready_of}
 use Rattle.ivy_outbox.specs.Outboxes.{Outbox, holding_of, with_holding}
-use Rattle.ivy_site.specs.Shown.{Shown, holding_at, after_delivery}
+use Rattle.ivy_site.specs.Shown.{Shown, holding_at, after_delivery, box_of, boxed}
 use Rattle.ivy_site.specs.Sites.{early_at, IsSite, IsHeld, SiteDelivers}
 use Rattle.ivy_site.specs.Sites.{holding_in, without_ready}
 use Rattle.ivy_site.specs.Sites.{GoesOnOnce, SiteGoesOn, SiteWentOn, FollowsDelivery, AfterDelivery}
@@ -51,21 +51,6 @@ pub read_there : (c : Config) → IsConfig c → (f : Frame) (bytes : List ℕ) 
     → Spells c f bytes → MatchResult (checked c bytes) (λ x. false ≡ true) Q → ⊥
 read_there c limits f bytes Q x why =
     refused-not (checked c bytes) (frame_kind f.body) Q (spelled_once c f bytes limits x).0 why
-
-abbrev pub box_of : Shown → Outbox
-box_of v =
-    record { config = v.config; me = v.me; link = v.node.link; waiting = v.waiting; held = v.held }
-
-abbrev pub boxed : Shown → Outbox → Shown
-boxed v box =
-    record {
-      config = box.config;
-      me = box.me;
-      node = record { core = v.node.core; link = box.link };
-      events = v.events;
-      waiting = box.waiting;
-      held = box.held;
-    }
 
 -- a string is held
 held_link : {B : Type 0} (h : Holding) (f : frame.Frame B) (bytes : List ℕ)

@@ -12,7 +12,7 @@ use Rattle.ivy_events.specs.Marks.{Mark, Turn}
 use Rattle.ivy_memory.specs.Memories.{NodeMemory}
 use Rattle.ivy_host.specs.Hosts.{Host, turn_of}
 use Rattle.ivy_outbox.specs.Outboxes.{Outbox}
-use Rattle.ivy_site.specs.Shown.{Shown}
+use Rattle.ivy_site.specs.Shown.{Shown, box_of, shown_of}
 use Rattle.ivy_site.specs.Sites.{SiteTurns, IsSpentTurn, IsMadeByEvents, IsSite}
 use Rattle.ivy_site.specs.Inside.{HasTurn, AfterHostTurn, HasNoNumbers, host_of}
 use Rattle.ivy_host.proofs.Same.{turn-same}
@@ -29,10 +29,6 @@ use Rattle.ivy_site.proofs.Turning.{turn_steps, moved_quietly, moved_by_call, sp
 abbrev H : Type 0
 H = Host Managed
 
-abbrev box_of : Shown → Outbox
-box_of v =
-    record { config = v.config; me = v.me; link = v.node.link; waiting = v.waiting; held = v.held }
-
 -- the site with this core, and these events listed
 abbrev with_core : Shown → H → List Mark → Shown
 with_core v h events =
@@ -43,18 +39,6 @@ with_core v h events =
       events = events;
       waiting = v.waiting;
       held = v.held;
-    }
-
--- the site with this core and this outbox
-abbrev with_box : H → Outbox → List Mark → Shown
-with_box h box events =
-    record {
-      config = box.config;
-      me = box.me;
-      node = record { core = h; link = box.link };
-      events = events;
-      waiting = box.waiting;
-      held = box.held;
     }
 
 hosts : (m m' : NodeMemory Managed) (p p' : Process) (hs hs' : List Record) → m ≡ m' → p ≡ p'
@@ -128,7 +112,7 @@ spent_turn n v same p hs f k cannot =
 pub called_turn : (n v : Shown) → v ≡ n
     → (p : Process) (hs : List Record) (h : H) (box : Outbox) (reserved events : List Mark)
     → IsAtRest v p hs → HasTurn (host_of v.node.core.memory p hs) (box_of v) h box
-    → reserved ≡ v.events → events ≡ reserved ++ Turn ∷ [] → SiteTurns n (with_box h box events)
+    → reserved ≡ v.events → events ≡ reserved ++ Turn ∷ [] → SiteTurns n (shown_of h box events)
 called_turn n v same p hs h box reserved events k b room listed =
     moved_by_call n v same h box events
     (subst (λ x. HasTurn x (box_of v) h box) (resting_host v p hs k) b)
@@ -155,7 +139,7 @@ turns_quietly old new made t =
 pub called_site : (v : Shown) (p : Process) (hs : List Record) (h : H) (box : Outbox)
     (reserved events : List Mark) → IsSite v → IsAtRest v p hs
     → HasTurn (host_of v.node.core.memory p hs) (box_of v) h box
-    → reserved ≡ v.events → events ≡ reserved ++ Turn ∷ [] → IsSite (with_box h box events)
+    → reserved ≡ v.events → events ≡ reserved ++ Turn ∷ [] → IsSite (shown_of h box events)
 called_site v p hs h box reserved events s k b0 room listed =
     let b : HasTurn v.node.core (box_of v) h box =
     subst (λ x. HasTurn x (box_of v) h box) (resting_host v p hs k) b0 in
@@ -169,10 +153,10 @@ called_site v p hs h box reserved events s k b0 room listed =
       asking =
           subst IsAskingHost (sym b.host)
           (turn-asking managed_ops v.node.core b.outcome s.asking b.turn);
-      made = turn_made turn.Moved v (with_box h box events) s.made
+      made = turn_made turn.Moved v (shown_of h box events) s.made
           (called_turn v v refl p hs h box reserved events k b0 room listed);
-      held = quiet-holds v (with_box h box events) s.held
-          (turns_quietly v (with_box h box events) s.made
+      held = quiet-holds v (shown_of h box events) s.held
+          (turns_quietly v (shown_of h box events) s.made
           (called_turn v v refl p hs h box reserved events k b0 room listed));
     }
 
@@ -210,15 +194,15 @@ pub record IsIdle (v : Shown) (p : Process) (hs : List Record) (h : H) (box : Ou
   pub after : AfterHostTurn false (host_of v.node.core.memory p hs) (box_of v) h box
 
 idle_same : (v : Shown) (p : Process) (hs : List Record) (h : H) (box : Outbox) (events : List Mark)
-    → IsIdle v p hs h box → events ≡ v.events → with_box h box events ≡ v
+    → IsIdle v p hs h box → events ≡ v.events → shown_of h box events ≡ v
 idle_same v p hs h box events u listed =
-    ap (λ x. with_box x box events) (u.after.1 ∙ resting_host v p hs u.rests)
-    ∙ (ap (λ x. with_box v.node.core x events) u.after.2 ∙ ap (with_core v v.node.core) listed)
+    ap (λ x. shown_of x box events) (u.after.1 ∙ resting_host v p hs u.rests)
+    ∙ (ap (λ x. shown_of v.node.core x events) u.after.2 ∙ ap (with_core v v.node.core) listed)
 
 pub idle_turn : (n v : Shown) → v ≡ n
     → (p : Process) (hs : List Record) (h : H) (box : Outbox) (events : List Mark)
     → IsIdle v p hs h box → events ≡ v.events
-    → (turn_of managed_ops n.node.core ≡ None) × (with_box h box events ≡ n)
+    → (turn_of managed_ops n.node.core ≡ None) × (shown_of h box events ≡ n)
 idle_turn n v same p hs h box events u listed = (
   subst (λ (y : Shown). turn_of managed_ops y.node.core ≡ None) same
       (subst (λ x. turn_of managed_ops x ≡ None) (resting_host v p hs u.rests) u.after.0),

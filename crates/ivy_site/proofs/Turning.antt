@@ -12,7 +12,7 @@ use Rattle.ivy_events.specs.Cores.{Outcome}
 use Rattle.ivy_events.specs.Nodes.{Node, Effect, posting, turned, turned_to}
 use Rattle.ivy_host.specs.Hosts.{Host, host_rules, turn_of, turned_at, steps, quietly}
 use Rattle.ivy_outbox.specs.Outboxes.{Outbox}
-use Rattle.ivy_site.specs.Shown.{Shown}
+use Rattle.ivy_site.specs.Shown.{Shown, box_of, shown_of}
 use Rattle.ivy_site.specs.Sites.{SiteTurns, IsSpentTurn}
 use Rattle.ivy_site.specs.Inside.{HasTurn, HasNoNumbers}
 
@@ -88,23 +88,11 @@ not_sent : (n : Node H) (h : H) (parcels : List Parcel) → has_numbers n.link p
     → posting n h parcels ≡ None
 not_sent n h parcels numbers = rw numbers refl
 
-abbrev box_of : Shown → Outbox
-box_of v =
-    record { config = v.config; me = v.me; link = v.node.link; waiting = v.waiting; held = v.held }
-
 -- a turn in which a call begins, or is asked for its reply
 pub moved_by_call : (n v : Shown) → v ≡ n → (h : H) (box : Outbox) (events : List Mark)
     → HasTurn v.node.core (box_of v) h box
     → events ≡ v.events ++ Turn ∷ []
-    → SiteTurns n
-    (record {
-      config = box.config;
-      me = box.me;
-      node = record { core = h; link = box.link };
-      events = events;
-      waiting = box.waiting;
-      held = box.held;
-    })
+    → SiteTurns n (shown_of h box events)
 moved_by_call n v same h box events b listed =
     let s = sends v.node.link b.outcome.posted in
     let e : Effect H =

@@ -11,6 +11,7 @@ use Rattle.ivy_events.specs.Marks.{Mark, Delivery}
 use Rattle.ivy_events.specs.Nodes.{Node, Effect}
 use Rattle.ivy_events.specs.Parts.{pulse_marks}
 use Rattle.ivy_host.specs.Hosts.{Host}
+use Rattle.ivy_outbox.specs.Outboxes.{Outbox}
 
 -- `events` are all that the site ever listed; `waiting` are the strings not yet put on the wire,
 -- the first first; `held` has a window for each node
@@ -21,6 +22,31 @@ pub record Shown : Type 0 where
   pub events : List Mark
   pub waiting : List (List ℕ)
   pub held : List Window
+
+-- the site of this core and this outbox, at which these events are listed
+abbrev pub shown_of : Host Managed → Outbox → List Mark → Shown
+shown_of core box events = record {
+  config = box.config;
+  me = box.me;
+  node = record { core = core; link = box.link };
+  events = events;
+  waiting = box.waiting;
+  held = box.held;
+}
+
+-- a site's outbox
+abbrev pub box_of : Shown → Outbox
+box_of s = record {
+  config = s.config;
+  me = s.me;
+  link = s.node.link;
+  waiting = s.waiting;
+  held = s.held;
+}
+
+-- the site with this one
+abbrev pub boxed : Shown → Outbox → Shown
+boxed s box = shown_of s.node.core box s.events
 
 -- the link, with what it holds
 abbrev pub holding_at : Shown → Holding

@@ -42,7 +42,8 @@ pub struct Site<A: Allocator> {
 }
 
 impl<A: Allocator> Model for Site<A> {
-    ghost use Rattle.ivy_site.specs.Shown.{Shown};
+    ghost use Rattle.ivy_site.specs.Shown.{Shown, shown_of};
+    ghost use Rattle.ivy_site.specs.Inside.{host_of};
     ghost use Rattle.ivy_site.specs.Sites.{IsSite};
 
     ghost Value = { Shown };
@@ -53,37 +54,9 @@ impl<A: Allocator> Model for Site<A> {
 
     ghost coded = { Prim.hlevel (codes, nodes_code, heap_state_code) };
 
-    ghost view = { λ s. record {
-      config = s.outbox.config;
-      me = s.outbox.me;
-      node = record {
-        core = record {
-          memory = s.memory;
-          process = s.machine;
-          history = s.history.items;
-        };
-        link = s.outbox.link;
-      };
-      events = s.events.marks;
-      waiting = s.outbox.waiting;
-      held = s.outbox.held;
-    } };
+    ghost view = { λ s. shown_of (host_of s.memory s.machine s.history.items) s.outbox s.events.marks };
 
-    ghost invariant = { λ s. IsSite (record {
-      config = s.outbox.config;
-      me = s.outbox.me;
-      node = record {
-        core = record {
-          memory = s.memory;
-          process = s.machine;
-          history = s.history.items;
-        };
-        link = s.outbox.link;
-      };
-      events = s.events.marks;
-      waiting = s.outbox.waiting;
-      held = s.outbox.held;
-    }) };
+    ghost invariant = { λ s. IsSite (shown_of (host_of s.memory s.machine s.history.items) s.outbox s.events.marks) };
 }
 
 /// The string once more, where its frame came before its turn.

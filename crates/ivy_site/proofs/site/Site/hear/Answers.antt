@@ -9,7 +9,7 @@ use Rattle.ivy_link.specs.declared.Verdict.TheVariants as verdict
 use Rattle.ivy_link.specs.Holding.{Holding, accepted_at}
 use Rattle.ivy_events.specs.Marks.{Mark, Delivery}
 use Rattle.ivy_outbox.specs.Outboxes.{Outbox, holding_of, with_holding}
-use Rattle.ivy_site.specs.Shown.{Shown}
+use Rattle.ivy_site.specs.Shown.{Shown, shown_of}
 use Rattle.ivy_site.specs.Sites.{IsSpentDelivery}
 use Rattle.ivy_site.specs.Inside.{CameEarlyAs, host_of}
 use Rattle.ivy_memory.proofs.Beginning.{err_there}
@@ -37,18 +37,9 @@ module _ (g : Over) (c : After-accept g) where
 
   -- what the fields are before the frame is accepted
   heard : IsHeard
-      (record {
-        config = c.self.inside.outbox.config;
-        me = c.self.inside.outbox.me;
-        node = record {
-          core =
-              host_of c.self.inside.memory c.self.inside.machine c.self.inside.history.items;
-          link = c.self.inside.outbox.link;
-        };
-        events = c.self.inside.events.marks;
-        waiting = c.self.inside.outbox.waiting;
-        held = c.self.inside.outbox.held;
-      })
+      (shown_of
+      (host_of c.self.inside.memory c.self.inside.machine c.self.inside.history.items)
+      c.self.inside.outbox c.self.inside.events.marks)
       (owned_frame c.in_ok-frame.frame) c.offer-verdict.result
       (host_of c.if-eq-2.self-inside.memory c.if-eq-2.self-inside.machine
       c.if-eq-2.self-inside.history.items) c.if-eq-2.self-inside.outbox
