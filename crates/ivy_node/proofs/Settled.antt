@@ -124,7 +124,7 @@ pub stands_still : (r : Run) (round : Round) → length r.world.nodes ≡ r.conf
     → IsDelivered r.world → StandsStill r
 stands_still r round count over had none delivered =
     let idle : (i : ℕ) (n : Node (Host Managed)) → slice_get r.world.nodes i ≡ Some n
-        → (turn_of managed_ops n.core ≡ None) × HasStopped n.core =
+    → (turn_of managed_ops n.core ≡ None) × HasStopped n.core =
     λ i n e. had none i (omega (arith, slice_get_within r.world.nodes i n e, count, over)) n e in
     record {
       still = record { delivered = delivered; turns = λ i n e. (idle i n e).0 };

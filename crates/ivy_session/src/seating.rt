@@ -12,8 +12,8 @@ ghost use Rattle.ivy_session.specs.Told.{AreTold};
 use crate::seated::Seated;
 use ivy_ether::{Ether, Pass, Setup, Wired};
 use ivy_model::{Config, Fault};
-use ivy_site::Site;
 use ivy_program::Program;
+use ivy_site::Site;
 use std::alloc::Allocator;
 use std::sync::{Mutex, Wait};
 
