@@ -1,7 +1,7 @@
 -- Moves that follow one another.
 use Rattle.std.proofs.Common.{List, [], ◌∷◌, ◌++◌, refl, subst}
 use Rattle.ivy_model.specs.declared.Config.{Config}
-use Rattle.ivy_events.specs.declared.Move.{Move}
+use Rattle.ivy_events.specs.declared.moves.Move.{Move}
 use Rattle.ivy_events.specs.Cores.{Core}
 use Rattle.ivy_events.specs.Worlds.{World, Leads, Moves}
 

@@ -1,5 +1,4 @@
 ghost use Rattle.std.specs.Prelude.{◌≡◌, ◌≤◌, ◌<◌, ◌+◌, ◌^◌, ℕ, List, [], Option, Some, length, All, IfOk, IfErr, OnErr, IfSome, IfNone, IsOkUnless, false};
-ghost use Rattle.ivy_program.specs.Limits.{most_programs};
 ghost use Rattle.std.specs.List.{list_all};
 ghost use Rattle.ivy_program.specs.declared.line.Line.{Line};
 ghost use Rattle.ivy_model.specs.declared.Fault.TheVariants.{Memory};
@@ -200,6 +199,7 @@ struct Parser<A: Allocator> {
 
 impl<A: Allocator> Model for Parser<A> {
     ghost use Rattle.std.specs.Prelude.{◌≤◌, List, length};
+    ghost use Rattle.ivy_program.specs.Limits.{most_programs};
     ghost use Rattle.ivy_program.specs.Parts.{Part};
 
     ghost Value = { List Part };
