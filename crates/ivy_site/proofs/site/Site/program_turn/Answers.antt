@@ -42,8 +42,8 @@ invariant_of-self-in-Call g c =
     c.in_ok-begin-in-Call.ensures.ok
     c.in_ok-reserve-2.ensures.same c.push_turn-in-Call.ensures
 
-pub returns-in-Call-clause-done : goal.returns-in-Call-clause-done
-returns-in-Call-clause-done g c =
+pub returns-in_ok-begin-in-Call-clause-done : goal.returns-in_ok-begin-in-Call-clause-done
+returns-in_ok-begin-in-Call-clause-done g c =
     called_turn _ _ c.self.view_is c.next.new.self c.reserve.new.self.items _ c.begin.new.outbox _ _
     (record {
       process =
