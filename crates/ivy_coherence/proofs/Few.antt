@@ -1,6 +1,6 @@
 -- How many messages one event posts at most: one for each message that is served, and one to each
 -- node that is told to give its copy up.
-use Rattle.std.proofs.Common.{◌≡◌, ℕ, ◌≤◌, Bool, true, false, List, [], ◌∷◌, length, Option, Some, None, subst, arith}
+use Rattle.std.proofs.Common.{◌≡◌, ℕ, ◌≤◌, List, [], ◌∷◌, length, Option, Some, None, subst, arith}
 use Rattle.ivy_wire.specs.Data.{Message}
 use Rattle.ivy_wire.specs.Spelling.{FitsContent, FitsMessage}
 use Rattle.ivy_pagetable.specs.declared.Entry.{Entry}
