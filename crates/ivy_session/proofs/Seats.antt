@@ -446,13 +446,3 @@ module _ (c : Config) (programs : List (List Instruction)) where
     };
     ended = subst (λ (n : Node (Host Managed)). HasEnded n.core.process) made.node ended;
   }
-
--- what was taken is known to the pass
-pub took_item : (r : Option Item) (p p' : Held) (es : List Mark)
-    → MatchOption r (p'.known ≡ p.known) (λ x. p'.known ≡ with_taken p.known es (strings_in x))
-    → IfSome r
-    (λ x. (bytes : List ℕ) → Contains (strings_in x) bytes → Contains p'.known.took bytes)
-took_item None p p' es known = tt
-took_item (Some x) p p' es known = λ bytes there.
-    subst (λ (v : View). Contains v.took bytes) (sym known)
-    (Contains-append_right p.known.took (strings_in x) bytes there)

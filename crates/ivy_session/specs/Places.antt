@@ -7,7 +7,7 @@ use Rattle.ivy_program.specs.declared.Instruction.{Instruction}
 use Rattle.ivy_events.specs.Marks.{Mark}
 use Rattle.ivy_events.specs.Parts.{AllCanBeMade}
 use Rattle.ivy_site.specs.Shown.{Shown}
-use Rattle.ivy_site.specs.Sites.{first_shown}
+use Rattle.ivy_site.specs.Sites.{first_shown, IsMadeByEvents}
 use Rattle.ivy_ether.specs.Held.{Held}
 use Rattle.ivy_ether.specs.Views.{newcomer, with_seat}
 
@@ -34,6 +34,13 @@ pub record IsSeated (wire : TableId) (c : Config) (programs : List (List Instruc
   pub program : slice_get programs s.me ≡ Some s.node.core.process.program
   pub given : HasGiven (length programs) s p
   pub took : AllCanBeMade p.known.took (length programs) s.me s.events
+
+-- what holds of a seated site at every moment: also that the node is what the site's events make of
+-- the first one of its program, and that they sent the strings that wait
+pub record KeepsSeat (c : Config) (programs : List (List Instruction)) (s : SeatedState) : Type 0
+  where
+    pub seated : IsSeated s.pass.ether c programs s.site s.pass
+    pub made : IsMadeByEvents s.site
 
 -- this site, with this pass
 abbrev pub place : Shown → Held → SeatedState

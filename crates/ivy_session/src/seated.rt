@@ -1,15 +1,14 @@
 //! A site that is seated at an ether.
-ghost use Rattle.std.specs.Prelude.{◌≡◌, ◌≢◌, ◌↔◌, ◌⊎◌, ◌<◌, ◌∷◌, [], ℕ, List, Some, Contains, IsTrue, ◌≤◌, MatchOption, MatchResult, IfOk, IfErr, IfSome, OnOk, IsOkUnless, length};
+ghost use Rattle.std.specs.Prelude.{◌≡◌, ◌≢◌, ◌↔◌, ◌<◌, ◌≤◌, [], Err, Contains, IsTrue, MatchBool, MatchOption, MatchResult, IfOk, IfErr, IsSome, IsOkUnless, length};
 ghost use Rattle.ivy_model.specs.Wants.{IsWant};
-ghost use Rattle.ivy_events.specs.Nodes.{pulsing};
+ghost use Rattle.ivy_wire.specs.Faults.{checked};
+ghost use Rattle.ivy_events.specs.Nodes.{pulsing, verdict_of};
 ghost use Rattle.ivy_program.specs.Steps.{HasEnded};
-ghost use Rattle.ivy_ether.specs.Items.{strings_in};
-ghost use Rattle.ivy_ether.specs.Views.{with_seat};
 ghost use Rattle.ivy_outbox.specs.Outboxes.{next_dest};
 ghost use Rattle.ivy_site.specs.Shown.{after_pulse_to};
-ghost use Rattle.ivy_site.specs.Sites.{first_shown, AfterTurn, AfterDelivery};
-ghost use Rattle.ivy_session.specs.Places.{place, IsSeated, IsFreshSeat};
-ghost use Rattle.ivy_session.specs.Wire.{AfterWire, Leaves, IsNextOther};
+ghost use Rattle.ivy_site.specs.Sites.{AfterTurn, AfterDelivery, IsSpentTurn, IsSpentDelivery};
+ghost use Rattle.ivy_session.specs.Places.{place, IsSeated, IsFreshSeat, KeepsSeat};
+ghost use Rattle.ivy_session.specs.Wire.{AfterWire, RefusesString, IsNextOther, pass_after_giving, pass_after_taking};
 
 use crate::wire_turn::WireTurn;
 use ivy_ether::{Ether, Item, Pass, Put, Setup, Wired};
@@ -30,8 +29,6 @@ pub struct Seated<'e, S: Setup, A: Allocator> {
     ether: &'e Ether<S, A>,
     site: Site<A>,
     pass: Pass<Wired<A>>,
-    /// The node that the frame is for which was put back last.
-    returned_to: Option<u8>,
 }
 
 impl<'e, S: Setup, A: Allocator> Model for Seated<'e, S, A> {
@@ -71,12 +68,18 @@ impl<'e, S: Setup, A: Allocator + Copy> Seated<'e, S, A> {
         requires fresh { IsFreshSeat ether.now S.config S.programs site pass }
         ensures { result ≡ place site pass }
     {
-        Seated {
-            ether,
-            site,
-            pass,
-            returned_to: None,
-        }
+        Seated { ether, site, pass }
+    }
+
+    /// What holds of a seated site at every moment. It takes no memory.
+    ///
+    /// The node is what the site's events make of the first one of its program, and the strings that wait were sent by
+    /// them. The list that the pass gave last is a beginning of the site's, and each string that was delivered to the
+    /// site was taken by the pass.
+    pub fn keeps(&self)
+        ensures { KeepsSeat S.config S.programs self.now }
+    {
+        let _ = self.site.event_list();
     }
 
     /// How many records the site's history has.
@@ -100,16 +103,13 @@ impl<'e, S: Setup, A: Allocator + Copy> Seated<'e, S, A> {
         self.site.next_destination()
     }
 
-    /// The node that the frame is for which was put back last, if one was.
-    pub(crate) fn returned_to(&self) -> Option<u8> {
-        self.returned_to
-    }
-
     /// One turn of the site's program [1, 17]. A refused turn changes nothing.
     pub fn program_turn(&mut self) -> Result<Turn, Fault>
         ensures pass { self.new.pass ≡ self.old.pass }
         ensures done { MatchResult result (λ turn. AfterTurn turn self.old.site self.new.site) (λ _. self.new ≡ self.old) }
         ensures ended { IfOk result (λ turn. (turn ≡ Turn.Ended) ↔ HasEnded self.old.site.node.core.process) }
+        ensures waits { IfOk result (λ turn. turn ≡ Turn.Idle → IsSome self.old.site.node.core.memory.asked) }
+        ensures spent { IfErr result (IsSpentTurn self.old.site) }
         ensures want { IfErr result IsWant }
     {
         self.site.program_turn()
@@ -143,70 +143,87 @@ impl<'e, S: Setup, A: Allocator + Copy> Seated<'e, S, A> {
         requires took { Contains self.old.pass.known.took string.now }
         ensures pass { self.new.pass ≡ self.old.pass }
         ensures done { MatchResult result (λ verdict. AfterDelivery string.now verdict self.old.site self.new.site) (λ _. self.new ≡ self.old) }
+        ensures verdict { IfOk result (λ verdict. verdict ≡ verdict_of self.old.site.config self.old.site.node string.now) }
+        ensures refused { MatchResult (checked self.old.site.config string.now) (λ _. IfErr result IsWant) (λ fault. result ≡ Err fault) }
+        ensures spent { IfErr result (IsSpentDelivery self.old.site string.now) }
     {
         self.site.deliver_shared(string)
     }
 
-    /// Puts the first frame that waits, if there is one.
-    fn send_first<R: Wait>(&mut self, rt: &R) -> Option<WireTurn>
-        ensures pass { self.new.pass.ether ≡ self.old.pass.ether }
-        ensures done { MatchOption result ((self.new ≡ self.old) × (self.old.site.waiting ≡ [])) (λ turn. ((turn ≡ WireTurn.Sent) ⊎ (turn ≡ WireTurn.Lost)) × Leaves self.old.site self.new.site) }
+    /// Puts the first frame that waits, if there is one. It says whom the frame is for.
+    fn send_first<R: Wait>(&mut self, rt: &R) -> Option<(WireTurn, Option<u8>)>
+        ensures { MatchOption result ((self.new ≡ self.old) × (self.old.site.waiting ≡ [])) (λ sent. AfterWire sent.0 self.old self.new) }
     {
+        let to = self.site.next_destination();
         let frame = self.site.take_frame()?;
         match self
             .ether
             .put(rt, &mut self.pass, self.site.event_list(), frame)
         {
-            Put::Sent => Some(WireTurn::Sent),
-            Put::Lost(_) => Some(WireTurn::Lost),
+            Put::Sent => Some((WireTurn::Sent, to)),
+            Put::Lost(_) => Some((WireTurn::Lost, to)),
         }
     }
 
     /// Takes an item.
     fn take_item<R: Wait>(&mut self, rt: &R) -> Option<Wired<A>>
         ensures site { self.new.site ≡ self.old.site }
-        ensures took { IfSome result (λ item. (bytes : List ℕ) → Contains (strings_in item) bytes → Contains self.new.pass.known.took bytes) }
+        ensures pass { MatchOption result (self.new.pass ≡ self.old.pass) (λ item. self.new.pass ≡ pass_after_taking self.old item) }
     {
         self.ether.take(rt, &mut self.pass, self.site.event_list())
     }
 
-    /// Puts back a frame that was taken.
-    fn give_back<R: Wait>(&mut self, rt: &R, frame: Bytes<A>) -> WireTurn
+    /// Puts back a frame that was taken. It says whether the ether had a place for it.
+    fn give_back<R: Wait>(&mut self, rt: &R, frame: Bytes<A>) -> bool
         requires took { Contains self.old.pass.known.took frame }
         ensures site { self.new.site ≡ self.old.site }
-        ensures which { (result ≡ WireTurn.Returned) ⊎ (result ≡ WireTurn.Dropped) }
+        ensures pass { MatchBool result (self.new.pass ≡ pass_after_giving self.old) (self.new.pass ≡ self.old.pass) }
     {
-        self.returned_to = destination(frame.bytes());
         match self
             .ether
             .put_back(rt, &mut self.pass, self.site.event_list(), frame)
         {
-            Put::Sent => WireTurn::Returned,
-            Put::Lost(_) => WireTurn::Dropped,
+            Put::Sent => true,
+            Put::Lost(_) => false,
         }
     }
 
     /// One turn on the wire: the first frame that waits is put, else an item is taken, and a frame is served, or put
     /// back where it is for another node [1, 17]. Where it is refused the site is as it was, and the frame is lost.
     pub fn wire_turn<R: Wait>(&mut self, rt: &R) -> Result<WireTurn, Fault>
-        ensures done { MatchResult result (λ turn. AfterWire turn self.old self.new) (λ _. self.new.site ≡ self.old.site) }
+        ensures done { MatchResult result (λ turn. AfterWire turn self.old self.new) (λ fault. RefusesString fault self.old self.new) }
         ensures want { IfErr result IsWant }
     {
-        if let Some(done) = self.send_first(rt) {
-            return Ok(done);
+        let (turn, _) = self.wire_turn_to(rt)?;
+        Ok(turn)
+    }
+
+    /// The same. It also says whom the frame is for that was put, or put back.
+    pub(crate) fn wire_turn_to<R: Wait>(&mut self, rt: &R) -> Result<(WireTurn, Option<u8>), Fault>
+        ensures done { MatchResult result (λ done. AfterWire done.0 self.old self.new) (λ fault. RefusesString fault self.old self.new) }
+        ensures want { IfErr result IsWant }
+    {
+        if let Some(sent) = self.send_first(rt) {
+            return Ok(sent);
         }
         let Some(item) = self.take_item(rt) else {
-            return Ok(WireTurn::Empty);
+            return Ok((WireTurn::Empty, None));
         };
         let Item::Frame(frame) = item else {
-            return Ok(WireTurn::Dropped);
+            return Ok((WireTurn::Dropped, None));
         };
         match self.deliver(&frame) {
-            Ok(Verdict::NotMine) => Ok(self.give_back(rt, frame)),
-            Ok(verdict) => Ok(WireTurn::Served(verdict)),
+            Ok(Verdict::NotMine) => {
+                let to = destination(frame.bytes());
+                if self.give_back(rt, frame) {
+                    return Ok((WireTurn::Returned, to));
+                }
+                Ok((WireTurn::Dropped, to))
+            }
+            Ok(verdict) => Ok((WireTurn::Served(verdict), None)),
             Err(Fault::Memory) => Err(Fault::Memory),
             Err(Fault::NumbersSpent) => Err(Fault::NumbersSpent),
-            Err(_) => Ok(WireTurn::Dropped),
+            Err(_) => Ok((WireTurn::Dropped, None)),
         }
     }
 
@@ -225,12 +242,7 @@ impl<'e, S: Setup, A: Allocator + Copy> Seated<'e, S, A> {
     pub(crate) fn into_parts(self) -> (&'e Ether<S, A>, Site<A>, Pass<Wired<A>>)
         ensures { IsSeated result.0.now S.config S.programs result.1 result.2 }
     {
-        let Seated {
-            ether,
-            site,
-            pass,
-            returned_to: _,
-        } = self;
+        let Seated { ether, site, pass } = self;
         (ether, site, pass)
     }
 }

@@ -89,12 +89,7 @@ impl Pulses {
             self.turns = 0;
             self.last = seated.pulse_next(self.last)?;
         }
-        let first = seated.next_destination();
-        let turn = seated.wire_turn(rt)?;
-        if turn == WireTurn::Returned {
-            return Ok((turn, seated.returned_to()));
-        }
-        Ok((turn, first))
+        seated.wire_turn_to(rt)
     }
 }
 

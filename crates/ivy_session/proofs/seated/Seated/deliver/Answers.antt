@@ -1,5 +1,7 @@
 use Rattle.std.proofs.Common.{sym, subst, ap, ◌∙◌, ◌<◌, ◌≢◌, Contains}
+use Rattle.ivy_model.specs.Config.{IsConfig}
 use Rattle.ivy_session.proofs.Seats.{delivered}
+use Rattle.ivy_session.proofs.WireTurns.{verdict_told}
 use Rattle.ivy_session.proofs.seated.Seated.deliver.Goals as goal
 
 pub invariant_of-self : goal.invariant_of-self
@@ -8,3 +10,11 @@ invariant_of-self g c =
     c.deliver_shared.ensures.done
     (subst (λ p. Contains p.pass.known.took c.args.string.now) (sym c.self.view_is) c.requires.took)
     c.self.invariant
+
+pub returns-clause-verdict : goal.returns-clause-verdict
+returns-clause-verdict g c =
+    rw (← c.self.view_is)
+    (verdict_told c.deliver_shared.result c.args.string.now c.self.inside.site
+    c.deliver_shared.new.self
+    (subst IsConfig (sym c.self.invariant.config) c.self.invariant.limits)
+    c.deliver_shared.ensures.done)

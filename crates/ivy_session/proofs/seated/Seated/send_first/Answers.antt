@@ -1,5 +1,7 @@
 use Rattle.ivy_session.proofs.Seats.{may_give, less_seated, sends_from, put_seated}
+use Rattle.ivy_session.proofs.WireTurns.{put_own, lost_own}
 use Rattle.ivy_session.proofs.seated.Seated.send_first.Goals as goal
+use Rattle.ivy_session.proofs.seated.Seated.send_first.Goals.{in-Sent, in-Lost}
 
 pub put-requires-clause-events : goal.put-requires-clause-events
 put-requires-clause-events g c =
@@ -22,3 +24,18 @@ invariant_of-self-2 g c =
     c.event_list.ensures.is c.put.ensures.pass c.put.ensures.known
     (less_seated g.S.Setup.config g.S.Setup.programs _ c.self.inside.site c.take_frame.new.self
     c.self.inside.pass c.in_ok-frame.ensures.taken.1 c.self.invariant)
+
+pub returns : goal.returns
+returns g c =
+    elim c.match-put.branch [
+      | in-Sent w ↦
+          rw (w.result-is, ← c.self.view_is)
+          (put_own c.self.inside.site c.take_frame.new.self c.self.inside.pass c.put.new.pass _
+          c.in_ok-frame.frame c.in_ok-frame.ensures.taken.0 c.in_ok-frame.ensures.taken.1
+          c.event_list.ensures.is c.put.ensures.pass w.in-Sent.ensures.known)
+      | in-Lost w ↦
+          rw (w.result-is, ← c.self.view_is)
+          (lost_own c.self.inside.site c.take_frame.new.self c.self.inside.pass c.put.new.pass
+          c.in_ok-frame.frame c.in_ok-frame.ensures.taken.0 c.in_ok-frame.ensures.taken.1
+          c.put.ensures.pass w.in-Lost.ensures.known.1)
+    ]
