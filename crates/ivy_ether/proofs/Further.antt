@@ -1,16 +1,16 @@
 -- Lists that go on from the parts of a run are the parts of a run again.
-use Rattle.std.proofs.Common.{◌≡◌, ◌⊎◌, ℕ, ◌<◌, ◌≤◌, List, [], ◌++◌, length, slice_get, Contains, Some, refl, sym, ap, subst, ◌∙◌, inl, inr, arith, append-nil}
+use Rattle.std.proofs.Common.{◌≡◌, ◌⊎◌, ℕ, ◌≤◌, List, [], ◌++◌, length, slice_get, Some, refl, sym, ap, subst, ◌∙◌, inl, inr, arith, append-nil}
 use Rattle.std.proofs.lemmas.Option.{same_Some, slice_get_within}
 use Rattle.ivy_model.specs.declared.Config.{Config}
 use Rattle.ivy_events.specs.Cores.{Core}
 use Rattle.ivy_events.specs.Marks.{Mark}
 use Rattle.ivy_events.specs.Nodes.{Node, Effect, stays}
-use Rattle.ivy_events.specs.Parts.{AllHappen, AllCanBeMade, AreParts, AreMadeByParts, GoOn}
+use Rattle.ivy_events.specs.Parts.{AllHappen, AllCanBeMade, AreParts, GoOn}
 use Rattle.ivy_events.specs.Worlds.{World}
 use Rattle.ivy_events.proofs.GoingOn.{parts_go_on}
 use Rattle.ivy_events.proofs.Parts.{runs_are_their_parts}
 use Rattle.ivy_events.proofs.Splitting.{IsSplit, all-split, same-effect, part-sent}
-use Rattle.ivy_ether.specs.Going.{ListGoesOn, Sends, AreFurther, ListsGoOn}
+use Rattle.ivy_ether.specs.Going.{ListGoesOn, ListsGoOn}
 
 module _ {C : Type 0} (rules : Core C) (c : Config) (opening : World C) where
   -- the events that a list goes on by

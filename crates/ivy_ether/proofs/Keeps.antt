@@ -1,5 +1,5 @@
 -- Each step keeps the rule.
-use Rattle.std.proofs.Common.{◌≡◌, ◌≢◌, ◌⊎◌, inl, inr, ⊎_elim, ℕ, zero, suc, ◌+◌, ◌<◌, ◌==◌, Bool}
+use Rattle.std.proofs.Common.{◌≡◌, ◌≢◌, ◌⊎◌, inl, inr, ℕ, zero, suc, ◌+◌, ◌<◌, ◌==◌, Bool}
 use Rattle.std.proofs.Common.{true, false, true≢false, Option, Some, None, List, [], ◌∷◌, ◌++◌}
 use Rattle.std.proofs.Common.{length, set, Contains, refl, sym, ap, ◌∙◌, subst, arith}
 use Rattle.std.proofs.Common.{if◌then◌else◌, eq-eqb}
@@ -7,7 +7,7 @@ use mathlib.Core.Option.{some, some-injective, some-ne-none}
 use lib.ListN.{get_elem?}
 use Rattle.std.proofs.lemmas.Bool.{cases_eq, ne_eqb}
 use Rattle.std.proofs.lemmas.Option.{none-some, same_Some}
-use Rattle.std.proofs.lemmas.List.Elements.{Contains-append_left, Contains-append_right, Contains-append_cases, Contains-push_cases}
+use Rattle.std.proofs.lemmas.List.Elements.{Contains-append_right, Contains-append_cases, Contains-push_cases}
 use Rattle.crossbeam_queue.specs.Fifo.{Pushes, Pops, Forks, Learns}
 use Rattle.crossbeam_queue.proofs.Lists.{at_set, set_here, set_else, set_again, at_snoc, at_longer}
 use Rattle.ivy_model.specs.declared.Config.{Config}
@@ -19,7 +19,7 @@ use Rattle.ivy_events.specs.Worlds.{World}
 use Rattle.ivy_events.proofs.Splitting.{none-in, can-more}
 use Rattle.ivy_ether.specs.Data.{Item}
 use Rattle.ivy_ether.specs.declared.item.Item.TheVariants.{Seat, Frame, Report}
-use Rattle.ivy_ether.specs.Views.{View, newcomer, beginner, with_events, with_taken, with_report, with_issued, with_seat, with_told}
+use Rattle.ivy_ether.specs.Views.{View, newcomer, beginner, with_put, with_taken, with_report, with_issued, with_seat, with_told}
 use Rattle.ivy_ether.specs.Items.{strings_in, after_seat, view_after_told}
 use Rattle.ivy_ether.specs.Going.{ListGoesOn, Sends, AreFurther}
 use Rattle.ivy_ether.specs.Rule.{total, one_if, is_number, sits, seat_in, times, Reported, FitsRun, FitsItem, RuleHolds, RuleKept, RuleAllows, ListSends, RuleTold}
@@ -84,8 +84,8 @@ off : false ≡ true → ⊥
 off e = true≢false (sym e)
 
 -- what a pass knows after a step with a list
-abbrev gave : View → List Mark → List (List ℕ) → Bool → View
-gave v es took rep = record v { events = es; took = took; reported = rep }
+abbrev gave : View → List Mark → List (List ℕ) → List (List ℕ) → Bool → View
+gave v es took put rep = record v { events = es; took = took; put = put; reported = rep }
 
 -- the lists with this one for node i
 abbrev with_list : (ℕ → List Mark) → ℕ → List Mark → ℕ → List Mark
@@ -123,12 +123,12 @@ module _ {C : Type 0} (rules : Core C) (c : Config) (opening : World C) where
 
   advance : (items : List Item) (views : List View) (starter : ℕ) (issued : List ℕ)
       (parts : ℕ → List Mark) (end : World C) (p : ℕ) (v : View) (es : List Mark)
-      (took : List (List ℕ)) (rep : Bool)
+      (took put : List (List ℕ)) (rep : Bool)
       (k : RuleHolds rules c opening items views starter issued parts end)
       (at : get_elem? views p ≡ some v) (may : RuleAllows rules c opening v es)
       → ((s : List ℕ) → Contains took s → Contains end.sent s)
-      → Advanced views starter issued end p (gave v es took rep) may.node es
-  advance items views starter issued parts end p v es took rep k at may took_sent = record {
+      → Advanced views starter issued end p (gave v es took put rep) may.node es
+  advance items views starter issued parts end p v es took put rep k at may took_sent = record {
     parts = parts_;
     end = law.0;
     run = law.1.run;
@@ -163,7 +163,7 @@ module _ {C : Type 0} (rules : Core C) (c : Config) (opening : World C) where
       i = may.node
 
       w : View
-      w = gave v es took rep
+      w = gave v es took put rep
 
       views' : List View
       views' = set views p w
@@ -228,12 +228,13 @@ module _ {C : Type 0} (rules : Core C) (c : Config) (opening : World C) where
   -- a frame that the events send, or that the pass took, joins
   pub puts : (n p : ℕ) (v : View) (b : List ℕ) (es : List Mark)
       → RuleAllows rules c opening v es → ListSends rules c opening v es b ⊎ Contains v.took b
-      → Pushes (RuleKept rules c opening) n p v (Frame b) (λ w. w ≡ with_events v es)
+      → Pushes (RuleKept rules c opening) n p v (Frame b) (λ w. w ≡ with_put v es (b ∷ []))
   puts n p v b es may from items views room k at =
       let kept = k.4 in
       let mine = kept.fits p v at in
-      let a = advance items views k.0 k.1 k.2 k.3 p v es v.took v.reported kept at may mine.took in
-      let w = with_events v es in
+      let a = advance items views k.0 k.1 k.2 k.3 p v es v.took (v.put ++ b ∷ []) v.reported kept at may
+      mine.took in
+      let w = with_put v es (b ∷ []) in
       let there : Contains a.end.sent b = elim from [
         | inl sends ↦ a.own b (subst (λ i. Sends rules c opening i es b)
             (same_Some sends.node may.node (sym sends.sits ∙ may.sits)) sends.sends)
@@ -279,7 +280,7 @@ module _ {C : Type 0} (rules : Core C) (c : Config) (opening : World C) where
       let kept = k.4 in
       let mine = kept.fits p v at in
       let first = kept.holds x (contains_first x items) in
-      let a = advance (x ∷ items) views k.0 k.1 k.2 k.3 p v es (v.took ++ strings_in x) v.reported
+      let a = advance (x ∷ items) views k.0 k.1 k.2 k.3 p v es (v.took ++ strings_in x) v.put v.reported
       kept at may
       (λ s contained. elim (Contains-append_cases v.took (strings_in x) s contained) [
         | inl was ↦ mine.took s was
@@ -313,7 +314,8 @@ module _ {C : Type 0} (rules : Core C) (c : Config) (opening : World C) where
   reports n p v i es may is items views room k at =
       let kept = k.4 in
       let mine = kept.fits p v at in
-      let a = advance items views k.0 k.1 k.2 k.3 p v es.marks v.took true kept at may mine.took in
+      let a = advance items views k.0 k.1 k.2 k.3 p v es.marks v.took v.put true kept at may
+      mine.took in
       let w = with_report v es.marks in
       let told : Reported (set views p w) i es.marks = record {
         pass = p;

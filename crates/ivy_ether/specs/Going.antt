@@ -1,6 +1,6 @@
 -- Event lists of nodes that go on, and the law that threads rest on: lists that go on from the
 -- parts of a run are the parts of a run again.
-use Rattle.std.specs.Prelude.{◌≡◌, ◌⊎◌, ℕ, ◌<◌, List, [], ◌++◌, length, slice_get, Contains, Some}
+use Rattle.std.specs.Prelude.{◌≡◌, ◌⊎◌, ℕ, List, ◌++◌, length, slice_get, Contains, Some}
 use Rattle.ivy_model.specs.declared.Config.{Config}
 use Rattle.ivy_events.specs.Cores.{Core}
 use Rattle.ivy_events.specs.Marks.{Mark}

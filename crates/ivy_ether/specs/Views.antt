@@ -9,10 +9,11 @@ pub record View : Type 0 where
   pub issued : List ℕ
   pub reports : List (ℕ × List Mark)
   -- of a site's pass: the node whose seat it took, that node's event list, the strings that the
-  -- pass took, and whether it has reported
+  -- pass took, those that it put, and whether it has reported
   pub node : Option ℕ
   pub events : List Mark
   pub took : List (List ℕ)
+  pub put : List (List ℕ)
   pub reported : Bool
 
 -- a pass that is not the starter's, and has taken no seat
@@ -24,6 +25,7 @@ newcomer = record {
   node = None;
   events = [];
   took = [];
+  put = [];
   reported = false;
 }
 
@@ -37,17 +39,17 @@ with_issued v i = record v { issued = v.issued ++ i ∷ [] }
 
 -- a seat is taken
 abbrev pub with_seat : View → ℕ → View
-with_seat v i = record v { node = Some i; events = []; took = []; reported = false }
+with_seat v i = record v { node = Some i; events = []; took = []; put = []; reported = false }
 
--- the pass gave its site's list
-abbrev pub with_events : View → List Mark → View
-with_events v es = record v { events = es }
+-- the pass gave its site's list, and put these strings
+abbrev pub with_put : View → List Mark → List (List ℕ) → View
+with_put v es strings = record v { events = es; put = v.put ++ strings }
 
--- so it did, and took these strings
+-- it gave the list, and took these strings
 abbrev pub with_taken : View → List Mark → List (List ℕ) → View
 with_taken v es strings = record v { events = es; took = v.took ++ strings }
 
--- so it did, as its report
+-- it gave the list, as its report
 abbrev pub with_report : View → List Mark → View
 with_report v es = record v { events = es; reported = true }
 

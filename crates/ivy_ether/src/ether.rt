@@ -3,7 +3,7 @@ ghost use Rattle.std.specs.Prelude.{◌≡◌, ◌⊎◌, ◌<◌, ℕ, List, So
 ghost use Rattle.crossbeam_queue.specs.Passes.{view, IsPassOf};
 ghost use Rattle.ivy_ether.specs.Programs.{MayGive, SendsFrom, Told};
 ghost use Rattle.ivy_ether.specs.Rule.{times};
-ghost use Rattle.ivy_ether.specs.Views.{with_events, with_taken, with_report, with_issued, with_seat, with_told};
+ghost use Rattle.ivy_ether.specs.Views.{with_put, with_taken, with_report, with_issued, with_seat, with_told};
 ghost use Rattle.ivy_ether.specs.Items.{strings_in};
 ghost use Rattle.ivy_ether.specs.Words.{MatchPut, AreFresh};
 
@@ -127,7 +127,7 @@ impl<S: Setup, A: Allocator + Copy> Ether<S, A> {
         requires events { MayGive S.config S.programs pass.old.known E.events }
         requires frame { SendsFrom S.config S.programs pass.old.known E.events frame ⊎ Contains pass.old.known.took frame }
         ensures pass { pass.new.ether ≡ pass.old.ether }
-        ensures known { MatchPut result (pass.new.known ≡ with_events pass.old.known E.events) (λ back. (back ≡ frame) × (pass.new.known ≡ pass.old.known)) }
+        ensures known { MatchPut result (pass.new.known ≡ with_put pass.old.known E.events (frame ∷ [])) (λ back. (back ≡ frame) × (pass.new.known ≡ pass.old.known)) }
     {
         let _ = events;
         match self
@@ -152,7 +152,7 @@ impl<S: Setup, A: Allocator + Copy> Ether<S, A> {
         requires events { MayGive S.config S.programs pass.old.known events.now.marks }
         requires frame { SendsFrom S.config S.programs pass.old.known events.now.marks frame }
         ensures pass { pass.new.ether ≡ pass.old.ether }
-        ensures known { MatchPut result (pass.new.known ≡ with_events pass.old.known events.now.marks) (λ back. (back ≡ frame) × (pass.new.known ≡ pass.old.known)) }
+        ensures known { MatchPut result (pass.new.known ≡ with_put pass.old.known events.now.marks (frame ∷ [])) (λ back. (back ≡ frame) × (pass.new.known ≡ pass.old.known)) }
     {
         self.put_given::<Brand, R>(rt, pass, events, frame)
     }
@@ -169,7 +169,7 @@ impl<S: Setup, A: Allocator + Copy> Ether<S, A> {
         requires events { MayGive S.config S.programs pass.old.known events.now.marks }
         requires frame { Contains pass.old.known.took frame }
         ensures pass { pass.new.ether ≡ pass.old.ether }
-        ensures known { MatchPut result (pass.new.known ≡ with_events pass.old.known events.now.marks) (λ back. (back ≡ frame) × (pass.new.known ≡ pass.old.known)) }
+        ensures known { MatchPut result (pass.new.known ≡ with_put pass.old.known events.now.marks (frame ∷ [])) (λ back. (back ≡ frame) × (pass.new.known ≡ pass.old.known)) }
     {
         self.put_given::<Brand, R>(rt, pass, events, frame)
     }

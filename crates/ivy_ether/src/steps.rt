@@ -24,9 +24,10 @@ pub struct Puts<E: Given>(PhantomData<E>);
 
 impl<E: Given, A: Allocator> Outcome<Wired<A>, View> for Puts<E> {
     ghost use Rattle.std.specs.Prelude.{◌≡◌};
-    ghost use Rattle.ivy_ether.specs.Views.{with_events};
+    ghost use Rattle.ivy_ether.specs.Views.{with_put};
+    ghost use Rattle.ivy_ether.specs.Items.{strings_in};
 
-    ghost then = { λ v x w. w ≡ with_events v E.events };
+    ghost then = { λ v x w. w ≡ with_put v E.events (strings_in x) };
 }
 
 impl<E: Given, A: Allocator> Lesson<Wired<A>, View> for Puts<E> {

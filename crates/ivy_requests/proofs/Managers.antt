@@ -1,5 +1,5 @@
 -- The managers once one of them was told of a change, and whom managing nodes ask then.
-use Rattle.std.proofs.Common.{◌≡◌, ◌≢◌, ◌⊎◌, ◌<◌, ◌%◌, ℕ, Bool, sym, ap, ◌∙◌, subst, inl, inr, if◌then◌else◌, ◌==◌}
+use Rattle.std.proofs.Common.{◌≡◌, ◌≢◌, ◌⊎◌, ℕ, Bool, sym, ap, ◌∙◌, subst, inl, inr, if◌then◌else◌}
 use Rattle.std.proofs.lemmas.Bool.{cases_eq, eq-eqb, ne_eqb}
 use Rattle.ivy_pagetable.specs.Manager.{Ops, KeepsElsewhere}
 use Rattle.ivy_rows.specs.Rows.{with_manager}

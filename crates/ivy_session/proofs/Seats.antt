@@ -1,14 +1,14 @@
 -- A seated site stays seated, and may give its list.
-use Rattle.std.proofs.Common.{◌≡◌, ◌≢◌, ◌⊎◌, ℕ, zero, suc, ◌+◌, ◌<◌, List, [], ◌∷◌, ◌++◌, length}
-use Rattle.std.proofs.Common.{slice_get, Contains, Option, Some, None, true, false, refl, sym, ap}
-use Rattle.std.proofs.Common.{subst, ◌∙◌, inl, inr, arith, append-nil, append_assoc}
-use Rattle.std.specs.Prelude.{IfSome, MatchResult, MatchOption, Result, Ok, Err}
+use Rattle.std.proofs.Common.{◌≡◌, ◌≢◌, ℕ, zero, suc, ◌+◌, ◌<◌, List, [], ◌∷◌, ◌++◌, length}
+use Rattle.std.proofs.Common.{slice_get, Contains, Option, Some, None, refl, sym, ap}
+use Rattle.std.proofs.Common.{subst, ◌∙◌, arith, append-nil, append_assoc}
+use Rattle.std.specs.Prelude.{MatchResult, MatchOption, Result, Ok, Err}
 use Rattle.ivy_model.specs.declared.Fault.{Fault}
 use Rattle.ivy_ether.specs.Data.{Put, Item}
 use Rattle.ivy_ether.specs.Items.{strings_in}
 use Rattle.ivy_ether.specs.Words.{MatchPut}
 use Rattle.ivy_ether.specs.declared.ether.Put.TheVariants.{Sent, Lost}
-use Rattle.std.proofs.lemmas.List.Elements.{Contains-append_left, Contains-append_right, Contains-push}
+use Rattle.std.proofs.lemmas.List.Elements.{Contains-append_left}
 use Rattle.std.proofs.lemmas.Option.{none-some, same_Some}
 use Rattle.atomic_table.specs.Seated.{TableId}
 use Rattle.ivy_model.specs.declared.Config.{Config}
@@ -16,20 +16,20 @@ use Rattle.ivy_model.specs.Config.{IsConfig}
 use Rattle.ivy_program.specs.declared.Instruction.{Instruction}
 use Rattle.ivy_link.specs.declared.Verdict.{Verdict}
 use Rattle.ivy_link.specs.declared.Verdict.TheVariants as verdict
-use Rattle.ivy_events.specs.Marks.{Mark, Turn, Delivery, Pulse}
-use Rattle.ivy_events.specs.Nodes.{Node, Effect, pulsing}
+use Rattle.ivy_events.specs.Marks.{Mark, Turn, Delivery}
+use Rattle.ivy_events.specs.Nodes.{Node, pulsing}
 use Rattle.ivy_events.specs.Parts.{AllHappen, AllCanBeMade, pulse_marks}
 use Rattle.ivy_wire.specs.Data.{Frame}
 use Rattle.ivy_events.proofs.Early.{early-can}
-use Rattle.ivy_events.proofs.Splitting.{can-append, can-more, none-in}
+use Rattle.ivy_events.proofs.Splitting.{can-append, can-more}
 use Rattle.ivy_host.specs.Hosts.{Host, host_rules}
 use Rattle.ivy_host.specs.Managers.{Managed, managed_ops}
 use Rattle.ivy_host.specs.Openings.{first_node, first_nodes}
 use Rattle.ivy_host.proofs.Tame.{first_length}
-use Rattle.ivy_ether.specs.Going.{IsListOf, ListGoesOn, Sends}
+use Rattle.ivy_ether.specs.Going.{IsListOf}
 use Rattle.ivy_ether.specs.Held.{Held, held}
 use Rattle.ivy_ether.specs.Programs.{beginning, MayGive, SendsFrom}
-use Rattle.ivy_ether.specs.Views.{View, newcomer, with_seat, with_events, with_taken}
+use Rattle.ivy_ether.specs.Views.{View, with_put, with_taken}
 use Rattle.ivy_site.specs.declared.turn.Turn as turn
 use Rattle.ivy_site.specs.declared.turn.Turn.TheVariants.{Idle, Moved, Ended}
 use Rattle.ivy_site.specs.Shown.{Shown, after_hearing, after_delivery, after_pulse_to}
@@ -37,7 +37,7 @@ use Rattle.ivy_site.specs.Sites.{first_shown, IsMadeByEvents, IsSentBy, AfterTur
 use Rattle.ivy_site.specs.Sites as sites
 use Rattle.ivy_host.proofs.Programs.{turned-program, posting-core, delivered-program}
 use Rattle.ivy_program.specs.Steps.{HasEnded}
-use Rattle.ivy_session.specs.Places.{HasGiven, IsSeated, IsFreshSeat}
+use Rattle.ivy_session.specs.Places.{IsSeated, IsFreshSeat}
 use Rattle.ivy_session.specs.Reports.{IsDone}
 
 abbrev program_in : Shown → List Instruction
@@ -325,10 +325,11 @@ module _ (c : Config) (programs : List (List Instruction)) where
     took = can-more p.known.took p'.known.took (length programs) s.me s.events g.took h.took;
   }
 
-  pub events_seated : (wire : TableId) (s : Shown) (p p' : Held) (es : List Mark) → es ≡ s.events
-      → p'.ether ≡ p.ether → p'.known ≡ with_events p.known es → IsSeated wire c programs s p
+  pub given_seated : (wire : TableId) (s : Shown) (p p' : Held) (es : List Mark)
+      (strings : List (List ℕ)) → es ≡ s.events → p'.ether ≡ p.ether
+      → p'.known ≡ with_put p.known es strings → IsSeated wire c programs s p
       → IsSeated wire c programs s p'
-  events_seated wire s p p' es is ether known h = gave_seated wire s p p' h (record {
+  given_seated wire s p p' es strings is ether known h = gave_seated wire s p p' h (record {
     ether = ether;
     node = ap (λ (v : View). v.node) known;
     reported = ap (λ (v : View). v.reported) known;
@@ -416,11 +417,11 @@ module _ (c : Config) (programs : List (List Instruction)) where
   -- and those of the ether
   pub put_seated : (wire : TableId) (r : Put) (s : Shown) (p p' : Held) (es : List Mark)
       (frame : List ℕ) → es ≡ s.events → p'.ether ≡ p.ether
-      → MatchPut r (p'.known ≡ with_events p.known es)
+      → MatchPut r (p'.known ≡ with_put p.known es (frame ∷ []))
       (λ back. (back ≡ frame) × (p'.known ≡ p.known))
       → IsSeated wire c programs s p → IsSeated wire c programs s p'
   put_seated wire Sent s p p' es frame is ether known h =
-      events_seated wire s p p' es is ether known h
+      given_seated wire s p p' es (frame ∷ []) is ether known h
   put_seated wire (Lost back) s p p' es frame is ether known h =
       same_seated wire s p p' ether known.1 h
 

@@ -1,5 +1,5 @@
 -- What the starter was told is a report.
-use Rattle.std.proofs.Common.{◌≡◌, ◌≢◌, ℕ, zero, suc, ◌+◌, ◌<◌, ◌≤◌, ◌==◌, All, List, [], ◌∷◌, ◌++◌}
+use Rattle.std.proofs.Common.{◌≡◌, ◌≢◌, ℕ, zero, suc, ◌+◌, ◌≤◌, ◌==◌, All, List, [], ◌∷◌, ◌++◌}
 use Rattle.std.proofs.Common.{length, map, slice_get, Contains, Option, Some, None, ◌⊎◌, refl, sym}
 use Rattle.std.proofs.Common.{ap, subst, ◌∙◌, inl, inr, arith, append-nil}
 use Rattle.std.proofs.lemmas.Bool.{ne_eqb}
@@ -10,7 +10,7 @@ use Rattle.ivy_model.specs.declared.Call.{Call}
 use Rattle.ivy_model.specs.declared.Config.{Config}
 use Rattle.ivy_model.specs.declared.Record.{Record}
 use Rattle.ivy_model.specs.Config.{IsConfig}
-use Rattle.ivy_model.specs.Explains.{Answered, IsOwed, IsExplained, part}
+use Rattle.ivy_model.specs.Explains.{IsOwed, part}
 use Rattle.ivy_program.specs.declared.Instruction.{Instruction}
 use Rattle.ivy_program.specs.Runs.{IsWholeRun}
 use Rattle.ivy_program.specs.Steps.{Asks, Ends, HasEnded, step_of}
@@ -24,7 +24,6 @@ use Rattle.ivy_events.proofs.Parts.{runs_are_their_parts}
 use Rattle.ivy_events.proofs.Splitting.{same-effect}
 use Rattle.ivy_host.specs.Hosts.{Host, host_rules, answered_by}
 use Rattle.ivy_host.specs.Managers.{Managed, managed_ops}
-use Rattle.ivy_host.specs.Holding.{AreRuns}
 use Rattle.ivy_site.specs.Shown.{Shown}
 use Rattle.ivy_headline.proofs.Headline.{exclusive-led, no_breach-led, runs-led, explained-along, sound-led}
 use Rattle.ivy_ether.specs.Programs.{beginning, Told}
@@ -34,7 +33,7 @@ use Rattle.ivy_ether.specs.Rule.{times, one_if}
 use Rattle.ivy_ether.specs.Views.{View, with_told, with_issued, beginner}
 use Rattle.ivy_ether.specs.Words.{IsNewcomer, AreFresh}
 use Rattle.ivy_ether.proofs.Totals.{total-append}
-use Rattle.ivy_session.specs.Reports.{NodeReport, report_of, IsNodeReport, IsDone, ExplainsWhole, IsReport}
+use Rattle.ivy_session.specs.Reports.{NodeReport, report_of, IsNodeReport, IsDone, IsReport}
 use Rattle.ivy_session.specs.Told.{AreTold}
 
 -- the order at the end of a run

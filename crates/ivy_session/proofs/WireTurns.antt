@@ -1,5 +1,5 @@
 -- What a turn on the wire leaves, told by its steps.
-use Rattle.std.proofs.Common.{◌≡◌, ◌≢◌, ℕ, List, [], ◌∷◌, All, Contains, Option, Some, None, refl}
+use Rattle.std.proofs.Common.{◌≡◌, ◌≢◌, ℕ, List, [], ◌∷◌, Contains, Option, Some, None, refl}
 use Rattle.std.proofs.Common.{sym, ap, subst, ◌∙◌, inl, inr}
 use Rattle.std.specs.Prelude.{IfOk, IfErr, MatchOption, MatchResult, Result, Ok, Err}
 use Rattle.std.proofs.lemmas.List.Elements.{All-nil, All-cons, Contains-append_right, Contains-push}
@@ -11,7 +11,6 @@ use Rattle.ivy_model.specs.declared.Fault.TheVariants as fault
 use Rattle.ivy_model.specs.Wants.{IsWant}
 use Rattle.ivy_program.specs.declared.Instruction.{Instruction}
 use Rattle.ivy_wire.specs.declared.FrameKind.{FrameKind}
-use Rattle.ivy_wire.specs.Faults.{checked}
 use Rattle.ivy_wire.proofs.Frames.{spelled_once}
 use Rattle.ivy_link.specs.declared.Verdict.{Verdict}
 use Rattle.ivy_link.specs.declared.Verdict.TheVariants as verdict
@@ -26,9 +25,9 @@ use Rattle.ivy_ether.specs.Data.{Item}
 use Rattle.ivy_ether.specs.declared.item.Item.TheVariants as items
 use Rattle.ivy_ether.specs.Held.{Held, held}
 use Rattle.ivy_ether.specs.Items.{strings_in}
-use Rattle.ivy_ether.specs.Views.{View, with_events, with_taken}
+use Rattle.ivy_ether.specs.Views.{with_put, with_taken}
 use Rattle.ivy_session.specs.Places.{SeatedState, place, IsSeated, KeepsSeat}
-use Rattle.ivy_session.specs.Wire.{pass_after_giving, pass_after_taking, IsForeign, Leaves, Rests, DropsItem}
+use Rattle.ivy_session.specs.Wire.{pass_after_putting, pass_after_taking, IsForeign, Leaves, PutsFirst, Rests, DropsItem}
 
 -- the verdict of a delivery is what the definitions say of the string
 told_verdict : (bytes : List ℕ) (v : Verdict) (s mid : Shown) → IsConfig s.config
@@ -58,14 +57,14 @@ refused_as (Err g) n bytes answer f is same some numbers = refl
 -- a site's own frame is put, or lost
 pub put_own : (s s' : Shown) (p p' : Held) (es : List Mark) (bytes : List ℕ)
     → s.waiting ≡ bytes ∷ s'.waiting → s' ≡ record s { waiting = s'.waiting } → es ≡ s'.events
-    → p'.ether ≡ p.ether → p'.known ≡ with_events p.known es
-    → Leaves s s' × (p' ≡ pass_after_giving (place s p))
+    → p'.ether ≡ p.ether → p'.known ≡ with_put p.known es (bytes ∷ [])
+    → PutsFirst (place s p) (place s' p')
 put_own s s' p p' es bytes waited same is ether known =
-    let gave : p'.known ≡ with_events p.known s.events =
-    known ∙ ap (with_events p.known) (is ∙ ap (λ (x : Shown). x.events) same) in (
-      record { bytes = bytes; waited = waited; same = same },
-      λ k. held (ether k) (gave k),
-    )
+    let put : p'.known ≡ with_put p.known s.events (bytes ∷ []) =
+    known ∙ ap (λ l. with_put p.known l (bytes ∷ [])) (is ∙ ap (λ (x : Shown). x.events) same) in record {
+      first = record { bytes = bytes; waited = waited; same = same };
+      put = λ k. held (ether k) (put k);
+    }
 
 pub lost_own : (s s' : Shown) (p p' : Held) (bytes : List ℕ) → s.waiting ≡ bytes ∷ s'.waiting
     → s' ≡ record s { waiting = s'.waiting } → p'.ether ≡ p.ether → p'.known ≡ p.known
@@ -74,11 +73,13 @@ lost_own s s' p p' bytes waited same ether known =
     (record { bytes = bytes; waited = waited; same = same }, λ k. held (ether k) (known k))
 
 -- another's frame is put back
-pub put_other : (s : Shown) (p p' : Held) (es : List Mark) → es ≡ s.events → p'.ether ≡ p.ether
-    → p'.known ≡ with_events p.known es → p' ≡ pass_after_giving (place s p)
-put_other s p p' es is ether known =
-    let gave : p'.known ≡ with_events p.known s.events = known ∙ ap (with_events p.known) is in
-    (λ k. held (ether k) (gave k))
+pub put_other : (s : Shown) (p p' : Held) (es : List Mark) (bytes : List ℕ) → es ≡ s.events
+    → p'.ether ≡ p.ether → p'.known ≡ with_put p.known es (bytes ∷ [])
+    → p' ≡ pass_after_putting (place s p) bytes
+put_other s p p' es bytes is ether known =
+    let put : p'.known ≡ with_put p.known s.events (bytes ∷ []) =
+    known ∙ ap (λ l. with_put p.known l (bytes ∷ [])) is in
+    (λ k. held (ether k) (put k))
 
 -- or lost
 pub lost_other : (p p' : Held) → p'.ether ≡ p.ether → p'.known ≡ p.known → p' ≡ p

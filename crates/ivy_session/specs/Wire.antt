@@ -10,16 +10,17 @@ use Rattle.ivy_ether.specs.Data.{Item}
 use Rattle.ivy_ether.specs.declared.item.Item.TheVariants.{Frame}
 use Rattle.ivy_ether.specs.Held.{Held, held}
 use Rattle.ivy_ether.specs.Items.{strings_in}
-use Rattle.ivy_ether.specs.Views.{with_events, with_taken}
-use Rattle.ivy_session.specs.Places.{SeatedState}
+use Rattle.ivy_ether.specs.Views.{with_put, with_taken}
+use Rattle.ivy_session.specs.Places.{SeatedState, place}
 use Rattle.ivy_session.specs.declared.wire_turn.WireTurn.{WireTurn}
 use Rattle.ivy_session.specs.declared.wire_turn.WireTurn.TheVariants.{Sent, Lost, Empty, Served, Returned, Dropped}
 
--- the pass once it has given the site's list
-abbrev pub pass_after_giving : SeatedState → Held
-pass_after_giving s = held s.pass.ether (with_events s.pass.known s.site.events)
+-- the pass once it has given the site's list, and put this string
+abbrev pub pass_after_putting : SeatedState → List ℕ → Held
+pass_after_putting s bytes =
+    held s.pass.ether (with_put s.pass.known s.site.events (bytes ∷ []))
 
--- and once it has also taken this item
+-- and once it has given the list, and taken this item
 abbrev pub pass_after_taking : SeatedState → Item → Held
 pass_after_taking s item =
     held s.pass.ether (with_taken s.pass.known s.site.events (strings_in item))
@@ -34,6 +35,11 @@ pub record Leaves (old new : Shown) : Type 0 where
   pub waited : old.waiting ≡ bytes ∷ new.waiting
   pub same : new ≡ record old { waiting = new.waiting }
 
+-- that string is put
+pub record PutsFirst (old new : SeatedState) : Type 0 where
+  pub first : Leaves old.site new.site
+  pub put : new.pass ≡ pass_after_putting old first.bytes
+
 -- nothing waited, and the site is as it was
 abbrev pub Rests : SeatedState → SeatedState → Type 0
 Rests old new = (old.site.waiting ≡ []) × (new.site ≡ old.site)
@@ -46,12 +52,13 @@ pub record ServesString (v : Verdict) (old new : SeatedState) : Type 0 where
   pub mine : v ≢ verdict.NotMine
   pub delivered : AfterDelivery bytes v old.site new.site
 
--- a string that is foreign is taken, and the list given once more, with that string
+-- a string that is foreign is taken, and then put
 pub record ReturnsString (old new : SeatedState) : Type 0 where
   pub rests : Rests old new
   pub bytes : List ℕ
   pub foreign : IsForeign old.site bytes
-  pub took : new.pass ≡ pass_after_taking old (Frame bytes)
+  pub put : new.pass
+      ≡ pass_after_putting (place old.site (pass_after_taking old (Frame bytes))) bytes
 
 -- an item is taken in which no string is for the site's node
 pub record DropsItem (old new : SeatedState) : Type 0 where
@@ -69,7 +76,7 @@ pub record RefusesString (fault : Fault) (old new : SeatedState) : Type 0 where
 
 -- what a turn on the wire changes that came to this
 abbrev pub AfterWire : WireTurn → SeatedState → SeatedState → Type 0
-AfterWire Sent old new = Leaves old.site new.site × (new.pass ≡ pass_after_giving old)
+AfterWire Sent old new = PutsFirst old new
 AfterWire Lost old new = Leaves old.site new.site × (new.pass ≡ old.pass)
 AfterWire Empty old new = Rests old new × (new.pass ≡ old.pass)
 AfterWire (Served v) old new = ServesString v old new

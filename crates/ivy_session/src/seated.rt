@@ -8,7 +8,7 @@ ghost use Rattle.ivy_outbox.specs.Outboxes.{next_dest};
 ghost use Rattle.ivy_site.specs.Shown.{after_pulse_to};
 ghost use Rattle.ivy_site.specs.Sites.{AfterTurn, AfterDelivery, IsSpentTurn, IsSpentDelivery};
 ghost use Rattle.ivy_session.specs.Places.{place, IsSeated, IsFreshSeat, KeepsSeat};
-ghost use Rattle.ivy_session.specs.Wire.{AfterWire, RefusesString, IsNextOther, pass_after_giving, pass_after_taking};
+ghost use Rattle.ivy_session.specs.Wire.{AfterWire, RefusesString, IsNextOther, pass_after_putting, pass_after_taking};
 
 use crate::wire_turn::WireTurn;
 use ivy_ether::{Ether, Item, Pass, Put, Setup, Wired};
@@ -177,7 +177,7 @@ impl<'e, S: Setup, A: Allocator + Copy> Seated<'e, S, A> {
     fn give_back<R: Wait>(&mut self, rt: &R, frame: Bytes<A>) -> bool
         requires took { Contains self.old.pass.known.took frame }
         ensures site { self.new.site ≡ self.old.site }
-        ensures pass { MatchBool result (self.new.pass ≡ pass_after_giving self.old) (self.new.pass ≡ self.old.pass) }
+        ensures pass { MatchBool result (self.new.pass ≡ pass_after_putting self.old frame) (self.new.pass ≡ self.old.pass) }
     {
         match self
             .ether

@@ -1,4 +1,4 @@
-use Rattle.std.proofs.Common.{rules, ◌≡◌, length, sym, ap, ◌∙◌, subst, arith}
+use Rattle.std.proofs.Common.{rules, ◌≡◌, length, sym, subst}
 use Rattle.ivy_ether.specs.Held.{Held}
 use Rattle.ivy_session.specs.Reports.{IsReport}
 use Rattle.ivy_session.specs.Told.{AreTold}

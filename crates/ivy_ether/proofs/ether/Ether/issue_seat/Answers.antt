@@ -1,10 +1,10 @@
-use Rattle.std.proofs.Common.{sym, subst, ap, ◌∙◌}
+use Rattle.std.proofs.Common.{sym, subst}
 use Rattle.crossbeam_queue.specs.Passes.{view}
 use Rattle.ivy_host.specs.Hosts.{host_rules}
 use Rattle.ivy_host.specs.Managers.{managed_ops}
 use Rattle.ivy_ether.specs.Held.{Held}
-use Rattle.ivy_ether.specs.Programs.{beginning, MayGive, SendsFrom}
-use Rattle.std.proofs.Common.{true, length, ◌≡◌, ◌<◌}
+use Rattle.ivy_ether.specs.Programs.{beginning}
+use Rattle.std.proofs.Common.{true, ◌≡◌, ◌<◌}
 use Rattle.ivy_ether.specs.Rule.{times}
 use Rattle.ivy_host.proofs.Tame.{first_length}
 use Rattle.ivy_ether.proofs.Keeps.{issues}

@@ -1,5 +1,3 @@
-use Rattle.std.proofs.Common.{rules, ap, ◌∙◌}
-use Rattle.crossbeam_queue.specs.Passes.{view}
 use Rattle.ivy_host.specs.Hosts.{host_rules}
 use Rattle.ivy_host.specs.Managers.{managed_ops}
 use Rattle.ivy_ether.specs.Programs.{beginning}

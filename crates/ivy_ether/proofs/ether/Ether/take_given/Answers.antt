@@ -1,9 +1,9 @@
-use Rattle.std.proofs.Common.{sym, subst, ap, ◌∙◌}
+use Rattle.std.proofs.Common.{sym, subst}
 use Rattle.crossbeam_queue.specs.Passes.{view}
 use Rattle.ivy_host.specs.Hosts.{host_rules}
 use Rattle.ivy_host.specs.Managers.{managed_ops}
 use Rattle.ivy_ether.specs.Held.{Held}
-use Rattle.ivy_ether.specs.Programs.{beginning, MayGive, SendsFrom}
+use Rattle.ivy_ether.specs.Programs.{beginning, MayGive}
 use Rattle.ivy_ether.proofs.Keeps.{takes}
 use Rattle.ivy_ether.proofs.ether.Ether.take_given.Goals as goal
 

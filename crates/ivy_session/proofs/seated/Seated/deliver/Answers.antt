@@ -1,4 +1,4 @@
-use Rattle.std.proofs.Common.{sym, subst, ap, ◌∙◌, ◌<◌, ◌≢◌, Contains}
+use Rattle.std.proofs.Common.{sym, subst, Contains}
 use Rattle.ivy_model.specs.Config.{IsConfig}
 use Rattle.ivy_session.proofs.Seats.{delivered}
 use Rattle.ivy_session.proofs.WireTurns.{verdict_told}

@@ -13,7 +13,7 @@ returns-clause-pass g c =
     elim c.match-put_back.branch [
       | in-Sent w ↦
           rw (w.result-is, ← c.self.view_is)
-          (put_other c.self.inside.site c.self.inside.pass c.put_back.new.pass _
+          (put_other c.self.inside.site c.self.inside.pass c.put_back.new.pass _ c.args.frame
           c.event_list.ensures.is c.put_back.ensures.pass w.in-Sent.ensures.known)
       | in-Lost w ↦
           rw (w.result-is, ← c.self.view_is)

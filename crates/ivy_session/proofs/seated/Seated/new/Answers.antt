@@ -1,4 +1,3 @@
-use Rattle.std.proofs.Common.{sym, subst, ap, ◌∙◌, ◌<◌, ◌≢◌, Contains}
 use Rattle.ivy_session.proofs.Seats.{fresh_seated}
 use Rattle.ivy_session.proofs.seated.Seated.new.Goals as goal
 

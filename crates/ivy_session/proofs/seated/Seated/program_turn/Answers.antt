@@ -1,4 +1,3 @@
-use Rattle.std.proofs.Common.{sym, subst, ap, ◌∙◌, ◌<◌, ◌≢◌, Contains}
 use Rattle.ivy_session.proofs.Seats.{turned}
 use Rattle.ivy_session.proofs.seated.Seated.program_turn.Goals as goal
 

@@ -1,4 +1,4 @@
-use Rattle.std.proofs.Common.{sym, subst, ap, ◌∙◌, ◌<◌, ◌≢◌, Contains}
+use Rattle.std.proofs.Common.{sym, subst, ◌<◌, ◌≢◌}
 use Rattle.ivy_session.proofs.Seats.{pulsed}
 use Rattle.ivy_session.proofs.seated.Seated.pulse.Goals as goal
 
