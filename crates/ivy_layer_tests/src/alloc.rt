@@ -1,5 +1,6 @@
 //! The heap: least addresses, blocks that end and join, drawn calls beside a plain list of blocks, and
 //! each growth refused in turn.
+use crate::common::{expect_same, expect_same_at};
 use growths::Refusing;
 use ivy_alloc::Heap;
 use ivy_model::{Config, Fault, Kind};
@@ -7,7 +8,6 @@ use rand_core::utils::NextWord;
 use rand_pcg::Lcg64Xsh32;
 use std::alloc::{Allocator, Global};
 use std::process::Abort;
-use std::test::Fail;
 
 /// A heap of one page, from 64 to 127.
 const SMALL: Config = Config {
@@ -24,48 +24,51 @@ const LEAST: u64 = 64;
 
 const END: u64 = 512;
 
-#[test]
-fn least_address(rt: HostRuntime) -> Result<(), Fail> {
-    let mut heap = Heap::new(rt.alloc(), &SMALL)?;
-    assert_eq!(rt; heap.alloc(64), Ok(64));
-    assert_eq!(rt; heap.alloc(1), Err(Fault::NoRoom));
-    assert_eq!(rt; heap.free(64), Ok(()));
-    assert_eq!(rt; heap.free(64), Err(Fault::NotABlock));
-    assert_eq!(rt; heap.alloc(1), Ok(64));
-    assert_eq!(rt; heap.alloc(3), Ok(72));
-    assert_eq!(rt; heap.alloc(0), Err(Fault::ZeroSize));
-    assert_eq!(rt; heap.alloc(u64::MAX), Err(Fault::NoRoom));
-    assert_eq!(rt; heap.alloc(48), Ok(80));
-    assert_eq!(rt; heap.alloc(8), Err(Fault::NoRoom));
-    Ok(())
+/// The smallest heap.
+fn small_heap<A: Allocator + Copy>(rt: &impl Abort, alloc: A) -> Heap<A> {
+    Heap::new(alloc, &SMALL).expect(rt, "memory")
 }
 
 #[test]
-fn blocks_start_where_they_were_given(rt: HostRuntime) -> Result<(), Fail> {
-    let mut heap = Heap::new(rt.alloc(), &SMALL)?;
+fn least_address(rt: HostRuntime) {
+    let mut heap = small_heap(&rt, rt.alloc());
+    expect_same(&rt, heap.alloc(64), Ok(64));
+    expect_same(&rt, heap.alloc(1), Err(Fault::NoRoom));
+    expect_same(&rt, heap.free(64), Ok(()));
+    expect_same(&rt, heap.free(64), Err(Fault::NotABlock));
+    expect_same(&rt, heap.alloc(1), Ok(64));
+    expect_same(&rt, heap.alloc(3), Ok(72));
+    expect_same(&rt, heap.alloc(0), Err(Fault::ZeroSize));
+    expect_same(&rt, heap.alloc(u64::MAX), Err(Fault::NoRoom));
+    expect_same(&rt, heap.alloc(48), Ok(80));
+    expect_same(&rt, heap.alloc(8), Err(Fault::NoRoom));
+}
+
+#[test]
+fn blocks_start_where_they_were_given(rt: HostRuntime) {
+    let mut heap = small_heap(&rt, rt.alloc());
     assert!(rt; !heap.is_block(64));
-    assert_eq!(rt; heap.alloc(16), Ok(64));
+    expect_same(&rt, heap.alloc(16), Ok(64));
     assert!(rt; heap.is_block(64) && !heap.is_block(72));
-    assert_eq!(rt; heap.free(72), Err(Fault::NotABlock));
-    assert_eq!(rt; heap.free(64), Ok(()));
+    expect_same(&rt, heap.free(72), Err(Fault::NotABlock));
+    expect_same(&rt, heap.free(64), Ok(()));
     assert!(rt; !heap.is_block(64));
-    Ok(())
 }
 
 /// Whether the whole heap has room again after blocks that fill it end in this order.
-fn joins_again(alloc: Global, order: [u64; 3]) -> Result<bool, Fail> {
-    let mut heap = Heap::new(alloc, &SMALL)?;
+fn joins_again(rt: &(impl Abort + AllocGlobal), order: [u64; 3]) -> bool {
+    let mut heap = small_heap(rt, rt.alloc());
     for size in [16, 24, 24] {
-        heap.alloc(size)?;
+        heap.alloc(size).expect(rt, "room");
     }
     for addr in order {
-        heap.free(addr)?;
+        heap.free(addr).expect(rt, "a block");
     }
-    Ok(heap.alloc(64)? == 64)
+    heap.alloc(64) == Ok(64)
 }
 
 #[test]
-fn ended_blocks_join(rt: HostRuntime) -> Result<(), Fail> {
+fn ended_blocks_join(rt: HostRuntime) {
     let orders = [
         [64, 80, 104],
         [64, 104, 80],
@@ -75,9 +78,8 @@ fn ended_blocks_join(rt: HostRuntime) -> Result<(), Fail> {
         [104, 80, 64],
     ];
     for order in orders {
-        assert!(rt; joins_again(rt.alloc(), order)?, "{order:?}");
+        assert!(rt; joins_again(&rt, order), "{order:?}");
     }
-    Ok(())
 }
 
 /// A live block of the plain list: its first byte, and the byte after it.
@@ -100,17 +102,17 @@ fn plain_room(blocks: &[Block], size: u64) -> Option<u64> {
 }
 
 /// What a plain list of blocks answers, and the list after it.
-fn plain_alloc(blocks: &mut Vec<Block>, size: u64) -> Result<Result<u64, Fault>, Fail> {
+fn plain_alloc(rt: &impl Abort, blocks: &mut Vec<Block>, size: u64) -> Result<u64, Fault> {
     if size == 0 {
-        return Ok(Err(Fault::ZeroSize));
+        return Err(Fault::ZeroSize);
     }
     let size = (size / 8 + u64::from(size % 8 != 0)).saturating_mul(8);
     let Some(from) = plain_room(blocks, size) else {
-        return Ok(Err(Fault::NoRoom));
+        return Err(Fault::NoRoom);
     };
     let to = from.saturating_add(size);
-    blocks.push(Block { from, to })?;
-    Ok(Ok(from))
+    blocks.push(Block { from, to }).expect(rt, "memory");
+    Ok(from)
 }
 
 fn plain_free(blocks: &mut Vec<Block>, addr: u64) -> Result<(), Fault> {
@@ -124,45 +126,39 @@ fn plain_free(blocks: &mut Vec<Block>, addr: u64) -> Result<(), Fault> {
 /// One drawn call, of the heap and of the plain list of blocks. Sizes are 0 to 63 bytes, addresses
 /// those of the heap's words and of some past it.
 fn drawn_call(
-    rt: &impl Abort,
+    rt: &(impl Abort + AllocGlobal),
     heap: &mut Heap<Global>,
     blocks: &mut Vec<Block>,
     generator: &mut Lcg64Xsh32,
-) -> Result<(), Fail> {
+) {
     let word = u64::from(generator.next_word());
     let drawn = word / 2 % 64;
     if word % 2 == 0 {
-        let plain = plain_alloc(blocks, drawn)?;
-        assert_eq!(rt; heap.alloc(drawn), plain, "alloc {drawn}");
+        let plain = plain_alloc(rt, blocks, drawn);
+        expect_same_at(rt, drawn, heap.alloc(drawn), plain);
     } else {
         let addr = LEAST + 8 * drawn;
         assert!(rt; heap.is_block(addr) == blocks.iter().any(|b| b.from == addr));
         let plain = plain_free(blocks, addr);
-        assert_eq!(rt; heap.free(addr), plain, "free {addr}");
+        expect_same_at(rt, addr, heap.free(addr), plain);
     }
-    Ok(())
 }
 
 #[test]
-fn drawn_calls(rt: HostRuntime) -> Result<(), Fail> {
-    let mut heap = Heap::new(rt.alloc(), &WIDE)?;
+fn drawn_calls(rt: HostRuntime) {
+    let mut heap = Heap::new(rt.alloc(), &WIDE).expect(&rt, "memory");
     let mut blocks = Vec::new(rt.alloc());
     let mut generator = Lcg64Xsh32::new(1, 1);
     for _ in 0..10_000u32 {
-        drawn_call(&rt, &mut heap, &mut blocks, &mut generator)?;
+        drawn_call(&rt, &mut heap, &mut blocks, &mut generator);
     }
-    Ok(())
 }
 
 /// Whether the n-th growth of a call was asked for; then the fault is want of memory.
 fn is_met(rt: &impl Abort, memory: &Refusing<Global>, n: u64, fault: Option<Fault>) -> bool {
     let met = memory.asked(n) >= n;
     memory.refuse(0);
-    assert_eq!(rt;
-        fault,
-        if met { Some(Fault::Memory) } else { None },
-        "growth {n}"
-    );
+    expect_same_at(rt, n, fault, if met { Some(Fault::Memory) } else { None });
     met
 }
 
@@ -173,48 +169,46 @@ fn new_at(rt: &impl Abort, memory: &Refusing<Global>, n: u64) -> bool {
 }
 
 /// The first block is taken with the n-th growth refused; then the heap is as it was.
-fn alloc_at(rt: &impl Abort, memory: &Refusing<Global>, n: u64) -> Result<bool, Fail> {
-    let mut heap = Heap::new(memory, &SMALL)?;
+fn alloc_at(rt: &impl Abort, memory: &Refusing<Global>, n: u64) -> bool {
+    let mut heap = small_heap(rt, memory);
     memory.refuse(n);
     let fault = heap.alloc(8).err();
     let met = is_met(rt, memory, n, fault);
     assert!(rt; heap.is_block(64) != met, "growth {n}");
     if met {
-        assert_eq!(rt; heap.alloc(64), Ok(64), "growth {n}");
+        expect_same_at(rt, n, heap.alloc(64), Ok(64));
     }
-    Ok(met)
+    met
 }
 
 /// Blocks that fill the heap end, and each second one leaves an extent more, with no growth.
 #[test]
-fn ending_a_block_takes_no_memory(rt: HostRuntime) -> Result<(), Fail> {
+fn ending_a_block_takes_no_memory(rt: HostRuntime) {
     let memory = Refusing::new(rt.alloc());
-    let mut heap = Heap::new(&memory, &SMALL)?;
+    let mut heap = small_heap(&rt, &memory);
     for _ in 0..8 {
-        heap.alloc(8)?;
+        heap.alloc(8).expect(&rt, "room");
     }
     memory.refuse(1);
     for addr in [64, 80, 96, 112, 72, 104, 120, 88] {
-        assert_eq!(rt; heap.free(addr), Ok(()));
+        expect_same(&rt, heap.free(addr), Ok(()));
     }
-    assert_eq!(rt; memory.asked(1), 0);
+    expect_same(&rt, memory.asked(1), 0);
     memory.refuse(0);
-    assert_eq!(rt; heap.alloc(64), Ok(64));
-    Ok(())
+    expect_same(&rt, heap.alloc(64), Ok(64));
 }
 
 #[test]
-fn growths_of_a_heap(rt: HostRuntime) -> Result<(), Fail> {
+fn growths_of_a_heap(rt: HostRuntime) {
     let memory = Refusing::new(rt.alloc());
     assert!(rt; new_at(&rt, &memory, 1));
     assert!(rt; !new_at(&rt, &memory, 2));
     let mut refused = 0;
     for n in 1..100 {
-        if !alloc_at(&rt, &memory, n)? {
+        if !alloc_at(&rt, &memory, n) {
             break;
         }
         refused = n;
     }
     assert!(rt; refused > 0 && refused < 99);
-    Ok(())
 }

@@ -2,15 +2,14 @@
 //! bit changed. Each is refused as one that spells no frame, or is the spelling of the frame it is read as.
 ghost use Rattle.std.specs.Prelude.{◌<◌};
 
+use crate::common::{expect_items, expect_same_at};
 use crate::wire::{KINDS_AND_LENGTHS, PAIR, ZEROS, string};
 use ivy_model::{Config, Fault};
 use ivy_wire::{FrameKind, decode, encode};
 use rand_core::utils::NextWord;
 use rand_core::{Rng, SeedableRng};
 use rand_pcg::Lcg64Xsh32;
-use std::alloc::{Allocator, Global};
 use std::process::Abort;
-use std::test::Fail;
 
 /// As many nodes and pages as there can be, so that more strings are frames.
 const WIDE: Config = Config {
@@ -24,49 +23,43 @@ const OF_EACH_KIND: u32 = 5_000;
 
 /// Whether a string is refused as one that spells no frame.
 fn is_misspelled(fault: Fault) -> bool {
-    matches!(fault.number(), 11..=16)
+    (11..=16).contains(&fault.number())
 }
 
 /// Whether the string spells a frame, and then the frame is spelled so. A string that is none is refused with 11 to 16.
-fn is_frame<A: Allocator + Copy>(
-    rt: &impl Abort,
-    alloc: A,
-    config: &Config,
-    bytes: &[u8],
-) -> Result<bool, Fail> {
-    config.check()?;
-    match decode(alloc, config, bytes) {
+fn is_frame(rt: &(impl Abort + AllocGlobal), config: &Config, bytes: &[u8]) -> bool {
+    config.check().expect(rt, "a configuration");
+    match decode(rt.alloc(), config, bytes) {
         Ok(frame) => {
             let lent = frame.lent();
             assert!(rt; lent.fits(config), "{bytes:?}");
-            let spelled = encode(alloc, config, &lent)?;
-            assert_eq!(rt; spelled.as_slice(), bytes);
-            Ok(true)
+            let spelled = encode(rt.alloc(), config, &lent).expect(rt, "memory");
+            expect_items(rt, &spelled, bytes);
+            true
         }
         Err(fault) => {
             assert!(rt; is_misspelled(fault), "{fault} {bytes:?}");
-            Ok(false)
+            false
         }
     }
 }
 
 /// A string of 0 to 200 drawn bytes.
-fn drawn_string<A: Allocator>(alloc: A, generator: &mut Lcg64Xsh32) -> Result<Vec<u8, A>, Fail> {
+fn drawn_string(rt: &(impl Abort + AllocGlobal), generator: &mut Lcg64Xsh32) -> Vec<u8> {
     let len = generator.next_word() % 201;
-    let mut bytes = vec![in alloc; 0; len as usize]?;
+    let mut bytes = vec![in rt.alloc(); 0; len as usize].expect(rt, "memory");
     generator.fill_bytes(&mut bytes);
-    Ok(bytes)
+    bytes
 }
 
 /// Drawn strings are refused as no frames, or they are spellings of frames.
 #[test]
-fn drawn_strings(rt: HostRuntime) -> Result<(), Fail> {
+fn drawn_strings(rt: HostRuntime) {
     let mut generator = Lcg64Xsh32::seed_from_u64(1);
     for _ in 0..100_000u32 {
-        let bytes = drawn_string(rt.alloc(), &mut generator)?;
-        is_frame(&rt, rt.alloc(), &PAIR, &bytes)?;
+        let bytes = drawn_string(&rt, &mut generator);
+        is_frame(&rt, &PAIR, &bytes);
     }
-    Ok(())
 }
 
 /// A drawn byte: half of them are 0, and the others have 1 to 8 bits, so that fields are often in their bounds.
@@ -80,65 +73,59 @@ fn drawn_byte(generator: &mut Lcg64Xsh32) -> u8 {
 }
 
 /// Adds so many drawn bytes.
-fn add_drawn<A: Allocator>(
-    bytes: &mut Vec<u8, A>,
-    count: usize,
-    generator: &mut Lcg64Xsh32,
-) -> Result<(), Fail> {
+fn add_drawn(rt: &impl Abort, bytes: &mut Vec<u8>, count: usize, generator: &mut Lcg64Xsh32) {
     for _ in 0..count {
-        bytes.push(drawn_byte(generator))?;
+        bytes.push(drawn_byte(generator)).expect(rt, "memory");
     }
-    Ok(())
 }
 
 /// A string that begins as a frame of this kind does. Half of them have the length of the kind, and all else is drawn.
-fn drawn_frame<A: Allocator>(
-    alloc: A,
+fn drawn_frame(
+    rt: &(impl Abort + AllocGlobal),
     config: &Config,
     kind: FrameKind,
     generator: &mut Lcg64Xsh32,
-) -> Result<Vec<u8, A>, Fail> {
-    config.check()?;
-    let mut bytes = Vec::new(alloc);
-    bytes.extend_from_slice(&[b'I', b'V', 2, kind.code()])?;
-    add_drawn(&mut bytes, 2, generator)?;
+) -> Vec<u8> {
+    config.check().expect(rt, "a configuration");
+    let head = [b'I', b'V', 2, kind.code()];
+    let mut bytes = Vec::from_slice(rt.alloc(), &head).expect(rt, "memory");
+    add_drawn(rt, &mut bytes, 2, generator);
     let word = generator.next_word();
     if word % 2 == 0 {
         let len = kind.text_len(config);
-        bytes.extend_from_slice(&len.to_be_bytes())?;
-        add_drawn(&mut bytes, 16 + usize::from(len), generator)?;
+        bytes
+            .extend_from_slice(&len.to_be_bytes())
+            .expect(rt, "memory");
+        add_drawn(rt, &mut bytes, 16 + usize::from(len), generator);
     } else {
-        add_drawn(&mut bytes, (word / 2 % 195) as usize, generator)?;
+        add_drawn(rt, &mut bytes, (word / 2 % 195) as usize, generator);
     }
-    Ok(bytes)
+    bytes
 }
 
 /// That of 5,000 drawn strings of this kind some are frames, and some are refused.
-fn check_kind<A: Allocator + Copy>(
-    rt: &impl Abort,
-    alloc: A,
+fn check_kind(
+    rt: &(impl Abort + AllocGlobal),
     config: &Config,
     kind: FrameKind,
     generator: &mut Lcg64Xsh32,
-) -> Result<(), Fail> {
+) {
     let mut frames = 0u32;
     for _ in 0..OF_EACH_KIND {
-        let bytes = drawn_frame(alloc, config, kind, generator)?;
-        frames = frames.saturating_add(u32::from(is_frame(rt, alloc, config, &bytes)?));
+        let bytes = drawn_frame(rt, config, kind, generator);
+        frames = frames.saturating_add(u32::from(is_frame(rt, config, &bytes)));
     }
     assert!(rt; 0 < frames && frames < OF_EACH_KIND, "{kind:?} {frames}");
-    Ok(())
 }
 
 /// Of the drawn strings that begin as messages of a kind do, some are frames and some are refused.
 #[test]
-fn drawn_frames(rt: HostRuntime) -> Result<(), Fail> {
+fn drawn_frames(rt: HostRuntime) {
     let mut generator = Lcg64Xsh32::seed_from_u64(2);
     for (kind, _, _) in &KINDS_AND_LENGTHS[1..] {
-        check_kind(&rt, rt.alloc(), &PAIR, *kind, &mut generator)?;
-        check_kind(&rt, rt.alloc(), &WIDE, *kind, &mut generator)?;
+        check_kind(&rt, &PAIR, *kind, &mut generator);
+        check_kind(&rt, &WIDE, *kind, &mut generator);
     }
-    Ok(())
 }
 
 /// A frame of each kind: its words, and the page after them.
@@ -187,28 +174,21 @@ const FRAMES: [(&str, &[u8]); 11] = [
 ];
 
 /// That the string is a frame, and that each shorter beginning of it is too short.
-fn check_beginnings<A: Allocator + Copy>(
-    rt: &impl Abort,
-    alloc: A,
-    bytes: &[u8],
-) -> Result<(), Fail> {
-    assert!(rt; is_frame(rt, alloc, &PAIR, bytes)?, "{bytes:?}");
-    PAIR.check()?;
+fn check_beginnings(rt: &(impl Abort + AllocGlobal), bytes: &[u8]) {
+    assert!(rt; is_frame(rt, &PAIR, bytes), "{bytes:?}");
+    PAIR.check().expect(rt, "a configuration");
     for len in 0..bytes.len() {
-        let fault = decode(alloc, &PAIR, &bytes[..len]).err();
-        assert_eq!(rt; fault, Some(Fault::ShortFrame), "{len} {bytes:?}");
+        let fault = decode(rt.alloc(), &PAIR, &bytes[..len]).err();
+        expect_same_at(rt, len, fault, Some(Fault::ShortFrame));
     }
-    Ok(())
 }
 
 /// Each shorter beginning of a frame is too short.
 #[test]
-fn beginnings(rt: HostRuntime) -> Result<(), Fail> {
+fn beginnings(rt: HostRuntime) {
     for (words, page) in FRAMES {
-        let bytes = string(rt.alloc(), words, page)?;
-        check_beginnings(&rt, rt.alloc(), &bytes)?;
+        check_beginnings(&rt, &string(&rt, words, page));
     }
-    Ok(())
 }
 
 /// Turns this bit of the byte at this place.
@@ -221,30 +201,23 @@ fn turn_bit(bytes: &mut [u8], place: usize, bit: usize)
 }
 
 /// That of the strings that differ from this one in one bit some are frames, and some are refused.
-fn check_bits<A: Allocator + Copy>(
-    rt: &impl Abort,
-    alloc: A,
-    config: &Config,
-    bytes: &mut [u8],
-) -> Result<(), Fail> {
+fn check_bits(rt: &(impl Abort + AllocGlobal), config: &Config, bytes: &mut [u8]) {
     let mut frames = 0usize;
     let bits = bytes.len().saturating_mul(8);
     for n in 0..bits {
         turn_bit(bytes, n / 8, n % 8);
-        frames = frames.saturating_add(usize::from(is_frame(rt, alloc, config, bytes)?));
+        frames = frames.saturating_add(usize::from(is_frame(rt, config, bytes)));
         turn_bit(bytes, n / 8, n % 8);
     }
     assert!(rt; 0 < frames && frames < bits, "{frames} {bytes:?}");
-    Ok(())
 }
 
 /// Frames with one bit changed are refused as no frames, or they are spellings of other frames.
 #[test]
-fn altered_bits(rt: HostRuntime) -> Result<(), Fail> {
+fn altered_bits(rt: HostRuntime) {
     for (words, page) in FRAMES {
-        let mut bytes = string(rt.alloc(), words, page)?;
-        check_bits(&rt, rt.alloc(), &PAIR, &mut bytes)?;
-        check_bits(&rt, rt.alloc(), &WIDE, &mut bytes)?;
+        let mut bytes = string(&rt, words, page);
+        check_bits(&rt, &PAIR, &mut bytes);
+        check_bits(&rt, &WIDE, &mut bytes);
     }
-    Ok(())
 }

@@ -1,7 +1,7 @@
 //! The flat memory, the order checker, the limits of a configuration and the texts of faults.
+use crate::common::expect_same;
 use ivy_model::{Call, Config, Fault, Kind, Record, Reply, access_refusal, check_order};
-use std::alloc::Global;
-use std::test::Fail;
+use std::process::Abort;
 
 const SMALL: Config = Config {
     nodes: 2,
@@ -10,17 +10,23 @@ const SMALL: Config = Config {
     manager: Kind::Fixed,
 };
 
+/// Whether the smallest memory can make these records, in this order.
+fn is_order(rt: &(impl Abort + AllocGlobal), records: &[Record]) -> bool {
+    check_order(rt.alloc(), &SMALL, records).expect(rt, "memory")
+}
+
 /// Whether node 0 can be answered so by the smallest memory, in this order.
-fn is_legal(alloc: Global, answers: &[(Call, Reply)]) -> Result<bool, Fault> {
-    let mut order = Vec::new(alloc);
+fn is_legal(rt: &(impl Abort + AllocGlobal), answers: &[(Call, Reply)]) -> bool {
+    let mut order = Vec::new(rt.alloc());
     for &(call, reply) in answers {
-        order.push(Record {
+        let record = Record {
             node: 0,
             call,
             reply,
-        })?;
+        };
+        order.push(record).expect(rt, "memory");
     }
-    check_order(alloc, &SMALL, &order)
+    is_order(rt, &order)
 }
 
 fn load(width: u8, addr: u64) -> Call {
@@ -37,6 +43,13 @@ fn swap(width: u8, addr: u64, value: u64) -> Call {
 
 fn alloc(size: u64) -> Call {
     Call::Alloc { size }
+}
+
+/// That each of these configurations is accepted, or refused so.
+fn expect_checked(rt: &impl Abort, configs: &[Config], wanted: Result<(), Fault>) {
+    for config in configs {
+        expect_same(rt, config.check(), wanted);
+    }
 }
 
 #[test]
@@ -57,9 +70,7 @@ fn limits(rt: HostRuntime) {
             ..SMALL
         },
     ];
-    for config in accepted {
-        assert_eq!(rt; config.check(), Ok(()));
-    }
+    expect_checked(&rt, &accepted, Ok(()));
     let refused = [
         Config { nodes: 1, ..SMALL },
         Config { nodes: 33, ..SMALL },
@@ -81,13 +92,24 @@ fn limits(rt: HostRuntime) {
             ..SMALL
         },
     ];
-    for config in refused {
-        assert_eq!(rt; config.check(), Err(Fault::BadConfig));
-    }
+    expect_checked(&rt, &refused, Err(Fault::BadConfig));
+}
+
+/// That the memory, once it has given the answer before, answers a call right by the first reply and
+/// wrong by the second.
+fn expect_answer(
+    rt: &(impl Abort + AllocGlobal),
+    before: (Call, Reply),
+    call: Call,
+    right: Reply,
+    wrong: Reply,
+) {
+    assert!(rt; is_legal(rt, &[before, (call, right)]), "{call:?}");
+    assert!(rt; !is_legal(rt, &[before, (call, wrong)]), "{call:?}");
 }
 
 #[test]
-fn each_call(rt: HostRuntime) -> Result<(), Fail> {
+fn each_call(rt: HostRuntime) {
     let cases = [
         (load(8, 64), Reply::Value(0), Reply::Value(1)),
         (store(8, 64, 7), Reply::Done, Reply::Value(7)),
@@ -100,61 +122,27 @@ fn each_call(rt: HostRuntime) -> Result<(), Fail> {
         (Call::Free { addr: 64 }, Reply::Refused(10), Reply::Done),
     ];
     for (call, right, wrong) in cases {
-        assert!(rt; is_legal(rt.alloc(), &[(call, right)])?, "{call:?}");
-        assert!(rt; !is_legal(rt.alloc(), &[(call, wrong)])?, "{call:?}");
+        assert!(rt; is_legal(&rt, &[(call, right)]), "{call:?}");
+        assert!(rt; !is_legal(&rt, &[(call, wrong)]), "{call:?}");
     }
-    Ok(())
 }
 
 /// What a call changed shows in the one after it.
 #[test]
-fn each_change(rt: HostRuntime) -> Result<(), Fail> {
+fn each_change(rt: HostRuntime) {
+    let stored = (store(8, 64, 7), Reply::Done);
+    expect_answer(&rt, stored, load(8, 64), Reply::Value(7), Reply::Value(0));
+    let advanced = (Call::Advance { k: 0 }, Reply::Done);
+    let count = Call::Count { k: 0 };
+    expect_answer(&rt, advanced, count, Reply::Value(1), Reply::Value(0));
+    let given = (alloc(8), Reply::Value(64));
+    expect_answer(&rt, given, alloc(8), Reply::Value(72), Reply::Value(64));
     let free = Call::Free { addr: 64 };
-    let cases = [
-        (
-            store(8, 64, 7),
-            Reply::Done,
-            load(8, 64),
-            Reply::Value(7),
-            Reply::Value(0),
-        ),
-        (
-            Call::Advance { k: 0 },
-            Reply::Done,
-            Call::Count { k: 0 },
-            Reply::Value(1),
-            Reply::Value(0),
-        ),
-        (
-            alloc(8),
-            Reply::Value(64),
-            alloc(8),
-            Reply::Value(72),
-            Reply::Value(64),
-        ),
-        (
-            alloc(8),
-            Reply::Value(64),
-            free,
-            Reply::Done,
-            Reply::Refused(10),
-        ),
-    ];
-    for (first, answer, next, right, wrong) in cases {
-        assert!(rt;
-            is_legal(rt.alloc(), &[(first, answer), (next, right)])?,
-            "{next:?}"
-        );
-        assert!(rt;
-            !is_legal(rt.alloc(), &[(first, answer), (next, wrong)])?,
-            "{next:?}"
-        );
-    }
-    Ok(())
+    expect_answer(&rt, given, free, Reply::Done, Reply::Refused(10));
 }
 
 #[test]
-fn refused_accesses(rt: HostRuntime) -> Result<(), Fail> {
+fn refused_accesses(rt: HostRuntime) {
     let answers = [
         (load(8, 120), Reply::Value(0)),
         (load(8, 121), Reply::Refused(3)),
@@ -162,18 +150,17 @@ fn refused_accesses(rt: HostRuntime) -> Result<(), Fail> {
         (load(1, 0), Reply::Refused(5)),
         (load(8, 129), Reply::Refused(3)),
     ];
-    assert!(rt; is_legal(rt.alloc(), &answers)?);
-    assert!(rt; !is_legal(rt.alloc(), &[(load(3, 66), Reply::Value(0))])?);
-    assert_eq!(rt; access_refusal(&SMALL, 8, 120), None);
-    assert_eq!(rt; access_refusal(&SMALL, 8, 121), Some(3));
-    assert_eq!(rt; access_refusal(&SMALL, 1, 128), Some(4));
-    assert_eq!(rt; access_refusal(&SMALL, 1, 0), Some(5));
-    assert_eq!(rt; access_refusal(&SMALL, 8, 129), Some(3));
-    Ok(())
+    assert!(rt; is_legal(&rt, &answers));
+    assert!(rt; !is_legal(&rt, &[(load(3, 66), Reply::Value(0))]));
+    expect_same(&rt, access_refusal(&SMALL, 8, 120), None);
+    expect_same(&rt, access_refusal(&SMALL, 8, 121), Some(3));
+    expect_same(&rt, access_refusal(&SMALL, 1, 128), Some(4));
+    expect_same(&rt, access_refusal(&SMALL, 1, 0), Some(5));
+    expect_same(&rt, access_refusal(&SMALL, 8, 129), Some(3));
 }
 
 #[test]
-fn heap(rt: HostRuntime) -> Result<(), Fail> {
+fn heap(rt: HostRuntime) {
     let free = Call::Free { addr: 64 };
     let answers = [
         (alloc(64), Reply::Value(64)),
@@ -185,12 +172,11 @@ fn heap(rt: HostRuntime) -> Result<(), Fail> {
         (alloc(0), Reply::Refused(8)),
         (alloc(18446744073709551615), Reply::Refused(9)),
     ];
-    assert!(rt; is_legal(rt.alloc(), &answers)?);
-    Ok(())
+    assert!(rt; is_legal(&rt, &answers));
 }
 
 #[test]
-fn eventcounts(rt: HostRuntime) -> Result<(), Fail> {
+fn eventcounts(rt: HostRuntime) {
     let reached = |least| Call::Await { k: 0, least };
     let answers = [
         (reached(0), Reply::Value(0)),
@@ -199,39 +185,36 @@ fn eventcounts(rt: HostRuntime) -> Result<(), Fail> {
         (Call::Count { k: 7 }, Reply::Value(0)),
         (Call::Count { k: 8 }, Reply::Refused(6)),
     ];
-    assert!(rt; is_legal(rt.alloc(), &answers)?);
-    assert!(rt; !is_legal(rt.alloc(), &[(reached(1), Reply::Value(0))])?);
-    assert!(rt; !is_legal(rt.alloc(), &[(reached(1), Reply::Refused(6))])?);
-    Ok(())
+    assert!(rt; is_legal(&rt, &answers));
+    assert!(rt; !is_legal(&rt, &[(reached(1), Reply::Value(0))]));
+    assert!(rt; !is_legal(&rt, &[(reached(1), Reply::Refused(6))]));
 }
 
 #[test]
-fn big_endian_widths(rt: HostRuntime) -> Result<(), Fail> {
+fn big_endian_widths(rt: HostRuntime) {
     let answers = [
         (store(1, 64, 258), Reply::Done),
         (load(2, 64), Reply::Value(512)),
         (load(8, 64), Reply::Value(144115188075855872)),
     ];
-    assert!(rt; is_legal(rt.alloc(), &answers)?);
-    Ok(())
+    assert!(rt; is_legal(&rt, &answers));
 }
 
 /// Each swap gives what the one before it put there.
 #[test]
-fn swaps(rt: HostRuntime) -> Result<(), Fail> {
+fn swaps(rt: HostRuntime) {
     let answers = [
         (swap(8, 64, 9), Reply::Value(0)),
         (swap(8, 64, 4), Reply::Value(9)),
         (load(8, 64), Reply::Value(4)),
     ];
-    assert!(rt; is_legal(rt.alloc(), &answers)?);
-    assert!(rt; !is_legal(rt.alloc(), &[answers[0], answers[0]])?);
-    Ok(())
+    assert!(rt; is_legal(&rt, &answers));
+    assert!(rt; !is_legal(&rt, &[answers[0], answers[0]]));
 }
 
 /// A swap of one byte gives that byte, and leaves those beside it as they are.
 #[test]
-fn swap_widths(rt: HostRuntime) -> Result<(), Fail> {
+fn swap_widths(rt: HostRuntime) {
     let answers = [
         (store(8, 64, 258), Reply::Done),
         (swap(1, 71, 511), Reply::Value(2)),
@@ -241,26 +224,24 @@ fn swap_widths(rt: HostRuntime) -> Result<(), Fail> {
         (swap(1, 0, 1), Reply::Refused(5)),
         (load(8, 64), Reply::Value(511)),
     ];
-    assert!(rt; is_legal(rt.alloc(), &answers)?);
-    assert!(rt; !is_legal(rt.alloc(), &[(swap(3, 66, 1), Reply::Value(0))])?);
-    Ok(())
+    assert!(rt; is_legal(&rt, &answers));
+    assert!(rt; !is_legal(&rt, &[(swap(3, 66, 1), Reply::Value(0))]));
 }
 
 #[test]
-fn order_checked(rt: HostRuntime) -> Result<(), Fail> {
+fn order_checked(rt: HostRuntime) {
     let record = |node, call, reply| Record { node, call, reply };
     let first = record(1, load(8, 64), Reply::Value(0));
     let second = record(0, store(8, 64, 7), Reply::Done);
     let fresh = record(1, load(8, 64), Reply::Value(7));
-    assert!(rt; check_order(rt.alloc(), &SMALL, &[first, second, fresh])?);
-    assert!(rt; !check_order(rt.alloc(), &SMALL, &[first, second, first])?);
+    assert!(rt; is_order(&rt, &[first, second, fresh]));
+    assert!(rt; !is_order(&rt, &[first, second, first]));
     let stranger = record(2, load(8, 64), Reply::Value(0));
-    assert!(rt; !check_order(rt.alloc(), &SMALL, &[stranger])?);
-    Ok(())
+    assert!(rt; !is_order(&rt, &[stranger]));
 }
 
 #[test]
-fn texts(rt: HostRuntime) -> Result<(), Fail> {
+fn texts(rt: HostRuntime) {
     let faults = [
         Fault::Memory,
         Fault::BadConfig,
@@ -286,8 +267,8 @@ fn texts(rt: HostRuntime) -> Result<(), Fail> {
     ];
     let mut written = String::new(rt.alloc());
     for (before, fault) in faults.iter().enumerate() {
-        assert_eq!(rt; u64::from(fault.number()), before as u64 + 1);
-        writeln!(written, "{fault}")?;
+        expect_same(&rt, u64::from(fault.number()), before as u64 + 1);
+        writeln!(written, "{fault}").expect(&rt, "memory");
     }
     let texts = "1 Memory
 2 BadConfig
@@ -311,6 +292,5 @@ fn texts(rt: HostRuntime) -> Result<(), Fail> {
 20 ProgramFault line 3
 21 TurnLimit
 ";
-    assert_eq!(rt; written.as_str(), texts);
-    Ok(())
+    expect_same(&rt, written.as_str(), texts);
 }

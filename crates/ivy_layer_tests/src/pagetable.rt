@@ -1,9 +1,14 @@
 //! Sets of nodes, words of a page, the entries of a page table and the messages put off at them.
+ghost use Rattle.std.specs.Prelude.{◌≡◌, length};
+
+use crate::common::{expect_items, expect_same};
 use ivy_model::{Config, Kind};
 use ivy_pagetable::{
     Access, AwaitAcks, AwaitWrite, Entry, Idle, NodeSet, Out, Page, PageTable, PutOff, Request,
     Waiting, Word,
 };
+use std::alloc::Global;
+use std::process::Abort;
 use std::test::Fail;
 
 const CONFIG: Config = Config {
@@ -13,6 +18,14 @@ const CONFIG: Config = Config {
     manager: Kind::Fixed,
 };
 
+/// The table of a node at first. That it has two pages of 128 bytes is proved here once, and not in each test.
+fn first_table(rt: &(impl Abort + AllocGlobal), me: u8) -> PageTable<Global>
+    ensures pages { length result.entries ≡ 2 }
+    ensures sized { result.page_size ≡ 128 }
+{
+    PageTable::new(rt.alloc(), &CONFIG, me).expect(rt, "memory")
+}
+
 #[test]
 fn sets_of_nodes(rt: HostRuntime) {
     let mut set = NodeSet::new();
@@ -21,12 +34,13 @@ fn sets_of_nodes(rt: HostRuntime) {
     set.insert(0);
     set.insert(5);
     set.insert(5);
-    assert_eq!(rt; set.nodes().as_slice(), [0, 5, 7].as_slice());
-    assert!(rt; set.contains(5) && !set.contains(6));
+    expect_items(&rt, set.nodes().as_slice(), &[0, 5, 7]);
+    assert!(rt; set.contains(5));
+    assert!(rt; !set.contains(6));
     let before = set;
     set.remove(5);
     set.remove(6);
-    assert_eq!(rt; set.nodes().as_slice(), [0, 7].as_slice());
+    expect_items(&rt, set.nodes().as_slice(), &[0, 7]);
     assert!(rt; before.contains(5));
 }
 
@@ -36,15 +50,15 @@ fn all_nodes_in_a_set(rt: HostRuntime) {
     for node in 0..8 {
         set.insert(7 - node);
     }
-    assert_eq!(rt; set.nodes().len(), 8);
+    expect_same(&rt, set.nodes().len(), 8);
 }
 
 /// Bit i of the number stands for node i.
 #[test]
 fn sets_as_numbers(rt: HostRuntime) {
     let set = NodeSet::from_bits(0b1000_0010);
-    assert_eq!(rt; set.nodes().as_slice(), [1, 7].as_slice());
-    assert_eq!(rt; set.bits(), 130);
+    expect_items(&rt, set.nodes().as_slice(), &[1, 7]);
+    expect_same(&rt, set.bits(), 130);
 }
 
 #[test]
@@ -59,28 +73,27 @@ fn numbers_have_their_highest_byte_first(rt: HostRuntime) -> Result<(), Fail> {
         width: 2,
         offset: 64,
     };
-    assert_eq!(rt; table.carry_out(1, store), Out::Done);
-    assert_eq!(rt; table.carry_out(1, load), Out::Value(512));
-    assert_eq!(rt; table.carry_out(0, load), Out::Value(0));
+    expect_same(&rt, table.carry_out(1, store), Out::Done);
+    expect_same(&rt, table.carry_out(1, load), Out::Value(512));
+    expect_same(&rt, table.carry_out(0, load), Out::Value(0));
     Ok(())
 }
 
 /// A swap is written, and gives the number that stood there.
 #[test]
-fn swap_of_a_byte(rt: HostRuntime) -> Result<(), Fail> {
-    let mut table = PageTable::new(rt.alloc(), &CONFIG, 0)?;
+fn swap_of_a_byte(rt: HostRuntime) {
+    let mut table = first_table(&rt, 0);
     let swap = Word::Swap {
         width: 1,
         offset: 7,
         value: 511,
     };
     assert!(rt; swap.needs_write());
-    assert_eq!(rt; (swap.width(), swap.offset()), (1, 7));
-    assert_eq!(rt; table.carry_out(1, swap), Out::Value(0));
+    expect_same(&rt, (swap.width(), swap.offset()), (1, 7));
+    expect_same(&rt, table.carry_out(1, swap), Out::Value(0));
     let mut bytes = [1u8; 8];
-    assert_eq!(rt; swap.carry_out(&mut bytes), Out::Value(1));
-    assert_eq!(rt; bytes, [1, 1, 1, 1, 1, 1, 1, 255]);
-    Ok(())
+    expect_same(&rt, swap.carry_out(&mut bytes), Out::Value(1));
+    expect_same(&rt, bytes, [1, 1, 1, 1, 1, 1, 1, 255]);
 }
 
 /// The number that stands where a word is to be stored.
@@ -93,7 +106,7 @@ fn number_of_a_word(rt: HostRuntime) -> Result<(), Fail> {
         offset: 64,
         value: 3,
     };
-    assert_eq!(rt; table.number(1, store), 257);
+    expect_same(&rt, table.number(1, store), 257);
     Ok(())
 }
 
@@ -104,100 +117,117 @@ fn eventcounts(rt: HostRuntime) {
         offset: 8,
         least: 1,
     };
-    assert_eq!(rt; least.carry_out(&mut bytes), Out::NotYet);
-    assert_eq!(rt;
+    expect_same(&rt, least.carry_out(&mut bytes), Out::NotYet);
+    expect_same(
+        &rt,
         Word::Advance { offset: 8 }.carry_out(&mut bytes),
-        Out::Done
+        Out::Done,
     );
-    assert_eq!(rt; least.carry_out(&mut bytes), Out::Value(1));
-    assert_eq!(rt; (least.width(), least.offset()), (8, 8));
+    expect_same(&rt, least.carry_out(&mut bytes), Out::Value(1));
+    expect_same(&rt, (least.width(), least.offset()), (8, 8));
 }
 
 #[test]
 fn greatest_eventcount(rt: HostRuntime) {
     let mut bytes = [255u8; 64];
-    assert_eq!(rt;
+    expect_same(
+        &rt,
         Word::Advance { offset: 8 }.carry_out(&mut bytes),
-        Out::Full
+        Out::Full,
     );
-    assert_eq!(rt;
+    expect_same(
+        &rt,
         Word::Count { offset: 8 }.carry_out(&mut bytes),
-        Out::Value(u64::MAX)
+        Out::Value(u64::MAX),
     );
 }
 
 #[test]
-fn page_of_a_table(rt: HostRuntime) -> Result<(), Fail> {
-    let mut table = PageTable::new(rt.alloc(), &CONFIG, 0)?;
+fn page_of_a_table(rt: HostRuntime) {
+    let mut table = first_table(&rt, 0);
     table.install(0, [7u8; 128].as_slice());
-    assert_eq!(rt; table.page(0), [7u8; 128].as_slice());
-    assert_eq!(rt; table.page(1), [0u8; 128].as_slice());
-    Ok(())
+    expect_items(&rt, table.page(0), &[7u8; 128]);
+    expect_items(&rt, table.page(1), &[0u8; 128]);
 }
 
 /// A page comes with a word carried out on it already, and the pages beside it stay.
 #[test]
-fn page_installed_from_a_spare_one(rt: HostRuntime) -> Result<(), Fail> {
-    let mut table = PageTable::new(rt.alloc(), &CONFIG, 0)?;
+fn page_installed_from_a_spare_one(rt: HostRuntime) {
+    let mut table = first_table(&rt, 0);
     table.install(1, [7u8; 128].as_slice());
-    let mut spare = Page::zeros(rt.alloc(), 128)?;
+    let mut spare = Page::zeros(rt.alloc(), 128).expect(&rt, "memory");
     spare.copy_from([1u8; 128].as_slice());
     let store = Word::Store {
         width: 1,
         offset: 64,
         value: 9,
     };
-    assert_eq!(rt; spare.carry_out(store), Out::Done);
+    expect_same(&rt, spare.carry_out(store), Out::Done);
     table.install(1, spare.bytes());
-    assert_eq!(rt; (table.page(1)[63], table.page(1)[64]), (1, 9));
-    assert_eq!(rt; table.page(0), [0u8; 128].as_slice());
-    Ok(())
+    let page = table.page(1);
+    expect_same(&rt, (page[63], page[64]), (1, 9));
+    expect_items(&rt, table.page(0), &[0u8; 128]);
 }
 
 #[test]
-fn byte_of_a_page_written(rt: HostRuntime) -> Result<(), Fail> {
-    let mut table = PageTable::new(rt.alloc(), &CONFIG, 0)?;
+fn byte_of_a_page_written(rt: HostRuntime) {
+    let mut table = first_table(&rt, 0);
     table.page_mut(1)[3] = 9;
-    assert_eq!(rt; table.page(1)[3], 9);
-    Ok(())
+    expect_same(&rt, table.page(1)[3], 9);
 }
 
 /// All pages are one slice, in order.
 #[test]
-fn bytes_of_all_pages(rt: HostRuntime) -> Result<(), Fail> {
-    let mut table = PageTable::new(rt.alloc(), &CONFIG, 0)?;
+fn bytes_of_all_pages(rt: HostRuntime) {
+    let mut table = first_table(&rt, 0);
     table.install(0, [7u8; 128].as_slice());
     table.install(1, [9u8; 128].as_slice());
     let bytes = table.bytes();
-    assert_eq!(rt; bytes.len(), 256);
-    assert_eq!(rt; (bytes[127], bytes[128]), (7, 9));
-    Ok(())
+    expect_same(&rt, bytes.len(), 256);
+    expect_same(&rt, (bytes[127], bytes[128]), (7, 9));
 }
 
 #[test]
-fn first_entries_of_nodes(rt: HostRuntime) -> Result<(), Fail> {
-    let owner = PageTable::new(rt.alloc(), &CONFIG, 0)?;
-    let other = PageTable::new(rt.alloc(), &CONFIG, 3)?;
-    assert!(rt; owner.entry(1).is_owner() && owner.entry(1).writable());
-    assert!(rt; !other.entry(1).is_owner() && !other.entry(1).readable());
+fn first_entries_of_nodes(rt: HostRuntime) {
+    let owner = first_table(&rt, 0);
+    let other = first_table(&rt, 3);
     assert!(rt; !owner.entry(0).is_locked());
-    Ok(())
+    let owned = owner.entry(1);
+    assert!(rt; owned.is_owner());
+    assert!(rt; owned.writable());
+    let absent = other.entry(1);
+    assert!(rt; !absent.is_owner());
+    assert!(rt; !absent.readable());
 }
 
 #[test]
-fn reader_of_an_owned_page(rt: HostRuntime) -> Result<(), Fail> {
-    let mut table = PageTable::new(rt.alloc(), &CONFIG, 0)?;
+fn reader_of_an_owned_page(rt: HostRuntime) {
+    let mut table = first_table(&rt, 0);
     let shared = Idle::owned().with_reader(2).with_reader(1);
-    assert_eq!(rt; shared.copies().nodes().as_slice(), [1, 2].as_slice());
+    expect_items(&rt, shared.copies().nodes().as_slice(), &[1, 2]);
     table.set_entry(0, Entry::Idle(shared));
-    assert!(rt; table.entry(0).is_owner() && table.entry(0).readable());
-    assert!(rt; !table.entry(0).writable() && table.entry(1).writable());
-    Ok(())
+    let entry = table.entry(0);
+    assert!(rt; entry.is_owner());
+    assert!(rt; entry.readable());
+    assert!(rt; !entry.writable());
+    assert!(rt; table.entry(1).writable());
+}
+
+/// That an entry waits to read, for this call, and that these messages are put off there, in order.
+fn expect_put_off(rt: &impl Abort, entry: &Entry, word: Word, call: u64, messages: &[PutOff]) {
+    let Entry::AwaitRead(waiting) = entry else {
+        panic!(rt; "no word waits to read");
+    };
+    expect_items(rt, waiting.put_offs(), messages);
+    let copied = waiting.copied();
+    expect_items(rt, copied.put_offs(), messages);
+    expect_same(rt, (waiting.word(), waiting.call()), (word, call));
+    assert!(rt; !waiting.is_full());
 }
 
 #[test]
-fn messages_are_put_off_in_order(rt: HostRuntime) -> Result<(), Fail> {
-    let mut table = PageTable::new(rt.alloc(), &CONFIG, 1)?;
+fn messages_are_put_off_in_order(rt: HostRuntime) {
+    let mut table = first_table(&rt, 1);
     let word = Word::Count { offset: 0 };
     let first = PutOff {
         kind: Request::Invalidate,
@@ -211,26 +241,21 @@ fn messages_are_put_off_in_order(rt: HostRuntime) -> Result<(), Fail> {
     };
     assert!(rt; !table.put_off(0, first));
     table.set_entry(0, Entry::AwaitRead(Waiting::new(word, 9)));
-    assert!(rt; table.put_off(0, first) && table.put_off(0, second));
-    assert!(rt; table.entry(0).is_locked() && !table.entry(0).readable());
-    match table.entry(0) {
-        Entry::AwaitRead(waiting) => {
-            assert_eq!(rt; waiting.put_offs(), [first, second].as_slice());
-            assert_eq!(rt; waiting.copied().put_offs(), [first, second].as_slice());
-            assert_eq!(rt; (waiting.word(), waiting.call()), (word, 9));
-            assert!(rt; !waiting.is_full());
-        }
-        _ => assert!(rt; false),
-    }
-    Ok(())
+    assert!(rt; table.put_off(0, first));
+    assert!(rt; table.put_off(0, second));
+    let entry = table.entry(0);
+    assert!(rt; entry.is_locked());
+    assert!(rt; !entry.readable());
+    expect_put_off(&rt, entry, word, 9, &[first, second]);
 }
 
 /// Thirty-two messages can be put off at a locked entry, and no further one.
 #[test]
-fn thirty_two_are_put_off(rt: HostRuntime) -> Result<(), Fail> {
-    let mut table = PageTable::new(rt.alloc(), &CONFIG, 1)?;
+fn thirty_two_are_put_off(rt: HostRuntime) {
+    let mut table = first_table(&rt, 1);
     let word = Word::Advance { offset: 8 };
-    assert!(rt; word.needs_write() && !Word::Count { offset: 8 }.needs_write());
+    assert!(rt; word.needs_write());
+    assert!(rt; !Word::Count { offset: 8 }.needs_write());
     let message = PutOff {
         kind: Request::Write,
         origin: 2,
@@ -242,37 +267,40 @@ fn thirty_two_are_put_off(rt: HostRuntime) -> Result<(), Fail> {
         waiting.put_off(message);
     }
     let state = AwaitWrite::new(true, waiting);
-    assert!(rt; state.had_copy() && state.waiting().is_full());
+    assert!(rt; state.had_copy());
+    assert!(rt; state.waiting().is_full());
     table.set_entry(1, Entry::AwaitWrite(state));
-    assert!(rt; table.entry(1).readable() && !table.entry(1).is_owner());
+    let entry = table.entry(1);
+    assert!(rt; entry.readable());
+    assert!(rt; !entry.is_owner());
     assert!(rt; !table.put_off(1, message));
-    Ok(())
 }
 
 /// An owner that waits for acknowledgements reads its page, and does not write it yet.
 #[test]
-fn acknowledgements_are_missing(rt: HostRuntime) -> Result<(), Fail> {
-    let mut table = PageTable::new(rt.alloc(), &CONFIG, 1)?;
+fn acknowledgements_are_missing(rt: HostRuntime) {
+    let mut table = first_table(&rt, 1);
     let mut copies = NodeSet::new();
     copies.insert(3);
-    if copies.is_empty() {
-        return Err("no node is left".into());
-    }
+    assert!(rt; !copies.is_empty());
     let state = AwaitAcks::new(copies, Waiting::new(Word::Advance { offset: 8 }, 3));
-    assert_eq!(rt; state.left().nodes().as_slice(), [3].as_slice());
-    assert_eq!(rt; state.waiting().call(), 3);
+    expect_items(&rt, state.left().nodes().as_slice(), &[3]);
+    expect_same(&rt, state.waiting().call(), 3);
     let entry = Entry::AwaitAcks(state);
-    assert!(rt; entry.is_locked() && entry.is_owner());
-    assert!(rt; entry.readable() && !entry.writable());
+    assert!(rt; entry.is_locked());
+    assert!(rt; entry.is_owner());
+    assert!(rt; entry.readable());
+    assert!(rt; !entry.writable());
     table.set_entry(0, entry);
     assert!(rt; table.entry(0).is_locked());
-    Ok(())
 }
 
 /// A copy is read, and its holder is no owner.
 #[test]
 fn copy_of_another_node(rt: HostRuntime) {
     let copy = Idle::plain(Access::Read);
-    assert!(rt; copy.access().reads() && !copy.access().writes());
-    assert!(rt; !copy.is_owner() && copy.copies().is_empty());
+    assert!(rt; copy.access().reads());
+    assert!(rt; !copy.access().writes());
+    assert!(rt; !copy.is_owner());
+    assert!(rt; copy.copies().is_empty());
 }

@@ -1,23 +1,31 @@
 //! The texts of programs, and the machine that carries one out.
+use crate::common::{expect_items, expect_same, expect_same_at};
 use growths::Refusing;
 use ivy_model::{Call, Fault, Reply};
 use ivy_program::{
     Instruction, Machine, Next, Operation, Register, Width, parse, parse_number, words_of,
 };
-use std::alloc::{Allocator, Global};
-use std::test::Fail;
+use std::alloc::Global;
+use std::process::Abort;
 
 /// The line at fault, or 0 where the text is in order.
-fn line_at_fault(rt: HostRuntime, text: &str) -> u64 {
-    match parse(rt.alloc(), text) {
-        Err(Fault::ProgramFault(line)) => line,
+fn line_at_fault(rt: &impl AllocGlobal, text: &str) -> u64 {
+    match parse(rt.alloc(), text).err() {
+        Some(Fault::ProgramFault(line)) => line,
         _ => 0,
     }
 }
 
+/// That each of these texts has its line at fault, or is in order where that is 0.
+fn expect_faults(rt: &(impl Abort + AllocGlobal), rows: &[(&str, u64)]) {
+    for &(text, line) in rows {
+        expect_same_at(rt, text, line_at_fault(rt, text), line);
+    }
+}
+
 #[test]
-fn bad_program_text(rt: HostRuntime) -> Result<(), Fail> {
-    for (text, line) in [
+fn bad_program_text(rt: HostRuntime) {
+    let rows = [
         ("node 0\nset r16 1\n", 2),
         ("set r1 1\nnode 0\n", 1),
         ("node 1\n", 1),
@@ -36,16 +44,22 @@ fn bad_program_text(rt: HostRuntime) -> Result<(), Fail> {
         ("node 0\nadd r1 r2 16", 2),
         ("node 0\nprint r01", 2),
         ("node 0\nstatus 1", 2),
-    ] {
-        assert_eq!(rt; line_at_fault(rt, text), line, "{text}");
+    ];
+    expect_faults(&rt, &rows);
+}
+
+/// That a program that has one of these lines alone is at fault there.
+fn expect_at_fault(rt: &(impl Abort + AllocGlobal), lines: &[&str]) {
+    for line in lines {
+        let text = format!(in rt.alloc(); "node 0\n{line}\n").expect(rt, "memory");
+        expect_same_at(rt, line, line_at_fault(rt, text.as_str()), 2);
     }
-    Ok(())
 }
 
 /// A line of a call has all its words and no more, and each is a register, but for the width.
 #[test]
-fn calls_at_fault(rt: HostRuntime) -> Result<(), Fail> {
-    for line in [
+fn calls_at_fault(rt: HostRuntime) {
+    let lines = [
         "load 3 r1 r2",
         "load r1 r2",
         "store 3 r1 r2",
@@ -77,11 +91,8 @@ fn calls_at_fault(rt: HostRuntime) -> Result<(), Fail> {
         "free r16",
         "free 64",
         "free r1 r2",
-    ] {
-        let text = format!(in rt.alloc(); "node 0\n{line}\n")?;
-        assert_eq!(rt; line_at_fault(rt, text.as_str()), 2, "{line}");
-    }
-    Ok(())
+    ];
+    expect_at_fault(&rt, &lines);
 }
 
 /// Programs with a line of each kind.
@@ -110,42 +121,46 @@ const EACH_KIND: [&str; 21] = [
 ];
 
 /// The line at fault where the line at this place has a word too many, or 0 where there is none.
-fn fault_beside(rt: HostRuntime, lines: &[&str], at: usize) -> Result<u64, Fail> {
+fn fault_beside(rt: &(impl Abort + AllocGlobal), lines: &[&str], at: usize) -> u64 {
     let mut text = String::new(rt.alloc());
     for (place, line) in lines.iter().enumerate() {
-        text.push_str(line)?;
-        text.push_str(if place == at { " more\n" } else { "\n" })?;
+        text.push_str(line).expect(rt, "memory");
+        let end = if place == at { " more\n" } else { "\n" };
+        text.push_str(end).expect(rt, "memory");
     }
-    Ok(line_at_fault(rt, text.as_str()))
+    line_at_fault(rt, text.as_str())
+}
+
+/// That each line, and then none, has a word too many: the lines at fault are then these.
+fn expect_faults_beside(rt: &(impl Abort + AllocGlobal), lines: &[&str], numbers: &[u64]) {
+    expect_same(rt, numbers.len(), lines.len().saturating_add(1));
+    for (at, number) in numbers.iter().enumerate() {
+        expect_same_at(rt, at, fault_beside(rt, lines, at), *number);
+    }
 }
 
 #[test]
-fn each_line_at_fault(rt: HostRuntime) -> Result<(), Fail> {
-    for (at, line) in EACH_KIND.iter().enumerate() {
-        let number = fault_beside(rt, &EACH_KIND, at)?;
-        assert_eq!(rt; number, at as u64 + 1, "{line}");
-    }
-    assert_eq!(rt; fault_beside(rt, &EACH_KIND, EACH_KIND.len())?, 0);
-    Ok(())
+fn each_line_at_fault(rt: HostRuntime) {
+    let numbers = [
+        1, 2, 3, 4, 5, 6, 7, 8, 9, 10, 11, 12, 13, 14, 15, 16, 17, 18, 19, 20, 21, 0,
+    ];
+    expect_faults_beside(&rt, &EACH_KIND, &numbers);
 }
 
 /// The third line jumps to a name of the next program alone, and its fault is named unless an earlier
 /// line has one. A faulty `node` line starts no program, so the name is then of the same program.
 #[test]
-fn unknown_jump_beside_a_fault(rt: HostRuntime) -> Result<(), Fail> {
+fn unknown_jump_beside_a_fault(rt: HostRuntime) {
     let lines = [
         "node 0", "print r1", "jump a", "print r1", "node 1", "label a",
     ];
-    for (at, number) in [1, 2, 3, 3, 5, 3, 3].iter().enumerate() {
-        assert_eq!(rt; fault_beside(rt, &lines, at)?, *number, "{at}");
-    }
-    Ok(())
+    expect_faults_beside(&rt, &lines, &[1, 2, 3, 3, 5, 3, 3]);
 }
 
 /// A label has one place in its own program, and each jump goes to one.
 #[test]
 fn labels_at_fault(rt: HostRuntime) {
-    for (text, line) in [
+    let rows = [
         ("node 0\nlabel a\njump b\n", 3),
         ("node 0\njump b\nbogus\n", 2),
         ("node 0\njump b\nbogus\nlabel b\n", 3),
@@ -165,91 +180,108 @@ fn labels_at_fault(rt: HostRuntime) {
         ("node 0\njump\n", 2),
         ("node 0\nlabel a\nnode 1\nlabel a\njump a\n", 0),
         ("node 0\njump abcdefghij123456\nlabel abcdefghij123456\n", 0),
-    ] {
-        assert_eq!(rt; line_at_fault(rt, text), line, "{text}");
+    ];
+    expect_faults(&rt, &rows);
+}
+
+/// The register of this number, which is below 16.
+fn register(rt: &impl Abort, number: u8) -> Register {
+    Register::new(number).expect(rt, "a register")
+}
+
+/// That a text has as many programs as there are lists here, and each the instructions of its list.
+fn expect_programs(rt: &(impl Abort + AllocGlobal), text: &str, wanted: &[&[Instruction]]) {
+    let programs = parse(rt.alloc(), text).expect(rt, text);
+    expect_same(rt, programs.len(), wanted.len());
+    for (program, lines) in programs.iter().zip(wanted) {
+        expect_items(rt, program.instructions(), lines);
     }
 }
 
 /// One name is a label of each of two programs, at a place of its own.
 #[test]
-fn labels_of_one_name(rt: HostRuntime) -> Result<(), Fail> {
+fn labels_of_one_name(rt: HostRuntime) {
     let text = "node 0\nlabel a\njump a\nnode 1\nprint r0\njump a\nlabel a\n";
-    let programs = parse(rt.alloc(), text)?;
-    assert_eq!(rt; programs.len(), 2);
-    let jump = |place| Instruction::Jump { place };
+    let first = [Instruction::Jump { place: 0 }];
     let print = Instruction::Print {
-        from: Register::new(0).ok_or("no register")?,
+        from: register(&rt, 0),
     };
-    assert_eq!(rt; programs[0].instructions(), [jump(0)].as_slice());
-    assert_eq!(rt; programs[1].instructions(), [print, jump(2)].as_slice());
-    Ok(())
+    let second = [print, Instruction::Jump { place: 2 }];
+    expect_programs(&rt, text, &[&first, &second]);
 }
 
 #[test]
-fn texts_in_order(rt: HostRuntime) -> Result<(), Fail> {
-    assert_eq!(rt; parse(rt.alloc(), "")?.len(), 0);
+fn texts_in_order(rt: HostRuntime) {
+    expect_programs(&rt, "", &[]);
     let text =
         "# two programs\r\n\r\n \tnode 0# one\r\nset\tr15  18446744073709551615 \nnode 1\nnode 2";
-    let programs = parse(rt.alloc(), text)?;
-    assert_eq!(rt; programs.len(), 3);
     let all_ones = Instruction::Set {
-        to: Register::new(15).ok_or("no register")?,
+        to: register(&rt, 15),
         value: u64::MAX,
     };
-    assert_eq!(rt; programs[0].instructions(), [all_ones].as_slice());
-    assert_eq!(rt; programs[1].instructions().len(), 0);
-    Ok(())
+    expect_programs(&rt, text, &[&[all_ones], &[], &[]]);
 }
 
 #[test]
-fn lines_of_calls(rt: HostRuntime) -> Result<(), Fail> {
+fn lines_of_calls(rt: HostRuntime) {
     let text = "node 0\ncount r1 r2\nadvance r3\nawait r4 r5 r15\nalloc r6 r7\nfree r8\n";
-    let mut programs = parse(rt.alloc(), text)?;
-    let program = programs.pop().ok_or("no program")?;
-    let register = |number| Register::new(number).ok_or("no register");
     let lines = [
         Instruction::Count {
-            to: register(1)?,
-            count: register(2)?,
+            to: register(&rt, 1),
+            count: register(&rt, 2),
         },
         Instruction::Advance {
-            count: register(3)?,
+            count: register(&rt, 3),
         },
         Instruction::Await {
-            to: register(4)?,
-            count: register(5)?,
-            least: register(15)?,
+            to: register(&rt, 4),
+            count: register(&rt, 5),
+            least: register(&rt, 15),
         },
         Instruction::Alloc {
-            to: register(6)?,
-            size: register(7)?,
+            to: register(&rt, 6),
+            size: register(&rt, 7),
         },
-        Instruction::Free { addr: register(8)? },
+        Instruction::Free {
+            addr: register(&rt, 8),
+        },
     ];
-    assert_eq!(rt; program.instructions(), lines.as_slice());
-    Ok(())
+    expect_programs(&rt, text, &[&lines]);
+}
+
+/// How many programs a text in order has.
+fn count_of_programs(rt: &(impl Abort + AllocGlobal), text: &str) -> usize {
+    parse(rt.alloc(), text).expect(rt, "a text in order").len()
+}
+
+/// A text that starts so many programs.
+fn nodes(rt: &(impl Abort + AllocGlobal), count: u64) -> String {
+    let mut text = String::new(rt.alloc());
+    for node in 0..count {
+        let line = format!(in rt.alloc(); "node {node}\n").expect(rt, "memory");
+        text.push_str(line.as_str()).expect(rt, "memory");
+    }
+    text
+}
+
+/// A text of one program: 4,096 instructions, and the lines of `end` after them.
+fn longest(rt: &(impl Abort + AllocGlobal), end: &str) -> String {
+    let mut text = String::from_str(rt.alloc(), "node 0\n").expect(rt, "memory");
+    for _ in 0..4096 {
+        text.push_str("print r1\n").expect(rt, "memory");
+    }
+    text.push_str(end).expect(rt, "memory");
+    text
 }
 
 #[test]
-fn limits_of_a_text(rt: HostRuntime) -> Result<(), Fail> {
-    let mut text = String::new(rt.alloc());
-    for node in 0..32 {
-        text.push_str(format!(in rt.alloc(); "node {node}\n")?.as_str())?;
-    }
-    assert_eq!(rt; parse(rt.alloc(), text.as_str())?.len(), 32);
-    text.push_str("node 32\n")?;
-    assert_eq!(rt; line_at_fault(rt, text.as_str()), 33);
-
-    let mut text = String::from_str(rt.alloc(), "node 0\n")?;
-    for _ in 0..4096 {
-        text.push_str("print r1\n")?;
-    }
-    assert_eq!(rt; parse(rt.alloc(), text.as_str())?.len(), 1);
-    text.push_str("label end\n")?;
-    assert_eq!(rt; parse(rt.alloc(), text.as_str())?.len(), 1);
-    text.push_str("print r1\n")?;
-    assert_eq!(rt; line_at_fault(rt, text.as_str()), 4099);
-    Ok(())
+fn limits_of_a_text(rt: HostRuntime) {
+    expect_same(&rt, count_of_programs(&rt, &nodes(&rt, 32)), 32);
+    expect_same(&rt, line_at_fault(&rt, &nodes(&rt, 33)), 33);
+    expect_same(&rt, count_of_programs(&rt, &longest(&rt, "")), 1);
+    expect_same(&rt, count_of_programs(&rt, &longest(&rt, "label end\n")), 1);
+    let beyond = longest(&rt, "label end\nprint r1\n");
+    expect_same(&rt, line_at_fault(&rt, &beyond), 4099);
 }
 
 /// The fault of a text with its n-th growth refused, and whether it comes to so many growths.
@@ -261,286 +293,243 @@ fn fault_at(memory: &Refusing<Global>, n: u64, text: &str) -> (Option<Fault>, bo
     (fault, met)
 }
 
+/// That each refused growth of a text is want of memory, or leaves the fault that the text has of its own.
+fn check_growths(rt: &(impl Abort + AllocGlobal), text: &str, own: Option<Fault>) {
+    let memory = Refusing::new(rt.alloc());
+    let (mut refused, mut last) = (0, 0);
+    for n in 1..100 {
+        let (fault, met) = fault_at(&memory, n, text);
+        if met && fault == Some(Fault::Memory) {
+            refused = n;
+        } else {
+            expect_same_at(rt, n, fault, own);
+        }
+        last = n;
+        if !met {
+            break;
+        }
+    }
+    assert!(rt; refused > 0 && last < 99);
+}
+
 /// A refused growth is want of memory. Or it changes nothing: where the words of a line are refused room
 /// for all of them at once, they ask for less.
 #[test]
 fn growths_of_a_text(rt: HostRuntime) {
-    let memory = Refusing::new(rt.alloc());
-    for (text, own) in [
-        (
-            "node 0\nlabel a\nalloc r1 r2\njump a\nnode 1\nfree r1\n",
-            None,
-        ),
-        ("node 0\njump a\nbogus\n", Some(Fault::ProgramFault(2))),
-    ] {
-        let (mut refused, mut last) = (0, 0);
-        for n in 1..100 {
-            let (fault, met) = fault_at(&memory, n, text);
-            if met && fault == Some(Fault::Memory) {
-                refused = n;
-            } else {
-                assert_eq!(rt; fault, own, "growth {n}");
-            }
-            last = n;
-            if !met {
-                break;
-            }
-        }
-        assert!(rt; refused > 0 && last < 99);
-    }
+    let in_order = "node 0\nlabel a\nalloc r1 r2\njump a\nnode 1\nfree r1\n";
+    check_growths(&rt, in_order, None);
+    let at_fault = "node 0\njump a\nbogus\n";
+    check_growths(&rt, at_fault, Some(Fault::ProgramFault(2)));
+}
+
+/// The machine of the last program of a text.
+fn machine_of(rt: &(impl Abort + AllocGlobal), text: &str) -> Machine<Global> {
+    let mut programs = parse(rt.alloc(), text).expect(rt, text);
+    Machine::new(programs.pop().expect(rt, text))
+}
+
+/// That the next turn of a machine gives this call, which is then answered so.
+fn answers(rt: &impl Abort, machine: &mut Machine<Global>, wanted: Call, reply: Reply) {
+    let Ok(Next::Call(call)) = machine.next() else {
+        panic!(rt; "no call");
+    };
+    machine.answer(reply);
+    expect_same(rt, call, wanted);
 }
 
 /// The program of the first load: its call is given until it is answered, and what came is printed.
 #[test]
-fn first_load(rt: HostRuntime) -> Result<(), Fail> {
-    let text = "node 0\nnode 1\nset r1 64\nload 8 r2 r1\nprint r2\n";
-    let mut programs = parse(rt.alloc(), text)?;
-    let mut machine = Machine::new(programs.pop().ok_or("no program")?);
+fn first_load(rt: HostRuntime) {
+    let mut machine = machine_of(&rt, "node 0\nnode 1\nset r1 64\nload 8 r2 r1\nprint r2\n");
     let call = Call::Load { width: 8, addr: 64 };
-    assert_eq!(rt; machine.next(), Ok(Next::Local));
-    assert_eq!(rt; machine.next(), Ok(Next::Call(call)));
-    match machine.next()? {
-        Next::Call(again) => {
-            assert_eq!(rt; again, call);
-            machine.answer(Reply::Value(7));
-        }
-        _ => return Err("no call".into()),
-    }
+    expect_same(&rt, machine.next(), Ok(Next::Local));
+    expect_same(&rt, machine.next(), Ok(Next::Call(call)));
+    answers(&rt, &mut machine, call, Reply::Value(7));
     assert!(rt; !machine.ended());
-    assert_eq!(rt; machine.next(), Ok(Next::Local));
-    assert_eq!(rt; machine.next(), Ok(Next::Ended));
+    expect_same(&rt, machine.next(), Ok(Next::Local));
+    expect_same(&rt, machine.next(), Ok(Next::Ended));
     assert!(rt; machine.ended());
-    assert_eq!(rt; machine.output(), [7].as_slice());
-    Ok(())
+    expect_items(&rt, machine.output(), &[7]);
 }
 
-/// The calls of a program that ends within 40 turns, each with its reply of these, and what it prints.
-fn answered<A: Allocator + Copy>(
-    alloc: A,
-    text: &str,
-    replies: &[Reply],
-) -> Result<(Vec<Call, A>, Vec<u64, A>), Fail> {
-    let mut programs = parse(alloc, text)?;
-    let mut machine = Machine::new(programs.pop().ok_or("no program")?);
-    let mut calls = Vec::new(alloc);
+/// That a program which ends within 40 turns makes these calls, each with its reply, and prints these numbers.
+fn plays(rt: &(impl Abort + AllocGlobal), text: &str, calls: &[(Call, Reply)], printed: &[u64]) {
+    let mut machine = machine_of(rt, text);
+    let mut left = calls.iter();
     for _ in 0..40 {
-        if let Next::Call(call) = machine.next()? {
-            let reply = *replies.get(calls.len()).ok_or("no reply")?;
-            calls.push(call)?;
+        if let Next::Call(call) = machine.next().expect(rt, text) {
+            let (wanted, reply) = *left.next().expect(rt, "a call too many");
             machine.answer(reply);
+            expect_same(rt, call, wanted);
         }
     }
-    if !machine.ended() {
-        return Err("not ended".into());
-    }
-    Ok((calls, machine.output().to_vec(alloc)?))
+    assert!(rt; machine.ended());
+    expect_same(rt, left.next(), None);
+    expect_items(rt, machine.output(), printed);
 }
 
 /// A refused call keeps its register, and its number is the status until the next call.
 #[test]
-fn refused_load(rt: HostRuntime) -> Result<(), Fail> {
+fn refused_load(rt: HostRuntime) {
     let text = "node 0\nstatus r3\nprint r3\nset r2 5\nload 1 r2 r1\nprint r2\nstatus r3\n\
                 print r3\nload 1 r2 r1\nstatus r3\nprint r3\nprint r2";
-    let replies = [Reply::Refused(5), Reply::Value(9)];
-    let (_, output) = answered(rt.alloc(), text, &replies)?;
-    assert_eq!(rt; output.as_slice(), [0, 5, 5, 0, 9].as_slice());
-    Ok(())
+    let load = Call::Load { width: 1, addr: 0 };
+    let calls = [(load, Reply::Refused(5)), (load, Reply::Value(9))];
+    plays(&rt, text, &calls, &[0, 5, 5, 0, 9]);
+}
+
+fn store(width: u8, addr: u64, value: u64) -> Call {
+    Call::Store { width, addr, value }
 }
 
 /// A store names the address and the number of its two registers, and keeps every register. Its
 /// status is 0 where it was carried out, else the number of its refusal.
 #[test]
-fn stores(rt: HostRuntime) -> Result<(), Fail> {
+fn stores(rt: HostRuntime) {
     let text = "node 0\nset r1 64\nset r2 258\nstore 2 r1 r2\nstatus r3\nprint r3\n\
                 store 8 r2 r1\nstatus r3\nprint r3\nprint r1\nprint r2\n\
                 store 1 r1 r1\nstatus r3\nprint r3";
-    let replies = [Reply::Done, Reply::Refused(3), Reply::Done];
-    let (calls, output) = answered(rt.alloc(), text, &replies)?;
-    assert_eq!(rt; output.as_slice(), [0, 3, 64, 258, 0].as_slice());
-    let named = [(2, 64, 258), (8, 258, 64), (1, 64, 64)].map(|(width, addr, value)| Call::Store {
-        width,
-        addr,
-        value,
-    });
-    assert_eq!(rt; calls.as_slice(), named.as_slice());
-    Ok(())
+    let calls = [
+        (store(2, 64, 258), Reply::Done),
+        (store(8, 258, 64), Reply::Refused(3)),
+        (store(1, 64, 64), Reply::Done),
+    ];
+    plays(&rt, text, &calls, &[0, 3, 64, 258, 0]);
+}
+
+fn swap(width: u8, addr: u64, value: u64) -> Call {
+    Call::Swap { width, addr, value }
 }
 
 /// A swap names the address and the number of its second and third register, and the old value goes to the
 /// first. A refusal leaves that.
 #[test]
-fn swaps(rt: HostRuntime) -> Result<(), Fail> {
+fn swaps(rt: HostRuntime) {
     let text = "node 0\nset r1 64\nset r2 258\nset r3 7\nswap 2 r3 r1 r2\nstatus r4\nprint r4\n\
                 print r3\nswap 8 r3 r2 r1\nstatus r4\nprint r4\nprint r3\nprint r1\nprint r2\n\
                 swap 1 r1 r1 r1\nprint r1";
-    let replies = [Reply::Value(5), Reply::Refused(3), Reply::Value(9)];
-    let (calls, output) = answered(rt.alloc(), text, &replies)?;
-    assert_eq!(rt; output.as_slice(), [0, 5, 3, 5, 64, 258, 9].as_slice());
-    let named = [(2, 64, 258), (8, 258, 64), (1, 64, 64)].map(|(width, addr, value)| Call::Swap {
-        width,
-        addr,
-        value,
-    });
-    assert_eq!(rt; calls.as_slice(), named.as_slice());
-    Ok(())
+    let calls = [
+        (swap(2, 64, 258), Reply::Value(5)),
+        (swap(8, 258, 64), Reply::Refused(3)),
+        (swap(1, 64, 64), Reply::Value(9)),
+    ];
+    plays(&rt, text, &calls, &[0, 5, 3, 5, 64, 258, 9]);
 }
 
 /// Each call on a count names what its registers hold. The count goes to the first register of
 /// `count` and `await`, and a refusal leaves it there.
 #[test]
-fn counts(rt: HostRuntime) -> Result<(), Fail> {
+fn counts(rt: HostRuntime) {
     let text = "node 0\nset r1 3\nset r2 5\nadvance r1\nstatus r4\nprint r4\n\
                 count r3 r1\nprint r3\nawait r3 r1 r2\nprint r3\nadvance r2\nstatus r4\n\
                 print r4\ncount r3 r2\nprint r3\nawait r3 r2 r1\nstatus r4\nprint r4\nprint r3";
-    let replies = [
-        Reply::Done,
-        Reply::Value(1),
-        Reply::Value(8),
-        Reply::Refused(7),
-        Reply::Refused(6),
-        Reply::Refused(6),
+    let calls = [
+        (Call::Advance { k: 3 }, Reply::Done),
+        (Call::Count { k: 3 }, Reply::Value(1)),
+        (Call::Await { k: 3, least: 5 }, Reply::Value(8)),
+        (Call::Advance { k: 5 }, Reply::Refused(7)),
+        (Call::Count { k: 5 }, Reply::Refused(6)),
+        (Call::Await { k: 5, least: 3 }, Reply::Refused(6)),
     ];
-    let (calls, output) = answered(rt.alloc(), text, &replies)?;
-    assert_eq!(rt; output.as_slice(), [0, 1, 8, 7, 8, 6, 8].as_slice());
-    let named = [
-        Call::Advance { k: 3 },
-        Call::Count { k: 3 },
-        Call::Await { k: 3, least: 5 },
-        Call::Advance { k: 5 },
-        Call::Count { k: 5 },
-        Call::Await { k: 5, least: 3 },
-    ];
-    assert_eq!(rt; calls.as_slice(), named.as_slice());
-    Ok(())
+    plays(&rt, text, &calls, &[0, 1, 8, 7, 8, 6, 8]);
 }
 
 /// `alloc` names the bytes that its second register holds, and the address goes to the first; `free`
 /// names the address. A refusal keeps the register, and its number is the status until a call succeeds.
 #[test]
-fn blocks(rt: HostRuntime) -> Result<(), Fail> {
+fn blocks(rt: HostRuntime) {
     let text = "node 0\nset r1 24\nalloc r2 r1\nprint r2\nalloc r2 r3\nstatus r4\nprint r4\n\
                 print r2\nfree r2\nstatus r4\nprint r4\nprint r2\nfree r2\nstatus r4\nprint r4\n\
                 print r2\nalloc r2 r2\nprint r2\nstatus r4\nprint r4";
-    let replies = [
-        Reply::Value(72),
-        Reply::Refused(8),
-        Reply::Done,
-        Reply::Refused(10),
-        Reply::Value(64),
+    let calls = [
+        (Call::Alloc { size: 24 }, Reply::Value(72)),
+        (Call::Alloc { size: 0 }, Reply::Refused(8)),
+        (Call::Free { addr: 72 }, Reply::Done),
+        (Call::Free { addr: 72 }, Reply::Refused(10)),
+        (Call::Alloc { size: 72 }, Reply::Value(64)),
     ];
-    let (calls, output) = answered(rt.alloc(), text, &replies)?;
-    assert_eq!(rt;
-        output.as_slice(),
-        [72, 8, 72, 0, 72, 10, 72, 64, 0].as_slice()
-    );
-    let named = [
-        Call::Alloc { size: 24 },
-        Call::Alloc { size: 0 },
-        Call::Free { addr: 72 },
-        Call::Free { addr: 72 },
-        Call::Alloc { size: 72 },
-    ];
-    assert_eq!(rt; calls.as_slice(), named.as_slice());
-    Ok(())
+    plays(&rt, text, &calls, &[72, 8, 72, 0, 72, 10, 72, 64, 0]);
 }
 
-/// What a program that makes no call prints within so many turns, and whether it has ended then.
-fn played<A: Allocator + Copy>(
-    alloc: A,
-    text: &str,
-    turns: u64,
-) -> Result<(Vec<u64, A>, bool), Fail> {
-    let mut programs = parse(alloc, text)?;
-    let mut machine = Machine::new(programs.pop().ok_or("no program")?);
+/// That a program which makes no call prints these numbers within so many turns. Whether it has ended then.
+fn ends_within(rt: &(impl Abort + AllocGlobal), text: &str, turns: u64, printed: &[u64]) -> bool {
+    let mut machine = machine_of(rt, text);
     for _ in 0..turns {
-        machine.next()?;
+        machine.next().expect(rt, text);
     }
-    Ok((machine.output().to_vec(alloc)?, machine.ended()))
+    expect_items(rt, machine.output(), printed);
+    machine.ended()
 }
 
 #[test]
-fn arithmetic(rt: HostRuntime) -> Result<(), Fail> {
+fn arithmetic(rt: HostRuntime) {
     let text = "node 0\nset r1 18446744073709551615\nset r2 3\nadd r3 r1 r2\nprint r3\n\
                 sub r3 r2 r1\nprint r3\nsub r3 r1 r2\nprint r3\nmul r3 r1 r2\nprint r3\n\
                 mul r3 r2 r2\nprint r3\nmov r4 r3\nadd r4 r4 r4\nprint r4";
-    let (output, ended) = played(rt.alloc(), text, 15)?;
-    assert!(rt; ended);
-    let wanted = [2, 4, 18446744073709551612, 18446744073709551613, 9, 18];
-    assert_eq!(rt; output.as_slice(), wanted.as_slice());
-    Ok(())
+    let printed = [2, 4, 18446744073709551612, 18446744073709551613, 9, 18];
+    assert!(rt; ends_within(&rt, text, 15, &printed));
 }
 
 /// From 3 down to 1: back where the number is not 0, on where it is.
 #[test]
-fn counts_down(rt: HostRuntime) -> Result<(), Fail> {
+fn counts_down(rt: HostRuntime) {
     let text = "node 0\nset r1 3\nset r2 1\nlabel again\njumpz r1 end\nprint r1\n\
                 sub r1 r1 r2\njump again\nlabel end";
-    let (output, ended) = played(rt.alloc(), text, 15)?;
-    assert_eq!(rt; output.as_slice(), [3, 2, 1].as_slice());
-    assert!(rt; ended);
-    let (_, ended) = played(rt.alloc(), text, 14)?;
-    assert!(rt; !ended);
-    Ok(())
+    assert!(rt; ends_within(&rt, text, 15, &[3, 2, 1]));
+    assert!(rt; !ends_within(&rt, text, 14, &[3, 2, 1]));
 }
 
 #[test]
-fn never_ends(rt: HostRuntime) -> Result<(), Fail> {
-    let (output, ended) = played(rt.alloc(), "node 0\nlabel a\njump a\n", 10000)?;
-    assert!(rt; !ended);
-    assert_eq!(rt; output.len(), 0);
-    Ok(())
+fn never_ends(rt: HostRuntime) {
+    let text = "node 0\nlabel a\njump a\n";
+    assert!(rt; !ends_within(&rt, text, 10000, &[]));
 }
 
 /// `stop` ends the program in the turn that carries it out, and so does a jump to the end.
 #[test]
-fn stops(rt: HostRuntime) -> Result<(), Fail> {
+fn stops(rt: HostRuntime) {
     for text in [
         "node 0\nprint r0\nstop\nprint r0",
         "node 0\nprint r0\njump end\nprint r0\nlabel end",
         "node 0\nprint r0\njumpz r0 end\nprint r0\nlabel end",
     ] {
-        let (_, ended) = played(rt.alloc(), text, 1)?;
-        assert!(rt; !ended);
-        let (output, ended) = played(rt.alloc(), text, 2)?;
-        assert!(rt; ended);
-        assert_eq!(rt; output.as_slice(), [0].as_slice());
+        assert!(rt; !ends_within(&rt, text, 1, &[0]), "{text}");
+        assert!(rt; ends_within(&rt, text, 2, &[0]), "{text}");
     }
-    Ok(())
 }
 
 #[test]
-fn registers(rt: HostRuntime) -> Result<(), Fail> {
-    assert_eq!(rt; Register::new(15).ok_or("no register")?.number(), 15);
-    assert_eq!(rt; Register::new(16), None);
-    Ok(())
+fn registers(rt: HostRuntime) {
+    expect_same(&rt, register(&rt, 15).number(), 15);
+    expect_same(&rt, Register::new(16), None);
 }
 
 #[test]
 fn operations(rt: HostRuntime) {
-    assert_eq!(rt; Operation::Add.apply(2, 3), 5);
-    assert_eq!(rt; Operation::Sub.apply(2, 3), u64::MAX);
-    assert_eq!(rt; Operation::Mul.apply(2, 3), 6);
+    expect_same(&rt, Operation::Add.apply(2, 3), 5);
+    expect_same(&rt, Operation::Sub.apply(2, 3), u64::MAX);
+    expect_same(&rt, Operation::Mul.apply(2, 3), 6);
 }
 
 #[test]
 fn widths(rt: HostRuntime) {
-    let widths = [
-        (Width::One, 1),
-        (Width::Two, 2),
-        (Width::Four, 4),
-        (Width::Eight, 8),
-    ];
-    for (width, bytes) in widths {
-        assert_eq!(rt; width.bytes(), bytes);
-    }
+    expect_same(&rt, Width::One.bytes(), 1);
+    expect_same(&rt, Width::Two.bytes(), 2);
+    expect_same(&rt, Width::Four.bytes(), 4);
+    expect_same(&rt, Width::Eight.bytes(), 8);
+}
+
+/// That a line has these words, and no more.
+fn expect_words(rt: &(impl Abort + AllocGlobal), line: &str, wanted: &[&str]) {
+    let words = words_of(rt.alloc(), line).expect(rt, "memory");
+    expect_items(rt, &words, wanted);
 }
 
 #[test]
-fn words_of_a_line(rt: HostRuntime) -> Result<(), Fail> {
-    let words = words_of(rt.alloc(), "\tload  8 r2\tr1# a comment\r\n")?;
-    assert_eq!(rt; words.as_slice(), ["load", "8", "r2", "r1"].as_slice());
-    assert_eq!(rt; words_of(rt.alloc(), " \t# a comment\n")?.len(), 0);
-    Ok(())
+fn words_of_a_line(rt: HostRuntime) {
+    let line = "\tload  8 r2\tr1# a comment\r\n";
+    expect_words(&rt, line, &["load", "8", "r2", "r1"]);
+    expect_words(&rt, " \t# a comment\n", &[]);
 }
 
 #[test]
@@ -556,6 +545,6 @@ fn numbers(rt: HostRuntime) {
         ("-1", None),
         ("1x", None),
     ] {
-        assert_eq!(rt; parse_number(word), number, "{word}");
+        expect_same_at(&rt, word, parse_number(word), number);
     }
 }

@@ -1,12 +1,12 @@
 //! Frames as strings of bytes: the worked examples, and each fault of a string that spells no frame.
+use crate::common::{expect_items, expect_same, expect_same_at};
 use ivy_model::{Config, Fault, Kind};
 use ivy_wire::{
     Bytes, Content, Frame, FrameKind, Message, Page, decode, destination, encode,
     grammar_is_prefix_free, read,
 };
-use std::alloc::{Allocator, Global};
+use std::alloc::Global;
 use std::process::Abort;
-use std::test::Fail;
 
 /// Two nodes, and two pages of 64 bytes.
 pub(crate) const PAIR: Config = Config {
@@ -28,35 +28,54 @@ pub(crate) const ZEROS: &[u8] = &[0; 64];
 const ONES: &[u8] = &[255; 64];
 
 /// The string that is written as hexadecimal words, and then a page.
-pub(crate) fn string<A: Allocator + Copy>(
-    alloc: A,
-    words: &str,
-    page: &[u8],
-) -> Result<Vec<u8, A>, Fail> {
-    let mut string = Vec::new(alloc);
+pub(crate) fn string(rt: &(impl Abort + AllocGlobal), words: &str, page: &[u8]) -> Vec<u8> {
+    let mut string = Vec::new(rt.alloc());
     for word in words.split(' ') {
-        string.extend_from_slice(&hex::decode(alloc, word)?)?;
+        let bytes = hex::decode(rt.alloc(), word).expect(rt, word);
+        string.extend_from_slice(&bytes).expect(rt, "memory");
     }
-    string.extend_from_slice(page)?;
-    Ok(string)
+    string.extend_from_slice(page).expect(rt, "memory");
+    string
+}
+
+/// That the string is read as this frame, its page lent or copied.
+fn expect_read(
+    rt: &(impl Abort + AllocGlobal),
+    config: &Config,
+    string: &[u8],
+    frame: &Frame<&[u8]>,
+) {
+    config.check().expect(rt, "a configuration");
+    let lent = read(config, string).expect(rt, "a frame");
+    assert!(rt; lent == *frame);
+    let copied = decode(rt.alloc(), config, string).expect(rt, "a frame");
+    assert!(rt; copied.lent() == *frame);
+}
+
+/// That the frame is spelled so.
+fn expect_spelled(
+    rt: &(impl Abort + AllocGlobal),
+    config: &Config,
+    frame: &Frame<&[u8]>,
+    string: &[u8],
+) {
+    config.check().expect(rt, "a configuration");
+    assert!(rt; frame.fits(config));
+    let spelled = encode(rt.alloc(), config, frame).expect(rt, "memory");
+    expect_items(rt, &spelled, string);
 }
 
 /// That the words, with the page after them, are read as this frame, and that the frame is spelled so.
-fn spells<A: Allocator + Copy>(
-    rt: &impl Abort,
+fn spells(
+    rt: &(impl Abort + AllocGlobal),
     config: &Config,
     words: &str,
     page: &[u8],
     frame: Frame<&[u8]>,
-    alloc: A,
-) -> Result<(), Fail> {
-    let string = string(alloc, words, page)?;
-    config.check()?;
-    assert!(rt; frame.fits(config));
-    assert!(rt; read(config, &string)? == frame);
-    assert!(rt; decode(alloc, config, &string)?.lent() == frame);
-    assert!(rt; encode(alloc, config, &frame)?.as_slice() == string.as_slice());
-    Ok(())
+) {
+    let string = string(rt, words, page);
+    expect_read(rt, config, &string, &frame);
+    expect_spelled(rt, config, &frame, &string);
 }
 
 /// A frame with a message: the node it comes from and the one it goes to, its number and
@@ -81,21 +100,20 @@ fn frame<'a>(
 }
 
 #[test]
-fn first_load(rt: HostRuntime) -> Result<(), Fail> {
-    let alloc = rt.alloc();
+fn first_load(rt: HostRuntime) {
     let words = "495602010100000d 0000000000000001 0000000000000000 01 0000000000000001 00000001";
     let asks = frame((1, 0), (1, 0), (1, 1), Content::ReadReq { page: 1 });
-    spells(&rt, &PAIR, words, &[], asks, alloc)?;
+    spells(&rt, &PAIR, words, &[], asks);
     let words = "495602030001004d 0000000000000001 0000000000000000 01 0000000000000001 00000001";
     let content = Content::ReadRep {
         page: 1,
         bytes: ZEROS,
     };
     let brings = frame((0, 1), (1, 0), (1, 1), content);
-    spells(&rt, &PAIR, words, ZEROS, brings, alloc)?;
+    spells(&rt, &PAIR, words, ZEROS, brings);
     let words = "495602010100000d 0000000000000001 0000000000000001 01 0000000000000001 00000001";
     let asks_again = frame((1, 0), (1, 1), (1, 1), Content::ReadReq { page: 1 });
-    spells(&rt, &PAIR, words, &[], asks_again, alloc)?;
+    spells(&rt, &PAIR, words, &[], asks_again);
     let words = "4956020000010000 0000000000000000 0000000000000001";
     let ack = Frame {
         source: 0,
@@ -104,12 +122,11 @@ fn first_load(rt: HostRuntime) -> Result<(), Fail> {
         ack: 1,
         body: None,
     };
-    spells(&rt, &PAIR, words, &[], ack, alloc)
+    spells(&rt, &PAIR, words, &[], ack);
 }
 
 #[test]
-fn page_to_write(rt: HostRuntime) -> Result<(), Fail> {
-    let alloc = rt.alloc();
+fn page_to_write(rt: HostRuntime) {
     let words =
         "4956020400020051 0000000000000001 0000000000000000 02 0000000000000001 00000001 00000002";
     let content = Content::WriteRep {
@@ -118,7 +135,7 @@ fn page_to_write(rt: HostRuntime) -> Result<(), Fail> {
         bytes: ZEROS,
     };
     let given = frame((0, 2), (1, 0), (2, 1), content);
-    spells(&rt, &THREE, words, ZEROS, given, alloc)?;
+    spells(&rt, &THREE, words, ZEROS, given);
     let words =
         "4956020400010051 0000000000000001 0000000000000003 01 0000000000000001 00000001 00000000";
     let content = Content::WriteRep {
@@ -127,26 +144,24 @@ fn page_to_write(rt: HostRuntime) -> Result<(), Fail> {
         bytes: ZEROS,
     };
     let given = frame((0, 1), (1, 3), (1, 1), content);
-    spells(&rt, &PAIR, words, ZEROS, given, alloc)
+    spells(&rt, &PAIR, words, ZEROS, given);
 }
 
 #[test]
-fn copies_ended(rt: HostRuntime) -> Result<(), Fail> {
-    let alloc = rt.alloc();
+fn copies_ended(rt: HostRuntime) {
     let words = "495602060102000d 0000000000000001 0000000000000001 02 0000000000000001 00000001";
     let ended = frame((1, 2), (1, 1), (2, 1), Content::InvalAck { page: 1 });
-    spells(&rt, &THREE, words, &[], ended, alloc)?;
+    spells(&rt, &THREE, words, &[], ended);
     let words = "495602060201000d 0000000000000002 0000000000000001 01 0000000000000001 00000001";
     let ended = frame((2, 1), (2, 1), (1, 1), Content::InvalAck { page: 1 });
-    spells(&rt, &THREE, words, &[], ended, alloc)?;
+    spells(&rt, &THREE, words, &[], ended);
     let words = "495602060100000d 0000000000000002 0000000000000001 00 0000000000000001 00000001";
     let ended = frame((1, 0), (2, 1), (0, 1), Content::InvalAck { page: 1 });
-    spells(&rt, &PAIR, words, &[], ended, alloc)
+    spells(&rt, &PAIR, words, &[], ended);
 }
 
 #[test]
-fn forged(rt: HostRuntime) -> Result<(), Fail> {
-    let alloc = rt.alloc();
+fn forged(rt: HostRuntime) {
     let words =
         "4956020401000051 0000000000000001 0000000000000000 00 0000000000000001 00000001 00000000";
     let content = Content::WriteRep {
@@ -155,20 +170,20 @@ fn forged(rt: HostRuntime) -> Result<(), Fail> {
         bytes: ONES,
     };
     let unasked = frame((1, 0), (1, 0), (0, 1), content);
-    spells(&rt, &PAIR, words, ONES, unasked, alloc)?;
+    spells(&rt, &PAIR, words, ONES, unasked);
     let words = "495602050100000d 0000000000000002 0000000000000000 01 0000000000000001 00000001";
     let ends = frame((1, 0), (2, 0), (1, 1), Content::Inval { page: 1 });
-    spells(&rt, &PAIR, words, &[], ends, alloc)?;
+    spells(&rt, &PAIR, words, &[], ends);
     let words = "495602010100000d 0000000000000003 0000000000000000 00 0000000000000001 00000001";
     let own = frame((1, 0), (3, 0), (0, 1), Content::ReadReq { page: 1 });
-    spells(&rt, &PAIR, words, &[], own, alloc)?;
+    spells(&rt, &PAIR, words, &[], own);
     let words = "495602020100000d 0000000000000004 0000000000000009 01 0000000000000001 00000001";
     let asks = frame((1, 0), (4, 9), (1, 1), Content::WriteReq { page: 1 });
-    spells(&rt, &PAIR, words, &[], asks, alloc)
+    spells(&rt, &PAIR, words, &[], asks);
 }
 
 #[test]
-fn forged_count(rt: HostRuntime) -> Result<(), Fail> {
+fn forged_count(rt: HostRuntime) {
     let mut page = [0; 64];
     for i in 0..8 {
         page[i] = 255;
@@ -181,85 +196,71 @@ fn forged_count(rt: HostRuntime) -> Result<(), Fail> {
         bytes: &page[..],
     };
     let brings = frame((0, 1), (1, 0), (1, 1), content);
-    spells(&rt, &PAIR, words, &page, brings, rt.alloc())
+    spells(&rt, &PAIR, words, &page, brings);
 }
 
 #[test]
-fn blocks(rt: HostRuntime) -> Result<(), Fail> {
-    let alloc = rt.alloc();
+fn blocks(rt: HostRuntime) {
     let words =
         "4956020701000011 0000000000000001 0000000000000000 01 0000000000000001 0000000000000008";
     let asks = frame((1, 0), (1, 0), (1, 1), Content::AllocReq { size: 8 });
-    spells(&rt, &PAIR, words, &[], asks, alloc)?;
+    spells(&rt, &PAIR, words, &[], asks);
     let words =
         "4956020800010012 0000000000000001 0000000000000000 01 0000000000000001 00 0000000000000040";
     let content = Content::AllocRep { code: 0, addr: 64 };
     let brings = frame((0, 1), (1, 0), (1, 1), content);
-    spells(&rt, &PAIR, words, &[], brings, alloc)?;
+    spells(&rt, &PAIR, words, &[], brings);
     let words =
         "4956020901000011 0000000000000002 0000000000000001 01 0000000000000002 0000000000000040";
     let gives_back = frame((1, 0), (2, 1), (1, 2), Content::FreeReq { addr: 64 });
-    spells(&rt, &PAIR, words, &[], gives_back, alloc)?;
+    spells(&rt, &PAIR, words, &[], gives_back);
     let words = "4956020a0001000a 0000000000000002 0000000000000002 01 0000000000000002 00";
     let ended = frame((0, 1), (2, 2), (1, 2), Content::FreeRep { code: 0 });
-    spells(&rt, &PAIR, words, &[], ended, alloc)
+    spells(&rt, &PAIR, words, &[], ended);
 }
 
 #[test]
-fn refused_blocks(rt: HostRuntime) -> Result<(), Fail> {
-    let alloc = rt.alloc();
+fn refused_blocks(rt: HostRuntime) {
     let words =
         "4956020800010012 0000000000000001 0000000000000000 01 0000000000000001 08 0000000000000000";
     let content = Content::AllocRep { code: 8, addr: 0 };
     let of_no_bytes = frame((0, 1), (1, 0), (1, 1), content);
-    spells(&rt, &PAIR, words, &[], of_no_bytes, alloc)?;
+    spells(&rt, &PAIR, words, &[], of_no_bytes);
     let words =
         "4956020800010012 0000000000000001 0000000000000000 01 0000000000000001 09 0000000000000000";
     let content = Content::AllocRep { code: 9, addr: 0 };
     let without_room = frame((0, 1), (1, 0), (1, 1), content);
-    spells(&rt, &PAIR, words, &[], without_room, alloc)?;
+    spells(&rt, &PAIR, words, &[], without_room);
     let words = "4956020a0001000a 0000000000000002 0000000000000002 01 0000000000000002 0a";
     let no_block = frame((0, 1), (2, 2), (1, 2), Content::FreeRep { code: 10 });
-    spells(&rt, &PAIR, words, &[], no_block, alloc)
+    spells(&rt, &PAIR, words, &[], no_block);
 }
 
 /// That the words, with the page after them, are refused so among the nodes of a configuration.
-fn refuses_among<A: Allocator + Copy>(
-    rt: &impl Abort,
+fn refuses_among(
+    rt: &(impl Abort + AllocGlobal),
     config: &Config,
     words: &str,
     page: &[u8],
     fault: Fault,
-    alloc: A,
-) -> Result<(), Fail> {
-    let string = string(alloc, words, page)?;
-    config.check()?;
-    assert_eq!(rt;
-        decode(alloc, config, &string).err(),
-        Some(fault),
-        "{words}"
-    );
-    Ok(())
+) {
+    config.check().expect(rt, "a configuration");
+    let string = string(rt, words, page);
+    let found = decode(rt.alloc(), config, &string).err();
+    expect_same_at(rt, words, found, Some(fault));
 }
 
 /// That the words, with the page after them, are refused so among two nodes.
-fn refuses<A: Allocator + Copy>(
-    rt: &impl Abort,
-    words: &str,
-    page: &[u8],
-    fault: Fault,
-    alloc: A,
-) -> Result<(), Fail> {
-    refuses_among(rt, &PAIR, words, page, fault, alloc)
+fn refuses(rt: &(impl Abort + AllocGlobal), words: &str, page: &[u8], fault: Fault) {
+    refuses_among(rt, &PAIR, words, page, fault);
 }
 
 /// A copy set has four bytes, the version is 2, and strings of version 1 are refused.
 #[test]
-fn version_2(rt: HostRuntime) -> Result<(), Fail> {
-    let alloc = rt.alloc();
+fn version_2(rt: HostRuntime) {
     let words =
         "4956020400020051 0000000000000001 0000000000000000 02 0000000000000001 00000001 00000002";
-    assert_eq!(rt; string(alloc, words, ZEROS)?.len(), 105);
+    expect_same(&rt, string(&rt, words, ZEROS).len(), 105);
     let words =
         "49560204001f0051 0000000000000002 0000000000000001 1f 0000000000000002 00000001 7ffffffe";
     let content = Content::WriteRep {
@@ -268,136 +269,129 @@ fn version_2(rt: HostRuntime) -> Result<(), Fail> {
         bytes: ZEROS,
     };
     let given = frame((0, 31), (2, 1), (31, 2), content);
-    spells(&rt, &THIRTY_TWO, words, ZEROS, given, alloc)?;
+    spells(&rt, &THIRTY_TWO, words, ZEROS, given);
     let words = "495601010100000d 0000000000000001 0000000000000000 01 0000000000000001 00000001";
-    refuses(&rt, words, &[], Fault::BadVersion, alloc)?;
+    refuses(&rt, words, &[], Fault::BadVersion);
     let words =
         "495601040002004e 0000000000000001 0000000000000000 02 0000000000000001 00000001 02";
-    refuses_among(&rt, &THREE, words, ZEROS, Fault::BadVersion, alloc)
+    refuses_among(&rt, &THREE, words, ZEROS, Fault::BadVersion);
 }
 
 /// Bit 3 among three nodes; and bits of nodes that are there, with the bytes turned round.
 #[test]
-fn copy_sets_beyond_the_nodes(rt: HostRuntime) -> Result<(), Fail> {
-    let alloc = rt.alloc();
+fn copy_sets_beyond_the_nodes(rt: HostRuntime) {
     let words =
         "4956020400020051 0000000000000001 0000000000000000 02 0000000000000001 00000001 00000008";
-    refuses_among(&rt, &THREE, words, ZEROS, Fault::BadBody, alloc)?;
+    refuses_among(&rt, &THREE, words, ZEROS, Fault::BadBody);
     let words =
         "4956020400020051 0000000000000001 0000000000000000 02 0000000000000001 00000001 02000000";
-    refuses_among(&rt, &THREE, words, ZEROS, Fault::BadBody, alloc)
+    refuses_among(&rt, &THREE, words, ZEROS, Fault::BadBody);
 }
 
 #[test]
-fn refused_frames(rt: HostRuntime) -> Result<(), Fail> {
-    let alloc = rt.alloc();
+fn refused_frames(rt: HostRuntime) {
     let words = "495602010100000d 0000000000000001 0000000000000000 01 0000000000000001 000000";
-    refuses(&rt, words, &[], Fault::ShortFrame, alloc)?;
+    refuses(&rt, words, &[], Fault::ShortFrame);
     let words =
         "495602010100000d 0000000000000001 0000000000000000 01 0000000000000001 00000001 00";
-    refuses(&rt, words, &[], Fault::BadBody, alloc)?;
-    refuses(&rt, "", &[], Fault::ShortFrame, alloc)?;
+    refuses(&rt, words, &[], Fault::BadBody);
+    refuses(&rt, "", &[], Fault::ShortFrame);
     let words = "485602010100000d 0000000000000001 0000000000000000 01 0000000000000001 00000001";
-    refuses(&rt, words, &[], Fault::BadMagic, alloc)?;
+    refuses(&rt, words, &[], Fault::BadMagic);
     let words = "495601010100000d 0000000000000001 0000000000000000 01 0000000000000001 00000001";
-    refuses(&rt, words, &[], Fault::BadVersion, alloc)?;
+    refuses(&rt, words, &[], Fault::BadVersion);
     let words = "4956020b0100000d 0000000000000001 0000000000000000 01 0000000000000001 00000001";
-    refuses(&rt, words, &[], Fault::BadKind, alloc)?;
+    refuses(&rt, words, &[], Fault::BadKind);
     let words = "495602010200000d 0000000000000001 0000000000000000 01 0000000000000001 00000001";
-    refuses(&rt, words, &[], Fault::BadNode, alloc)?;
+    refuses(&rt, words, &[], Fault::BadNode);
     let words = "495602010000000d 0000000000000001 0000000000000000 01 0000000000000001 00000001";
-    refuses(&rt, words, &[], Fault::BadNode, alloc)?;
+    refuses(&rt, words, &[], Fault::BadNode);
     let words = "495602010100000d 0000000000000001 0000000000000000 01 0000000000000001 00000002";
-    refuses(&rt, words, &[], Fault::BadBody, alloc)?;
+    refuses(&rt, words, &[], Fault::BadBody);
     let words = "495602010100000d 0000000000000001 0000000000000000 02 0000000000000001 00000001";
-    refuses(&rt, words, &[], Fault::BadBody, alloc)
+    refuses(&rt, words, &[], Fault::BadBody);
 }
 
 #[test]
-fn refused_headers(rt: HostRuntime) -> Result<(), Fail> {
-    let alloc = rt.alloc();
+fn refused_headers(rt: HostRuntime) {
     // a header without its last byte, and a request without its last byte
     let words = "4956020000010000 0000000000000000 00000000000000";
-    refuses(&rt, words, &[], Fault::ShortFrame, alloc)?;
+    refuses(&rt, words, &[], Fault::ShortFrame);
     let words = "495602020100000d 0000000000000004 0000000000000009 01 0000000000000001 000000";
-    refuses(&rt, words, &[], Fault::ShortFrame, alloc)?;
+    refuses(&rt, words, &[], Fault::ShortFrame);
     // the second magic byte, and a version before the first
     let words = "495702010100000d 0000000000000001 0000000000000000 01 0000000000000001 00000001";
-    refuses(&rt, words, &[], Fault::BadMagic, alloc)?;
+    refuses(&rt, words, &[], Fault::BadMagic);
     let words = "495600010100000d 0000000000000001 0000000000000000 01 0000000000000001 00000001";
-    refuses(&rt, words, &[], Fault::BadVersion, alloc)?;
+    refuses(&rt, words, &[], Fault::BadVersion);
     // a destination that is not there
     let words = "495602010102000d 0000000000000001 0000000000000000 01 0000000000000001 00000001";
-    refuses(&rt, words, &[], Fault::BadNode, alloc)
+    refuses(&rt, words, &[], Fault::BadNode);
 }
 
 #[test]
-fn first_of_two_faults(rt: HostRuntime) -> Result<(), Fail> {
-    let alloc = rt.alloc();
+fn first_of_two_faults(rt: HostRuntime) {
     let words = "485602010100000d 0000000000000001 0000000000000000 01 0000000000000001 000000";
-    refuses(&rt, words, &[], Fault::ShortFrame, alloc)?;
+    refuses(&rt, words, &[], Fault::ShortFrame);
     let words = "485601010100000d 0000000000000001 0000000000000000 01 0000000000000001 00000001";
-    refuses(&rt, words, &[], Fault::BadMagic, alloc)?;
+    refuses(&rt, words, &[], Fault::BadMagic);
     let words = "4956010b0100000d 0000000000000001 0000000000000000 01 0000000000000001 00000001";
-    refuses(&rt, words, &[], Fault::BadVersion, alloc)?;
+    refuses(&rt, words, &[], Fault::BadVersion);
     let words = "4956020b0200000d 0000000000000001 0000000000000000 01 0000000000000001 00000001";
-    refuses(&rt, words, &[], Fault::BadKind, alloc)?;
+    refuses(&rt, words, &[], Fault::BadKind);
     let words = "495602010200000d 0000000000000001 0000000000000000 02 0000000000000001 00000001";
-    refuses(&rt, words, &[], Fault::BadNode, alloc)?;
+    refuses(&rt, words, &[], Fault::BadNode);
     let words =
         "495602010200000d 0000000000000001 0000000000000000 01 0000000000000001 00000001 00";
-    refuses(&rt, words, &[], Fault::BadNode, alloc)
+    refuses(&rt, words, &[], Fault::BadNode);
 }
 
 #[test]
-fn wrong_numbers(rt: HostRuntime) -> Result<(), Fail> {
-    let alloc = rt.alloc();
+fn wrong_numbers(rt: HostRuntime) {
     // an Ack with a number, and a message without one
     let words = "4956020000010000 0000000000000001 0000000000000001";
-    refuses(&rt, words, &[], Fault::BadBody, alloc)?;
+    refuses(&rt, words, &[], Fault::BadBody);
     let words = "495602010100000d 0000000000000000 0000000000000000 01 0000000000000001 00000001";
-    refuses(&rt, words, &[], Fault::BadBody, alloc)?;
+    refuses(&rt, words, &[], Fault::BadBody);
     // call 0, and the length of another kind
     let words = "495602010100000d 0000000000000001 0000000000000000 01 0000000000000000 00000001";
-    refuses(&rt, words, &[], Fault::BadBody, alloc)?;
+    refuses(&rt, words, &[], Fault::BadBody);
     let words = "495602070100000d 0000000000000001 0000000000000000 01 0000000000000001 00000001";
-    refuses(&rt, words, &[], Fault::BadBody, alloc)
+    refuses(&rt, words, &[], Fault::BadBody);
 }
 
 #[test]
-fn wrong_codes(rt: HostRuntime) -> Result<(), Fail> {
-    let alloc = rt.alloc();
+fn wrong_codes(rt: HostRuntime) {
     // codes that are none
     let words =
         "4956020800010012 0000000000000001 0000000000000000 01 0000000000000001 0a 0000000000000000";
-    refuses(&rt, words, &[], Fault::BadBody, alloc)?;
+    refuses(&rt, words, &[], Fault::BadBody);
     let words = "4956020a0001000a 0000000000000002 0000000000000002 01 0000000000000002 09";
-    refuses(&rt, words, &[], Fault::BadBody, alloc)?;
+    refuses(&rt, words, &[], Fault::BadBody);
     // an address beside a refusal
     let words =
         "4956020800010012 0000000000000001 0000000000000000 01 0000000000000001 08 0000000000000040";
-    refuses(&rt, words, &[], Fault::BadBody, alloc)?;
+    refuses(&rt, words, &[], Fault::BadBody);
     let words =
         "4956020800010012 0000000000000001 0000000000000000 01 0000000000000001 09 0000000000000040";
-    refuses(&rt, words, &[], Fault::BadBody, alloc)
+    refuses(&rt, words, &[], Fault::BadBody);
 }
 
 #[test]
-fn wrong_pages(rt: HostRuntime) -> Result<(), Fail> {
-    let alloc = rt.alloc();
+fn wrong_pages(rt: HostRuntime) {
     // a copy set with node 2
     let words =
         "4956020400010051 0000000000000001 0000000000000000 01 0000000000000001 00000001 00000004";
-    refuses(&rt, words, ZEROS, Fault::BadBody, alloc)?;
+    refuses(&rt, words, ZEROS, Fault::BadBody);
     // a page of 48 bytes, and one of 65
     let words =
         "4956020400010041 0000000000000001 0000000000000000 01 0000000000000001 00000001 00000002";
-    refuses(&rt, words, &[0; 48], Fault::BadBody, alloc)?;
+    refuses(&rt, words, &[0; 48], Fault::BadBody);
     let words = "495602030001004e 0000000000000001 0000000000000000 01 0000000000000001 00000001";
-    refuses(&rt, words, &[0; 65], Fault::BadBody, alloc)?;
+    refuses(&rt, words, &[0; 65], Fault::BadBody);
     // the page after the last one
     let words = "495602030001004d 0000000000000001 0000000000000000 01 0000000000000001 00000002";
-    refuses(&rt, words, ZEROS, Fault::BadBody, alloc)
+    refuses(&rt, words, ZEROS, Fault::BadBody);
 }
 
 /// All kinds with their numbers, and the lengths of their bodies where a page has 64 bytes.
@@ -416,22 +410,20 @@ pub(crate) const KINDS_AND_LENGTHS: [(FrameKind, u8, u16); 11] = [
 ];
 
 #[test]
-fn kinds(rt: HostRuntime) -> Result<(), Fail> {
-    PAIR.check()?;
+fn kinds(rt: HostRuntime) {
+    PAIR.check().expect(&rt, "a configuration");
     for (kind, code, len) in KINDS_AND_LENGTHS {
-        assert_eq!(rt; (kind.code(), kind.text_len(&PAIR)), (code, len));
+        expect_same(&rt, (kind.code(), kind.text_len(&PAIR)), (code, len));
     }
     let content = Content::FreeReq { addr: 64 };
-    assert_eq!(rt; content.kind(), FrameKind::FreeReq);
+    expect_same(&rt, content.kind(), FrameKind::FreeReq);
     let asks = frame((1, 0), (1, 0), (1, 1), content);
-    assert_eq!(rt; asks.kind(), FrameKind::FreeReq);
+    expect_same(&rt, asks.kind(), FrameKind::FreeReq);
     grammar_is_prefix_free();
-    Ok(())
 }
 
 #[test]
-fn lent_and_owned(rt: HostRuntime) -> Result<(), Fail> {
-    let alloc = rt.alloc();
+fn lent_and_owned(rt: HostRuntime) {
     let lent: Message<&[u8]> = Message {
         origin: 1,
         call: 3,
@@ -440,52 +432,54 @@ fn lent_and_owned(rt: HostRuntime) -> Result<(), Fail> {
             bytes: &[5; 64],
         },
     };
-    let owned = lent.owned(alloc)?;
-    assert_eq!(rt; owned.lent(), lent);
-    assert!(rt; owned.clone()? == owned);
-    Ok(())
+    let owned = lent.owned(rt.alloc()).expect(&rt, "memory");
+    expect_same(&rt, owned.lent(), lent);
+    let copied = owned.clone().expect(&rt, "memory");
+    assert!(rt; copied == owned);
 }
 
 #[test]
-fn pages(rt: HostRuntime) -> Result<(), Fail> {
-    let page = Page::new(rt.alloc(), ONES)?;
-    assert_eq!(rt; page.bytes(), ONES);
-    assert!(rt; page.clone()? == page);
-    assert!(rt; page != Page::new(rt.alloc(), ZEROS)?);
-    Ok(())
+fn pages(rt: HostRuntime) {
+    let page = Page::new(rt.alloc(), ONES).expect(&rt, "memory");
+    expect_items(&rt, page.bytes(), ONES);
+    let copied = page.clone().expect(&rt, "memory");
+    assert!(rt; copied == page);
+    let other = Page::new(rt.alloc(), ZEROS).expect(&rt, "memory");
+    assert!(rt; page != other);
 }
 
 /// A request from node 1 to node 0, and a string that has no destination.
 #[test]
-fn destinations(rt: HostRuntime) -> Result<(), Fail> {
+fn destinations(rt: HostRuntime) {
     let request = [b'I', b'V', 2, 1, 1, 0, 0, 13];
-    assert_eq!(rt; destination(&request), Some(0));
-    assert_eq!(rt; destination(&request[..5]), None);
-    Ok(())
+    expect_same(&rt, destination(&request), Some(0));
+    expect_same(&rt, destination(&request[..5]), None);
+}
+
+/// That two owners of these bytes have them, also where one is gone.
+fn shares(rt: &impl Abort, owner: Bytes<Global>, bytes: &[u8]) {
+    expect_items(rt, owner.bytes(), bytes);
+    let shared = owner.share().expect(rt, "memory");
+    drop(owner);
+    expect_items(rt, shared.bytes(), bytes);
 }
 
 #[test]
-fn kept_strings(rt: HostRuntime) -> Result<(), Fail> {
-    let copied = Bytes::new(rt.alloc(), &[1, 2])?;
-    assert_eq!(rt; copied.bytes(), [1, 2].as_slice());
-    let moved = Bytes::from_vec(rt.alloc(), vec![in rt.alloc(); 1, 2]?)?;
-    let shared = moved.share()?;
-    drop(moved);
-    assert_eq!(rt; shared.bytes(), [1, 2].as_slice());
-    Ok(())
+fn kept_strings(rt: HostRuntime) {
+    let copied = Bytes::new(rt.alloc(), &[1, 2]).expect(&rt, "memory");
+    expect_items(&rt, copied.bytes(), &[1, 2]);
+    let bytes = vec![in rt.alloc(); 1, 2].expect(&rt, "memory");
+    let moved = Bytes::from_vec(rt.alloc(), bytes).expect(&rt, "memory");
+    shares(&rt, moved, &[1, 2]);
 }
 
 /// A short one lies beside its count, and one byte more does not: both are what they were.
 #[test]
-fn short_and_long_strings(rt: HostRuntime) -> Result<(), Fail> {
+fn short_and_long_strings(rt: HostRuntime) {
     for len in [0, 41, 42, 43] {
-        let mut bytes = vec![in rt.alloc(); 7; len]?;
-        bytes.push(8)?;
-        let copied = Bytes::new(rt.alloc(), &bytes)?;
-        assert_eq!(rt; copied.bytes(), bytes.as_slice());
-        let shared = copied.share()?;
-        drop(copied);
-        assert_eq!(rt; shared.bytes(), bytes.as_slice());
+        let mut bytes = vec![in rt.alloc(); 7; len].expect(&rt, "memory");
+        bytes.push(8).expect(&rt, "memory");
+        let copied = Bytes::new(rt.alloc(), &bytes).expect(&rt, "memory");
+        shares(&rt, copied, &bytes);
     }
-    Ok(())
 }
