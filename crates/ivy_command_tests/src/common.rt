@@ -4,6 +4,7 @@ use ivy_commands::{Texts, perform};
 use ivy_examples::File;
 use ivy_model::Fault;
 use std::alloc::{AllocError, Global};
+use std::fmt::{Debug, Display};
 use std::io::Write;
 use std::process::Abort;
 use std::sync::Wait;
@@ -32,7 +33,7 @@ impl Texts for Shelf<'_> {
 fn words_of(alloc: Global, line: &str) -> Result<Vec<String>, AllocError> {
     let mut words = Vec::new(alloc);
     words.push(String::from_str(alloc, "ivy")?)?;
-    for word in line.split(' ').filter(|word| !word.is_empty()) {
+    for word in line.split_whitespace() {
         words.push(String::from_str(alloc, word)?)?;
     }
     Ok(words)
@@ -62,8 +63,92 @@ pub(crate) fn check_over<R: Abort + AllocGlobal + Threads + Wait + Sync>(
 ) -> Result<(), Fail> {
     let mut printed: Vec<u8> = Vec::new(rt.alloc());
     let (answer, told) = told_by(rt, files, line, &mut printed)?;
-    assert_eq!(rt; String::from_utf8(printed)?.as_str(), out, "{line}");
-    assert_eq!(rt; told.as_str(), err, "{line}");
-    assert_eq!(rt; answer, status, "{line}");
+    expect_same_at(rt, line, String::from_utf8(printed)?.as_str(), out);
+    expect_same_at(rt, line, told.as_str(), err);
+    expect_same_at(rt, line, answer, status);
     Ok(())
+}
+
+/// Performs command lines over the same files. Asserts that each has this status and prints this.
+pub(crate) fn check_each<R: Abort + AllocGlobal + Threads + Wait + Sync>(
+    rt: &R,
+    files: &[File],
+    lines: &[&str],
+    answer: (u8, &str, &str),
+) -> Result<(), Fail> {
+    for line in lines {
+        check_over(rt, files, line, answer)?;
+    }
+    Ok(())
+}
+
+/// Performs a command line under either manager. Asserts its status and what it prints on both streams.
+pub(crate) fn check_managers<R: Abort + AllocGlobal + Threads + Wait + Sync>(
+    rt: &R,
+    files: &[File],
+    line: &str,
+    answer: (u8, &str, &str),
+) -> Result<(), Fail> {
+    for manager in ["dynamic", "fixed"] {
+        let line = format!(in rt.alloc(); "{line} --manager {manager}")?;
+        check_over(rt, files, line.as_str(), answer)?;
+    }
+    Ok(())
+}
+
+/// Performs a command line with each of these seeds, under either manager. Asserts its status and what it prints on
+/// both streams.
+pub(crate) fn check_seeds<R: Abort + AllocGlobal + Threads + Wait + Sync>(
+    rt: &R,
+    files: &[File],
+    (line, seeds): (&str, &[u64]),
+    answer: (u8, &str, &str),
+) -> Result<(), Fail> {
+    for seed in seeds {
+        let line = format!(in rt.alloc(); "{line} --seed {seed}")?;
+        check_managers(rt, files, line.as_str(), answer)?;
+    }
+    Ok(())
+}
+
+/// What a command line prints over files, with status 0 and nothing told.
+pub(crate) fn printed_by<R: Abort + AllocGlobal + Threads + Wait + Sync>(
+    rt: &R,
+    files: &[File],
+    line: &str,
+) -> Result<String, Fail> {
+    let mut printed: Vec<u8> = Vec::new(rt.alloc());
+    let (status, told) = told_by(rt, files, line, &mut printed)?;
+    expect_same_at(rt, line, status, 0);
+    expect_same_at(rt, line, told.as_str(), "");
+    Ok(String::from_utf8(printed)?)
+}
+
+/// What is printed, and then the line that `sim` prints of each node at the end, with this word.
+pub(crate) fn with_nodes(
+    alloc: Global,
+    printed: &str,
+    nodes: u64,
+    word: &str,
+) -> Result<String, AllocError> {
+    let mut text = String::from_str(alloc, printed)?;
+    for node in 0..nodes {
+        write!(text, "node {node} {word}\n")?;
+    }
+    Ok(text)
+}
+
+/// That a value is the one that is wanted. A call of this costs its caller less proof than `assert_eq!` there would.
+pub(crate) fn expect_same<T: PartialEq + Debug + Drop>(rt: &impl Abort, found: T, wanted: T) {
+    assert_eq!(rt; found, wanted);
+}
+
+/// The same of a row, a node or a growth, which is named where the value is another.
+pub(crate) fn expect_same_at<T: PartialEq + Debug + Drop>(
+    rt: &impl Abort,
+    place: impl Display + Drop,
+    found: T,
+    wanted: T,
+) {
+    assert_eq!(rt; found, wanted, "{place}");
 }

@@ -1,6 +1,6 @@
 //! Sessions of as many programs as there can be, and the example for as many.
 
-use crate::common::check_over;
+use crate::common::{check_managers, check_over, with_nodes};
 use ivy_examples::{File, SUM_OF_THIRTY_TWO};
 use std::alloc::{AllocError, Allocator};
 use std::process::Abort;
@@ -15,7 +15,7 @@ fn crowd<A: Allocator + Copy>(alloc: A) -> Result<String<A>, AllocError> {
         "node 0\nadvance r0\nset r1 32\nawait r2 r0 r1\nprint r2\n",
     )?;
     for node in 1..32 {
-        text.push_str(format!(in alloc; "node {node}\nadvance r0\n")?.as_str())?;
+        write!(text, "node {node}\nadvance r0\n")?;
     }
     Ok(text)
 }
@@ -47,16 +47,8 @@ fn crowd_under_managing_nodes(rt: HostRuntime) -> Result<(), Fail> {
 /// Under 2,000 drawn moves no node of the example ends: node 0 makes more turns before it lets the others begin.
 #[test]
 fn sum_of_thirty_two_drawn(rt: HostRuntime) -> Result<(), Fail> {
-    let mut out = String::new(rt.alloc());
-    for node in 0..32 {
-        out.push_str(format!(in rt.alloc(); "node {node} open\n")?.as_str())?;
-    }
-    for manager in ["dynamic", "fixed"] {
-        let line = format!(in rt.alloc();
-            "sim sum_of_thirty_two.ivy --manager {manager} --moves 2000"
-        )?;
-        let files = [SUM_OF_THIRTY_TWO.programs];
-        check_over(&rt, &files, line.as_str(), (0, out.as_str(), ""))?;
-    }
-    Ok(())
+    let out = with_nodes(rt.alloc(), "", 32, "open")?;
+    let files = [SUM_OF_THIRTY_TWO.programs];
+    let line = "sim sum_of_thirty_two.ivy --moves 2000";
+    check_managers(&rt, &files, line, (0, out.as_str(), ""))
 }

@@ -1,5 +1,5 @@
 //! Orders, and whether they are legal.
-use crate::common::check_over;
+use crate::common::{check_each, check_over};
 use ivy_examples::{File, Order, orders};
 use std::process::Abort;
 use std::sync::Wait;
@@ -49,8 +49,23 @@ fn check<R: Abort + AllocGlobal + Threads + Wait + Sync>(
     text: &str,
     answer: (u8, &str, &str),
 ) -> Result<(), Fail> {
-    let name = "order";
-    check_over(rt, &[File { name, text }], "check order", answer)
+    let files = [File {
+        name: "order",
+        text,
+    }];
+    check_over(rt, &files, "check order", answer)
+}
+
+/// Asserts that `check` says the same of each of these orders.
+fn check_texts<R: Abort + AllocGlobal + Threads + Wait + Sync>(
+    rt: &R,
+    texts: &[&str],
+    answer: (u8, &str, &str),
+) -> Result<(), Fail> {
+    for text in texts {
+        check(rt, text, answer)?;
+    }
+    Ok(())
 }
 
 /// `check` prints the verdict of an example, with this status.
@@ -68,84 +83,84 @@ fn examples(rt: HostRuntime) -> Result<(), Fail> {
     check_example(&rt, &orders::STALE_LOAD, 3)
 }
 
+const LEGAL: [&str; 4] = [LOADED_LATER, SWAPPED_IN_TURN, EACH_CALL, "ivy order 2 2 64"];
+
 #[test]
 fn legal(rt: HostRuntime) -> Result<(), Fail> {
-    for text in [LOADED_LATER, SWAPPED_IN_TURN, EACH_CALL, "ivy order 2 2 64"] {
-        check(&rt, text, (0, "legal\n", ""))?;
-    }
-    Ok(())
+    check_texts(&rt, &LEGAL, (0, "legal\n", ""))
 }
+
+const NOT_LEGAL: [&str; 8] = [
+    LOADED_EARLIER,
+    SWAPPED_AT_ONCE,
+    "ivy order 2 2 64\n0 swap 8 64 1 = value 1\n",
+    "ivy order 2 2 64\n0 swap 8 64 1 = done\n",
+    "ivy order 2 2 64\n2 load 8 64 = value 0\n",
+    "ivy order 2 2 64\n0 count 0 = value 18446744073709551615\n",
+    "ivy order 2 2 64\n0 await 0 1 = value 0\n",
+    "ivy order 2 2 64\n0 load 8 64 = refused 255\n",
+];
 
 #[test]
 fn not_legal(rt: HostRuntime) -> Result<(), Fail> {
-    for text in [
-        LOADED_EARLIER,
-        SWAPPED_AT_ONCE,
-        "ivy order 2 2 64\n0 swap 8 64 1 = value 1\n",
-        "ivy order 2 2 64\n0 swap 8 64 1 = done\n",
-        "ivy order 2 2 64\n2 load 8 64 = value 0\n",
-        "ivy order 2 2 64\n0 count 0 = value 18446744073709551615\n",
-        "ivy order 2 2 64\n0 await 0 1 = value 0\n",
-        "ivy order 2 2 64\n0 load 8 64 = refused 255\n",
-    ] {
-        check(&rt, text, (3, "not legal\n", ""))?;
-    }
-    Ok(())
+    check_texts(&rt, &NOT_LEGAL, (3, "not legal\n", ""))
 }
 
 /// A swap has a width, an address and a value.
+const SWAPS_AT_FAULT: [&str; 4] = [
+    "ivy order 2 2 64\n0 swap 3 64 1 = value 0\n",
+    "ivy order 2 2 64\n0 swap 8 64 = value 0\n",
+    "ivy order 2 2 64\n0 swap 8 64 1 1 = value 0\n",
+    "ivy order 2 2 64\n0 swap 8 64 r1 = value 0\n",
+];
+
 #[test]
 fn swaps_at_fault(rt: HostRuntime) -> Result<(), Fail> {
-    for call in ["swap 3 64 1", "swap 8 64", "swap 8 64 1 1", "swap 8 64 r1"] {
-        let text = format!(in rt.alloc(); "ivy order 2 2 64\n0 {call} = value 0\n")?;
-        check(&rt, text.as_str(), (2, "", "ivy: 20 ProgramFault line 2\n"))?;
-    }
-    Ok(())
+    let answer = (2, "", "ivy: 20 ProgramFault line 2\n");
+    check_texts(&rt, &SWAPS_AT_FAULT, answer)
 }
 
-/// The least line at fault, before sizes that are out of their limits.
+/// Orders, by what is told of them: the least line at fault, before sizes that are out of their limits.
+const AT_FAULT: [(&str, &[&str]); 4] = [
+    (
+        "ivy: 20 ProgramFault line 1\n",
+        &["", "# nothing\n", "0 count 0 = value 0\n"],
+    ),
+    (
+        "ivy: 20 ProgramFault line 2\n",
+        &[
+            "\nivy order 2 2\n",
+            "ivy order 2 2 64\n256 count 0 = value 0\n0 count = value 0\n",
+            "ivy order 2 2 64\n0 count 0 = refused 256\n",
+            "ivy order 2 2 64\n0 count 0 value 0\n",
+            "ivy order 2 2 64\n0 count 0 = value 18446744073709551616\n",
+            "ivy order 2 2 64\nivy order 2 2 64\n",
+        ],
+    ),
+    (
+        "ivy: 20 ProgramFault line 3\n",
+        &["ivy order 1 1 1\n0 count 0 = value 0\n0 load 3 64 = value 0"],
+    ),
+    (
+        "ivy: 2 BadConfig\n",
+        &[
+            "ivy order 1 2 64\n",
+            "ivy order 33 2 64\n",
+            "ivy order 258 2 64\n",
+            "ivy order 2 4294967298 64\n",
+            "ivy order 2 2 96\n",
+        ],
+    ),
+];
+
+/// Command lines of `check` that mean nothing.
+const BAD: [&str; 3] = ["check", "check order order", "check order --pages 2"];
+
 #[test]
 fn at_fault(rt: HostRuntime) -> Result<(), Fail> {
-    for (text, err) in [
-        ("", "ivy: 20 ProgramFault line 1\n"),
-        ("# nothing\n", "ivy: 20 ProgramFault line 1\n"),
-        ("\nivy order 2 2\n", "ivy: 20 ProgramFault line 2\n"),
-        ("0 count 0 = value 0\n", "ivy: 20 ProgramFault line 1\n"),
-        (
-            "ivy order 1 1 1\n0 count 0 = value 0\n0 load 3 64 = value 0",
-            "ivy: 20 ProgramFault line 3\n",
-        ),
-        (
-            "ivy order 2 2 64\n256 count 0 = value 0\n0 count = value 0\n",
-            "ivy: 20 ProgramFault line 2\n",
-        ),
-        (
-            "ivy order 2 2 64\n0 count 0 = refused 256\n",
-            "ivy: 20 ProgramFault line 2\n",
-        ),
-        (
-            "ivy order 2 2 64\n0 count 0 value 0\n",
-            "ivy: 20 ProgramFault line 2\n",
-        ),
-        (
-            "ivy order 2 2 64\n0 count 0 = value 18446744073709551616\n",
-            "ivy: 20 ProgramFault line 2\n",
-        ),
-        (
-            "ivy order 2 2 64\nivy order 2 2 64\n",
-            "ivy: 20 ProgramFault line 2\n",
-        ),
-        ("ivy order 1 2 64\n", "ivy: 2 BadConfig\n"),
-        ("ivy order 33 2 64\n", "ivy: 2 BadConfig\n"),
-        ("ivy order 258 2 64\n", "ivy: 2 BadConfig\n"),
-        ("ivy order 2 4294967298 64\n", "ivy: 2 BadConfig\n"),
-        ("ivy order 2 2 96\n", "ivy: 2 BadConfig\n"),
-    ] {
-        check(&rt, text, (2, "", err))?;
+    for (err, texts) in &AT_FAULT {
+        check_texts(&rt, texts, (2, "", err))?;
     }
     check_over(&rt, &[], "check order", (2, "", "ivy: cannot read order\n"))?;
-    for line in ["check", "check order order", "check order --pages 2"] {
-        check_over(&rt, &[], line, (2, "", "ivy: bad command line\n"))?;
-    }
-    Ok(())
+    check_each(&rt, &[], &BAD, (2, "", "ivy: bad command line\n"))
 }

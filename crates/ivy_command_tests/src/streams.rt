@@ -1,9 +1,12 @@
 //! Streams that take no more, or fail where they are flushed.
 
-use crate::common::told_by;
+use crate::common::{expect_same, expect_same_at, told_by};
 use ivy_examples::{EMPTY, File, schedules};
 use std::io::{self, ErrorKind, Write};
+use std::process::Abort;
+use std::sync::Wait;
 use std::test::Fail;
+use std::thread::Threads;
 
 /// A stream that takes so many bytes and no more.
 #[derive(Drop)]
@@ -26,12 +29,14 @@ impl Write for Narrow {
 /// Where standard output takes no more, nothing is told either.
 #[test]
 fn unwritten(rt: HostRuntime) -> Result<(), Fail> {
-    let unsent = schedules::STRING_NOT_SENT;
-    let line = format!(in rt.alloc(); "step {} {}", unsent.programs.name, unsent.moves.name)?;
-    let files = [unsent.programs, unsent.moves];
-    let (status, told) = told_by(&rt, &files, line.as_str(), &mut Narrow { room: 12 })?;
-    assert_eq!(rt; status, 1);
-    assert_eq!(rt; told.as_str(), "");
+    let files = [
+        schedules::STRING_NOT_SENT.programs,
+        schedules::STRING_NOT_SENT.moves,
+    ];
+    let line = "step first_load.ivy string_not_sent.schedule";
+    let (status, told) = told_by(&rt, &files, line, &mut Narrow { room: 12 })?;
+    expect_same(&rt, status, 1);
+    expect_same(&rt, told.as_str(), "");
     Ok(())
 }
 
@@ -80,13 +85,23 @@ const UNFLUSHED: [(&str, u8, &str); 7] = [
     ("sim empty", 1, ""),
 ];
 
+/// Performs a command line over a stream that fails where it is flushed. Asserts its status and what is told.
+fn check_unflushed<R: Abort + AllocGlobal + Threads + Wait + Sync>(
+    rt: &R,
+    line: &str,
+    (status, err): (u8, &str),
+) -> Result<(), Fail> {
+    let (answer, told) = told_by(rt, &FILES, line, &mut Shut)?;
+    expect_same_at(rt, line, told.as_str(), err);
+    expect_same_at(rt, line, answer, status);
+    Ok(())
+}
+
 /// What is found before a run is told all the same.
 #[test]
 fn unflushed(rt: HostRuntime) -> Result<(), Fail> {
-    for (line, status, err) in UNFLUSHED {
-        let (answer, told) = told_by(&rt, &FILES, line, &mut Shut)?;
-        assert_eq!(rt; told.as_str(), err, "{line}");
-        assert_eq!(rt; answer, status, "{line}");
+    for (line, status, err) in &UNFLUSHED {
+        check_unflushed(&rt, line, (*status, err))?;
     }
     Ok(())
 }

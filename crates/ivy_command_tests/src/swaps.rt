@@ -1,11 +1,9 @@
 //! Swaps: the trace of one, four nodes that swap one word, and locks that are taken by swaps.
 
-use crate::common::{check_over, told_by};
-use ivy_examples::{Example, File, SPIN_LOCK, TICKET_LOCK};
+use crate::common::{check_over, check_seeds, expect_same_at, printed_by};
+use ivy_examples::{File, SPIN_LOCK, TICKET_LOCK};
 use std::process::Abort;
-use std::sync::Wait;
 use std::test::Fail;
-use std::thread::Threads;
 
 const TWICE: [File; 2] = [
     File {
@@ -85,28 +83,30 @@ advance r0
 /// Asserts that each of the five nodes printed one line, and that each of 0 to 4 stands in one of them: each number is
 /// given to one node, and the last one is left.
 fn check_each_once(rt: &impl Abort, printed: &str) {
-    assert_eq!(rt; printed.lines().count(), 5, "{printed}");
+    expect_same_at(rt, printed, printed.lines().count(), 5);
     for number in [b'0', b'1', b'2', b'3', b'4'] {
-        let of_node = |line: &&str| line.as_bytes().get(5) == Some(&number);
-        let of_value = |line: &&str| line.as_bytes().get(8) == Some(&number) && line.len() == 9;
-        assert_eq!(rt; printed.lines().filter(of_node).count(), 1, "{printed}");
-        assert_eq!(rt; printed.lines().filter(of_value).count(), 1, "{printed}");
+        expect_same_at(rt, printed, lines_with(printed, 5, number), 1);
+        expect_same_at(rt, printed, lines_with(printed, 8, number), 1);
     }
+}
+
+/// How many lines of nine bytes have this digit at this place.
+fn lines_with(printed: &str, place: usize, digit: u8) -> usize {
+    let has_digit = |line: &&str| line.as_bytes().get(place) == Some(&digit) && line.len() == 9;
+    printed.lines().filter(has_digit).count()
 }
 
 /// The order of the swaps is open, and each number is given once.
 #[test]
 fn four_swaps(rt: HostRuntime) -> Result<(), Fail> {
-    for manager in ["dynamic", "fixed"] {
-        for options in ["", "--capacity 1"] {
-            let line = format!(in rt.alloc();
-                "run swaps --pages 2 --page-size 64 --manager {manager} {options}"
-            )?;
-            let mut printed: Vec<u8> = Vec::new(rt.alloc());
-            let (status, told) = told_by(&rt, &[FOUR_SWAPS], line.as_str(), &mut printed)?;
-            assert_eq!(rt; (status, told.as_str()), (0, ""), "{line}");
-            check_each_once(&rt, String::from_utf8(printed)?.as_str());
-        }
+    for line in [
+        "run swaps --pages 2 --page-size 64 --manager dynamic",
+        "run swaps --pages 2 --page-size 64 --manager dynamic --capacity 1",
+        "run swaps --pages 2 --page-size 64 --manager fixed",
+        "run swaps --pages 2 --page-size 64 --manager fixed --capacity 1",
+    ] {
+        let printed = printed_by(&rt, &[FOUR_SWAPS], line)?;
+        check_each_once(&rt, printed.as_str());
     }
     Ok(())
 }
@@ -123,25 +123,12 @@ node 6 open
 node 7 open
 ";
 
-fn check_lock<R: Abort + AllocGlobal + Threads + Wait + Sync>(
-    rt: &R,
-    lock: &Example,
-) -> Result<(), Fail> {
-    let name = lock.programs.name;
-    for manager in ["dynamic", "fixed"] {
-        for seed in [1, 2, 3] {
-            let line = format!(in rt.alloc();
-                "sim {name} --manager {manager} --seed {seed} --moves 2000"
-            )?;
-            check_over(rt, &[lock.programs], line.as_str(), (0, OPEN, ""))?;
-        }
-    }
-    Ok(())
-}
-
 /// Whole runs of the locks take too long for a test, and are made by `examples/check`.
 #[test]
 fn locks_begin(rt: HostRuntime) -> Result<(), Fail> {
-    check_lock(&rt, &SPIN_LOCK)?;
-    check_lock(&rt, &TICKET_LOCK)
+    let seeds = [1, 2, 3];
+    let spin = ("sim spin_lock.ivy --moves 2000", seeds.as_slice());
+    check_seeds(&rt, &[SPIN_LOCK.programs], spin, (0, OPEN, ""))?;
+    let ticket = ("sim ticket_lock.ivy --moves 2000", seeds.as_slice());
+    check_seeds(&rt, &[TICKET_LOCK.programs], ticket, (0, OPEN, ""))
 }

@@ -153,22 +153,22 @@ fn check_node(rt: &impl Abort, node: &mut Node, scene: &Scene) -> Result<(), Fai
         assert!(rt; node.goes(step)?, "step {index}");
     }
     assert!(rt; node.posted.are(1, scene.posted));
-    assert_eq!(rt; node.coherence.config(), TRIO);
+    assert!(rt; node.coherence.config() == TRIO);
     Ok(())
 }
 
-fn check(rt: &impl Abort, alloc: Global, scene: &Scene) -> Result<(), Fail> {
-    let mut node = Node::new(alloc, scene.me)?;
+fn check<R: Abort + AllocGlobal>(rt: &R, scene: &Scene) -> Result<(), Fail> {
+    let mut node = Node::new(rt.alloc(), scene.me)?;
     check_node(rt, &mut node, scene)
 }
 
 /// A node without a copy asks the managing node, and its entry is locked then.
 #[test]
 fn a_read_fault(rt: HostRuntime) -> Result<(), Fail> {
-    check(&rt, rt.alloc(), &READ_FAULT)
+    check(&rt, &READ_FAULT)
 }
 
-const READ_FAULT: Scene = Scene {
+static READ_FAULT: Scene<'static> = Scene {
     me: 2,
     steps: &[
         Step::Loads(1, 1, Need::Started),
@@ -181,10 +181,10 @@ const READ_FAULT: Scene = Scene {
 /// The owner answers with the page's bytes, and reads on without asking.
 #[test]
 fn an_owner_answers(rt: HostRuntime) -> Result<(), Fail> {
-    check(&rt, rt.alloc(), &OWNER_ANSWERS)
+    check(&rt, &OWNER_ANSWERS)
 }
 
-const OWNER_ANSWERS: Scene = Scene {
+static OWNER_ANSWERS: Scene<'static> = Scene {
     me: 0,
     steps: &[
         Step::Comes(1, (Said::Request, 2, 7)),
@@ -198,10 +198,10 @@ const OWNER_ANSWERS: Scene = Scene {
 /// The managing node sends a request on to the owner, and it stays a request of the node that asked.
 #[test]
 fn a_request_goes_on(rt: HostRuntime) -> Result<(), Fail> {
-    check(&rt, rt.alloc(), &GOES_ON)
+    check(&rt, &GOES_ON)
 }
 
-const GOES_ON: Scene = Scene {
+static GOES_ON: Scene<'static> = Scene {
     me: 1,
     steps: &[Step::Comes(2, (Said::Request, 2, 7))],
     posted: &[(0, (Said::Request, 2, 7))],
@@ -211,10 +211,10 @@ const GOES_ON: Scene = Scene {
 /// and the word that waited has read the copy.
 #[test]
 fn requests_at_a_locked_entry(rt: HostRuntime) -> Result<(), Fail> {
-    check(&rt, rt.alloc(), &LOCKED)
+    check(&rt, &LOCKED)
 }
 
-const LOCKED: Scene = Scene {
+static LOCKED: Scene<'static> = Scene {
     me: 1,
     steps: &[
         Step::Loads(1, 3, Need::Started),
@@ -271,10 +271,10 @@ const LOCKED: Scene = Scene {
 /// that asks: each is one breach, and changes nothing else.
 #[test]
 fn forged_messages(rt: HostRuntime) -> Result<(), Fail> {
-    check(&rt, rt.alloc(), &FORGED)
+    check(&rt, &FORGED)
 }
 
-const FORGED: Scene = Scene {
+static FORGED: Scene<'static> = Scene {
     me: 2,
     steps: &[
         Step::Comes(0, (Said::Copy(Bytes::Ones), 2, 1)),
@@ -293,10 +293,10 @@ const FORGED: Scene = Scene {
 /// word is carried out, and the request that was put off is served with the bytes as they are then.
 #[test]
 fn a_write_fault(rt: HostRuntime) -> Result<(), Fail> {
-    check(&rt, rt.alloc(), &WRITE_FAULT)
+    check(&rt, &WRITE_FAULT)
 }
 
-const WRITE_FAULT: Scene = Scene {
+static WRITE_FAULT: Scene<'static> = Scene {
     me: 2,
     steps: &[
         Step::Stores(4, Need::Started),
@@ -322,10 +322,10 @@ const WRITE_FAULT: Scene = Scene {
 /// The owner gives the page up with the nodes that have a copy, and has nothing of it then.
 #[test]
 fn an_owner_gives_the_page(rt: HostRuntime) -> Result<(), Fail> {
-    check(&rt, rt.alloc(), &OWNER_GIVES)
+    check(&rt, &OWNER_GIVES)
 }
 
-const OWNER_GIVES: Scene = Scene {
+static OWNER_GIVES: Scene<'static> = Scene {
     me: 0,
     steps: &[
         Step::Comes(1, (Said::Request, 1, 7)),
@@ -343,10 +343,10 @@ const OWNER_GIVES: Scene = Scene {
 /// An owner that shares its page tells the others to give their copies up before it stores.
 #[test]
 fn an_owner_stores(rt: HostRuntime) -> Result<(), Fail> {
-    check(&rt, rt.alloc(), &OWNER_STORES)
+    check(&rt, &OWNER_STORES)
 }
 
-const OWNER_STORES: Scene = Scene {
+static OWNER_STORES: Scene<'static> = Scene {
     me: 0,
     steps: &[
         Step::Comes(1, (Said::Request, 1, 7)),
@@ -370,10 +370,10 @@ const OWNER_STORES: Scene = Scene {
 /// A copy is given up when the node that is to write says so; one that is still awaited, once it came.
 #[test]
 fn copies_given_up(rt: HostRuntime) -> Result<(), Fail> {
-    check(&rt, rt.alloc(), &GIVEN_UP)
+    check(&rt, &GIVEN_UP)
 }
 
-const GIVEN_UP: Scene = Scene {
+static GIVEN_UP: Scene<'static> = Scene {
     me: 2,
     steps: &[
         Step::Loads(1, 1, Need::Started),
@@ -394,10 +394,10 @@ const GIVEN_UP: Scene = Scene {
 /// Where a post refuses what the last acknowledgement brings about, all is as it was.
 #[test]
 fn a_refused_acknowledgement(rt: HostRuntime) -> Result<(), Fail> {
-    check(&rt, rt.alloc(), &REFUSED)
+    check(&rt, &REFUSED)
 }
 
-const REFUSED: Scene = Scene {
+static REFUSED: Scene<'static> = Scene {
     me: 0,
     steps: &[
         Step::Comes(1, (Said::Request, 1, 7)),

@@ -2,7 +2,6 @@
 use crate::managers::{Calls, Told, check};
 use ivy_dynamic::DynamicManager;
 use ivy_model::{Config, Kind};
-use std::alloc::Global;
 use std::process::Abort;
 use std::test::Fail;
 
@@ -13,18 +12,18 @@ const CONFIG: Config = Config {
     manager: Kind::Dynamic,
 };
 
-fn check_node(rt: &impl Abort, alloc: Global, me: u8, calls: &Calls) -> Result<(), Fail> {
-    let mut manager = DynamicManager::new(alloc, &CONFIG, me)?;
+fn check_node<R: Abort + AllocGlobal>(rt: &R, me: u8, calls: &Calls) -> Result<(), Fail> {
+    let mut manager = DynamicManager::new(rt.alloc(), &CONFIG, me)?;
     check(rt, &mut manager, calls);
     Ok(())
 }
 
 #[test]
 fn each_call_moves_the_hint(rt: HostRuntime) -> Result<(), Fail> {
-    check_node(&rt, rt.alloc(), 1, &EACH_CALL)
+    check_node(&rt, 1, &EACH_CALL)
 }
 
-const EACH_CALL: Calls = Calls {
+static EACH_CALL: Calls<'static> = Calls {
     page: 5,
     first: [0; 8],
     calls: &[
@@ -41,25 +40,24 @@ const EACH_CALL: Calls = Calls {
 /// hint to hint, 0 and then 1, and each of the two then hints at node 3.
 #[test]
 fn request_follows_a_chain_of_hints(rt: HostRuntime) -> Result<(), Fail> {
-    for (me, calls) in [(0, &FIRST), (1, &SECOND), (3, &ASKING)] {
-        check_node(&rt, rt.alloc(), me, calls)?;
-    }
-    Ok(())
+    check_node(&rt, 0, &FIRST)?;
+    check_node(&rt, 1, &SECOND)?;
+    check_node(&rt, 3, &ASKING)
 }
 
-const FIRST: Calls = Calls {
+static FIRST: Calls<'static> = Calls {
     page: 5,
     first: [0; 8],
     calls: &[(Told::Given(1), 1), (Told::Forward(true, 3), 3)],
 };
 
-const SECOND: Calls = Calls {
+static SECOND: Calls<'static> = Calls {
     page: 5,
     first: [0; 8],
     calls: &[(Told::Replied(true, 0), 1), (Told::Given(3), 3)],
 };
 
-const ASKING: Calls = Calls {
+static ASKING: Calls<'static> = Calls {
     page: 5,
     first: [0; 8],
     calls: &[(Told::Replied(true, 1), 3)],
@@ -69,10 +67,10 @@ const ASKING: Calls = Calls {
 /// here one that names another node, or once this node has written one that names itself.
 #[test]
 fn one_call_takes_changes_back(rt: HostRuntime) -> Result<(), Fail> {
-    check_node(&rt, rt.alloc(), 1, &TAKEN_BACK)
+    check_node(&rt, 1, &TAKEN_BACK)
 }
 
-const TAKEN_BACK: Calls = Calls {
+static TAKEN_BACK: Calls<'static> = Calls {
     page: 5,
     first: [0; 8],
     calls: &[

@@ -2,8 +2,10 @@
 use ivy_events::{Event, Events};
 use ivy_wire::Bytes;
 use std::alloc::Global;
-use std::process::Abort;
 use std::test::Fail;
+
+/// The string that is delivered.
+const DELIVERED: [u8; 2] = [73, 86];
 
 fn add_turn(events: &mut Events<Global>) -> Result<(), Fail> {
     events.reserve()?;
@@ -26,25 +28,28 @@ fn add_pulse(events: &mut Events<Global>, to: u8) -> Result<(), Fail> {
 fn add_all(alloc: Global, events: &mut Events<Global>) -> Result<(), Fail> {
     add_turn(events)?;
     add_turn(events)?;
-    add_delivery(alloc, events, &[73, 86])?;
+    add_delivery(alloc, events, &DELIVERED)?;
     add_turn(events)?;
     add_pulse(events, 1)
 }
 
-fn check(rt: &impl Abort, entries: &[Event<Bytes<Global>>]) {
-    assert_eq!(rt; entries.len(), 4);
-    assert!(rt; matches!(&entries[0], Event::Turns(2)));
-    assert!(rt;
-        matches!(&entries[1], Event::Delivered(bytes) if bytes.bytes() == [73, 86].as_slice())
-    );
-    assert!(rt; matches!(&entries[2], Event::Turns(1)));
-    assert!(rt; matches!(&entries[3], Event::Pulsed(1)));
+/// Whether the entries are two turns, what was delivered, one turn and a pulse.
+fn are_all(entries: &[Event<Bytes<Global>>]) -> bool {
+    match entries {
+        [
+            Event::Turns(2),
+            Event::Delivered(string),
+            Event::Turns(1),
+            Event::Pulsed(1),
+        ] => string.bytes() == DELIVERED.as_slice(),
+        _ => false,
+    }
 }
 
 #[test]
 fn turns_in_a_row_are_one_entry(rt: HostRuntime) -> Result<(), Fail> {
     let mut events = Events::new(rt.alloc());
     add_all(rt.alloc(), &mut events)?;
-    check(&rt, events.entries());
+    assert!(&rt; are_all(events.entries()));
     Ok(())
 }

@@ -1,7 +1,5 @@
 //! The manager of pages by managing nodes.
-ghost use Rattle.std.specs.Prelude.{◌<◌};
-
-use crate::managers::{Calls, Told, all_hops, check, tell};
+use crate::managers::{Calls, Told, all_hops, check, names, tell};
 use ivy_fixed::FixedManager;
 use ivy_model::{Config, Kind};
 use ivy_pagetable::Manager;
@@ -23,19 +21,19 @@ fn check_all(rt: &impl Abort, manager: &mut FixedManager<Global>, tables: &[Call
     }
 }
 
-fn check_node(rt: &impl Abort, alloc: Global, me: u8, tables: &[Calls]) -> Result<(), Fail> {
+fn check_node<R: Abort + AllocGlobal>(rt: &R, me: u8, tables: &[Calls]) -> Result<(), Fail> {
     CONFIG.check()?;
-    let mut manager = FixedManager::new(alloc, &CONFIG, me)?;
+    let mut manager = FixedManager::new(rt.alloc(), &CONFIG, me)?;
     check_all(rt, &mut manager, tables);
     Ok(())
 }
 
 #[test]
 fn managing_node_keeps_the_owner(rt: HostRuntime) -> Result<(), Fail> {
-    check_node(&rt, rt.alloc(), 1, &OWN_PAGE)
+    check_node(&rt, 1, &OWN_PAGE)
 }
 
-const OWN_PAGE: [Calls; 1] = [Calls {
+static OWN_PAGE: [Calls<'static>; 1] = [Calls {
     page: 5,
     first: [0, 0, 2, 3, 0, 0, 2, 3],
     calls: &[
@@ -50,10 +48,10 @@ const OWN_PAGE: [Calls; 1] = [Calls {
 
 #[test]
 fn other_nodes_ask_the_managing_node(rt: HostRuntime) -> Result<(), Fail> {
-    check_node(&rt, rt.alloc(), 3, &FOREIGN_PAGES)
+    check_node(&rt, 3, &FOREIGN_PAGES)
 }
 
-const FOREIGN_PAGES: [Calls; 2] = [
+static FOREIGN_PAGES: [Calls<'static>; 2] = [
     Calls {
         page: 5,
         first: [0, 1, 2, 0, 0, 1, 2, 0],
@@ -76,39 +74,34 @@ const CHANGES: [Told; 5] = [
 ];
 
 /// Calls for a page change what is named for that page alone, and one call takes them all back.
-fn changes_one_page<M: Manager>(rt: &impl Abort, manager: &mut M, me: u8, page: u8)
-    requires { page < 8 }
-{
+fn changes_one_page<M: Manager>(rt: &impl Abort, manager: &mut M, me: u8, page: u32) {
     let first = all_hops(manager);
-    let hop = first[usize::from(page)];
+    let hop = manager.next_hop(page);
     for told in &CHANGES {
-        tell(manager, u32::from(page), told);
+        tell(manager, page, told);
     }
-    let mut hops = all_hops(manager);
-    hops[usize::from(page)] = hop;
-    assert_eq!(rt; hops, first);
+    assert!(rt; names(manager, first, page, manager.next_hop(page)));
     let back = if hop == me {
         Told::Replied(true, 2)
     } else {
         Told::Given(hop)
     };
-    tell(manager, u32::from(page), &back);
-    assert_eq!(rt; all_hops(manager), first);
+    tell(manager, page, &back);
+    assert!(rt; names(manager, first, page, hop));
 }
 
 /// At first each next hop is a node, and a node's own at node 0 alone.
 fn obeys_the_laws(rt: &impl Abort, manager: &mut FixedManager<Global>, me: u8) {
-    for hop in all_hops(manager) {
-        assert!(rt; hop < 4 && (hop != me || me == 0), "{me} {hop}");
-    }
     for page in 0..8 {
+        let hop = manager.next_hop(page);
+        assert!(rt; hop < 4 && (hop != me || me == 0), "{me} {page}");
         changes_one_page(rt, manager, me, page);
     }
 }
 
 #[test]
 fn laws_of_a_manager(rt: HostRuntime) -> Result<(), Fail> {
-    for me in 0..4u8 {
+    for me in 0..4 {
         let mut manager = FixedManager::new(rt.alloc(), &CONFIG, me)?;
         obeys_the_laws(&rt, &mut manager, me);
     }

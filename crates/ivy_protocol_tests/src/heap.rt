@@ -39,51 +39,50 @@ struct Round {
     ends: Step,
 }
 
-fn check_round<A: Allocator + Copy>(
-    rt: &impl Abort,
-    keeper: &mut Node<A>,
-    node: &mut Node<A>,
+/// Whether the round goes as it says.
+fn goes_round(
+    keeper: &mut Node<Global>,
+    node: &mut Node<Global>,
     round: &Round,
-) -> Result<(), Fail> {
-    assert!(rt; node.goes(&round.begins)?);
-    assert!(rt; keeper.takes_last(node, round.asks)?);
-    assert!(rt; node.takes_last(keeper, round.answers)?);
-    assert!(rt; node.goes(&round.ends)?);
-    Ok(())
+) -> Result<bool, Fail> {
+    Ok(
+        node.goes(&round.begins)?
+            && keeper.takes_last(node.posts(), round.asks)?
+            && node.takes_last(keeper.posts(), round.answers)?
+            && node.goes(&round.ends)?,
+    )
 }
 
-fn check_rounds<A: Allocator + Copy>(
+fn check_rounds(
     rt: &impl Abort,
-    keeper: &mut Node<A>,
-    node: &mut Node<A>,
-    rounds: &[Round],
+    keeper: &mut Node<Global>,
+    node: &mut Node<Global>,
 ) -> Result<(), Fail> {
-    for round in rounds {
-        check_round(rt, keeper, node, round)?;
+    for (index, round) in ROUNDS.iter().enumerate() {
+        assert!(rt; goes_round(keeper, node, round)?, "round {index}");
     }
-    Ok(())
+    check_node(rt, node, &ASKED)?;
+    check_node(rt, keeper, &ANSWERED)
 }
 
-/// Node 1 makes the calls of these rounds, with node 0.
-fn check_asking(rt: &impl Abort, alloc: Global, keeper: &mut Node<Global>) -> Result<(), Fail> {
-    let mut node = Node::new(alloc, alloc, 1)?;
-    check_rounds(rt, keeper, &mut node, &ROUNDS)?;
-    check_node(rt, &mut node, &ASKED)
+/// Node 1 makes the calls of the rounds, with node 0.
+fn check_asking<R: Abort + AllocGlobal>(rt: &R, keeper: &mut Node<Global>) -> Result<(), Fail> {
+    let mut node = Node::new(rt.alloc(), rt.alloc(), 1)?;
+    check_rounds(rt, keeper, &mut node)
 }
 
-fn check_keeper(rt: &impl Abort, alloc: Global) -> Result<(), Fail> {
-    let mut keeper = Node::new(alloc, alloc, 0)?;
-    check_asking(rt, alloc, &mut keeper)?;
-    check_node(rt, &mut keeper, &ANSWERED)
+fn check_keeper<R: Abort + AllocGlobal>(rt: &R) -> Result<(), Fail> {
+    let mut keeper = Node::new(rt.alloc(), rt.alloc(), 0)?;
+    check_asking(rt, &mut keeper)
 }
 
 /// Each request and each answer is the one message that its node posts. What will be refused is asked for too.
 #[test]
 fn node_1_asks_node_0(rt: HostRuntime) -> Result<(), Fail> {
-    check_keeper(&rt, rt.alloc())
+    check_keeper(&rt)
 }
 
-const ROUNDS: [Round; 5] = [
+static ROUNDS: [Round; 5] = [
     Round {
         begins: Step::Allocates(8, 1, AWAITED),
         asks: WANTS_8,
@@ -117,7 +116,7 @@ const ROUNDS: [Round; 5] = [
 ];
 
 /// What the nodes have posted after these rounds.
-const ANSWERED: Scene = Scene {
+static ANSWERED: Scene<'static> = Scene {
     me: 0,
     steps: &[Step::Breaches(0)],
     posted: &[
@@ -129,7 +128,7 @@ const ANSWERED: Scene = Scene {
     ],
 };
 
-const ASKED: Scene = Scene {
+static ASKED: Scene<'static> = Scene {
     me: 1,
     steps: &[Step::Breaches(0), Step::Asked(None)],
     posted: &[
@@ -144,10 +143,10 @@ const ASKED: Scene = Scene {
 /// Node 0 serves its own calls at once, and posts nothing.
 #[test]
 fn node_0_asks_nobody(rt: HostRuntime) -> Result<(), Fail> {
-    check(&rt, rt.alloc(), &AT_NODE_0)
+    check(&rt, &AT_NODE_0)
 }
 
-const AT_NODE_0: Scene = Scene {
+static AT_NODE_0: Scene<'static> = Scene {
     me: 0,
     steps: &[
         Step::Allocates(8, 1, AT_64),
@@ -164,10 +163,10 @@ const AT_NODE_0: Scene = Scene {
 /// node that keeps no heap: each is one breach, and the call waits on. So is an answer that comes twice.
 #[test]
 fn forged_answers(rt: HostRuntime) -> Result<(), Fail> {
-    check(&rt, rt.alloc(), &FORGED_ANSWERS)
+    check(&rt, &FORGED_ANSWERS)
 }
 
-const FORGED_ANSWERS: Scene = Scene {
+static FORGED_ANSWERS: Scene<'static> = Scene {
     me: 1,
     steps: &[
         Step::Comes(0, GETS_64),
@@ -201,10 +200,10 @@ const FORGED_ANSWERS: Scene = Scene {
 /// reply of its call, and no breach.
 #[test]
 fn forged_codes(rt: HostRuntime) -> Result<(), Fail> {
-    check(&rt, rt.alloc(), &FORGED_CODES)
+    check(&rt, &FORGED_CODES)
 }
 
-const FORGED_CODES: Scene = Scene {
+static FORGED_CODES: Scene<'static> = Scene {
     me: 1,
     steps: &[
         Step::Allocates(8, 1, AWAITED),
@@ -230,10 +229,10 @@ const FORGED_CODES: Scene = Scene {
 /// stays as it was.
 #[test]
 fn forged_requests(rt: HostRuntime) -> Result<(), Fail> {
-    check(&rt, rt.alloc(), &FORGED_REQUESTS)
+    check(&rt, &FORGED_REQUESTS)
 }
 
-const FORGED_REQUESTS: Scene = Scene {
+static FORGED_REQUESTS: Scene<'static> = Scene {
     me: 0,
     steps: &[
         Step::Allocates(8, 1, AT_64),
@@ -256,10 +255,10 @@ const FORGED_REQUESTS: Scene = Scene {
 /// A call whose request is refused does not begin.
 #[test]
 fn a_refused_request(rt: HostRuntime) -> Result<(), Fail> {
-    check(&rt, rt.alloc(), &REFUSED_REQUEST)
+    check(&rt, &REFUSED_REQUEST)
 }
 
-const REFUSED_REQUEST: Scene = Scene {
+static REFUSED_REQUEST: Scene<'static> = Scene {
     me: 1,
     steps: &[
         Step::IsFull(true),
@@ -279,10 +278,10 @@ const REFUSED_REQUEST: Scene = Scene {
 /// is refused.
 #[test]
 fn a_refused_answer(rt: HostRuntime) -> Result<(), Fail> {
-    check(&rt, rt.alloc(), &REFUSED_ANSWER)
+    check(&rt, &REFUSED_ANSWER)
 }
 
-const REFUSED_ANSWER: Scene = Scene {
+static REFUSED_ANSWER: Scene<'static> = Scene {
     me: 0,
     steps: &[
         Step::IsFull(true),
@@ -305,7 +304,26 @@ struct Growing<'a> {
     after: Scene<'a>,
 }
 
-/// The n-th growth is refused. Whether it was asked for.
+/// The n-th growth is refused to a node. Whether it was asked for.
+fn refused_of<A: Allocator + Copy>(
+    rt: &impl Abort,
+    memory: &Refusing<Global>,
+    node: &mut Node<A>,
+    n: u64,
+    growing: &Growing,
+) -> Result<bool, Fail> {
+    memory.refuse(n);
+    let is_refused = node.goes(&growing.refused)?;
+    let is_met = memory.asked(n) >= n;
+    memory.refuse(0);
+    assert!(rt; is_refused == is_met, "growth {n}");
+    if is_met {
+        check_node(rt, node, &growing.after)?;
+    }
+    Ok(is_met)
+}
+
+/// The same of a new node.
 fn refused_at(
     rt: &impl Abort,
     memory: &Refusing<Global>,
@@ -314,22 +332,14 @@ fn refused_at(
     growing: &Growing,
 ) -> Result<bool, Fail> {
     let mut node = Node::new(memory, alloc, 0)?;
-    memory.refuse(n);
-    let is_refused = node.goes(&growing.refused)?;
-    let is_met = memory.asked(n) >= n;
-    memory.refuse(0);
-    assert!(rt; is_refused == is_met, "growth {n}");
-    if is_met {
-        check_node(rt, &mut node, &growing.after)?;
-    }
-    Ok(is_met)
+    refused_of(rt, memory, &mut node, n, growing)
 }
 
 /// Refuses each growth in turn, until one is not asked for.
-fn refuse_each(rt: &impl Abort, alloc: Global, growing: &Growing) -> Result<(), Fail> {
-    let memory = Refusing::new(alloc);
+fn refuse_each<R: Abort + AllocGlobal>(rt: &R, growing: &Growing) -> Result<(), Fail> {
+    let memory = Refusing::new(rt.alloc());
     for n in 1..MANY {
-        if !refused_at(rt, &memory, alloc, n, growing)? {
+        if !refused_at(rt, &memory, rt.alloc(), n, growing)? {
             assert!(rt; n > 1);
             return Ok(());
         }
@@ -343,10 +353,10 @@ const MANY: u64 = 20;
 /// Node 1 asks for a block that the heap has no memory for: that is refused with 1, and is served when it comes again.
 #[test]
 fn growths_of_a_request(rt: HostRuntime) -> Result<(), Fail> {
-    refuse_each(&rt, rt.alloc(), &REQUEST_COMES)
+    refuse_each(&rt, &REQUEST_COMES)
 }
 
-const REQUEST_COMES: Growing = Growing {
+static REQUEST_COMES: Growing<'static> = Growing {
     refused: Step::Refuses(1, WANTS_8),
     after: Scene {
         me: 0,
@@ -363,10 +373,10 @@ const REQUEST_COMES: Growing = Growing {
 /// So is a call of node 0 itself.
 #[test]
 fn growths_of_a_call(rt: HostRuntime) -> Result<(), Fail> {
-    refuse_each(&rt, rt.alloc(), &NODE_0_CALLS)
+    refuse_each(&rt, &NODE_0_CALLS)
 }
 
-const NODE_0_CALLS: Growing = Growing {
+static NODE_0_CALLS: Growing<'static> = Growing {
     refused: Step::Allocates(8, 1, Err(Fault::Memory)),
     after: Scene {
         me: 0,

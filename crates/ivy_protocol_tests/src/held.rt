@@ -79,10 +79,10 @@ fn goes(link: &mut Link<Global>, alloc: Global, step: Step) -> Result<bool, Fail
 }
 
 /// Asserts that the steps go as they say, of a new link of node 1.
-fn check(rt: &impl Abort, alloc: Global, steps: &[Step]) -> Result<(), Fail> {
-    let mut link = Link::new(alloc, 1, NODES)?;
+fn check<R: Abort + AllocGlobal>(rt: &R, steps: &[Step]) -> Result<(), Fail> {
+    let mut link = Link::new(rt.alloc(), 1, NODES)?;
     for (index, step) in steps.iter().enumerate() {
-        assert!(rt; goes(&mut link, alloc, *step)?, "step {index}");
+        assert!(rt; goes(&mut link, rt.alloc(), *step)?, "step {index}");
     }
     Ok(())
 }
@@ -90,10 +90,10 @@ fn check(rt: &impl Abort, alloc: Global, steps: &[Step]) -> Result<(), Fail> {
 /// A string is held until the one before it was delivered, one of each number.
 #[test]
 fn a_string_that_comes_early(rt: HostRuntime) -> Result<(), Fail> {
-    check(&rt, rt.alloc(), &COMES_EARLY)
+    check(&rt, &COMES_EARLY)
 }
 
-const COMES_EARLY: [Step; 7] = [
+static COMES_EARLY: [Step; 7] = [
     Step::Holds(2, 20),
     Step::GivesBack(2, 21),
     Step::Takes(None),
@@ -106,11 +106,11 @@ const COMES_EARLY: [Step; 7] = [
 /// Numbers from the next one to the 32nd above those delivered are held, and no others.
 #[test]
 fn as_far_as_a_pulse_reaches(rt: HostRuntime) -> Result<(), Fail> {
-    assert_eq!(&rt; MOST_AHEAD, 32);
-    check(&rt, rt.alloc(), &REACHES)
+    assert!(&rt; MOST_AHEAD == 32);
+    check(&rt, &REACHES)
 }
 
-const REACHES: [Step; 8] = [
+static REACHES: [Step; 8] = [
     Step::GivesBack(0, 1),
     Step::GivesBack(33, 1),
     Step::Holds(32, 32),
@@ -124,10 +124,10 @@ const REACHES: [Step; 8] = [
 /// A string is forgotten once a frame of its number is accepted, and those after it stay.
 #[test]
 fn a_string_that_came_again(rt: HostRuntime) -> Result<(), Fail> {
-    check(&rt, rt.alloc(), &CAME_AGAIN)
+    check(&rt, &CAME_AGAIN)
 }
 
-const CAME_AGAIN: [Step; 7] = [
+static CAME_AGAIN: [Step; 7] = [
     Step::Holds(1, 10),
     Step::Holds(3, 30),
     Step::Accepts(1),
@@ -142,6 +142,6 @@ const CAME_AGAIN: [Step; 7] = [
 fn a_string_for_another_node(rt: HostRuntime) -> Result<(), Fail> {
     let mut link = Link::new(rt.alloc(), 1, NODES)?;
     assert!(&rt; gives_back(&mut link, rt.alloc(), 2, 1, 10)?);
-    assert_eq!(&rt; takes(&mut link), None);
+    assert!(&rt; takes(&mut link).is_none());
     Ok(())
 }

@@ -2,7 +2,6 @@
 use crate::managers::{Calls, Told, check};
 use ivy_host::NodeManager;
 use ivy_model::{Config, Kind};
-use std::alloc::Global;
 use std::process::Abort;
 use std::test::Fail;
 
@@ -21,26 +20,25 @@ const HINTED: Config = Config {
     manager: Kind::Dynamic,
 };
 
-fn check_node(
-    rt: &impl Abort,
-    alloc: Global,
+fn check_node<R: Abort + AllocGlobal>(
+    rt: &R,
     config: &Config,
     me: u8,
     calls: &Calls,
 ) -> Result<(), Fail> {
     config.check()?;
-    let mut manager = NodeManager::new(alloc, config, me)?;
+    let mut manager = NodeManager::new(rt.alloc(), config, me)?;
     check(rt, &mut manager, calls);
     Ok(())
 }
 
 #[test]
 fn managing_nodes(rt: HostRuntime) -> Result<(), Fail> {
-    check_node(&rt, rt.alloc(), &MANAGED, 2, &MANAGING)?;
-    check_node(&rt, rt.alloc(), &MANAGED, 3, &OTHER)
+    check_node(&rt, &MANAGED, 2, &MANAGING)?;
+    check_node(&rt, &MANAGED, 3, &OTHER)
 }
 
-const MANAGING: Calls = Calls {
+static MANAGING: Calls<'static> = Calls {
     page: 6,
     first: [0, 1, 0, 3, 0, 1, 0, 3],
     calls: &[
@@ -52,7 +50,7 @@ const MANAGING: Calls = Calls {
     ],
 };
 
-const OTHER: Calls = Calls {
+static OTHER: Calls<'static> = Calls {
     page: 6,
     first: [0, 1, 2, 0, 0, 1, 2, 0],
     calls: &[
@@ -66,10 +64,10 @@ const OTHER: Calls = Calls {
 
 #[test]
 fn hints(rt: HostRuntime) -> Result<(), Fail> {
-    check_node(&rt, rt.alloc(), &HINTED, 2, &HINTING)
+    check_node(&rt, &HINTED, 2, &HINTING)
 }
 
-const HINTING: Calls = Calls {
+static HINTING: Calls<'static> = Calls {
     page: 6,
     first: [0; 8],
     calls: &[

@@ -77,10 +77,15 @@ fn parcel(source: u8, dest: u8, sent: Load) -> Parcel<&'static [u8]>
     }
 }
 
+/// Whether the frame is this.
+fn is(sent: &Frame<&[u8]>, row: Row) -> bool {
+    *sent == frame(row)
+}
+
 /// Whether the frames are these.
 fn are(frames: &[Frame<&[u8]>], rows: &[Row]) -> bool {
     for (sent, row) in frames.iter().zip(rows) {
-        if *sent != frame(*row) {
+        if !is(sent, *row) {
             return false;
         }
     }
@@ -89,7 +94,7 @@ fn are(frames: &[Frame<&[u8]>], rows: &[Row]) -> bool {
 
 fn are_owned(frames: &[Frame<Page<Global>>], rows: &[Row]) -> bool {
     for (sent, row) in frames.iter().zip(rows) {
-        if sent.lent() != frame(*row) {
+        if !is(&sent.lent(), *row) {
             return false;
         }
     }
@@ -239,8 +244,8 @@ fn check_link(rt: &impl Abort, link: &mut Link<Global>, me: u8, steps: &[Step]) 
 }
 
 /// Asserts that the steps go as they say, of the link of node `me` of three.
-fn check(rt: &impl Abort, alloc: Global, me: u8, steps: &[Step]) -> Result<(), Fail> {
-    let mut link = Link::new(alloc, me, NODES)?;
+fn check<R: Abort + AllocGlobal>(rt: &R, me: u8, steps: &[Step]) -> Result<(), Fail> {
+    let mut link = Link::new(rt.alloc(), me, NODES)?;
     check_link(rt, &mut link, me, steps)
 }
 
@@ -261,17 +266,17 @@ const ACKNOWLEDGES: Row = (0, 1, 0, 1, None);
 /// Node 1 asks for a page, and node 0 answers.
 #[test]
 fn first_load(rt: HostRuntime) -> Result<(), Fail> {
-    check(&rt, rt.alloc(), 1, &ASKING)?;
-    check(&rt, rt.alloc(), 0, &ANSWERING)
+    check(&rt, 1, &ASKING)?;
+    check(&rt, 0, &ANSWERING)
 }
 
-const ASKING: [Step; 3] = [
+static ASKING: [Step<'static>; 3] = [
     Step::Sends(0, Load::Request, ASKS),
     Step::Offers(ASKS, Verdict::NotMine),
     Step::Offers(ANSWERS, Verdict::Next),
 ];
 
-const ANSWERING: [Step; 2] = [
+static ANSWERING: [Step<'static>; 2] = [
     Step::Offers(ASKS, Verdict::Next),
     Step::Sends(1, Load::Reply, ANSWERS),
 ];
@@ -279,10 +284,10 @@ const ANSWERING: [Step; 2] = [
 /// The node that asked sends its request again, with the answer acknowledged, until it is acknowledged.
 #[test]
 fn request_sent_again(rt: HostRuntime) -> Result<(), Fail> {
-    check(&rt, rt.alloc(), 1, &SENT_AGAIN)
+    check(&rt, 1, &SENT_AGAIN)
 }
 
-const SENT_AGAIN: [Step; 5] = [
+static SENT_AGAIN: [Step<'static>; 5] = [
     Step::Sends(0, Load::Request, ASKS),
     Step::Accepts(ANSWERS),
     Step::Pulses(0, &[ASKS_AGAIN]),
@@ -293,10 +298,10 @@ const SENT_AGAIN: [Step; 5] = [
 /// The node that answered owes an acknowledgement for a request that comes again, once.
 #[test]
 fn answer_acknowledged(rt: HostRuntime) -> Result<(), Fail> {
-    check(&rt, rt.alloc(), 0, &ACKNOWLEDGED)
+    check(&rt, 0, &ACKNOWLEDGED)
 }
 
-const ACKNOWLEDGED: [Step; 7] = [
+static ACKNOWLEDGED: [Step<'static>; 7] = [
     Step::Keeps(1, Load::Reply),
     Step::Accepts(ASKS),
     Step::Offers(ASKS, Verdict::Repeat),
@@ -310,10 +315,10 @@ const ACKNOWLEDGED: [Step; 7] = [
 /// stays so.
 #[test]
 fn pulse_in_two_calls(rt: HostRuntime) -> Result<(), Fail> {
-    check(&rt, rt.alloc(), 0, &TWO_CALLS)
+    check(&rt, 0, &TWO_CALLS)
 }
 
-const TWO_CALLS: [Step; 7] = [
+static TWO_CALLS: [Step<'static>; 7] = [
     Step::Accepts(ASKS),
     Step::Shows(1, &[ACKNOWLEDGES]),
     Step::Pulsed(1),
@@ -326,10 +331,10 @@ const TWO_CALLS: [Step; 7] = [
 /// The messages to each node have numbers of their own.
 #[test]
 fn numbers_of_each_pair(rt: HostRuntime) -> Result<(), Fail> {
-    check(&rt, rt.alloc(), 1, &EACH_PAIR)
+    check(&rt, 1, &EACH_PAIR)
 }
 
-const EACH_PAIR: [Step; 3] = [
+static EACH_PAIR: [Step<'static>; 3] = [
     Step::SendsEach(
         [0, 2, 0],
         Load::Request,
@@ -342,10 +347,10 @@ const EACH_PAIR: [Step; 3] = [
 /// A frame for another node is NotMine, and accepting it changes nothing.
 #[test]
 fn frame_for_another_node(rt: HostRuntime) -> Result<(), Fail> {
-    check(&rt, rt.alloc(), 1, &ANOTHER_NODE)
+    check(&rt, 1, &ANOTHER_NODE)
 }
 
-const ANOTHER_NODE: [Step; 4] = [
+static ANOTHER_NODE: [Step<'static>; 4] = [
     Step::Sends(0, Load::Request, ASKS),
     Step::Offers(ASKS_AGAIN, Verdict::NotMine),
     Step::Accepts(ASKS_AGAIN),
@@ -372,7 +377,7 @@ fn more_kept_than_a_pulse(rt: HostRuntime) -> Result<(), Fail> {
     check_link(&rt, &mut link, 1, &MORE_KEPT)
 }
 
-const MORE_KEPT: [Step; 7] = [
+static MORE_KEPT: [Step<'static>; 7] = [
     Step::Spans(0, 32, Some((1, 32))),
     Step::Accepts((0, 1, 0, 35, None)),
     Step::Spans(0, 32, Some((1, 32))),
@@ -386,16 +391,16 @@ const MORE_KEPT: [Step; 7] = [
 #[test]
 fn a_message_ahead(rt: HostRuntime) -> Result<(), Fail> {
     delivers_in_order();
-    check(&rt, rt.alloc(), 1, &SENDS_TWO)?;
-    check(&rt, rt.alloc(), 0, &AHEAD)
+    check(&rt, 1, &SENDS_TWO)?;
+    check(&rt, 0, &AHEAD)
 }
 
-const SENDS_TWO: [Step; 2] = [
+static SENDS_TWO: [Step<'static>; 2] = [
     Step::Sends(0, Load::Request, ASKS),
     Step::Sends(0, Load::Request, ASKS_ONCE_MORE),
 ];
 
-const AHEAD: [Step; 6] = [
+static AHEAD: [Step<'static>; 6] = [
     Step::Offers(ASKS_ONCE_MORE, Verdict::Ahead),
     Step::Accepts(ASKS_ONCE_MORE),
     Step::Shows(1, &[]),

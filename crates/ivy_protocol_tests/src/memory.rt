@@ -2,7 +2,7 @@
 ghost use Rattle.ivy_model.specs.Legal.{HasWidth};
 
 use crate::letters::{Bytes, Letter, Said, message, received};
-use crate::posted::{Posted, is_parcel};
+use crate::posted::Posted;
 use ivy_fixed::FixedManager;
 use ivy_memory::{Answer, Memory};
 use ivy_model::{Call, Config, Fault, Kind, Reply};
@@ -124,22 +124,17 @@ impl<A: Allocator + Copy> Node<A> {
         }
     }
 
-    /// Whether the message that the other node posted last is this letter to this node, and is taken.
-    pub(crate) fn takes_last<B: Allocator>(
-        &mut self,
-        other: &Node<B>,
-        letter: Letter,
-    ) -> Result<bool, Fail> {
-        let Some(parcel) = other.posted.parcels().last() else {
-            return Ok(false);
-        };
-        let is_letter = is_parcel(
-            parcel,
-            other.posted.node(),
-            self.posted.node(),
-            message(0, letter),
-        );
-        Ok(is_letter && self.takes(parcel.source, parcel.message.lent(), Ok(()))?)
+    /// Whether the message that another node posted last is this letter to this node, and is taken.
+    pub(crate) fn takes_last(&mut self, other: &Posted, letter: Letter) -> Result<bool, Fail> {
+        match other.last_to(self.posted.node(), letter) {
+            Some(parcel) => self.takes(parcel.source, parcel.message.lent(), Ok(())),
+            None => Ok(false),
+        }
+    }
+
+    /// All messages that it posted.
+    pub(crate) fn posts(&self) -> &Posted {
+        &self.posted
     }
 
     /// Whether the step goes as it says.
@@ -180,11 +175,6 @@ impl<A: Allocator + Copy> Node<A> {
             Step::Breaches(number) => Ok(self.memory.breaches() == *number),
         }
     }
-
-    /// Whether these are all messages that it posted, in order: each with the node that it went to.
-    pub(crate) fn posted(&self, wanted: &[(u8, Letter)]) -> bool {
-        self.posted.are(0, wanted)
-    }
 }
 
 /// The steps of a node, and all that it posts: each message with the node that it goes to.
@@ -202,12 +192,12 @@ pub(crate) fn check_node<A: Allocator + Copy>(
     for (index, step) in scene.steps.iter().enumerate() {
         assert!(rt; node.goes(step)?, "step {index}");
     }
-    assert!(rt; node.posted(scene.posted));
+    assert!(rt; node.posted.are(0, scene.posted));
     Ok(())
 }
 
-pub(crate) fn check(rt: &impl Abort, alloc: Global, scene: &Scene) -> Result<(), Fail> {
-    let mut node = Node::new(alloc, alloc, scene.me)?;
+pub(crate) fn check<R: Abort + AllocGlobal>(rt: &R, scene: &Scene) -> Result<(), Fail> {
+    let mut node = Node::new(rt.alloc(), rt.alloc(), scene.me)?;
     check_node(rt, &mut node, scene)
 }
 
@@ -220,10 +210,10 @@ const MOST: Outcome = Ok(Answer::Given(Reply::Value(u64::MAX)));
 /// copy is given up it faults again, under the same number; and the next copy has the count.
 #[test]
 fn an_await_without_a_copy(rt: HostRuntime) -> Result<(), Fail> {
-    check(&rt, rt.alloc(), &WITHOUT_A_COPY)
+    check(&rt, &WITHOUT_A_COPY)
 }
 
-const WITHOUT_A_COPY: Scene = Scene {
+static WITHOUT_A_COPY: Scene<'static> = Scene {
     me: 1,
     steps: &[
         Step::Awaits(1, 3, Ok(Answer::Awaited)),
@@ -257,10 +247,10 @@ const WITHOUT_A_COPY: Scene = Scene {
 /// The owner awaits a count that is too low yet, and asks nobody until it has given the page away.
 #[test]
 fn an_await_of_the_owner(rt: HostRuntime) -> Result<(), Fail> {
-    check(&rt, rt.alloc(), &OWNER_AWAITS)
+    check(&rt, &OWNER_AWAITS)
 }
 
-const OWNER_AWAITS: Scene = Scene {
+static OWNER_AWAITS: Scene<'static> = Scene {
     me: 0,
     steps: &[
         Step::Awaits(0, 1, ZERO),
@@ -283,10 +273,10 @@ const OWNER_AWAITS: Scene = Scene {
 /// in progress goes on.
 #[test]
 fn a_call_beside_another(rt: HostRuntime) -> Result<(), Fail> {
-    check(&rt, rt.alloc(), &BESIDE_ANOTHER)
+    check(&rt, &BESIDE_ANOTHER)
 }
 
-const BESIDE_ANOTHER: Scene = Scene {
+static BESIDE_ANOTHER: Scene<'static> = Scene {
     me: 0,
     steps: &[
         Step::Awaits(1, 1, Ok(Answer::Awaited)),

@@ -60,6 +60,16 @@ impl Posted {
         self.is_full = is_full;
     }
 
+    /// The message that was posted last, where it is this one, about page 0 or of the heap, and went to this node.
+    pub(crate) fn last_to(&self, dest: u8, letter: Letter) -> Option<&Parcel<Page<Global>>> {
+        let parcel = self.parcels.last()?;
+        if is_parcel(parcel, self.node, dest, message(0, letter)) {
+            Some(parcel)
+        } else {
+            None
+        }
+    }
+
     /// Whether these are all messages that were posted, in order: each about this page, with the node that it
     /// went to.
     pub(crate) fn are(&self, page: u32, wanted: &[(u8, Letter)]) -> bool {
@@ -115,11 +125,6 @@ impl Post for Posted {
 }
 
 /// Whether a parcel is this message of a node to another.
-pub(crate) fn is_parcel(
-    parcel: &Parcel<Page<Global>>,
-    source: u8,
-    dest: u8,
-    wanted: Message<&[u8]>,
-) -> bool {
+fn is_parcel(parcel: &Parcel<Page<Global>>, source: u8, dest: u8, wanted: Message<&[u8]>) -> bool {
     parcel.source == source && parcel.dest == dest && parcel.message.lent() == wanted
 }

@@ -4,6 +4,8 @@ use ivy_model::{Config, Fault, Kind, Record};
 use ivy_program::parse;
 use ivy_session::{Gate, Limits, OpenGate, Report, Session};
 use std::alloc::Allocator;
+use std::fmt::{Debug, Display};
+use std::process::Abort;
 use std::sync::Wait;
 use std::thread::Threads;
 
@@ -130,14 +132,6 @@ where
     run_behind(rt, alloc, config, text, limits, &OpenGate)
 }
 
-/// Why there is no report.
-pub(crate) fn fault_of<A: Allocator>(answer: Result<Report<A>, Fault>) -> Option<Fault> {
-    match answer {
-        Ok(_) => None,
-        Err(fault) => Some(fault),
-    }
-}
-
 /// What a node was answered, and what it printed; nothing where it is not there.
 pub(crate) fn shown_of<A: Allocator + Copy>(report: &Report<A>, node: u64) -> (&[Record], &[u64]) {
     if node < report.nodes() {
@@ -145,4 +139,19 @@ pub(crate) fn shown_of<A: Allocator + Copy>(report: &Report<A>, node: u64) -> (&
     } else {
         (&[], &[])
     }
+}
+
+/// That a value is the one that is wanted. A call of this costs its caller less proof than `assert_eq!` there would.
+pub(crate) fn expect_same<T: PartialEq + Debug + Drop>(rt: &impl Abort, found: T, wanted: T) {
+    assert_eq!(rt; found, wanted);
+}
+
+/// The same of a row, a node or a growth, which is named where the value is another.
+pub(crate) fn expect_same_at<T: PartialEq + Debug + Drop>(
+    rt: &impl Abort,
+    place: impl Display + Drop,
+    found: T,
+    wanted: T,
+) {
+    assert_eq!(rt; found, wanted, "{place}");
 }

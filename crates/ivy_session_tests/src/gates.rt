@@ -1,9 +1,11 @@
 //! Gates that hold workers until others were seen at work: no lock stands round two nodes, or round a session.
-use crate::common::{LIMITS, LOADS, PAIR, run_behind, shown_of};
+use crate::common::{LIMITS, LOADS, PAIR, expect_same_at, run_behind, shown_of};
 use ivy_session::{Gate, Role};
+use std::process::Abort;
+use std::sync::Wait;
 use std::sync::atomic::{AtomicBool, Ordering};
 use std::test::Fail;
-use std::thread;
+use std::thread::{self, Threads};
 
 /// So often a worker that is held looks for the other.
 const LOOKS: u64 = 10_000_000;
@@ -40,6 +42,20 @@ impl Flag {
         }
         false
     }
+}
+
+/// Runs two programs behind a gate. Asserts what each node printed.
+fn check_printed<R: Abort + AllocGlobal + Threads + Wait + Sync, G: Gate>(
+    rt: &R,
+    text: &str,
+    gate: &G,
+    printed: &[&[u64]],
+) -> Result<(), Fail> {
+    let report = run_behind(rt, rt.alloc(), PAIR, text, LIMITS, gate)?;
+    for (node, numbers) in printed.iter().enumerate() {
+        expect_same_at(rt, node, shown_of(&report, node as u64).1, *numbers);
+    }
+    Ok(())
 }
 
 /// Holds node 0's first turn until node 1's program worker has come to its own, and that one until node 0's program has
@@ -95,12 +111,9 @@ fn programs_at_once(rt: HostRuntime) -> Result<(), Fail> {
         saw_second: Flag::new(),
         saw_answered: Flag::new(),
     };
-    let report = run_behind(&rt, rt.alloc(), PAIR, STORES_AND_LOADS, LIMITS, &gate)?;
+    check_printed(&rt, STORES_AND_LOADS, &gate, &[&[7], &[7]])?;
     assert!(rt; gate.saw_second.is_raised());
     assert!(rt; gate.saw_answered.is_raised());
-    for node in 0..2 {
-        assert_eq!(rt; shown_of(&report, node).1, [7].as_slice());
-    }
     Ok(())
 }
 
@@ -137,9 +150,8 @@ fn wires_at_once(rt: HostRuntime) -> Result<(), Fail> {
         saw_first: Flag::new(),
         saw_second: Flag::new(),
     };
-    let report = run_behind(&rt, rt.alloc(), PAIR, LOADS, LIMITS, &gate)?;
+    check_printed(&rt, LOADS, &gate, &[&[], &[0]])?;
     assert!(rt; gate.saw_first.is_raised());
     assert!(rt; gate.saw_second.is_raised());
-    assert_eq!(rt; shown_of(&report, 1).1, [0].as_slice());
     Ok(())
 }

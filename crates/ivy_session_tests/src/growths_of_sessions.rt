@@ -1,9 +1,11 @@
-//! Each growth of a session refused in turn: every worker ends, and no report is given.
-use crate::common::{LIMITS, LOADS, NOTICE, PAIR, shown_of};
+//! Each growth of a session refused in turn: every worker ends, and no report is given. One exception: where a string
+//! that came early could not be gone on with for that growth, it is gone on with later, and the report may be given.
+use crate::common::{LIMITS, LOADS, NOTICE, PAIR, expect_same, expect_same_at, shown_of};
 use growths::Refusing;
-use ivy_model::{Config, Fault};
+use ivy_model::Fault;
 use ivy_program::parse;
-use ivy_session::{Limits, OpenGate, Session};
+use ivy_session::{OpenGate, Session};
+use std::alloc::Global;
 use std::process::Abort;
 use std::sync::Wait;
 use std::test::Fail;
@@ -12,42 +14,55 @@ use std::thread::Threads;
 /// More growths than any session here asks for.
 const MANY: u64 = 20_000;
 
+/// Runs the programs with this growth refused. They end with the fault 1, or node 0 has printed these numbers. Whether
+/// they asked for fewer growths.
+fn asks_for_fewer<R: Abort + AllocGlobal + Threads + Wait + Sync>(
+    rt: &R,
+    (memory, n): (&Refusing<Global>, u64),
+    text: &str,
+    printed: &[u64],
+) -> Result<bool, Fail> {
+    let programs = parse(memory, text)?;
+    memory.refuse(n);
+    let answer = Session::run(rt, memory, PAIR, programs, LIMITS, &OpenGate);
+    let asked = memory.asked(n);
+    memory.refuse(0);
+    match answer {
+        Ok(report) => expect_same(rt, shown_of(&report, 0).1, printed),
+        Err(fault) => expect_same_at(rt, n, (fault, n <= asked), (Fault::Memory, true)),
+    }
+    Ok(asked < n)
+}
+
 /// Runs the programs once for each growth, which is refused, and once with none refused. How many were refused.
 fn refuse_each<R: Abort + AllocGlobal + Threads + Wait + Sync>(
     rt: &R,
-    (config, text, limits): (Config, &str, Limits),
+    text: &str,
     printed: &[u64],
 ) -> Result<u64, Fail> {
     let memory = Refusing::new(rt.alloc());
     for n in 1..MANY {
-        let programs = parse(&memory, text)?;
-        memory.refuse(n);
-        let answer = Session::run(rt, &memory, config, programs, limits, &OpenGate);
-        let asked = memory.asked(n);
-        memory.refuse(0);
-        match answer {
-            Ok(report) => {
-                assert!(rt; asked < n, "growth {n}");
-                assert_eq!(rt; shown_of(&report, 0).1, printed);
-                return Ok(n - 1);
-            }
-            Err(fault) => {
-                assert_eq!(rt; fault, Fault::Memory);
-                assert!(rt; asked >= n, "growth {n}");
-            }
+        if asks_for_fewer(rt, (&memory, n), text, printed)? {
+            return Ok(n - 1);
         }
     }
     Ok(MANY)
 }
 
+/// Asserts that a session asks for at least so many growths, and ends where one of them is refused.
+fn check_refused<R: Abort + AllocGlobal + Threads + Wait + Sync>(
+    rt: &R,
+    text: &str,
+    printed: &[u64],
+    least: u64,
+) -> Result<(), Fail> {
+    let refused = refuse_each(rt, text, printed)?;
+    assert!(rt; least <= refused && refused < MANY, "{refused}");
+    Ok(())
+}
+
 #[test]
 fn each_refused(rt: HostRuntime) -> Result<(), Fail> {
-    for (session, printed, least) in [
-        ((PAIR, LOADS, LIMITS), [].as_slice(), 20),
-        ((PAIR, NOTICE, LIMITS), [9].as_slice(), 40),
-    ] {
-        let refused = refuse_each(&rt, session, printed)?;
-        assert!(rt; least <= refused && refused < MANY, "{refused}");
-    }
-    Ok(())
+    check_refused(&rt, LOADS, &[], 20)?;
+    check_refused(&rt, NOTICE, &[9], 40)
 }

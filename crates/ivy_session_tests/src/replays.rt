@@ -1,10 +1,11 @@
 //! The event lists of a report, made again in a world of its own: by moves that are chosen here, with nothing from the
 //! session but the lists, every node comes to the same history and output.
 use crate::common::{
-    EIGHT, FOUR_ADVANCES, LIMITS, LOADS, NARROW, NOTICE, PAIR, PULSING, TRIO, run,
+    EIGHT, FOUR_ADVANCES, LIMITS, LOADS, NARROW, NOTICE, PAIR, PULSING, TRIO, expect_same,
+    expect_same_at, run,
 };
 use ivy_events::Event;
-use ivy_model::{Config, Kind};
+use ivy_model::{Config, Fault, Kind};
 use ivy_node::{Move, World};
 use ivy_program::parse;
 use ivy_session::{Limits, Report};
@@ -17,11 +18,8 @@ use std::thread::Threads;
 
 /// The place of a string among those sent.
 fn place_of<A: Allocator + Copy>(world: &World<A>, bytes: &[u8]) -> Option<u64> {
-    world
-        .sent()
-        .iter()
-        .position(|sent| sent.bytes() == bytes)
-        .map(|place| place as u64)
+    let place = world.sent().iter().position(|sent| sent.bytes() == bytes)?;
+    Some(place as u64)
 }
 
 /// The move that an event of a node is, and how often it is made; none where its string was not sent yet.
@@ -43,6 +41,21 @@ fn move_of<A: Allocator + Copy>(
     }
 }
 
+/// Makes a move so often.
+fn repeat<A: Allocator + Copy>(
+    world: &mut World<A>,
+    moves: &mut Vec<Move, A>,
+    (step, count): (Move, u64),
+) -> Result<(), Fail> {
+    for _ in 0..count {
+        if world.run(&[step]).is_err() {
+            return Err("a move was refused".into());
+        }
+        moves.push(step)?;
+    }
+    Ok(())
+}
+
 /// Makes the events of a node from this place on, up to one whose string was not sent yet, and gives that place.
 fn go_on<A: Allocator + Copy>(
     world: &mut World<A>,
@@ -51,17 +64,43 @@ fn go_on<A: Allocator + Copy>(
     (events, from): (&[Event<Bytes<A>>], usize),
 ) -> Result<usize, Fail> {
     for place in from..events.len() {
-        let Some((step, count)) = move_of(world, node, &events[place]) else {
+        let Some(repeated) = move_of(world, node, &events[place]) else {
             return Ok(place);
         };
-        for _ in 0..count {
-            if world.run(&[step]).is_err() {
-                return Err("a move was refused".into());
-            }
-            moves.push(step)?;
-        }
+        repeat(world, moves, repeated)?;
     }
     Ok(events.len())
+}
+
+/// What one round made of the events: whether any was made, and whether any is left.
+#[derive(Clone, Copy)]
+struct Round {
+    went: bool,
+    left: bool,
+}
+
+/// Makes the events of each node from its place on, as far as it can, and keeps the place that it comes to.
+fn go_round<A: Allocator + Copy>(
+    world: &mut World<A>,
+    moves: &mut Vec<Move, A>,
+    report: &Report<A>,
+    places: &mut [usize],
+) -> Result<Round, Fail> {
+    let mut round = Round {
+        went: false,
+        left: false,
+    };
+    for (node, place) in places.iter_mut().enumerate() {
+        let node = node as u64;
+        if node < report.nodes() {
+            let events = report.events(node);
+            let next = go_on(world, moves, node, (events, *place))?;
+            round.went = round.went || next != *place;
+            round.left = round.left || next < events.len();
+            *place = next;
+        }
+    }
+    Ok(round)
 }
 
 /// Makes the events of all nodes, each as soon as it can be made, and gives the moves. An event that can't be made in
@@ -72,27 +111,13 @@ fn merge<A: Allocator + Copy>(
     report: &Report<A>,
 ) -> Result<Vec<Move, A>, Fail> {
     let mut moves = Vec::new(alloc);
-    let mut places = Vec::new(alloc);
-    for _ in 0..report.nodes() {
-        places.push(0)?;
-    }
+    let mut places = vec![in alloc; 0; report.nodes() as usize]?;
     for _ in 0..u64::MAX {
-        let mut left = false;
-        let mut went = false;
-        for (node, place) in places.iter_mut().enumerate() {
-            let node = node as u64;
-            if node < report.nodes() {
-                let events = report.events(node);
-                let next = go_on(world, &mut moves, node, (events, *place))?;
-                went = went || next != *place;
-                left = left || next < events.len();
-                *place = next;
-            }
-        }
-        if !left {
+        let round = go_round(world, &mut moves, report, &mut places)?;
+        if !round.left {
             return Ok(moves);
         }
-        if !went {
+        if !round.went {
             return Err("a string was not sent".into());
         }
     }
@@ -109,6 +134,23 @@ fn same_sent<A: Allocator + Copy>(one: &World<A>, other: &World<A>) -> bool {
             .all(|(one, other)| one.bytes() == other.bytes())
 }
 
+/// A world of the programs of a text, which has not moved yet.
+fn world_of<A: Allocator + Copy>(alloc: A, config: Config, text: &str) -> Result<World<A>, Fault> {
+    World::new(alloc, config, parse(alloc, text)?)
+}
+
+/// Asserts that every node of a world has ended, with the history and the output of the report.
+fn check_ends<A: Allocator + Copy>(rt: &impl Abort, world: &World<A>, report: &Report<A>) {
+    expect_same(rt, world.nodes(), report.nodes());
+    for node in 0..report.nodes() {
+        if node < world.nodes() {
+            expect_same_at(rt, node, world.history(node), report.history(node));
+            expect_same_at(rt, node, world.output(node), report.output(node));
+            expect_same_at(rt, node, world.ended(node), true);
+        }
+    }
+}
+
 fn check_replay<R: Abort + AllocGlobal + Threads + Wait + Sync>(
     rt: &R,
     config: Config,
@@ -117,18 +159,11 @@ fn check_replay<R: Abort + AllocGlobal + Threads + Wait + Sync>(
 ) -> Result<(), Fail> {
     let alloc = rt.alloc();
     let report = run(rt, alloc, config, text, limits)?;
-    let mut world = World::new(alloc, config, parse(alloc, text)?)?;
+    let mut world = world_of(alloc, config, text)?;
     let moves = merge(alloc, &mut world, &report)?;
-    assert_eq!(rt; world.nodes(), report.nodes());
-    for node in 0..report.nodes() {
-        if node < world.nodes() {
-            assert_eq!(rt; world.history(node), report.history(node), "node {node}");
-            assert_eq!(rt; world.output(node), report.output(node), "node {node}");
-            assert!(rt; world.ended(node), "node {node}");
-        }
-    }
-    let mut again = World::new(alloc, config, parse(alloc, text)?)?;
-    assert_eq!(rt; again.run(&moves), Ok(()));
+    check_ends(rt, &world, &report);
+    let mut again = world_of(alloc, config, text)?;
+    expect_same(rt, again.run(&moves), Ok(()));
     assert!(rt; same_sent(&world, &again));
     Ok(())
 }
@@ -177,8 +212,7 @@ fn busy_text(alloc: Global) -> Result<String, Fail> {
     for node in 0..8u64 {
         let page = 2 + node / 2;
         let addr = 64 * page + 8 * (node % 2);
-        let head = format!(in alloc; "node {node}\nset r1 {addr}")?;
-        text.push_str(head.as_str())?;
+        write!(text, "node {node}\nset r1 {addr}")?;
         text.push_str(BUSY)?;
     }
     Ok(text)

@@ -1,8 +1,10 @@
 //! Worked runs: what each node is answered and prints, under either manager and over a wide and the least ether.
 use crate::common::{
-    EMPTY, FOUR_ADVANCES, LIMITS, LOADS, NARROW, NOTICE, PAIR, TRIO, run, shown_of,
+    EMPTY, FOUR_ADVANCES, LIMITS, LOADS, NARROW, NOTICE, PAIR, TRIO, expect_same, expect_same_at,
+    run, shown_of,
 };
 use ivy_model::{Config, Kind, Record};
+use ivy_session::Limits;
 use std::process::Abort;
 use std::sync::Wait;
 use std::test::Fail;
@@ -73,30 +75,40 @@ const ROWS: [Row; 5] = [
     },
 ];
 
+/// A row in a session under this manager, within these limits.
+fn check_session<R: Abort + AllocGlobal + Threads + Wait + Sync>(
+    rt: &R,
+    row: &Row,
+    manager: Kind,
+    limits: Limits,
+) -> Result<(), Fail> {
+    let config = Config {
+        manager,
+        ..row.config
+    };
+    let report = run(rt, rt.alloc(), config, row.text, limits)?;
+    expect_same(rt, report.nodes(), row.nodes.len() as u64);
+    for (node, shown) in row.nodes.iter().enumerate() {
+        expect_same_at(rt, node, shown_of(&report, node as u64), *shown);
+    }
+    Ok(())
+}
+
 fn check_row<R: Abort + AllocGlobal + Threads + Wait + Sync>(
     rt: &R,
     row: &Row,
 ) -> Result<(), Fail> {
     for manager in [Kind::Fixed, Kind::Dynamic] {
-        for limits in [LIMITS, NARROW] {
-            let config = Config {
-                manager,
-                ..row.config
-            };
-            let report = run(rt, rt.alloc(), config, row.text, limits)?;
-            assert_eq!(rt; report.nodes(), row.nodes.len() as u64);
-            for (node, shown) in row.nodes.iter().enumerate() {
-                assert_eq!(rt; shown_of(&report, node as u64), *shown, "node {node}");
-            }
-        }
+        check_session(rt, row, manager, LIMITS)?;
+        check_session(rt, row, manager, NARROW)?;
     }
     Ok(())
 }
 
 #[test]
 fn rows(rt: HostRuntime) -> Result<(), Fail> {
-    for row in ROWS {
-        check_row(&rt, &row)?;
+    for row in &ROWS {
+        check_row(&rt, row)?;
     }
     Ok(())
 }

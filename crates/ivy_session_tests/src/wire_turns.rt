@@ -5,7 +5,7 @@ ghost use Rattle.ivy_ether.specs.Rule.{times};
 ghost use Rattle.ivy_ether.specs.Views.{with_issued};
 ghost use Rattle.ivy_ether.specs.Words.{IsNewcomer};
 
-use crate::common::TRIO;
+use crate::common::{TRIO, expect_same};
 use ivy_ether::{Ether, Pass, Setup, Wired};
 use ivy_link::Verdict;
 use ivy_model::{Config, Kind};
@@ -71,8 +71,18 @@ fn seat<'e, S: Setup, R: Wait>(
 /// Two turns of a site's program: a register is set, and a call begins.
 fn begin<S: Setup>(rt: &impl Abort, site: &mut Seated<'_, S, Global>) -> Result<(), Fail> {
     for _ in 0..2 {
-        assert_eq!(rt; site.program_turn()?, Turn::Moved);
+        expect_same(rt, site.program_turn()?, Turn::Moved);
     }
+    Ok(())
+}
+
+/// One turn on the wire of a site, which is this one.
+fn expect_turn<S: Setup, R: Wait + Abort>(
+    rt: &R,
+    site: &mut Seated<'_, S, Global>,
+    wanted: WireTurn,
+) -> Result<(), Fail> {
+    expect_same(rt, site.wire_turn(rt)?, wanted);
     Ok(())
 }
 
@@ -84,16 +94,15 @@ fn turn_by_turn<S: Setup, R: Wait + Abort>(
 ) -> Result<(), Fail> {
     begin(rt, two)?;
     begin(rt, one)?;
-    assert_eq!(rt; two.next_destination(), Some(1));
-    assert_eq!(rt; two.wire_turn(rt)?, WireTurn::Sent);
-    assert_eq!(rt; one.next_destination(), Some(0));
-    assert_eq!(rt; one.wire_turn(rt)?, WireTurn::Lost);
-    assert_eq!(rt; two.wire_turn(rt)?, WireTurn::Returned);
-    assert_eq!(rt; one.wire_turn(rt)?, WireTurn::Served(Verdict::Next));
-    assert_eq!(rt; one.next_destination(), Some(0));
-    assert_eq!(rt; two.wire_turn(rt)?, WireTurn::Empty);
-    assert_eq!(rt; one.wire_turn(rt)?, WireTurn::Sent);
-    Ok(())
+    expect_same(rt, two.next_destination(), Some(1));
+    expect_turn(rt, two, WireTurn::Sent)?;
+    expect_same(rt, one.next_destination(), Some(0));
+    expect_turn(rt, one, WireTurn::Lost)?;
+    expect_turn(rt, two, WireTurn::Returned)?;
+    expect_turn(rt, one, WireTurn::Served(Verdict::Next))?;
+    expect_same(rt, one.next_destination(), Some(0));
+    expect_turn(rt, two, WireTurn::Empty)?;
+    expect_turn(rt, one, WireTurn::Sent)
 }
 
 /// Seats nodes 1 and 2, and makes the turns.

@@ -6,6 +6,7 @@ use ivy_model::{Config, Fault, Kind};
 use ivy_site::{Program, Site, Turn, Verdict, parse};
 use ivy_wire::{FrameKind, read};
 use std::alloc::{Allocator, Global};
+use std::fmt::{Debug, Display};
 use std::process::Abort;
 use std::test::Fail;
 
@@ -156,13 +157,24 @@ pub(crate) fn is_met(
 ) -> bool {
     let met = memory.asked(n) >= n;
     memory.refuse(0);
-    assert_eq!(rt;
-        fault,
-        if met { Some(Fault::Memory) } else { None },
-        "growth {n}"
-    );
+    expect_same_at(rt, n, fault, if met { Some(Fault::Memory) } else { None });
     met
 }
 
 /// More growths than any call here asks for.
 pub(crate) const MANY: u64 = 200;
+
+/// That a value is the one that is wanted. A call of this costs its caller less proof than `assert_eq!` there would.
+pub(crate) fn expect_same<T: PartialEq + Debug + Drop>(rt: &impl Abort, found: T, wanted: T) {
+    assert_eq!(rt; found, wanted);
+}
+
+/// The same of a row, a node or a growth, which is named where the value is another.
+pub(crate) fn expect_same_at<T: PartialEq + Debug + Drop>(
+    rt: &impl Abort,
+    place: impl Display + Drop,
+    found: T,
+    wanted: T,
+) {
+    assert_eq!(rt; found, wanted, "{place}");
+}

@@ -1,7 +1,7 @@
 //! Frames that nobody sent come to node 0: what each is answered, and how many messages fitted no rule.
 ghost use Rattle.std.specs.Prelude.{◌≡◌, ◌<◌};
 
-use crate::common::{LOADS, REPLY, Written, node_of, receive, string, take_turns};
+use crate::common::{LOADS, REPLY, Written, expect_same_at, node_of, receive, string, take_turns};
 use crate::site_alone::is_misspelled;
 use ivy_model::Fault;
 use ivy_site::{Site, Verdict};
@@ -87,7 +87,7 @@ fn check_rows<A: Allocator + Copy>(
     for (written, answer, breaches) in rows {
         let given = string(alloc, *written)?;
         assert!(rt; site.deliver(&given) == *answer, "{}", written.0);
-        assert_eq!(rt; site.breaches(), *breaches, "{}", written.0);
+        expect_same_at(rt, written.0, site.breaches(), *breaches);
     }
     Ok(())
 }

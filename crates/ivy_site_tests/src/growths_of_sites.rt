@@ -6,7 +6,7 @@ ghost use Rattle.std.specs.Prelude.{◌≡◌, IfOk};
 
 use crate::common::{
     ALLOC_ASKS, ALLOC_GETS, COUNT_ASKS, COUNT_GETS, LOADS, MANY, REPLY, REQUEST, RETRY_ASKS,
-    RETRY_GETS, Written, has_next, is_met, node_of, receive, string, take_turn,
+    RETRY_GETS, Written, expect_same_at, has_next, is_met, node_of, receive, string, take_turn,
 };
 use growths::Refusing;
 use ivy_model::{Call, Fault, Record, Reply};
@@ -112,9 +112,9 @@ fn go_on_at<A: Allocator + Copy>(
         if comes.is_some() {
             assert!(rt; take_turn(site) == take_turn(twin), "growth {n}");
         }
-        assert_eq!(rt; go_on(site, comes), Ok(()), "growth {n}");
+        expect_same_at(rt, n, go_on(site, comes), Ok(()));
     }
-    assert_eq!(rt; go_on(twin, comes), Ok(()), "growth {n}");
+    expect_same_at(rt, n, go_on(twin, comes), Ok(()));
     met
 }
 
@@ -474,7 +474,7 @@ fn pulse_of<A: Allocator + Copy>(
             site.history().is_empty() && site.events().len() == before,
             "growth {n}"
         );
-        assert_eq!(rt; pulse(site), Ok(()), "growth {n}");
+        expect_same_at(rt, n, pulse(site), Ok(()));
     }
     met
 }

@@ -2,8 +2,8 @@
 ghost use Rattle.std.specs.Prelude.{◌<◌};
 
 use crate::common::{
-    LOADS, PAIR, REPLY, REQUEST, TRIO, Written, ends_of, has_next, node_of, owner, receive, string,
-    take_turn, take_turns,
+    LOADS, PAIR, REPLY, REQUEST, TRIO, Written, ends_of, expect_same, has_next, node_of, owner,
+    receive, string, take_turn, take_turns,
 };
 use ivy_model::{Config, Fault};
 use ivy_site::{Site, Turn, Verdict};
@@ -130,7 +130,7 @@ fn check_site<A: Allocator + Copy>(
 ) -> Result<(), Fail> {
     check_answers(rt, alloc, site, rows)?;
     for ends in sent {
-        assert_eq!(rt; next_ends(config, site), Some(Ok(*ends)));
+        expect_same(rt, next_ends(config, site), Some(Ok(*ends)));
     }
     assert!(rt; site.take_frame().is_none());
     Ok(())
@@ -198,7 +198,7 @@ fn ends_with<A: Allocator + Copy>(rt: &impl Abort, site: &mut Site<A>, reply: &[
 fn beginnings_of_a_string(rt: HostRuntime) -> Result<(), Fail> {
     let reply = string(rt.alloc(), (REPLY, Some(0)))?;
     let mut site = node_of(rt.alloc(), 1, LOADS)?;
-    assert_eq!(rt; take_turns(&mut site, 2), Ok(()));
+    expect_same(&rt, take_turns(&mut site, 2), Ok(()));
     check_beginnings(&rt, &mut site, &reply);
     ends_with(&rt, &mut site, &reply);
     Ok(())

@@ -1,6 +1,6 @@
 //! Frames that come before their turn: the node holds their strings, and goes on with them in the move of the one
 //! before.
-use crate::common::{PAIR, Run, Stage, Written, check_run, ended};
+use crate::common::{IDLE, Run, Written, check_run};
 use ivy_model::Record;
 use ivy_node::Move;
 use std::test::Fail;
@@ -51,35 +51,40 @@ const STORED: [Record; 1] = [stored!(0, 64, 5)];
 const LOADED: [Record; 1] = [loaded!(1, 64, 0)];
 
 const RUN: Run = Run {
-    config: PAIR,
     text: STORED_AFTER,
-    kinds: &[],
     strings: &ENDED,
     nodes: &[ended!(0, &STORED, &[]), ended!(1, &LOADED, &[0])],
+    ..IDLE
 };
 
-const ONCE: [Stage; 4] = [
-    (&THREE_SENT, 3),
-    (&[ENDS_FIRST], 3),
-    (&[COPY_COMES], 4),
-    (&ENDS, 4),
-];
+static ONCE: Run<'static> = Run {
+    stages: &[
+        (&THREE_SENT, 3),
+        (&[ENDS_FIRST], 3),
+        (&[COPY_COMES], 4),
+        (&ENDS, 4),
+    ],
+    ..RUN
+};
 
 /// The answer is sent in the move in which the copy comes.
 #[test]
 fn frame_ahead(rt: HostRuntime) -> Result<(), Fail> {
-    check_run(&rt, rt.alloc(), &RUN, &ONCE)
+    check_run(&rt, &ONCE)
 }
 
-const THRICE: [Stage; 4] = [
-    (&THREE_SENT, 3),
-    (&[ENDS_FIRST, ENDS_FIRST, ENDS_FIRST], 3),
-    (&[COPY_COMES], 4),
-    (&ENDS, 4),
-];
+static THRICE: Run<'static> = Run {
+    stages: &[
+        (&THREE_SENT, 3),
+        (&[ENDS_FIRST, ENDS_FIRST, ENDS_FIRST], 3),
+        (&[COPY_COMES], 4),
+        (&ENDS, 4),
+    ],
+    ..RUN
+};
 
 /// One string of a number is held, and the answer is sent once.
 #[test]
 fn ahead_thrice(rt: HostRuntime) -> Result<(), Fail> {
-    check_run(&rt, rt.alloc(), &RUN, &THRICE)
+    check_run(&rt, &THRICE)
 }

@@ -5,6 +5,7 @@ use ivy_model::{Call, Config, Fault, Kind, Record, Reply};
 use ivy_node::{Move, World, parse};
 use ivy_wire::{FrameKind, read};
 use std::alloc::Allocator;
+use std::fmt::{Debug, Display};
 use std::process::Abort;
 use std::test::Fail;
 
@@ -28,13 +29,6 @@ pub(crate) const REQUEST: &str =
 
 pub(crate) const REPLY: &str =
     "495602030001004d 0000000000000001 0000000000000000 01 0000000000000001 00000001";
-
-/// A store to an address, which is done.
-pub(crate) fn stored(node: u8, width: u8, addr: u64, value: u64) -> Record {
-    let call = Call::Store { width, addr, value };
-    let reply = Reply::Done;
-    Record { node, call, reply }
-}
 
 /// A load from an address, which is answered a value.
 pub(crate) fn loaded(node: u8, width: u8, addr: u64, value: u64) -> Record {
@@ -68,15 +62,27 @@ pub(crate) fn ended<'a>(node: u64, answers: &'a [Record], printed: &'a [u64]) ->
     }
 }
 
+/// What node 0 shows where it has not ended, and was answered nothing.
+pub(crate) const STUCK: Shown = Shown {
+    node: 0,
+    answers: &[],
+    printed: &[],
+    ended: false,
+};
+
+/// What node 1 shows of that load, once it has ended.
+pub(crate) const HAS_LOADED: Shown = ended!(1, &[loaded!(1, 64, 0)], &[0]);
+
 /// A string: hexadecimal words, and then a page where there is one. Its first word is this one, the rest of it is
 /// zeros.
 pub(crate) type Written<'a> = (&'a str, Option<u64>);
 
-/// Programs, and what their world has to show once the moves are made.
+/// Programs, the moves of their world, and what it has to show once they are made.
 #[derive(Clone, Copy)]
 pub(crate) struct Run<'a> {
     pub(crate) config: Config,
     pub(crate) text: &'a str,
+    pub(crate) stages: &'a [Stage<'a>],
     /// The first strings, each by what it is about, its source and its destination.
     pub(crate) kinds: &'a [(FrameKind, u8, u8)],
     /// Some strings by their index.
@@ -86,6 +92,16 @@ pub(crate) struct Run<'a> {
 
 /// Moves, and how many strings were ever sent once they are made.
 pub(crate) type Stage<'a> = (&'a [Move], usize);
+
+/// Two nodes without programs, of which nothing is asked. Runs say what is more than that.
+pub(crate) const IDLE: Run = Run {
+    config: PAIR,
+    text: "",
+    stages: &[],
+    kinds: &[],
+    strings: &[],
+    nodes: &[],
+};
 
 /// The world of the programs of a text, as it begins.
 pub(crate) fn world<A: Allocator + Copy>(
@@ -116,14 +132,14 @@ pub(crate) fn shows<A: Allocator + Copy>(world: &World<A>, shown: &Shown) -> boo
 
 fn play_stages<A: Allocator + Copy>(rt: &impl Abort, world: &mut World<A>, stages: &[Stage]) {
     for (stage, (moves, sent)) in stages.iter().enumerate() {
-        assert_eq!(rt; play(world, moves), Ok(()), "stage {stage}");
-        assert_eq!(rt; world.sent().len(), *sent, "stage {stage}");
+        expect_same_at(rt, stage, play(world, moves), Ok(()));
+        expect_same_at(rt, stage, world.sent().len(), *sent);
     }
 }
 
 fn check_kinds<A: Allocator + Copy>(rt: &impl Abort, world: &World<A>, run: &Run) {
     for (sent, kind) in world.sent().iter().zip(run.kinds) {
-        assert_eq!(rt; ends_of(&run.config, sent.bytes()), Ok(*kind));
+        expect_same(rt, ends_of(&run.config, sent.bytes()), Ok(*kind));
     }
 }
 
@@ -150,23 +166,17 @@ fn check_world<A: Allocator + Copy>(
     alloc: A,
     world: &mut World<A>,
     run: &Run,
-    stages: &[Stage],
 ) -> Result<(), Fail> {
-    play_stages(rt, world, stages);
+    play_stages(rt, world, run.stages);
     check_nodes(rt, world, run.nodes);
     check_kinds(rt, world, run);
     check_strings(rt, alloc, world, run.strings)
 }
 
 /// Makes the moves of a run, and asserts that the world shows what it has to.
-pub(crate) fn check_run<A: Allocator + Copy>(
-    rt: &impl Abort,
-    alloc: A,
-    run: &Run,
-    stages: &[Stage],
-) -> Result<(), Fail> {
-    let mut world = world(alloc, run.config, run.text)?;
-    check_world(rt, alloc, &mut world, run, stages)
+pub(crate) fn check_run<R: Abort + AllocGlobal>(rt: &R, run: &Run) -> Result<(), Fail> {
+    let mut world = world(rt.alloc(), run.config, run.text)?;
+    check_world(rt, rt.alloc(), &mut world, run)
 }
 
 fn add_words<A: Allocator + Copy>(
@@ -229,3 +239,18 @@ pub(crate) fn pulse(from: u64, to: u64) -> Move {
 
 /// More growths than any call here asks for.
 pub(crate) const MANY: u64 = 200;
+
+/// That a value is the one that is wanted. A call of this costs its caller less proof than `assert_eq!` there would.
+pub(crate) fn expect_same<T: PartialEq + Debug + Drop>(rt: &impl Abort, found: T, wanted: T) {
+    assert_eq!(rt; found, wanted);
+}
+
+/// The same of a row, a node or a growth, which is named where the value is another.
+pub(crate) fn expect_same_at<T: PartialEq + Debug + Drop>(
+    rt: &impl Abort,
+    place: impl Display + Drop,
+    found: T,
+    wanted: T,
+) {
+    assert_eq!(rt; found, wanted, "{place}");
+}

@@ -1,32 +1,10 @@
 //! Counts: nodes that advance them and wait for them. A count is a word of page 0, so a node reads and writes
 //! it where it has that page, and faults for it as for any other.
-use crate::common::{PAIR, Run, Shown, Stage, Written, check_run, ended, loaded, refused, stored};
-use ivy_model::{Call, Record, Reply};
+use crate::common::{IDLE, Run, STUCK, Shown, Written, check_run};
+use ivy_model::{Call, Reply};
 use ivy_node::Move;
 use std::alloc::Allocator;
-use std::process::Abort;
 use std::test::Fail;
-
-/// An advance of count 0, which is done.
-pub(crate) fn advanced(node: u8) -> Record {
-    let call = Call::Advance { k: 0 };
-    let reply = Reply::Done;
-    Record { node, call, reply }
-}
-
-/// An await of count 0, which is answered a value.
-pub(crate) fn awaited(node: u8, least: u64, value: u64) -> Record {
-    let call = Call::Await { k: 0, least };
-    let reply = Reply::Value(value);
-    Record { node, call, reply }
-}
-
-/// A read of a count, which is answered a value.
-fn counted(node: u8, k: u64, value: u64) -> Record {
-    let call = Call::Count { k };
-    let reply = Reply::Value(value);
-    Record { node, call, reply }
-}
 
 /// Node 1 stores and then advances count 0. Node 0 awaits that, and then loads.
 pub(crate) const NOTICE: &str = "node 0
@@ -118,32 +96,22 @@ const NOTICE_SENT: [(usize, Written); 8] = [
     (7, (LOAD_GETS, Some(9))),
 ];
 
-/// Asserts the strings, the replies and what is printed of the notice under these moves.
-fn check_notice<A: Allocator + Copy>(
-    rt: &impl Abort,
-    alloc: A,
-    stages: &[Stage],
-) -> Result<(), Fail> {
-    check_run(
-        rt,
-        alloc,
-        &Run {
-            config: PAIR,
-            text: NOTICE,
-            kinds: &[],
-            strings: &NOTICE_SENT,
-            nodes: &[
-                ended(0, &[awaited(0, 1, 1), loaded(0, 8, 64, 9)], &[9]),
-                ended(1, &[stored(1, 8, 64, 9), advanced(1)], &[]),
-            ],
-        },
-        stages,
-    )
-}
+/// What node 0 shows of the notice, and what node 1 does.
+pub(crate) const NOTICED: Shown = ended!(0, &[awaited!(0, 1, 1), loaded!(0, 64, 9)], &[9]);
+
+pub(crate) const GIVEN_NOTICE: Shown = ended!(1, &[stored!(1, 64, 9), advanced!(1)], &[]);
+
+static NOTICE_RUN: Run<'static> = Run {
+    text: NOTICE,
+    stages: &[(&NOTICE_MOVES, 8)],
+    strings: &NOTICE_SENT,
+    nodes: &[NOTICED, GIVEN_NOTICE],
+    ..IDLE
+};
 
 #[test]
 fn store_then_advance(rt: HostRuntime) -> Result<(), Fail> {
-    check_notice(&rt, rt.alloc(), &[(&NOTICE_MOVES, 8)])
+    check_run(&rt, &NOTICE_RUN)
 }
 
 /// The moves with each delivery made three times in a row.
@@ -163,28 +131,12 @@ fn thrice<A: Allocator>(alloc: A, moves: &[Move]) -> Result<Vec<Move, A>, Fail> 
 #[test]
 fn every_string_thrice(rt: HostRuntime) -> Result<(), Fail> {
     let moves = thrice(rt.alloc(), &NOTICE_MOVES)?;
-    check_notice(&rt, rt.alloc(), &[(&moves, 8), (&NOTICE_AGAIN, 8)])
-}
-
-/// Makes so many turns of node 0, which sends nothing. Asserts what it shows.
-fn check_alone<A: Allocator + Copy>(
-    rt: &impl Abort,
-    alloc: A,
-    text: &str,
-    turns: &[Move],
-    zero: Shown,
-) -> Result<(), Fail> {
     check_run(
-        rt,
-        alloc,
+        &rt,
         &Run {
-            config: PAIR,
-            text,
-            kinds: &[],
-            strings: &[],
-            nodes: &[zero],
+            stages: &[(&moves, 8), (&NOTICE_AGAIN, 8)],
+            ..NOTICE_RUN
         },
-        &[(turns, 0)],
     )
 }
 
@@ -199,15 +151,20 @@ print r2
 node 1
 ";
 
+static WAITS_RUN: Run<'static> = Run {
+    text: WAITS,
+    stages: &[(&[Move::Turn(0); 24], 0)],
+    nodes: &[Shown {
+        answers: &[awaited!(0, 0, 0), advanced!(0), awaited!(0, 1, 1)],
+        ..STUCK
+    }],
+    ..IDLE
+};
+
 /// A count that is high enough is answered at once. The last await has no answer in any turn.
 #[test]
 fn await_that_waits(rt: HostRuntime) -> Result<(), Fail> {
-    let records = [awaited(0, 0, 0), advanced(0), awaited(0, 1, 1)];
-    let waits = Shown {
-        ended: false,
-        ..ended(0, &records, &[])
-    };
-    check_alone(&rt, rt.alloc(), WAITS, &[Move::Turn(0); 24], waits)
+    check_run(&rt, &WAITS_RUN)
 }
 
 /// Pages of 64 bytes have the counts 0 to 7.
@@ -230,16 +187,25 @@ print r3
 node 1
 ";
 
+static NO_COUNT_RUN: Run<'static> = Run {
+    text: NO_COUNT,
+    stages: &[(&[Move::Turn(0); 15], 0)],
+    nodes: &[ended!(
+        0,
+        &[
+            refused!(0, Call::Count { k: 8 }, 6),
+            refused!(0, Call::Advance { k: 8 }, 6),
+            refused!(0, Call::Await { k: 8, least: 0 }, 6),
+            answered!(0, Call::Count { k: 7 }, Reply::Value(0)),
+        ],
+        &[6, 6, 5, 0, 0]
+    )],
+    ..IDLE
+};
+
 #[test]
 fn no_such_count(rt: HostRuntime) -> Result<(), Fail> {
-    let records = [
-        refused(0, Call::Count { k: 8 }, 6),
-        refused(0, Call::Advance { k: 8 }, 6),
-        refused(0, Call::Await { k: 8, least: 0 }, 6),
-        counted(0, 7, 0),
-    ];
-    let zero = ended(0, &records, &[6, 6, 5, 0, 0]);
-    check_alone(&rt, rt.alloc(), NO_COUNT, &[Move::Turn(0); 15], zero)
+    check_run(&rt, &NO_COUNT_RUN)
 }
 
 const WIDTHS: &str = "node 0
@@ -253,16 +219,25 @@ print r3
 node 1
 ";
 
+static WIDTHS_RUN: Run<'static> = Run {
+    text: WIDTHS,
+    stages: &[(&[Move::Turn(0); 7], 0)],
+    nodes: &[ended!(
+        0,
+        &[
+            stored!(0, 1, 64, 258),
+            loaded!(0, 2, 64, 512),
+            loaded!(0, 64, 144_115_188_075_855_872),
+        ],
+        &[512, 144_115_188_075_855_872]
+    )],
+    ..IDLE
+};
+
 /// A store keeps the low bytes of its value, and the first byte of a word is its highest.
 #[test]
 fn big_endian_widths(rt: HostRuntime) -> Result<(), Fail> {
-    let records = [
-        stored(0, 1, 64, 258),
-        loaded(0, 2, 64, 512),
-        loaded(0, 8, 64, 144_115_188_075_855_872),
-    ];
-    let zero = ended(0, &records, &[512, 144_115_188_075_855_872]);
-    check_alone(&rt, rt.alloc(), WIDTHS, &[Move::Turn(0); 7], zero)
+    check_run(&rt, &WIDTHS_RUN)
 }
 
 /// Node 1 asks for page 0, for the first of its calls, and is given it.
@@ -337,22 +312,19 @@ const WAKES_SENT: [(usize, Written); 8] = [
     ),
 ];
 
+static WAKES_RUN: Run<'static> = Run {
+    text: WAKES,
+    stages: &[(&WAKES_MOVES, 8)],
+    strings: &WAKES_SENT,
+    nodes: &[
+        ended!(0, &[awaited!(0, 2, 2)], &[2]),
+        ended!(1, &[advanced!(1), advanced!(1)], &[]),
+    ],
+    ..IDLE
+};
+
 /// Each time the await asks for a copy it is call 1 of node 0.
 #[test]
 fn await_tried_again(rt: HostRuntime) -> Result<(), Fail> {
-    check_run(
-        &rt,
-        rt.alloc(),
-        &Run {
-            config: PAIR,
-            text: WAKES,
-            kinds: &[],
-            strings: &WAKES_SENT,
-            nodes: &[
-                ended(0, &[awaited(0, 2, 2)], &[2]),
-                ended(1, &[advanced(1), advanced(1)], &[]),
-            ],
-        },
-        &[(&WAKES_MOVES, 8)],
-    )
+    check_run(&rt, &WAKES_RUN)
 }

@@ -1,7 +1,7 @@
 //! Worlds under the dynamic manager: hints that lead to the owner of a page, at once or over other nodes.
 //! One of the worlds is played under the fixed manager too, where the requests go other ways.
 use crate::common::{
-    PAIR, Run, Shown, TRIO, Written, check_run, ended, ends_of, loaded, play, shows, stored, world,
+    IDLE, PAIR, Run, Shown, TRIO, Written, check_run, ends_of, play, shows, world,
 };
 use crate::eight_nodes::deliver_from;
 use crate::stores::UPGRADE_SHOWN;
@@ -82,23 +82,26 @@ const LATE_MOVES: [Move; 14] = [
     Move::Turn(2),
 ];
 
+const LATE_RUN: Run = Run {
+    config: HINTS,
+    text: LATE,
+    strings: &LATE_SENT,
+    nodes: &[
+        ended!(1, &[loaded!(1, 64, 0)], &[0]),
+        ended!(2, &[stored!(2, 64, 5)], &[]),
+    ],
+    ..IDLE
+};
+
 /// The copy for node 1 is late: the message that is to end it comes first, and waits for it.
 #[test]
 fn late_read_page(rt: HostRuntime) -> Result<(), Fail> {
     check_run(
         &rt,
-        rt.alloc(),
         &Run {
-            config: HINTS,
-            text: LATE,
-            kinds: &[],
-            strings: &LATE_SENT,
-            nodes: &[
-                ended(1, &[loaded(1, 8, 64, 0)], &[0]),
-                ended(2, &[stored(2, 8, 64, 5)], &[]),
-            ],
+            stages: &[(&LATE_MOVES[..9], 5), (&LATE_MOVES[9..], 6)],
+            ..LATE_RUN
         },
-        &[(&LATE_MOVES[..9], 5), (&LATE_MOVES[9..], 6)],
     )
 }
 
@@ -220,12 +223,17 @@ const UPGRADE_SENT: [(usize, Written); 13] = [
     ),
 ];
 
-const UPGRADE_RUN: Run = Run {
+static UPGRADE_RUN: Run<'static> = Run {
     config: HINTS,
     text: UPGRADE,
-    kinds: &[],
+    stages: &[
+        (&UPGRADE_ASKS, 6),
+        (&UPGRADE_GIVES, 11),
+        (&UPGRADE_LOADS, 13),
+    ],
     strings: &UPGRADE_SENT,
     nodes: &UPGRADE_SHOWN,
+    ..IDLE
 };
 
 /// All moves of the run.
@@ -239,16 +247,7 @@ pub(crate) fn upgrade_moves<A: Allocator>(alloc: A) -> Result<Vec<Move, A>, Fail
 
 #[test]
 fn upgrade_race(rt: HostRuntime) -> Result<(), Fail> {
-    check_run(
-        &rt,
-        rt.alloc(),
-        &UPGRADE_RUN,
-        &[
-            (&UPGRADE_ASKS, 6),
-            (&UPGRADE_GIVES, 11),
-            (&UPGRADE_LOADS, 13),
-        ],
-    )
+    check_run(&rt, &UPGRADE_RUN)
 }
 
 /// Node 1 stores, then node 2, and then node 0 loads.
@@ -330,19 +329,20 @@ const STALE_SENT: [(usize, Written); 7] = [
     ),
 ];
 
-const STALE_RUN: Run = Run {
+static STALE_RUN: Run<'static> = Run {
     config: HINTS,
     text: STALE,
-    kinds: &[],
+    stages: &[(&STALE_MOVES, 7)],
     strings: &STALE_SENT,
     nodes: &STALE_SHOWN,
+    ..IDLE
 };
 
 /// Node 2 still hints at node 0, which gave the page away and sends the request on. From then on node 0 hints
 /// at node 2, so its own request goes there at once.
 #[test]
 fn stale_hint(rt: HostRuntime) -> Result<(), Fail> {
-    check_run(&rt, rt.alloc(), &STALE_RUN, &[(&STALE_MOVES, 7)])
+    check_run(&rt, &STALE_RUN)
 }
 
 /// Node 2 asks the managing node, which owns the page, and so the request of node 0 takes two hops.
@@ -402,18 +402,19 @@ const MANAGED_SENT: [(usize, Written); 7] = [
     ),
 ];
 
-const MANAGED_RUN: Run = Run {
+static MANAGED_RUN: Run<'static> = Run {
     config: TRIO,
     text: STALE,
-    kinds: &[],
+    stages: &[(&MANAGED_MOVES, 7)],
     strings: &MANAGED_SENT,
     nodes: &STALE_SHOWN,
+    ..IDLE
 };
 
 /// The same programs under the fixed manager: node 1 manages the page, so it is node 1 that sends a request on.
 #[test]
 fn no_hint_at_all(rt: HostRuntime) -> Result<(), Fail> {
-    check_run(&rt, rt.alloc(), &MANAGED_RUN, &[(&MANAGED_MOVES, 7)])
+    check_run(&rt, &MANAGED_RUN)
 }
 
 /// Nodes 1 to 7 each load the word and then store their own number. Node 0 loads last.
@@ -460,14 +461,22 @@ const OVER_ALL: [(usize, u8, u8); 7] = [
     (55, 6, 7),
 ];
 
-fn goes_over_all<A: Allocator + Copy>(rt: &impl Abort, world: &World<A>) -> Result<(), Fail> {
-    for (index, from, to) in OVER_ALL {
-        let request = world.sent().get(index).ok_or("no request")?;
-        let ends = ends_of(&EIGHT_HINTS, request.bytes())?;
-        assert!(rt; ends == (FrameKind::ReadReq, from, to), "string {index}");
+/// Whether the string of this index asks for a copy, from one node to another.
+fn is_request<A: Allocator + Copy>(world: &World<A>, index: usize, from: u8, to: u8) -> bool {
+    match world.sent().get(index) {
+        Some(sent) => { ends_of(&EIGHT_HINTS, sent.bytes()) == Ok((FrameKind::ReadReq, from, to)) }
+        None => false,
     }
-    Ok(())
 }
+
+fn goes_over_all<A: Allocator + Copy>(rt: &impl Abort, world: &World<A>) {
+    for (index, from, to) in OVER_ALL {
+        assert!(rt; is_request(world, index, from, to), "string {index}");
+    }
+}
+
+/// Node 0 is given what the last node stored.
+static CHAIN_SHOWN: Shown<'static> = ended!(0, &[loaded!(0, 64, 7)], &[7]);
 
 fn check_chain<A: Allocator + Copy>(rt: &impl Abort, world: &mut World<A>) -> Result<(), Fail> {
     let next = hand_on(world)?;
@@ -475,8 +484,9 @@ fn check_chain<A: Allocator + Copy>(rt: &impl Abort, world: &mut World<A>) -> Re
     let next = ask(world, &[Move::Turn(0); 2], next)?;
     assert!(rt; next == 57);
     play(world, &[Move::Turn(0); 2])?;
-    assert!(rt; shows(world, &ended(0, &[loaded(0, 8, 64, 7)], &[7])));
-    goes_over_all(rt, world)
+    assert!(rt; shows(world, &CHAIN_SHOWN));
+    goes_over_all(rt, world);
+    Ok(())
 }
 
 #[test]

@@ -1,5 +1,7 @@
 //! Eight nodes that all load the same word, under several schedules, and that all store to one page.
-use crate::common::{Run, Shown, check_run, deliver, ended, loaded, play, shows, stored, world};
+use crate::common::{
+    IDLE, Run, Shown, check_run, deliver, ended, expect_same, loaded, play, shows, world,
+};
 use ivy_model::{Config, Fault, Kind};
 use ivy_node::{Move, World};
 use std::alloc::{AllocError, Allocator, Global};
@@ -128,7 +130,7 @@ fn all_have_loaded_zero<A: Allocator + Copy>(world: &World<A>) -> bool {
 #[test]
 fn all_ask_before_any_is_answered(rt: HostRuntime) -> Result<(), Fail> {
     let mut world = world(rt.alloc(), EIGHT, ALL_LOAD)?;
-    assert_eq!(rt; ask_all_first(&mut world), Ok(()));
+    expect_same(&rt, ask_all_first(&mut world), Ok(()));
     assert!(rt; all_have_loaded_zero(&world));
     Ok(())
 }
@@ -136,7 +138,7 @@ fn all_ask_before_any_is_answered(rt: HostRuntime) -> Result<(), Fail> {
 #[test]
 fn each_string_goes_to_every_node(rt: HostRuntime) -> Result<(), Fail> {
     let mut world = world(rt.alloc(), EIGHT, ALL_LOAD)?;
-    assert_eq!(rt; tell_all(&mut world), Ok(()));
+    expect_same(&rt, tell_all(&mut world), Ok(()));
     assert!(rt; all_have_loaded_zero(&world));
     Ok(())
 }
@@ -144,7 +146,7 @@ fn each_string_goes_to_every_node(rt: HostRuntime) -> Result<(), Fail> {
 #[test]
 fn one_node_after_another(rt: HostRuntime) -> Result<(), Fail> {
     let mut world = world(rt.alloc(), EIGHT, ALL_LOAD)?;
-    assert_eq!(rt; turn_one_by_one(&mut world), Ok(()));
+    expect_same(&rt, turn_one_by_one(&mut world), Ok(()));
     assert!(rt; all_have_loaded_zero(&world));
     Ok(())
 }
@@ -263,7 +265,6 @@ const ORDERS: [([u64; 7], Run); 2] = [
         Run {
             config: EIGHT,
             text: ALL_STORE,
-            kinds: &[],
             strings: &[(
                 26,
                 (
@@ -274,6 +275,7 @@ const ORDERS: [([u64; 7], Run); 2] = [
                 ),
             )],
             nodes: &STORED,
+            ..IDLE
         },
     ),
     (
@@ -281,7 +283,6 @@ const ORDERS: [([u64; 7], Run); 2] = [
         Run {
             config: EIGHT,
             text: ALL_STORE,
-            kinds: &[],
             strings: &[(
                 26,
                 (
@@ -292,6 +293,7 @@ const ORDERS: [([u64; 7], Run); 2] = [
                 ),
             )],
             nodes: &STORED,
+            ..IDLE
         },
     ),
 ];
@@ -300,7 +302,13 @@ const ORDERS: [([u64; 7], Run); 2] = [
 fn seven_requests_put_off(rt: HostRuntime) -> Result<(), Fail> {
     for (order, run) in &ORDERS {
         let moves = put_off_by_a_writer(rt.alloc(), order)?;
-        check_run(&rt, rt.alloc(), run, &[(&moves, 27)])?;
+        check_run(
+            &rt,
+            &Run {
+                stages: &[(&moves, 27)],
+                ..*run
+            },
+        )?;
     }
     Ok(())
 }
@@ -342,16 +350,21 @@ const LOADED: [Shown; 8] = [
     ended!(7, &[loaded!(7, 64, 3)], &[3]),
 ];
 
-const LATE_RUN: Run = Run {
+static LATE_RUN: Run<'static> = Run {
     config: EIGHT,
     text: ONE_STORES,
-    kinds: &[],
-    strings: &[],
     nodes: &LOADED,
+    ..IDLE
 };
 
 #[test]
 fn seven_requests_for_a_page_that_is_late(rt: HostRuntime) -> Result<(), Fail> {
     let moves = moves_of(rt.alloc(), &PUT_OFF_WHILE_AWAITED)?;
-    check_run(&rt, rt.alloc(), &LATE_RUN, &[(&moves, 23)])
+    check_run(
+        &rt,
+        &Run {
+            stages: &[(&moves, 23)],
+            ..LATE_RUN
+        },
+    )
 }

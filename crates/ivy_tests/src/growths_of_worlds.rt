@@ -4,7 +4,7 @@
 //! copies that are ended at once and once they came, acknowledgements, the last of them and others, and seven
 //! requests that are put off and then served in one event. One more run has calls of the heap that node 0 serves for
 //! another node.
-use crate::common::{LOADS, MANY, PAIR, TRIO, deliver, ended, loaded, play, pulse, shows, world};
+use crate::common::{HAS_LOADED, LOADS, MANY, PAIR, TRIO, deliver, play, pulse, shows, world};
 use crate::counts::{NOTICE, NOTICE_MOVES};
 use crate::dynamic::{HINTS, UPGRADE, upgrade_moves};
 use crate::eight_nodes::{
@@ -171,33 +171,31 @@ fn growths_of_runs(rt: HostRuntime) -> Result<(), Fail> {
     Ok(())
 }
 
+/// The same of moves that are made when the test runs.
+fn growths_of_moves<R: Abort + AllocGlobal>(
+    rt: &R,
+    config: Config,
+    text: &str,
+    moves: Vec<Move, Global>,
+) -> Result<(), Fail> {
+    let memory = Refusing::new(rt.alloc());
+    let growing = Growing {
+        config,
+        text,
+        moves: &moves,
+    };
+    growths_of(rt, &memory, &growing)
+}
+
 /// A store whose last acknowledgement brings on a request that was put off, and seven requests that are put off.
 #[test]
 fn growths_of_longer_runs(rt: HostRuntime) -> Result<(), Fail> {
     let race = upgrade_moves(rt.alloc())?;
+    growths_of_moves(&rt, HINTS, UPGRADE, race)?;
     let seven_put_off = put_off_by_a_writer(rt.alloc(), &[7, 0, 2, 3, 4, 5, 6])?;
+    growths_of_moves(&rt, EIGHT, ALL_STORE, seven_put_off)?;
     let seven_copies = moves_of(rt.alloc(), &PUT_OFF_WHILE_AWAITED)?;
-    let memory = Refusing::new(rt.alloc());
-    for growing in [
-        Growing {
-            config: HINTS,
-            text: UPGRADE,
-            moves: &race,
-        },
-        Growing {
-            config: EIGHT,
-            text: ALL_STORE,
-            moves: &seven_put_off,
-        },
-        Growing {
-            config: EIGHT,
-            text: ONE_STORES,
-            moves: &seven_copies,
-        },
-    ] {
-        growths_of(&rt, &memory, &growing)?;
-    }
-    Ok(())
+    growths_of_moves(&rt, EIGHT, ONE_STORES, seven_copies)
 }
 
 /// Node 1 asks for blocks and ends them, some in vain.
@@ -205,12 +203,7 @@ fn growths_of_longer_runs(rt: HostRuntime) -> Result<(), Fail> {
 fn growths_of_the_heap(rt: HostRuntime) -> Result<(), Fail> {
     let text = asking_text(rt.alloc())?;
     let moves = asking_moves(rt.alloc())?;
-    let growing = Growing {
-        config: PAIR,
-        text: text.as_str(),
-        moves: &moves,
-    };
-    growths_of(&rt, &Refusing::new(rt.alloc()), &growing)
+    growths_of_moves(&rt, PAIR, text.as_str(), moves)
 }
 
 /// A pulse and the delivery of what it sends replace the delivery that was refused.
@@ -233,7 +226,7 @@ fn replaced_of<A: Allocator + Copy>(
     assert!(rt; play(world, &[pulse(1, 0), deliver(1, 0), deliver(2, 1)]).is_ok());
     assert!(rt; world.sent().len() == 3);
     assert!(rt; play(world, &[Move::Turn(1), Move::Turn(1)]).is_ok());
-    assert!(rt; shows(world, &ended(1, &[loaded(1, 8, 64, 0)], &[0])));
+    assert!(rt; shows(world, &HAS_LOADED));
     true
 }
 

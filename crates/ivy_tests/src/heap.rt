@@ -1,10 +1,10 @@
 //! Blocks: calls of the heap, which node 0 serves at once and any other node asks node 0 for.
-use crate::common::{PAIR, Run, Shown, Written, check_run, deliver, ended, refused};
+use crate::common::{IDLE, PAIR, Run, STUCK, Shown, Written, check_run, ended, refused};
+use crate::eight_nodes::{Part, moves_of};
 use ivy_model::{Call, Record, Reply, check_order};
 use ivy_node::Move;
 use ivy_wire::FrameKind;
-use std::alloc::Allocator;
-use std::process::Abort;
+use std::alloc::{AllocError, Allocator};
 use std::test::Fail;
 
 /// A block that is given at an address.
@@ -65,15 +65,14 @@ fn calls_of_node_0(rt: HostRuntime) -> Result<(), Fail> {
     let text = format!(in rt.alloc(); "node 0\n{CALLS}node 1\n")?;
     check_run(
         &rt,
-        rt.alloc(),
         &Run {
             config: PAIR,
             text: text.as_str(),
+            stages: &[(&[Move::Turn(0); 18], 0)],
             kinds: &[],
             strings: &[],
             nodes: &[ended(0, &answers(0), &PRINTED)],
         },
-        &[(&[Move::Turn(0); 18], 0)],
     )
 }
 
@@ -83,27 +82,49 @@ pub(crate) fn asking_text<A: Allocator + Copy>(alloc: A) -> Result<String<A>, Fa
 }
 
 /// Each of its calls is a string to node 0, and one back.
-pub(crate) fn asking_moves<A: Allocator + Copy>(alloc: A) -> Result<Vec<Move, A>, Fail> {
-    let mut moves = [Move::Turn(1); 4].to_vec(alloc)?;
-    for call in 0..8 {
-        moves.push(Move::Turn(1))?;
-        moves.push(deliver(2 * call, 0))?;
-        moves.push(deliver(2 * call + 1, 1))?;
-        moves.push(Move::Turn(1))?;
-    }
-    moves.extend_from_slice(&[Move::Turn(1); 6])?;
-    Ok(moves)
+const ASKING: [Part; 17] = [
+    Part::Turns(5, &[1]),
+    Part::Strings(0, &[0, 1]),
+    Part::Turns(2, &[1]),
+    Part::Strings(2, &[0, 1]),
+    Part::Turns(2, &[1]),
+    Part::Strings(4, &[0, 1]),
+    Part::Turns(2, &[1]),
+    Part::Strings(6, &[0, 1]),
+    Part::Turns(2, &[1]),
+    Part::Strings(8, &[0, 1]),
+    Part::Turns(2, &[1]),
+    Part::Strings(10, &[0, 1]),
+    Part::Turns(2, &[1]),
+    Part::Strings(12, &[0, 1]),
+    Part::Turns(2, &[1]),
+    Part::Strings(14, &[0, 1]),
+    Part::Turns(7, &[1]),
+];
+
+pub(crate) fn asking_moves<A: Allocator>(alloc: A) -> Result<Vec<Move, A>, AllocError> {
+    moves_of(alloc, &ASKING)
 }
 
 /// Each string of its calls once more, late.
-fn asking_again<A: Allocator + Copy>(alloc: A) -> Result<Vec<Move, A>, Fail> {
-    let mut moves = Vec::new(alloc);
-    for call in 0..8 {
-        moves.push(deliver(2 * call, 0))?;
-        moves.push(deliver(2 * call + 1, 1))?;
-    }
-    Ok(moves)
-}
+const ASKING_AGAIN: [Move; 16] = [
+    Move::Deliver { index: 0, to: 0 },
+    Move::Deliver { index: 1, to: 1 },
+    Move::Deliver { index: 2, to: 0 },
+    Move::Deliver { index: 3, to: 1 },
+    Move::Deliver { index: 4, to: 0 },
+    Move::Deliver { index: 5, to: 1 },
+    Move::Deliver { index: 6, to: 0 },
+    Move::Deliver { index: 7, to: 1 },
+    Move::Deliver { index: 8, to: 0 },
+    Move::Deliver { index: 9, to: 1 },
+    Move::Deliver { index: 10, to: 0 },
+    Move::Deliver { index: 11, to: 1 },
+    Move::Deliver { index: 12, to: 0 },
+    Move::Deliver { index: 13, to: 1 },
+    Move::Deliver { index: 14, to: 0 },
+    Move::Deliver { index: 15, to: 1 },
+];
 
 const ASKING_KINDS: [(FrameKind, u8, u8); 16] = [
     (FrameKind::AllocReq, 1, 0),
@@ -157,18 +178,16 @@ const ASKING_SENT: [(usize, Written); 5] = [
 fn calls_of_node_1(rt: HostRuntime) -> Result<(), Fail> {
     let text = asking_text(rt.alloc())?;
     let moves = asking_moves(rt.alloc())?;
-    let again = asking_again(rt.alloc())?;
     check_run(
         &rt,
-        rt.alloc(),
         &Run {
-            config: PAIR,
             text: text.as_str(),
+            stages: &[(&moves, 16), (&ASKING_AGAIN, 16)],
             kinds: &ASKING_KINDS,
             strings: &ASKING_SENT,
             nodes: &[ended(0, &[], &[]), ended(1, &answers(1), &PRINTED)],
+            ..IDLE
         },
-        &[(&moves, 16), (&again, 16)],
     )
 }
 
@@ -179,42 +198,39 @@ const ALLOC_ASKS: &str =
 const ALLOC_GETS: &str =
     "4956020800010012 0000000000000001 0000000000000000 01 0000000000000001 00 0000000000000040";
 
+const ALLOC_MOVES: [Move; 6] = [
+    Move::Turn(1),
+    Move::Turn(1),
+    Move::Deliver { index: 0, to: 0 },
+    Move::Deliver { index: 1, to: 1 },
+    Move::Turn(1),
+    Move::Turn(1),
+];
+
+static ALLOC_RUN: Run<'static> = Run {
+    text: "node 0\nnode 1\nset r1 8\nalloc r2 r1\nprint r2\n",
+    stages: &[(&ALLOC_MOVES, 2)],
+    strings: &[(0, (ALLOC_ASKS, None)), (1, (ALLOC_GETS, None))],
+    nodes: &[ended!(1, &[EIGHT_AT_64], &[64])],
+    ..IDLE
+};
+
 #[test]
 fn remote_alloc(rt: HostRuntime) -> Result<(), Fail> {
-    check_run(
-        &rt,
-        rt.alloc(),
-        &Run {
-            config: PAIR,
-            text: "node 0\nnode 1\nset r1 8\nalloc r2 r1\nprint r2\n",
-            kinds: &[],
-            strings: &[(0, (ALLOC_ASKS, None)), (1, (ALLOC_GETS, None))],
-            nodes: &[ended(1, &[allocated(1, 8, 64)], &[64])],
-        },
-        &[(
-            &[
-                Move::Turn(1),
-                Move::Turn(1),
-                deliver(0, 0),
-                deliver(1, 1),
-                Move::Turn(1),
-                Move::Turn(1),
-            ],
-            2,
-        )],
-    )
+    check_run(&rt, &ALLOC_RUN)
 }
 
-/// Node 0 serves the call of node 1, and then its own. The reply to node 1 comes in the sixth move.
-const SERVED: [Move; 7] = [
+/// Node 0 serves the call of node 1, and then its own.
+const SERVED_0: [Move; 5] = [
     Move::Turn(1),
     Move::Turn(1),
     Move::Deliver { index: 0, to: 0 },
     Move::Turn(0),
     Move::Turn(0),
-    Move::Deliver { index: 1, to: 1 },
-    Move::Turn(1),
 ];
+
+/// The reply to node 1 comes.
+const SERVED_1: [Move; 2] = [Move::Deliver { index: 1, to: 1 }, Move::Turn(1)];
 
 /// Both nodes ask for eight bytes.
 const BOTH: &str = "node 0
@@ -225,52 +241,40 @@ set r1 8
 alloc r2 r1
 ";
 
-/// Makes the moves of both programs, which send two strings. Asserts what the nodes show.
-fn check_both<A: Allocator + Copy>(
-    rt: &impl Abort,
-    alloc: A,
-    moves: &[Move],
-    nodes: &[Shown],
-) -> Result<(), Fail> {
-    check_run(
-        rt,
-        alloc,
-        &Run {
-            config: PAIR,
-            text: BOTH,
-            kinds: &[],
-            strings: &[],
-            nodes,
-        },
-        &[(moves, 2)],
-    )
-}
+/// Eight bytes at 64 for node 1, and behind them eight for node 0.
+const EIGHT_AT_64: Record = answered!(1, Call::Alloc { size: 8 }, Reply::Value(64));
+
+const EIGHT_AT_72: Record = answered!(0, Call::Alloc { size: 8 }, Reply::Value(72));
+
+static IN_PROGRESS: Run<'static> = Run {
+    text: BOTH,
+    stages: &[(&SERVED_0, 2)],
+    nodes: &[ended!(0, &[EIGHT_AT_72], &[]), Shown { node: 1, ..STUCK }],
+    ..IDLE
+};
 
 /// Node 0 is answered as if node 1, which has no reply yet, had been answered before.
 #[test]
 fn alloc_in_progress(rt: HostRuntime) -> Result<(), Fail> {
-    let order = [allocated(1, 8, 64), allocated(0, 8, 72)];
-    let waits = Shown {
-        ended: false,
-        ..ended(1, &[], &[])
-    };
-    check_both(
-        &rt,
-        rt.alloc(),
-        &SERVED[..5],
-        &[ended(0, &order[1..], &[]), waits],
-    )?;
+    check_run(&rt, &IN_PROGRESS)?;
     PAIR.check()?;
-    assert!(rt; check_order(rt.alloc(), &PAIR, &order)?);
-    assert!(rt; !check_order(rt.alloc(), &PAIR, &order[1..])?);
+    assert!(rt; check_order(rt.alloc(), &PAIR, &[EIGHT_AT_64, EIGHT_AT_72])?);
+    assert!(rt; !check_order(rt.alloc(), &PAIR, &[EIGHT_AT_72])?);
     Ok(())
 }
+
+static ANSWERED_LATER: Run<'static> = Run {
+    text: BOTH,
+    stages: &[(&SERVED_0, 2), (&SERVED_1, 2)],
+    nodes: &[
+        ended!(0, &[EIGHT_AT_72], &[]),
+        ended!(1, &[EIGHT_AT_64], &[]),
+    ],
+    ..IDLE
+};
 
 /// Once that reply comes, node 1 is answered, too.
 #[test]
 fn alloc_answered_later(rt: HostRuntime) -> Result<(), Fail> {
-    let zero = [allocated(0, 8, 72)];
-    let one = [allocated(1, 8, 64)];
-    let nodes = [ended(0, &zero, &[]), ended(1, &one, &[])];
-    check_both(&rt, rt.alloc(), &SERVED, &nodes)
+    check_run(&rt, &ANSWERED_LATER)
 }

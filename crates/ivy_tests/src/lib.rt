@@ -5,34 +5,87 @@
 //! contract says: the bytes of the worked examples, and that a call can succeed, and go on after a refusal.
 #![tactic(auto)]
 
-/// A store that is done, in the value of a constant.
+/// A call and its reply, in the value of a constant.
 #[cfg(test)]
-macro_rules! stored {
-    ($node:expr, $addr:expr, $value:expr) => {
+macro_rules! answered {
+    ($node:expr, $call:expr, $reply:expr) => {
         ivy_model::Record {
             node: $node,
-            call: ivy_model::Call::Store {
-                width: 8,
-                addr: $addr,
-                value: $value,
-            },
-            reply: ivy_model::Reply::Done,
+            call: $call,
+            reply: $reply,
         }
     };
 }
 
-/// A load that is answered a value, in the value of a constant.
+/// A store that is done, in the value of a constant: of 8 bytes, where no width is said.
+#[cfg(test)]
+macro_rules! stored {
+    ($node:expr, $addr:expr, $value:expr) => {
+        stored!($node, 8, $addr, $value)
+    };
+    ($node:expr, $width:expr, $addr:expr, $value:expr) => {
+        answered!(
+            $node,
+            ivy_model::Call::Store {
+                width: $width,
+                addr: $addr,
+                value: $value,
+            },
+            ivy_model::Reply::Done
+        )
+    };
+}
+
+/// A load that is answered a value, in the value of a constant: of 8 bytes, where no width is said.
 #[cfg(test)]
 macro_rules! loaded {
     ($node:expr, $addr:expr, $value:expr) => {
-        ivy_model::Record {
-            node: $node,
-            call: ivy_model::Call::Load {
-                width: 8,
+        loaded!($node, 8, $addr, $value)
+    };
+    ($node:expr, $width:expr, $addr:expr, $value:expr) => {
+        answered!(
+            $node,
+            ivy_model::Call::Load {
+                width: $width,
                 addr: $addr,
             },
-            reply: ivy_model::Reply::Value($value),
-        }
+            ivy_model::Reply::Value($value)
+        )
+    };
+}
+
+/// A call that is refused by a number, in the value of a constant.
+#[cfg(test)]
+macro_rules! refused {
+    ($node:expr, $call:expr, $fault:expr) => {
+        answered!($node, $call, ivy_model::Reply::Refused($fault))
+    };
+}
+
+/// An advance of count 0, which is done, in the value of a constant.
+#[cfg(test)]
+macro_rules! advanced {
+    ($node:expr) => {
+        answered!(
+            $node,
+            ivy_model::Call::Advance { k: 0 },
+            ivy_model::Reply::Done
+        )
+    };
+}
+
+/// An await of count 0, which is answered a value, in the value of a constant.
+#[cfg(test)]
+macro_rules! awaited {
+    ($node:expr, $least:expr, $value:expr) => {
+        answered!(
+            $node,
+            ivy_model::Call::Await {
+                k: 0,
+                least: $least,
+            },
+            ivy_model::Reply::Value($value)
+        )
     };
 }
 

@@ -1,8 +1,9 @@
 //! Accesses that are refused, schedules that are, worlds that are, and a request that is forwarded.
 use crate::common::{
-    LOADS, PAIR, Run, TRIO, check_run, deliver, ended, loaded, play, refused, world,
+    IDLE, LOADS, PAIR, Run, Stage, TRIO, check_run, deliver, expect_same, expect_same_at, play,
+    world,
 };
-use ivy_model::{Call, Config, Fault, Kind};
+use ivy_model::{Call, Config, Fault, Kind, Record};
 use ivy_node::{Move, World};
 use ivy_wire::FrameKind;
 use std::alloc::{Allocator, Global};
@@ -23,75 +24,85 @@ load 8 r2 r1
 node 1
 ";
 
+const LOADED: [Record; 5] = [
+    loaded!(0, 120, 0),
+    refused!(
+        0,
+        Call::Load {
+            width: 8,
+            addr: 121
+        },
+        3
+    ),
+    refused!(
+        0,
+        Call::Load {
+            width: 1,
+            addr: 128
+        },
+        4
+    ),
+    refused!(0, Call::Load { width: 1, addr: 0 }, 5),
+    refused!(
+        0,
+        Call::Load {
+            width: 8,
+            addr: 129
+        },
+        3
+    ),
+];
+
+static ACCESSES_RUN: Run<'static> = Run {
+    text: ACCESSES,
+    stages: &[(&[Move::Turn(0); 10], 0)],
+    nodes: &[ended!(0, &LOADED, &[])],
+    ..IDLE
+};
+
 #[test]
 fn refused_accesses(rt: HostRuntime) -> Result<(), Fail> {
-    let records = [
-        loaded(0, 8, 120, 0),
-        refused(
-            0,
-            Call::Load {
-                width: 8,
-                addr: 121,
-            },
-            3,
-        ),
-        refused(
-            0,
-            Call::Load {
-                width: 1,
-                addr: 128,
-            },
-            4,
-        ),
-        refused(0, Call::Load { width: 1, addr: 0 }, 5),
-        refused(
-            0,
-            Call::Load {
-                width: 8,
-                addr: 129,
-            },
-            3,
-        ),
-    ];
-    check_run(
-        &rt,
-        rt.alloc(),
-        &Run {
-            config: PAIR,
-            text: ACCESSES,
-            kinds: &[],
-            strings: &[],
-            nodes: &[ended(0, &records, &[])],
-        },
-        &[(&[Move::Turn(0); 10], 0)],
-    )
+    check_run(&rt, &ACCESSES_RUN)
 }
+
+/// The request goes to node 1 and on to node 0, and its answer comes to node 2.
+const FORWARDED_MOVES: [Stage; 2] = [
+    (
+        &[
+            Move::Turn(2),
+            Move::Turn(2),
+            Move::Deliver { index: 0, to: 1 },
+            Move::Deliver { index: 1, to: 0 },
+        ],
+        3,
+    ),
+    (
+        &[
+            Move::Deliver { index: 2, to: 2 },
+            Move::Turn(2),
+            Move::Turn(2),
+        ],
+        3,
+    ),
+];
+
+static FORWARDED: Run<'static> = Run {
+    config: TRIO,
+    text: "node 0\nnode 1\nnode 2\nset r1 64\nload 8 r2 r1\nprint r2\n",
+    stages: &FORWARDED_MOVES,
+    kinds: &[
+        (FrameKind::ReadReq, 2, 1),
+        (FrameKind::ReadReq, 1, 0),
+        (FrameKind::ReadRep, 0, 2),
+    ],
+    nodes: &[ended!(2, &[loaded!(2, 64, 0)], &[0])],
+    ..IDLE
+};
 
 /// The managing node of the page hands the request on to the node that owns it.
 #[test]
 fn forwarded_read(rt: HostRuntime) -> Result<(), Fail> {
-    check_run(
-        &rt,
-        rt.alloc(),
-        &Run {
-            config: TRIO,
-            text: "node 0\nnode 1\nnode 2\nset r1 64\nload 8 r2 r1\nprint r2\n",
-            kinds: &[
-                (FrameKind::ReadReq, 2, 1),
-                (FrameKind::ReadReq, 1, 0),
-                (FrameKind::ReadRep, 0, 2),
-            ],
-            strings: &[],
-            nodes: &[ended(2, &[loaded(2, 8, 64, 0)], &[0])],
-        },
-        &[
-            (
-                &[Move::Turn(2), Move::Turn(2), deliver(0, 1), deliver(1, 0)],
-                3,
-            ),
-            (&[deliver(2, 2), Move::Turn(2), Move::Turn(2)], 3),
-        ],
-    )
+    check_run(&rt, &FORWARDED)
 }
 
 /// Makes moves of which the one at this place names nothing. Those before it are made.
@@ -102,8 +113,8 @@ fn check_refused<A: Allocator + Copy>(
     place: usize,
     sent: usize,
 ) {
-    assert_eq!(rt; play(world, moves), Err((place, Fault::NoSuchFrame)));
-    assert_eq!(rt; world.sent().len(), sent);
+    expect_same(rt, play(world, moves), Err((place, Fault::NoSuchFrame)));
+    expect_same(rt, world.sent().len(), sent);
 }
 
 /// A node, a string or a pulse that is not there.
@@ -162,6 +173,6 @@ const WORLDS: [(Config, &str, Option<Fault>); 6] = [
 #[test]
 fn worlds_that_are_refused(rt: HostRuntime) {
     for (config, text, fault) in WORLDS {
-        assert_eq!(rt; refusal(rt.alloc(), config, text), fault, "{text}");
+        expect_same_at(&rt, text, refusal(rt.alloc(), config, text), fault);
     }
 }

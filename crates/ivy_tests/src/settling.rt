@@ -1,7 +1,9 @@
 //! Worlds that settle: what they come to, after how many moves, what they wait for then, and each growth of it
 //! refused in turn.
-use crate::common::{LOADS, PAIR, Shown, TRIO, ended, loaded, play, shows, stored, world};
-use crate::counts::{NOTICE, advanced, awaited};
+use crate::common::{
+    HAS_LOADED, LOADS, PAIR, STUCK, Shown, TRIO, expect_same, expect_same_at, play, shows, world,
+};
+use crate::counts::{GIVEN_NOTICE, NOTICE, NOTICED};
 use crate::growths_of_worlds::same_worlds;
 use growths::Refusing;
 use ivy_model::{Config, Fault, Kind};
@@ -49,156 +51,260 @@ fn settle<A: Allocator + Copy>(world: &mut World<A>, moves: u64) -> Result<Rest,
     world.settle(moves)
 }
 
-/// What a node shows that has not ended, and was answered nothing.
-fn stuck<'a>(node: u64) -> Shown<'a> {
-    Shown {
-        node,
-        answers: &[],
-        printed: &[],
-        ended: false,
+/// What is done to a world, or what it shows.
+#[derive(Clone, Copy)]
+enum Step<'a> {
+    /// It makes these moves.
+    Plays(&'a [Move]),
+    /// It settles in so many moves at most. What it comes to.
+    Settles(u64, Rest),
+    /// A node shows this, and awaits a count to be at least so much.
+    Shows(Shown<'a>, Option<(u64, u64)>),
+    /// So many strings were sent.
+    Sent(usize),
+}
+
+fn check_step<A: Allocator + Copy>(
+    rt: &impl Abort,
+    world: &mut World<A>,
+    index: usize,
+    step: &Step,
+) {
+    match step {
+        Step::Plays(moves) => expect_same_at(rt, index, play(world, moves), Ok(())),
+        Step::Settles(moves, rest) => {
+            expect_same_at(rt, index, settle(world, *moves), Ok(*rest));
+        }
+        Step::Shows(shown, least) => {
+            assert!(rt; shows(world, shown), "step {index}");
+            expect_same_at(rt, index, awaits(world, shown.node), *least);
+        }
+        Step::Sent(count) => expect_same_at(rt, index, world.sent().len(), *count),
     }
 }
 
-/// Settles the programs of a text, and asserts what each node shows and awaits.
-fn check_still<A: Allocator + Copy>(
-    rt: &impl Abort,
-    alloc: A,
+fn check_steps<A: Allocator + Copy>(rt: &impl Abort, world: &mut World<A>, steps: &[Step]) {
+    for (index, step) in steps.iter().enumerate() {
+        check_step(rt, world, index, step);
+    }
+}
+
+/// Programs, and what comes of them.
+#[derive(Clone, Copy)]
+struct Scene<'a> {
     config: Config,
-    text: &str,
-    nodes: &[(Shown, Option<(u64, u64)>)],
-) -> Result<(), Fail> {
-    let mut world = world(alloc, config, text)?;
-    assert_eq!(rt; settle(&mut world, ENOUGH), Ok(Rest::Still));
-    for (shown, least) in nodes {
-        assert!(rt; shows(&world, shown), "node {}", shown.node);
-        assert_eq!(rt; awaits(&world, shown.node), *least, "node {}", shown.node);
+    text: &'a str,
+    steps: &'a [Step<'a>],
+}
+
+fn check<R: Abort + AllocGlobal>(rt: &R, scene: &Scene) -> Result<(), Fail> {
+    let mut world = world(rt.alloc(), scene.config, scene.text)?;
+    check_steps(rt, &mut world, scene.steps);
+    Ok(())
+}
+
+/// Two nodes under the dynamic manager.
+const HINTS: Config = Config {
+    manager: Kind::Dynamic,
+    ..PAIR
+};
+
+const CROSSED_SCENE: Scene = Scene {
+    config: PAIR,
+    text: CROSSED,
+    steps: &[
+        Step::Settles(ENOUGH, Rest::Still),
+        Step::Shows(STUCK, Some((0, 1))),
+        Step::Shows(Shown { node: 1, ..STUCK }, Some((1, 2))),
+    ],
+};
+
+#[test]
+fn awaits_that_cross(rt: HostRuntime) -> Result<(), Fail> {
+    for config in [PAIR, HINTS] {
+        check(
+            &rt,
+            &Scene {
+                config,
+                ..CROSSED_SCENE
+            },
+        )?;
     }
     Ok(())
 }
 
-#[test]
-fn awaits_that_cross(rt: HostRuntime) -> Result<(), Fail> {
-    let nodes = [(stuck(0), Some((0, 1))), (stuck(1), Some((1, 2)))];
-    check_still(&rt, rt.alloc(), PAIR, CROSSED, &nodes)?;
-    let hints = Config {
-        manager: Kind::Dynamic,
-        ..PAIR
-    };
-    check_still(&rt, rt.alloc(), hints, CROSSED, &nodes)
-}
+const NOTICE_SCENE: Scene = Scene {
+    config: PAIR,
+    text: NOTICE,
+    steps: &[
+        Step::Settles(ENOUGH, Rest::Still),
+        Step::Shows(NOTICED, None),
+        Step::Shows(GIVEN_NOTICE, None),
+    ],
+};
 
 /// Node 0 is answered what node 1 stored before it advanced the count.
 #[test]
 fn notice_to_its_end(rt: HostRuntime) -> Result<(), Fail> {
-    let answers = [awaited(0, 1, 1), loaded(0, 8, 64, 9)];
-    let stores = [stored(1, 8, 64, 9), advanced(1)];
-    let nodes = [
-        (ended(0, &answers, &[9]), None),
-        (ended(1, &stores, &[]), None),
-    ];
-    check_still(&rt, rt.alloc(), PAIR, NOTICE, &nodes)?;
-    let hints = Config {
-        manager: Kind::Dynamic,
-        ..PAIR
-    };
-    check_still(&rt, rt.alloc(), hints, NOTICE, &nodes)
+    for config in [PAIR, HINTS] {
+        check(
+            &rt,
+            &Scene {
+                config,
+                ..NOTICE_SCENE
+            },
+        )?;
+    }
+    Ok(())
 }
+
+static TOO_FEW: Scene<'static> = Scene {
+    config: TRIO,
+    text: "node 0\nadvance r0\nnode 1\nnode 2\nset r1 2\nawait r2 r0 r1\n",
+    steps: &[
+        Step::Settles(ENOUGH, Rest::Still),
+        Step::Shows(ended!(0, &[advanced!(0)], &[]), None),
+        Step::Shows(ended!(1, &[], &[]), None),
+        Step::Shows(Shown { node: 2, ..STUCK }, Some((0, 2))),
+    ],
+};
 
 /// Two nodes end, and the third one awaits a count that was advanced once, to be two.
 #[test]
 fn one_too_few(rt: HostRuntime) -> Result<(), Fail> {
-    let text = "node 0\nadvance r0\nnode 1\nnode 2\nset r1 2\nawait r2 r0 r1\n";
-    let advances = [advanced(0)];
-    let nodes = [
-        (ended(0, &advances, &[]), None),
-        (ended(1, &[], &[]), None),
-        (stuck(2), Some((0, 2))),
-    ];
-    check_still(&rt, rt.alloc(), TRIO, text, &nodes)
+    check(&rt, &TOO_FEW)
 }
+
+/// The other node is not kept from its end.
+static NEVER: Scene<'static> = Scene {
+    config: PAIR,
+    text: ROUND,
+    steps: &[
+        Step::Settles(ENOUGH, Rest::Going),
+        Step::Shows(ended!(1, &[stored!(1, 64, 9)], &[]), None),
+        Step::Shows(STUCK, None),
+    ],
+};
 
 #[test]
 fn never_at_rest(rt: HostRuntime) -> Result<(), Fail> {
-    let mut world = world(rt.alloc(), PAIR, ROUND)?;
-    assert_eq!(rt; settle(&mut world, ENOUGH), Ok(Rest::Going));
-    // The other node is not kept from its end.
-    assert!(rt; shows(&world, &ended(1, &[stored(1, 8, 64, 9)], &[])));
-    assert!(rt; shows(&world, &stuck(0)));
-    assert_eq!(rt; awaits(&world, 0), None);
-    Ok(())
+    check(&rt, &NEVER)
 }
+
+static AT_REST: Scene<'static> = Scene {
+    config: PAIR,
+    text: "node 0\nnode 1\n",
+    steps: &[
+        Step::Settles(0, Rest::Going),
+        Step::Settles(1, Rest::Going),
+        Step::Settles(2, Rest::Still),
+        Step::Settles(3, Rest::Still),
+        Step::Sent(0),
+    ],
+};
 
 /// A world of two nodes that stands still is found so after two moves, and not before.
 #[test]
 fn moves_of_a_world_at_rest(rt: HostRuntime) -> Result<(), Fail> {
-    let mut world = world(rt.alloc(), PAIR, "node 0\nnode 1\n")?;
-    assert_eq!(rt; settle(&mut world, 0), Ok(Rest::Going));
-    assert_eq!(rt; settle(&mut world, 1), Ok(Rest::Going));
-    assert_eq!(rt; settle(&mut world, 2), Ok(Rest::Still));
-    assert_eq!(rt; settle(&mut world, 3), Ok(Rest::Still));
-    assert!(rt; world.sent().is_empty());
-    Ok(())
+    check(&rt, &AT_REST)
 }
+
+const FIRST_LOAD: Scene = Scene {
+    config: PAIR,
+    text: LOADS,
+    steps: &[
+        Step::Settles(12, Rest::Still),
+        Step::Shows(HAS_LOADED, None),
+        Step::Sent(2),
+    ],
+};
 
 /// The first load: five rounds. In the first one node 0 ends and node 1 sets; in the second node 1 asks; the third has
 /// two deliveries, and node 1 records; in the fourth it prints; and the fifth, in which no turn does anything, is
 /// the last one.
 #[test]
 fn moves_of_the_first_load(rt: HostRuntime) -> Result<(), Fail> {
-    let load = loaded(1, 8, 64, 0);
     for short in 0..12 {
-        let mut world = world(rt.alloc(), PAIR, LOADS)?;
-        assert_eq!(rt; settle(&mut world, short), Ok(Rest::Going), "{short} moves");
+        check(
+            &rt,
+            &Scene {
+                steps: &[Step::Settles(short, Rest::Going)],
+                ..FIRST_LOAD
+            },
+        )?;
     }
-    let mut world = world(rt.alloc(), PAIR, LOADS)?;
-    assert_eq!(rt; settle(&mut world, 12), Ok(Rest::Still));
-    assert!(rt; shows(&world, &ended(1, &[load], &[0])));
-    assert_eq!(rt; world.sent().len(), 2);
-    Ok(())
+    check(&rt, &FIRST_LOAD)
 }
+
+/// The request is sent three times. The first answer comes to the wrong node, and the first request, too.
+const REPEATS: [Move; 7] = [
+    Move::Turn(1),
+    Move::Turn(1),
+    Move::Pulse { from: 1, to: 0 },
+    Move::Pulse { from: 1, to: 0 },
+    Move::Deliver { index: 1, to: 0 },
+    Move::Deliver { index: 0, to: 1 },
+    Move::Deliver { index: 2, to: 0 },
+];
+
+/// The answer, behind three requests, is all that is under way. Then three rounds: node 1 records, and prints, and
+/// nothing happens.
+static AFTER_REPEATS: Scene<'static> = Scene {
+    steps: &[
+        Step::Plays(&REPEATS),
+        Step::Sent(4),
+        Step::Settles(7, Rest::Still),
+        Step::Shows(HAS_LOADED, None),
+    ],
+    ..FIRST_LOAD
+};
 
 /// What was repeated and came too early before is settled as well.
 #[test]
 fn settled_after_repeats(rt: HostRuntime) -> Result<(), Fail> {
-    let mut world = world(rt.alloc(), PAIR, LOADS)?;
-    let moves = [
-        Move::Turn(1),
-        Move::Turn(1),
-        Move::Pulse { from: 1, to: 0 },
-        Move::Pulse { from: 1, to: 0 },
-        Move::Deliver { index: 1, to: 0 },
-        Move::Deliver { index: 0, to: 1 },
-        Move::Deliver { index: 2, to: 0 },
-    ];
-    assert_eq!(rt; play(&mut world, &moves), Ok(()));
-    // The answer, behind three requests, is all that is under way. Then three rounds: node 1 records, and prints, and
-    // nothing happens.
-    assert_eq!(rt; world.sent().len(), 4);
-    assert_eq!(rt; settle(&mut world, 7), Ok(Rest::Still));
-    assert!(rt; shows(&world, &ended(1, &[loaded(1, 8, 64, 0)], &[0])));
-    Ok(())
+    check(&rt, &AFTER_REPEATS)
+}
+
+/// Settles two worlds, and asserts what they come to and that they show the same.
+fn check_same<A: Allocator + Copy>(
+    rt: &impl Abort,
+    n: u64,
+    refused: &mut World<A>,
+    twin: &mut World<A>,
+) {
+    expect_same_at(rt, n, settle(refused, ENOUGH), Ok(Rest::Still));
+    expect_same_at(rt, n, settle(twin, ENOUGH), Ok(Rest::Still));
+    assert!(rt; same_worlds(refused, twin), "growth {n}");
 }
 
 /// Settles a world with the n-th growth refused, and one without. Whether that growth was asked for.
-fn refused_at(rt: &impl Abort, memory: &Refusing<Global>, n: u64) -> Result<bool, Fail> {
-    let mut refused = world(memory, PAIR, NOTICE)?;
-    let mut twin = world(memory, PAIR, NOTICE)?;
+fn refused_of<A: Allocator + Copy>(
+    rt: &impl Abort,
+    memory: &Refusing<Global>,
+    n: u64,
+    refused: &mut World<A>,
+    twin: &mut World<A>,
+) -> bool {
     memory.refuse(n);
-    let answer = settle(&mut refused, ENOUGH);
+    let answer = settle(refused, ENOUGH);
     let met = memory.asked(n) >= n;
     memory.refuse(0);
     let Err((made, fault)) = answer else {
-        assert_eq!(rt; answer, Ok(Rest::Still));
-        return Ok(met);
+        expect_same(rt, answer, Ok(Rest::Still));
+        return met;
     };
     assert!(rt; met && fault == Fault::Memory, "growth {n}");
     // The moves before the refused one were made, and it changed nothing.
-    assert_eq!(rt; settle(&mut twin, made), Ok(Rest::Going), "growth {n}");
-    assert!(rt; same_worlds(&refused, &twin), "growth {n}");
-    assert_eq!(rt; settle(&mut refused, ENOUGH), Ok(Rest::Still), "growth {n}");
-    assert_eq!(rt; settle(&mut twin, ENOUGH), Ok(Rest::Still), "growth {n}");
-    assert!(rt; same_worlds(&refused, &twin), "growth {n}");
-    Ok(true)
+    expect_same_at(rt, n, settle(twin, made), Ok(Rest::Going));
+    assert!(rt; same_worlds(refused, twin), "growth {n}");
+    check_same(rt, n, refused, twin);
+    true
+}
+
+fn refused_at(rt: &impl Abort, memory: &Refusing<Global>, n: u64) -> Result<bool, Fail> {
+    let mut refused = world(memory, PAIR, NOTICE)?;
+    let mut twin = world(memory, PAIR, NOTICE)?;
+    Ok(refused_of(rt, memory, n, &mut refused, &mut twin))
 }
 
 #[test]

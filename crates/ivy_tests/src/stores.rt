@@ -1,6 +1,6 @@
 //! Stores: to a page that the node owns, to one that others have copies of, and by several nodes at once.
-use crate::common::{PAIR, Run, Shown, TRIO, Written, check_run, ended, loaded, refused, stored};
-use ivy_model::{Call, Config};
+use crate::common::{IDLE, PAIR, Run, STUCK, Shown, TRIO, Written, check_run};
+use ivy_model::{Call, Config, Record};
 use ivy_node::Move;
 use ivy_wire::FrameKind;
 use std::test::Fail;
@@ -27,40 +27,39 @@ print r3
 node 1
 ";
 
-/// A store of 258.
-fn storing(width: u8, addr: u64) -> Call {
-    Call::Store {
-        width,
-        addr,
-        value: 258,
-    }
+/// A store of 258, in the value of a constant.
+macro_rules! storing {
+    ($width:expr, $addr:expr) => {
+        Call::Store {
+            width: $width,
+            addr: $addr,
+            value: 258,
+        }
+    };
 }
+
+const LOCAL_ANSWERS: [Record; 9] = [
+    stored!(0, 64, 7),
+    loaded!(0, 64, 7),
+    stored!(0, 1, 64, 258),
+    loaded!(0, 2, 64, 512),
+    loaded!(0, 64, 144_115_188_075_855_879),
+    refused!(0, storing!(8, 121), 3),
+    refused!(0, storing!(1, 128), 4),
+    refused!(0, storing!(1, 0), 5),
+    refused!(0, storing!(8, 129), 3),
+];
+
+static LOCAL_RUN: Run<'static> = Run {
+    text: LOCAL,
+    stages: &[(&[Move::Turn(0); 17], 0)],
+    nodes: &[ended!(0, &LOCAL_ANSWERS, &[144_115_188_075_855_879])],
+    ..IDLE
+};
 
 #[test]
 fn local_stores(rt: HostRuntime) -> Result<(), Fail> {
-    let records = [
-        stored(0, 8, 64, 7),
-        loaded(0, 8, 64, 7),
-        stored(0, 1, 64, 258),
-        loaded(0, 2, 64, 512),
-        loaded(0, 8, 64, 144_115_188_075_855_879),
-        refused(0, storing(8, 121), 3),
-        refused(0, storing(1, 128), 4),
-        refused(0, storing(1, 0), 5),
-        refused(0, storing(8, 129), 3),
-    ];
-    check_run(
-        &rt,
-        rt.alloc(),
-        &Run {
-            config: PAIR,
-            text: LOCAL,
-            kinds: &[],
-            strings: &[],
-            nodes: &[ended(0, &records, &[144_115_188_075_855_879])],
-        },
-        &[(&[Move::Turn(0); 17], 0)],
-    )
+    check_run(&rt, &LOCAL_RUN)
 }
 
 /// Node 2 loads a word that node 1 stores.
@@ -128,46 +127,45 @@ const LATE_SENT: [(usize, Written); 7] = [
     ),
 ];
 
+const LATE_RUN: Run = Run {
+    config: TRIO,
+    text: LATE,
+    strings: &LATE_SENT,
+    nodes: &[
+        ended!(1, &[stored!(1, 64, 5)], &[]),
+        ended!(2, &[loaded!(2, 64, 0)], &[0]),
+    ],
+    ..IDLE
+};
+
 /// The copy for node 2 is late: the message that is to end it comes first, and waits for it.
 #[test]
 fn late_read_page(rt: HostRuntime) -> Result<(), Fail> {
     check_run(
         &rt,
-        rt.alloc(),
         &Run {
-            config: TRIO,
-            text: LATE,
-            kinds: &[],
-            strings: &LATE_SENT,
-            nodes: &[
-                ended(1, &[stored(1, 8, 64, 5)], &[]),
-                ended(2, &[loaded(2, 8, 64, 0)], &[0]),
-            ],
+            stages: &[(&LATE_MOVES[..10], 6), (&LATE_MOVES[10..], 7)],
+            ..LATE_RUN
         },
-        &[(&LATE_MOVES[..10], 6), (&LATE_MOVES[10..], 7)],
     )
 }
+
+const WAITING_RUN: Run = Run {
+    config: TRIO,
+    text: LATE,
+    nodes: &[Shown { node: 1, ..STUCK }],
+    ..IDLE
+};
 
 /// The store has no answer before the last acknowledgement.
 #[test]
 fn store_that_waits(rt: HostRuntime) -> Result<(), Fail> {
-    let waits = Shown {
-        node: 1,
-        answers: &[],
-        printed: &[],
-        ended: false,
-    };
     check_run(
         &rt,
-        rt.alloc(),
         &Run {
-            config: TRIO,
-            text: LATE,
-            kinds: &[],
-            strings: &[],
-            nodes: &[waits],
+            stages: &[(&LATE_MOVES[..12], 7)],
+            ..WAITING_RUN
         },
-        &[(&LATE_MOVES[..12], 7)],
     )
 }
 
@@ -216,42 +214,48 @@ pub(crate) const UPGRADE_OF_TWO_MOVES: [Move; 24] = [
     Move::Turn(0),
 ];
 
+const UPGRADE_OF_TWO_KINDS: [(FrameKind, u8, u8); 8] = [
+    (FrameKind::ReadReq, 1, 0),
+    (FrameKind::ReadRep, 0, 1),
+    (FrameKind::Inval, 0, 1),
+    (FrameKind::WriteReq, 1, 0),
+    (FrameKind::InvalAck, 1, 0),
+    (FrameKind::WriteRep, 0, 1),
+    (FrameKind::ReadReq, 0, 1),
+    (FrameKind::ReadRep, 1, 0),
+];
+
+/// The page as it comes to node 1.
+const UPGRADE_OF_TWO_SENT: [(usize, Written); 1] = [string!(
+    5,
+    "4956020400010051 0000000000000003 0000000000000002 01 0000000000000002 00000001 00000000",
+    11
+)];
+
+static UPGRADE_OF_TWO_RUN: Run<'static> = Run {
+    text: UPGRADE_OF_TWO,
+    stages: &[(&UPGRADE_OF_TWO_MOVES, 8)],
+    kinds: &UPGRADE_OF_TWO_KINDS,
+    strings: &UPGRADE_OF_TWO_SENT,
+    nodes: &[
+        ended!(
+            0,
+            &[loaded!(0, 64, 0), stored!(0, 64, 11), loaded!(0, 64, 22)],
+            &[22]
+        ),
+        ended!(
+            1,
+            &[loaded!(1, 64, 0), stored!(1, 64, 22), loaded!(1, 64, 22)],
+            &[22]
+        ),
+    ],
+    ..IDLE
+};
+
 /// Node 1 gives up its copy while it waits for the page, which comes with what node 0 stored.
 #[test]
 fn upgrade_race_of_two(rt: HostRuntime) -> Result<(), Fail> {
-    let given =
-        "4956020400010051 0000000000000003 0000000000000002 01 0000000000000002 00000001 00000000";
-    let zero = [
-        loaded(0, 8, 64, 0),
-        stored(0, 8, 64, 11),
-        loaded(0, 8, 64, 22),
-    ];
-    let one = [
-        loaded(1, 8, 64, 0),
-        stored(1, 8, 64, 22),
-        loaded(1, 8, 64, 22),
-    ];
-    check_run(
-        &rt,
-        rt.alloc(),
-        &Run {
-            config: PAIR,
-            text: UPGRADE_OF_TWO,
-            kinds: &[
-                (FrameKind::ReadReq, 1, 0),
-                (FrameKind::ReadRep, 0, 1),
-                (FrameKind::Inval, 0, 1),
-                (FrameKind::WriteReq, 1, 0),
-                (FrameKind::InvalAck, 1, 0),
-                (FrameKind::WriteRep, 0, 1),
-                (FrameKind::ReadReq, 0, 1),
-                (FrameKind::ReadRep, 1, 0),
-            ],
-            strings: &[(5, (given, Some(11)))],
-            nodes: &[ended(0, &zero, &[22]), ended(1, &one, &[22])],
-        },
-        &[(&UPGRADE_OF_TWO_MOVES, 8)],
-    )
+    check_run(&rt, &UPGRADE_OF_TWO_RUN)
 }
 
 /// Node 0 loads last what two nodes stored, which both held a copy before.
@@ -343,9 +347,10 @@ pub(crate) const UPGRADE_SHOWN: [Shown; 3] = [
     ended!(2, &[loaded!(2, 64, 0), stored!(2, 64, 22)], &[]),
 ];
 
-const UPGRADE_OF_THREE_RUN: Run = Run {
+static UPGRADE_OF_THREE_RUN: Run<'static> = Run {
     config: TRIO,
     text: UPGRADE_OF_THREE,
+    stages: &[(&UPGRADE_OF_THREE_MOVES, 14)],
     kinds: &UPGRADE_OF_THREE_KINDS,
     strings: &UPGRADE_OF_THREE_SENT,
     nodes: &UPGRADE_SHOWN,
@@ -353,12 +358,7 @@ const UPGRADE_OF_THREE_RUN: Run = Run {
 
 #[test]
 fn upgrade_race_of_three(rt: HostRuntime) -> Result<(), Fail> {
-    check_run(
-        &rt,
-        rt.alloc(),
-        &UPGRADE_OF_THREE_RUN,
-        &[(&UPGRADE_OF_THREE_MOVES, 14)],
-    )
+    check_run(&rt, &UPGRADE_OF_THREE_RUN)
 }
 
 /// Each node stores to its own word and then loads the other's. Node 0 manages the page of 128, node 1 that
@@ -454,29 +454,45 @@ const STORES_FIRST: [Move; 21] = [
     Move::Turn(1),
 ];
 
+const BUFFERING_RUN: Run = Run {
+    config: Config { pages: 3, ..PAIR },
+    text: BUFFERING,
+    ..IDLE
+};
+
+/// The orders, and what each node loads then.
+static ORDERS: [Run<'static>; 3] = [
+    Run {
+        stages: &[(&NODE_0_FIRST, 4)],
+        nodes: &[
+            ended!(0, &[stored!(0, 64, 1), loaded!(0, 128, 0)], &[0]),
+            ended!(1, &[stored!(1, 128, 1), loaded!(1, 64, 1)], &[1]),
+        ],
+        ..BUFFERING_RUN
+    },
+    Run {
+        stages: &[(&NODE_1_FIRST, 8)],
+        nodes: &[
+            ended!(0, &[stored!(0, 64, 1), loaded!(0, 128, 1)], &[1]),
+            ended!(1, &[stored!(1, 128, 1), loaded!(1, 64, 0)], &[0]),
+        ],
+        ..BUFFERING_RUN
+    },
+    Run {
+        stages: &[(&STORES_FIRST, 6)],
+        nodes: &[
+            ended!(0, &[stored!(0, 64, 1), loaded!(0, 128, 1)], &[1]),
+            ended!(1, &[stored!(1, 128, 1), loaded!(1, 64, 1)], &[1]),
+        ],
+        ..BUFFERING_RUN
+    },
+];
+
 /// In no order do both nodes load 0.
 #[test]
 fn store_buffering(rt: HostRuntime) -> Result<(), Fail> {
-    for (moves, sent, zero, one) in [
-        (NODE_0_FIRST.as_slice(), 4, 0, 1),
-        (NODE_1_FIRST.as_slice(), 8, 1, 0),
-        (STORES_FIRST.as_slice(), 6, 1, 1),
-    ] {
-        check_run(
-            &rt,
-            rt.alloc(),
-            &Run {
-                config: Config { pages: 3, ..PAIR },
-                text: BUFFERING,
-                kinds: &[],
-                strings: &[],
-                nodes: &[
-                    ended(0, &[stored(0, 8, 64, 1), loaded(0, 8, 128, zero)], &[zero]),
-                    ended(1, &[stored(1, 8, 128, 1), loaded(1, 8, 64, one)], &[one]),
-                ],
-            },
-            &[(moves, sent)],
-        )?;
+    for run in &ORDERS {
+        check_run(&rt, run)?;
     }
     Ok(())
 }

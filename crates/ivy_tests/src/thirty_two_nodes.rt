@@ -1,5 +1,7 @@
 //! As many nodes as there can be: all but one load the same word, and one of them stores to it.
-use crate::common::{deliver, ended, is_sent, loaded, play, shows, stored, world};
+use crate::common::{
+    Shown, deliver, ended, expect_same, expect_same_at, is_sent, loaded, play, shows, world,
+};
 use ivy_model::{Config, Kind};
 use ivy_node::{Move, World};
 use std::alloc::{AllocError, Allocator};
@@ -37,7 +39,7 @@ fn all_load<A: Allocator + Copy>(rt: &impl Abort, world: &mut World<A>) {
             deliver(request + 1, node),
             Move::Turn(node),
         ];
-        assert_eq!(rt; play(world, &moves), Ok(()), "node {node}");
+        expect_same_at(rt, node, play(world, &moves), Ok(()));
     }
 }
 
@@ -50,22 +52,14 @@ fn one_stores<A: Allocator + Copy>(rt: &impl Abort, world: &mut World<A>) {
         deliver(62, 0),
         deliver(63, last),
     ];
-    assert_eq!(rt; play(world, &asks), Ok(()));
+    expect_same(rt, play(world, &asks), Ok(()));
     for node in 1..last {
-        assert_eq!(rt;
-            play(world, &[deliver(63 + node, node)]),
-            Ok(()),
-            "node {node}"
-        );
+        expect_same_at(rt, node, play(world, &[deliver(63 + node, node)]), Ok(()));
     }
     for node in 1..last {
-        assert_eq!(rt;
-            play(world, &[deliver(93 + node, last)]),
-            Ok(()),
-            "node {node}"
-        );
+        expect_same_at(rt, node, play(world, &[deliver(93 + node, last)]), Ok(()));
     }
-    assert_eq!(rt; play(world, &[Move::Turn(last)]), Ok(()));
+    expect_same(rt, play(world, &[Move::Turn(last)]), Ok(()));
 }
 
 /// Whether this string was sent, of these words and, where one is said, a page whose first word it is.
@@ -79,6 +73,19 @@ fn sent<A: Allocator + Copy>(
     is_sent(alloc, world, index, (words, page))
 }
 
+/// Asserts that this string was sent.
+fn check_sent<A: Allocator + Copy>(
+    rt: &impl Abort,
+    alloc: A,
+    world: &World<A>,
+    index: usize,
+    words: String<A>,
+    page: Option<u64>,
+) -> Result<(), Fail> {
+    assert!(rt; sent(alloc, world, index, words.as_str(), page)?, "{words}");
+    Ok(())
+}
+
 /// The strings of a node's load: its request to node 0, and the copy.
 fn check_load<A: Allocator + Copy>(
     rt: &impl Abort,
@@ -90,15 +97,11 @@ fn check_load<A: Allocator + Copy>(
     let asks = format!(in alloc;
         "49560201{node:02x}00000d 0000000000000001 0000000000000000 {node:02x} 0000000000000001 00000001"
     )?;
-    assert!(rt; sent(alloc, world, index, asks.as_str(), None)?, "{asks}");
+    check_sent(rt, alloc, world, index, asks, None)?;
     let brings = format!(in alloc;
         "4956020300{node:02x}004d 0000000000000001 0000000000000000 {node:02x} 0000000000000001 00000001"
     )?;
-    assert!(rt;
-        sent(alloc, world, index + 1, brings.as_str(), Some(0))?,
-        "{brings}"
-    );
-    Ok(())
+    check_sent(rt, alloc, world, index + 1, brings, Some(0))
 }
 
 /// The order to a node to give its copy up, and its acknowledgement.
@@ -112,18 +115,11 @@ fn check_order<A: Allocator + Copy>(
         "495602051f{node:02x}000d 0000000000000001 0000000000000000 1f 0000000000000002 00000001"
     )?;
     let index = 63 + usize::from(node);
-    assert!(rt;
-        sent(alloc, world, index, orders.as_str(), None)?,
-        "{orders}"
-    );
+    check_sent(rt, alloc, world, index, orders, None)?;
     let gives_up = format!(in alloc;
         "49560206{node:02x}1f000d 0000000000000001 0000000000000000 1f 0000000000000002 00000001"
     )?;
-    assert!(rt;
-        sent(alloc, world, index + 30, gives_up.as_str(), None)?,
-        "{gives_up}"
-    );
-    Ok(())
+    check_sent(rt, alloc, world, index + 30, gives_up, None)
 }
 
 /// The request of the node that stores, and the page, which comes with the 30 nodes that have a copy too.
@@ -139,7 +135,7 @@ fn check_strings<A: Allocator + Copy>(
     alloc: A,
     world: &World<A>,
 ) -> Result<(), Fail> {
-    assert_eq!(rt; world.sent().len(), 124);
+    expect_same(rt, world.sent().len(), 124);
     for node in 1..32 {
         check_load(rt, alloc, world, node)?;
     }
@@ -151,24 +147,40 @@ fn check_strings<A: Allocator + Copy>(
     Ok(())
 }
 
+/// What the node that stores shows.
+static WRITER_SHOWN: Shown<'static> = ended!(
+    31,
+    &[loaded!(WRITER, 64, 0), stored!(WRITER, 64, 5)],
+    &[]
+);
+
+/// What each node shows.
+fn check_nodes<A: Allocator + Copy>(rt: &impl Abort, world: &World<A>) {
+    for node in 1..WRITER {
+        let answers = [loaded(node, 8, 64, 0)];
+        assert!(rt;
+            shows(world, &ended(u64::from(node), &answers, &[])),
+            "{node}"
+        );
+    }
+    assert!(rt; shows(world, &WRITER_SHOWN));
+}
+
+fn check_world<A: Allocator + Copy>(
+    rt: &impl Abort,
+    alloc: A,
+    world: &mut World<A>,
+) -> Result<(), Fail> {
+    all_load(rt, world);
+    expect_same(rt, world.sent().len(), 62);
+    one_stores(rt, world);
+    check_nodes(rt, world);
+    check_strings(rt, alloc, world)
+}
+
 #[test]
 fn thirty_two_readers(rt: HostRuntime) -> Result<(), Fail> {
     let text = readers(rt.alloc())?;
     let mut world = world(rt.alloc(), THIRTY_TWO, text.as_str())?;
-    all_load(&rt, &mut world);
-    assert_eq!(rt; world.sent().len(), 62);
-    one_stores(&rt, &mut world);
-    check_strings(&rt, rt.alloc(), &world)?;
-    for node in 1..WRITER {
-        assert!(rt;
-            shows(
-                &world,
-                &ended(u64::from(node), &[loaded(node, 8, 64, 0)], &[])
-            ),
-            "{node}"
-        );
-    }
-    let answers = [loaded(WRITER, 8, 64, 0), stored(WRITER, 8, 64, 5)];
-    assert!(rt; shows(&world, &ended(u64::from(WRITER), &answers, &[])));
-    Ok(())
+    check_world(&rt, rt.alloc(), &mut world)
 }
