@@ -1,5 +1,4 @@
 //! How a world is made and run. README has these very lines, under "As a library".
-use crate::common::expect_same;
 use ivy_model::{Config, Kind};
 use ivy_node::{Move, World, parse};
 use std::test::Fail;
@@ -45,12 +44,12 @@ fn as_a_library(rt: HostRuntime) -> Result<(), Fail> {
         manager: Kind::Dynamic,
     };
     let mut world = World::new(alloc, config, parse(alloc, PROGRAMS)?)?;
-    expect_same(&rt, world.run(&MOVES), Ok(()));
+    assert_eq!(rt; world.run(&MOVES), Ok(()));
     let mut told = String::new(alloc);
     for node in 0..world.nodes() {
         let (printed, answered) = (world.output(node), world.history(node));
         writeln!(told, "node {node}: {printed:?} {answered:?}")?;
     }
-    expect_same(&rt, told.as_str(), TOLD);
+    assert_eq!(rt; told.as_str(), TOLD);
     Ok(())
 }
