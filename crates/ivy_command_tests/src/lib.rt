@@ -1,4 +1,4 @@
-//! Tests of `ivy_commands`, which has none of its own, so that it is proved once.
+//! Tests of `ivy_commands` and `ivy_texts`, which have none of their own, so that they are proved once.
 //!
 //! That a command which says that it is done did what it was asked for is proved, so these tests hold no
 //! property of all commands. They hold what no contract says: what a command line means, the order of the
@@ -11,6 +11,8 @@ mod commands;
 mod common;
 #[cfg(test)]
 mod crowd;
+#[cfg(test)]
+mod draws;
 #[cfg(test)]
 mod examples;
 #[cfg(test)]

@@ -1,6 +1,4 @@
 //! What the tests share: configurations, nodes, and the strings that come to them and that they send.
-ghost use Rattle.std.specs.Prelude.{◌≡◌, IfOk};
-
 use growths::Refusing;
 use ivy_model::{Config, Fault, Kind};
 use ivy_site::{Program, Site, Turn, Verdict, parse};
@@ -8,7 +6,6 @@ use ivy_wire::{FrameKind, read};
 use std::alloc::{Allocator, Global};
 use std::fmt::{Debug, Display};
 use std::process::Abort;
-use std::test::Fail;
 
 /// Two nodes, and two pages of 64 bytes.
 pub(crate) const PAIR: Config = Config {
@@ -57,39 +54,37 @@ pub(crate) const ALLOC_GETS: &str =
 pub(crate) type Written<'a> = (&'a str, Option<u64>);
 
 /// Node 0 of a configuration, whose program is empty.
-pub(crate) fn owner<A: Allocator + Copy>(alloc: A, config: &Config) -> Result<Site<A>, Fail> {
-    config.check()?;
-    Ok(Site::new(alloc, config, 0, Program::new(alloc, Vec::new(alloc)))?)
+pub(crate) fn owner<A: Allocator + Copy>(rt: &impl Abort, alloc: A, config: &Config) -> Site<A> {
+    config.check().expect(rt, "a configuration");
+    Site::new(alloc, config, 0, Program::new(alloc, Vec::new(alloc))).expect(rt, "memory")
 }
 
 /// The node of this number of a pair, with the program of a text.
-pub(crate) fn node_of<A: Allocator + Copy>(alloc: A, me: u8, text: &str) -> Result<Site<A>, Fail>
-    ensures { IfOk result (λ site. (site.config.nodes ≡ 2) × (site.me ≡ me)) }
-{
-    PAIR.check()?;
-    if me >= PAIR.nodes {
-        return Err("no such node".into());
-    }
-    let program = parse(alloc, text)?.pop().ok_or("no program")?;
-    Ok(Site::new(alloc, &PAIR, me, program)?)
+pub(crate) fn node_of<A: Allocator + Copy>(
+    rt: &impl Abort,
+    alloc: A,
+    me: u8,
+    text: &str,
+) -> Site<A> {
+    PAIR.check().expect(rt, "a configuration");
+    assert!(rt; me < PAIR.nodes);
+    let program = parse(alloc, text)
+        .expect(rt, "programs")
+        .pop()
+        .expect(rt, "a program");
+    Site::new(alloc, &PAIR, me, program).expect(rt, "memory")
 }
 
-/// A turn of a node. Of all that is promised of it, callers need only this.
-pub(crate) fn take_turn<A: Allocator + Copy>(site: &mut Site<A>) -> Result<Turn, Fault>
-    ensures { (site.new.config ≡ site.old.config) × (site.new.me ≡ site.old.me) }
-{
+/// A turn of a node. Of all that is promised of it, callers need nothing.
+pub(crate) fn take_turn<A: Allocator + Copy>(site: &mut Site<A>) -> Result<Turn, Fault> {
     site.program_turn()
 }
 
-/// So many turns of a node.
-pub(crate) fn take_turns<A: Allocator + Copy>(
-    site: &mut Site<A>,
-    number: u64,
-) -> Result<(), Fault> {
+/// So many turns of a node, which are all made.
+pub(crate) fn take_turns<A: Allocator + Copy>(rt: &impl Abort, site: &mut Site<A>, number: u64) {
     for _ in 0..number {
-        take_turn(site)?;
+        take_turn(site).expect(rt, "a turn");
     }
-    Ok(())
 }
 
 /// A string comes to a node. Of all that is promised of it, callers need nothing.
@@ -100,44 +95,56 @@ pub(crate) fn receive<A: Allocator + Copy>(
     site.deliver(bytes)
 }
 
-/// Takes the next string of a node. Whether it is this one.
-pub(crate) fn has_next<A: Allocator + Copy>(
+/// The same of a string as it is written.
+pub(crate) fn comes<A: Allocator + Copy>(
+    rt: &impl Abort,
     alloc: A,
     site: &mut Site<A>,
     written: Written,
-) -> Result<bool, Fail> {
-    let wanted = string(alloc, written)?;
-    match site.take_frame() {
-        Some(sent) => Ok(sent.bytes() == wanted.as_slice()),
-        None => Ok(false),
-    }
+) -> Result<Verdict, Fault> {
+    receive(site, &string(rt, alloc, written))
 }
 
-fn add_words<A: Allocator + Copy>(
+/// A pulse of a node to another of its configuration.
+pub(crate) fn pulse<A: Allocator + Copy>(
+    rt: &impl Abort,
+    site: &mut Site<A>,
+    to: u8,
+) -> Result<(), Fault> {
+    assert!(rt; to < site.config().nodes && to != site.me());
+    site.pulse(to)
+}
+
+/// Takes the next string of a node, which is this one.
+pub(crate) fn expect_next<A: Allocator + Copy>(
+    rt: &impl Abort,
     alloc: A,
-    string: &mut Vec<u8, A>,
-    words: &str,
-) -> Result<(), Fail> {
-    for word in words.split(' ') {
-        string.extend_from_slice(&hex::decode(alloc, word)?)?;
-    }
-    Ok(())
-}
-
-fn add_page<A: Allocator>(string: &mut Vec<u8, A>, first: Option<u64>) -> Result<(), Fail> {
-    if let Some(first) = first {
-        string.extend_from_slice(&first.to_be_bytes())?;
-        string.extend_from_slice(&[0; 56])?;
-    }
-    Ok(())
+    site: &mut Site<A>,
+    written: Written,
+) {
+    let wanted = string(rt, alloc, written);
+    let sent = site.take_frame().expect(rt, "a string waits");
+    assert!(rt; sent.bytes() == wanted.as_slice(), "{}", written.0);
 }
 
 /// The bytes of a string.
-pub(crate) fn string<A: Allocator + Copy>(alloc: A, written: Written) -> Result<Vec<u8, A>, Fail> {
+pub(crate) fn string<A: Allocator + Copy>(
+    rt: &impl Abort,
+    alloc: A,
+    written: Written,
+) -> Vec<u8, A> {
     let mut string = Vec::new(alloc);
-    add_words(alloc, &mut string, written.0)?;
-    add_page(&mut string, written.1)?;
-    Ok(string)
+    for word in written.0.split(' ') {
+        let bytes = hex::decode(alloc, word).expect(rt, word);
+        string.extend_from_slice(&bytes).expect(rt, "memory");
+    }
+    if let Some(first) = written.1 {
+        string
+            .extend_from_slice(&first.to_be_bytes())
+            .expect(rt, "memory");
+        string.extend_from_slice(&[0; 56]).expect(rt, "memory");
+    }
+    string
 }
 
 /// What a string is about, its source and its destination.

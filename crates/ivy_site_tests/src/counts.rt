@@ -1,13 +1,12 @@
 //! Pages with counts that come to a node: thrice, and with a count that is full.
 use crate::common::{
-    COUNT_ASKS, COUNT_GETS, RETRY_ASKS, RETRY_GETS, Written, has_next, node_of, receive, string,
+    COUNT_ASKS, COUNT_GETS, RETRY_ASKS, RETRY_GETS, Written, comes, expect_next, node_of,
     take_turns,
 };
 use ivy_model::{Call, Record, Reply};
 use ivy_site::{Site, Verdict};
 use std::alloc::Allocator;
 use std::process::Abort;
-use std::test::Fail;
 
 /// A node stores and then advances count 0.
 const NOTICE: &str = "node 0
@@ -49,18 +48,16 @@ const NOTICED: [Record; 2] = [
     },
 ];
 
-/// A string comes to a node three times in a row. Whether it is new and then a repeat, twice.
+/// A string comes to a node three times in a row: it is new, and then a repeat, twice.
 fn is_once_new<A: Allocator + Copy>(
+    rt: &impl Abort,
     alloc: A,
     site: &mut Site<A>,
     written: Written,
-) -> Result<bool, Fail> {
-    let given = string(alloc, written)?;
-    Ok(
-        receive(site, &given) == Ok(Verdict::Next)
-            && receive(site, &given) == Ok(Verdict::Repeat)
-            && receive(site, &given) == Ok(Verdict::Repeat),
-    )
+) {
+    for verdict in [Verdict::Next, Verdict::Repeat, Verdict::Repeat] {
+        assert!(rt; comes(rt, alloc, site, written) == Ok(verdict));
+    }
 }
 
 /// A node makes so many turns and asks for a page, which comes three times.
@@ -71,31 +68,30 @@ fn gets_thrice<A: Allocator + Copy>(
     turns: u64,
     asks: &str,
     gets: &str,
-) -> Result<(), Fail> {
-    take_turns(site, turns)?;
-    assert!(rt; has_next(alloc, site, (asks, None))?);
-    assert!(rt; is_once_new(alloc, site, (gets, Some(0)))?);
-    Ok(())
+) {
+    take_turns(rt, site, turns);
+    expect_next(rt, alloc, site, (asks, None));
+    is_once_new(rt, alloc, site, (gets, Some(0)));
 }
 
-fn gets_both_thrice<A: Allocator + Copy>(
-    rt: &impl Abort,
-    alloc: A,
-    site: &mut Site<A>,
-) -> Result<(), Fail> {
-    gets_thrice(rt, alloc, site, 3, STORE_ASKS, STORE_GETS)?;
-    gets_thrice(rt, alloc, site, 2, ADVANCE_ASKS, ADVANCE_GETS)?;
-    take_turns(site, 1)?;
-    assert!(rt; site.take_frame().is_none() && site.ended());
+fn gets_both_thrice<A: Allocator + Copy>(rt: &impl Abort, alloc: A, site: &mut Site<A>) {
+    gets_thrice(rt, alloc, site, 3, STORE_ASKS, STORE_GETS);
+    gets_thrice(rt, alloc, site, 2, ADVANCE_ASKS, ADVANCE_GETS);
+    take_turns(rt, site, 1);
+    assert!(rt; site.take_frame().is_none());
+    assert!(rt; site.ended());
     assert!(rt; site.history() == NOTICED.as_slice());
-    Ok(())
+}
+
+fn check_notice<A: Allocator + Copy>(rt: &impl Abort, alloc: A) {
+    let mut site = node_of(rt, alloc, 1, NOTICE);
+    gets_both_thrice(rt, alloc, &mut site);
 }
 
 /// Both pages come to node 1 three times, and it asks and is answered as if they came once.
 #[test]
-fn pages_given_thrice(rt: HostRuntime) -> Result<(), Fail> {
-    let mut site = node_of(rt.alloc(), 1, NOTICE)?;
-    gets_both_thrice(&rt, rt.alloc(), &mut site)
+fn pages_given_thrice(rt: HostRuntime) {
+    check_notice(&rt, rt.alloc());
 }
 
 /// A node advances and reads a count, and advances it again.
@@ -127,41 +123,34 @@ const FULL_ANSWERS: [Record; 3] = [
 ];
 
 /// Node 1 asks for the page, which comes with a full count, and goes on to its end.
-fn gets_full<A: Allocator + Copy>(
-    rt: &impl Abort,
-    alloc: A,
-    site: &mut Site<A>,
-) -> Result<(), Fail> {
-    take_turns(site, 1)?;
-    assert!(rt; has_next(alloc, site, (COUNT_ASKS, None))?);
-    let given = string(alloc, (COUNT_GETS, Some(u64::MAX)))?;
-    assert!(rt; receive(site, &given) == Ok(Verdict::Next));
-    take_turns(site, 6)?;
-    Ok(())
+fn gets_full<A: Allocator + Copy>(rt: &impl Abort, alloc: A, site: &mut Site<A>) {
+    take_turns(rt, site, 1);
+    expect_next(rt, alloc, site, (COUNT_ASKS, None));
+    assert!(rt; comes(rt, alloc, site, (COUNT_GETS, Some(u64::MAX))) == Ok(Verdict::Next));
+    take_turns(rt, site, 6);
 }
 
 /// Another node asks for a copy of the page, whose count is full still.
-fn gives_full<A: Allocator + Copy>(
-    rt: &impl Abort,
-    alloc: A,
-    site: &mut Site<A>,
-) -> Result<(), Fail> {
-    let asked = string(alloc, (RETRY_ASKS, None))?;
-    assert!(rt; receive(site, &asked) == Ok(Verdict::Next));
-    assert!(rt; has_next(alloc, site, (RETRY_GETS, Some(u64::MAX)))?);
-    Ok(())
+fn gives_full<A: Allocator + Copy>(rt: &impl Abort, alloc: A, site: &mut Site<A>) {
+    assert!(rt; comes(rt, alloc, site, (RETRY_ASKS, None)) == Ok(Verdict::Next));
+    expect_next(rt, alloc, site, (RETRY_GETS, Some(u64::MAX)));
 }
 
-fn is_full<A: Allocator + Copy>(rt: &impl Abort, alloc: A, site: &mut Site<A>) -> Result<(), Fail> {
-    gets_full(rt, alloc, site)?;
-    assert!(rt; site.history() == FULL_ANSWERS.as_slice() && site.ended());
+fn is_full<A: Allocator + Copy>(rt: &impl Abort, alloc: A, site: &mut Site<A>) {
+    gets_full(rt, alloc, site);
+    assert!(rt; site.history() == FULL_ANSWERS.as_slice());
+    assert!(rt; site.ended());
     assert!(rt; site.output() == [18_446_744_073_709_551_615, 7].as_slice());
-    gives_full(rt, alloc, site)
+    gives_full(rt, alloc, site);
+}
+
+fn check_full<A: Allocator + Copy>(rt: &impl Abort, alloc: A) {
+    let mut site = node_of(rt, alloc, 1, FULL);
+    is_full(rt, alloc, &mut site);
 }
 
 /// The page is forged: its count is full. Nothing changes, neither where the page comes nor where it is at hand.
 #[test]
-fn full_count(rt: HostRuntime) -> Result<(), Fail> {
-    let mut site = node_of(rt.alloc(), 1, FULL)?;
-    is_full(&rt, rt.alloc(), &mut site)
+fn full_count(rt: HostRuntime) {
+    check_full(&rt, rt.alloc());
 }

@@ -1,7 +1,8 @@
 //! Frames that nobody sent come to node 0: what each is answered, and how many messages fitted no rule.
-ghost use Rattle.std.specs.Prelude.{◌≡◌, ◌<◌};
-
-use crate::common::{LOADS, REPLY, Written, expect_same_at, node_of, receive, string, take_turns};
+use crate::common::{
+    LOADS, REPLY, Written, comes, expect_next, expect_same, expect_same_at, node_of, pulse,
+    receive, string, take_turns,
+};
 use crate::site_alone::is_misspelled;
 use ivy_model::Fault;
 use ivy_site::{Site, Verdict};
@@ -10,7 +11,6 @@ use rand_core::utils::NextWord;
 use rand_pcg::Lcg64Xsh32;
 use std::alloc::Allocator;
 use std::process::Abort;
-use std::test::Fail;
 
 /// A string, how it is answered, and how many messages fitted no rule then.
 type Row<'a> = (Written<'a>, Result<Verdict, Fault>, u64);
@@ -74,22 +74,16 @@ const AGAIN: Written = (
     Some(0),
 );
 
-/// The strings come to a node one after another, and each is answered so, with so many breaches then. Of all that is
-/// promised of it, callers need only this.
-fn check_rows<A: Allocator + Copy>(
-    rt: &impl Abort,
-    alloc: A,
-    site: &mut Site<A>,
-    rows: &[Row],
-) -> Result<(), Fail>
-    ensures { (site.new.config ≡ site.old.config) × (site.new.me ≡ site.old.me) }
-{
+/// The strings come to a node one after another, and each is answered so, with so many breaches then.
+fn check_rows<A: Allocator + Copy>(rt: &impl Abort, alloc: A, site: &mut Site<A>, rows: &[Row]) {
     for (written, answer, breaches) in rows {
-        let given = string(alloc, *written)?;
-        assert!(rt; site.deliver(&given) == *answer, "{}", written.0);
+        assert!(rt;
+            comes(rt, alloc, site, *written) == *answer,
+            "{}",
+            written.0
+        );
         expect_same_at(rt, written.0, site.breaches(), *breaches);
     }
-    Ok(())
 }
 
 /// What waits at the node is this string alone.
@@ -98,33 +92,24 @@ fn check_sent<A: Allocator + Copy>(
     alloc: A,
     site: &mut Site<A>,
     written: Written,
-) -> Result<(), Fail>
-    ensures { (site.new.config ≡ site.old.config) × (site.new.me ≡ site.old.me) }
-{
-    let wanted = string(alloc, written)?;
-    let sent = site.take_frame().ok_or("nothing waits")?;
-    assert!(rt; sent.bytes() == wanted.as_slice(), "{}", written.0);
+) {
+    expect_next(rt, alloc, site, written);
     assert!(rt; !site.has_frame());
-    Ok(())
 }
 
-/// A pulse of node 0. Of all that is promised of it, callers need nothing.
-fn pulse<A: Allocator + Copy>(site: &mut Site<A>) -> Result<(), Fault>
-    requires nodes { 1 < site.old.config.nodes }
-    requires me { site.old.me ≡ 0 }
-{
-    site.pulse(1)
+fn check_forged<A: Allocator + Copy>(rt: &impl Abort, alloc: A) {
+    let mut site = node_of(rt, alloc, 0, "node 0\n");
+    check_rows(rt, alloc, &mut site, &FORGED);
+    check_sent(rt, alloc, &mut site, ANSWER);
+    expect_same(rt, pulse(rt, &mut site, 1), Ok(()));
+    check_sent(rt, alloc, &mut site, AGAIN);
 }
 
 /// Messages that fit no rule are counted and change nothing else. The one request that fits is answered, and its
 /// acknowledgement of what was never sent counts for nothing.
 #[test]
-fn forged_frames_at_node_0(rt: HostRuntime) -> Result<(), Fail> {
-    let mut site = node_of(rt.alloc(), 0, "node 0\n")?;
-    check_rows(&rt, rt.alloc(), &mut site, &FORGED)?;
-    check_sent(&rt, rt.alloc(), &mut site, ANSWER)?;
-    pulse(&mut site)?;
-    check_sent(&rt, rt.alloc(), &mut site, AGAIN)
+fn forged_frames_at_node_0(rt: HostRuntime) {
+    check_forged(&rt, rt.alloc());
 }
 
 /// Puts a byte at a place, both of them drawn, where there is such a place.
@@ -145,36 +130,42 @@ fn shown<A: Allocator + Copy>(site: &Site<A>) -> (u64, bool, usize, usize) {
     )
 }
 
-/// A reply with some bytes changed is taken, or refused as one that spells no frame. Then the node shows what it did.
-fn check_altered<A: Allocator + Copy>(
-    rt: &impl Abort,
-    alloc: A,
-    site: &mut Site<A>,
-    reply: &[u8],
-    generator: &mut Lcg64Xsh32,
-) -> Result<(), Fail> {
-    let mut bytes = Vec::from_slice(alloc, reply)?;
-    put_drawn(&mut bytes, generator);
-    put_drawn(&mut bytes, generator);
-    put_drawn(&mut bytes, generator);
+/// Bytes are taken, or refused as ones that spell no frame. Then the node shows what it did.
+fn check_altered<A: Allocator + Copy>(rt: &impl Abort, site: &mut Site<A>, bytes: &[u8]) {
     let before = shown(site);
-    let answer = receive(site, &bytes);
+    let answer = receive(site, bytes);
     if answer.is_err() {
         assert!(rt; is_misspelled(answer), "{bytes:?}");
         assert!(rt; shown(site) == before, "{bytes:?}");
     }
-    Ok(())
+}
+
+/// A reply with three bytes changed, which are drawn.
+fn altered<A: Allocator + Copy>(
+    rt: &impl Abort,
+    alloc: A,
+    reply: &[u8],
+    generator: &mut Lcg64Xsh32,
+) -> Vec<u8, A> {
+    let mut bytes = Vec::from_slice(alloc, reply).expect(rt, "memory");
+    for _ in 0..3u8 {
+        put_drawn(&mut bytes, generator);
+    }
+    bytes
 }
 
 /// A node that waits for a reply is handed ten thousand that differ from it in drawn bytes.
 #[test]
-fn altered_replies(rt: HostRuntime) -> Result<(), Fail> {
-    let reply = string(rt.alloc(), (REPLY, Some(0)))?;
-    let mut site = node_of(rt.alloc(), 1, LOADS)?;
-    take_turns(&mut site, 2)?;
+fn altered_replies(rt: HostRuntime) {
+    let reply = string(&rt, rt.alloc(), (REPLY, Some(0)));
+    let mut site = node_of(&rt, rt.alloc(), 1, LOADS);
+    take_turns(&rt, &mut site, 2);
     let mut generator = Lcg64Xsh32::seed_from_u64(3);
     for _ in 0..10_000u32 {
-        check_altered(&rt, rt.alloc(), &mut site, &reply, &mut generator)?;
+        check_altered(
+            &rt,
+            &mut site,
+            &altered(&rt, rt.alloc(), &reply, &mut generator),
+        );
     }
-    Ok(())
 }

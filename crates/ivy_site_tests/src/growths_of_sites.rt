@@ -2,18 +2,16 @@
 //! advances a count or asks for a block, at once or by asking another node, where it tries an await again, and where
 //! what comes is served or answers it. A refused call changes nothing: the node goes on as a twin does that was never refused,
 //! to the same strings and replies.
-ghost use Rattle.std.specs.Prelude.{◌≡◌, IfOk};
-
 use crate::common::{
     ALLOC_ASKS, ALLOC_GETS, COUNT_ASKS, COUNT_GETS, LOADS, MANY, REPLY, REQUEST, RETRY_ASKS,
-    RETRY_GETS, Written, expect_same_at, has_next, is_met, node_of, receive, string, take_turn,
+    RETRY_GETS, Written, comes, expect_next, expect_same_at, is_met, node_of, pulse, receive,
+    string, take_turn, take_turns,
 };
 use growths::Refusing;
 use ivy_model::{Call, Fault, Record, Reply};
 use ivy_site::Site;
 use std::alloc::{Allocator, Global};
 use std::process::Abort;
-use std::test::Fail;
 
 const EMPTY: &str = "node 0\n";
 
@@ -47,31 +45,27 @@ struct Growing<'a> {
     answers: &'a [Record],
 }
 
-fn make<A: Allocator + Copy>(alloc: A, site: &mut Site<A>, step: &Step) -> Result<bool, Fail> {
+fn make<A: Allocator + Copy>(rt: &impl Abort, alloc: A, site: &mut Site<A>, step: &Step) {
     match step {
-        Step::Turn => Ok(take_turn(site).is_ok()),
+        Step::Turn => take_turns(rt, site, 1),
         Step::Comes(written) => {
-            let given = string(alloc, *written)?;
-            Ok(receive(site, &given).is_ok())
+            comes(rt, alloc, site, *written).expect(rt, written.0);
         }
-        Step::Sends(written) => has_next(alloc, site, *written),
+        Step::Sends(written) => expect_next(rt, alloc, site, *written),
     }
 }
 
-fn make_all<A: Allocator + Copy>(alloc: A, site: &mut Site<A>, steps: &[Step]) -> Result<(), Fail> {
+fn make_all<A: Allocator + Copy>(rt: &impl Abort, alloc: A, site: &mut Site<A>, steps: &[Step]) {
     for step in steps {
-        if !make(alloc, site, step)? {
-            return Err("not as it was before".into());
-        }
+        make(rt, alloc, site, step);
     }
-    Ok(())
 }
 
 /// The node before growths are refused.
-fn begun<A: Allocator + Copy>(alloc: A, growing: &Growing) -> Result<Site<A>, Fail> {
-    let mut site = node_of(alloc, growing.me, growing.text)?;
-    make_all(alloc, &mut site, growing.before)?;
-    Ok(site)
+fn begun<A: Allocator + Copy>(rt: &impl Abort, alloc: A, growing: &Growing) -> Site<A> {
+    let mut site = node_of(rt, alloc, growing.me, growing.text);
+    make_all(rt, alloc, &mut site, growing.before);
+    site
 }
 
 /// Whether the nodes show the same, strings aside.
@@ -124,14 +118,13 @@ fn check_site<A: Allocator + Copy>(
     alloc: A,
     site: &mut Site<A>,
     growing: &Growing,
-) -> Result<(), Fail> {
+) {
     if let Some(sends) = growing.sends {
-        assert!(rt; has_next(alloc, site, sends)?);
+        expect_next(rt, alloc, site, sends);
     }
-    take_turn(site)?;
+    take_turns(rt, site, 1);
     assert!(rt; site.take_frame().is_none());
     assert!(rt; site.history() == growing.answers);
-    Ok(())
 }
 
 /// Both nodes sent and were answered what they have to, and show the same.
@@ -141,26 +134,25 @@ fn check_both<A: Allocator + Copy>(
     growing: &Growing,
     site: &mut Site<A>,
     twin: &mut Site<A>,
-) -> Result<(), Fail> {
-    check_site(rt, alloc, site, growing)?;
-    check_site(rt, alloc, twin, growing)?;
+) {
+    check_site(rt, alloc, site, growing);
+    check_site(rt, alloc, twin, growing);
     assert!(rt; same_sites(site, twin));
-    Ok(())
 }
 
 /// The n-th growth is refused. Whether it was asked for.
-fn refused_at(
+fn refused_at<A: Allocator + Copy>(
     rt: &impl Abort,
-    memory: &Refusing<Global>,
+    (memory, alloc): (&Refusing<Global>, A),
     n: u64,
     growing: &Growing,
     comes: Option<&[u8]>,
-) -> Result<bool, Fail> {
-    let mut site = begun(memory, growing)?;
-    let mut twin = begun(memory, growing)?;
+) -> bool {
+    let mut site = begun(rt, alloc, growing);
+    let mut twin = begun(rt, alloc, growing);
     let met = go_on_at(rt, memory, n, comes, &mut site, &mut twin);
-    check_both(rt, memory, growing, &mut site, &mut twin)?;
-    Ok(met)
+    check_both(rt, alloc, growing, &mut site, &mut twin);
+    met
 }
 
 /// Refuses each growth in turn, until one is not asked for.
@@ -169,25 +161,20 @@ fn refuse_each(
     memory: &Refusing<Global>,
     growing: &Growing,
     comes: Option<&[u8]>,
-) -> Result<(), Fail> {
+) {
     for n in 1..MANY {
-        if !refused_at(rt, memory, n, growing, comes)? {
+        if !refused_at(rt, (memory, memory), n, growing, comes) {
             assert!(rt; n > 1);
-            return Ok(());
+            return;
         }
     }
-    Err("no end of growths".into())
+    panic!(rt; "no end of growths");
 }
 
-fn growths_of(rt: &impl Abort, alloc: Global, growing: &Growing) -> Result<(), Fail> {
+fn growths_of(rt: &impl Abort, alloc: Global, growing: &Growing) {
     let memory = Refusing::new(alloc);
-    match growing.comes {
-        Some(written) => {
-            let given = string(alloc, written)?;
-            refuse_each(rt, &memory, growing, Some(&given))
-        }
-        None => refuse_each(rt, &memory, growing, None),
-    }
+    let given = growing.comes.map(|written| string(rt, alloc, written));
+    refuse_each(rt, &memory, growing, given.as_deref());
 }
 
 /// A load faults: the request waits to be put on the wire.
@@ -201,8 +188,8 @@ const TURN: Growing = Growing {
 };
 
 #[test]
-fn growths_of_a_turn(rt: HostRuntime) -> Result<(), Fail> {
-    growths_of(&rt, rt.alloc(), &TURN)
+fn growths_of_a_turn(rt: HostRuntime) {
+    growths_of(&rt, rt.alloc(), &TURN);
 }
 
 /// The request comes to the owner.
@@ -216,8 +203,8 @@ const REQUEST_COMES: Growing = Growing {
 };
 
 #[test]
-fn growths_of_a_request_that_comes(rt: HostRuntime) -> Result<(), Fail> {
-    growths_of(&rt, rt.alloc(), &REQUEST_COMES)
+fn growths_of_a_request_that_comes(rt: HostRuntime) {
+    growths_of(&rt, rt.alloc(), &REQUEST_COMES);
 }
 
 const LOADED: [Record; 1] = [Record {
@@ -258,8 +245,8 @@ const REPLY_COMES: Growing = Growing {
 };
 
 #[test]
-fn growths_of_a_reply_that_comes(rt: HostRuntime) -> Result<(), Fail> {
-    growths_of(&rt, rt.alloc(), &REPLY_COMES)
+fn growths_of_a_reply_that_comes(rt: HostRuntime) {
+    growths_of(&rt, rt.alloc(), &REPLY_COMES);
 }
 
 /// Node 0 advances a count of its own page.
@@ -273,8 +260,8 @@ const ADVANCE: Growing = Growing {
 };
 
 #[test]
-fn growths_of_an_advance(rt: HostRuntime) -> Result<(), Fail> {
-    growths_of(&rt, rt.alloc(), &ADVANCE)
+fn growths_of_an_advance(rt: HostRuntime) {
+    growths_of(&rt, rt.alloc(), &ADVANCE);
 }
 
 /// Node 1 asks for the page to advance its count.
@@ -288,8 +275,8 @@ const ADVANCE_ASKS: Growing = Growing {
 };
 
 #[test]
-fn growths_of_an_advance_that_asks(rt: HostRuntime) -> Result<(), Fail> {
-    growths_of(&rt, rt.alloc(), &ADVANCE_ASKS)
+fn growths_of_an_advance_that_asks(rt: HostRuntime) {
+    growths_of(&rt, rt.alloc(), &ADVANCE_ASKS);
 }
 
 /// Node 0 is at an await that waits, and gives its page to node 1.
@@ -321,8 +308,8 @@ const AWAIT_TRIED: Growing = Growing {
 };
 
 #[test]
-fn growths_of_an_await_tried_again(rt: HostRuntime) -> Result<(), Fail> {
-    growths_of(&rt, rt.alloc(), &AWAIT_TRIED)
+fn growths_of_an_await_tried_again(rt: HostRuntime) {
+    growths_of(&rt, rt.alloc(), &AWAIT_TRIED);
 }
 
 /// The copy comes, and the count is high enough.
@@ -336,8 +323,8 @@ const ANSWER_COMES: Growing = Growing {
 };
 
 #[test]
-fn growths_of_an_answer_to_an_await(rt: HostRuntime) -> Result<(), Fail> {
-    growths_of(&rt, rt.alloc(), &ANSWER_COMES)
+fn growths_of_an_answer_to_an_await(rt: HostRuntime) {
+    growths_of(&rt, rt.alloc(), &ANSWER_COMES);
 }
 
 /// Node 0 gives itself a block.
@@ -351,8 +338,8 @@ const ALLOC: Growing = Growing {
 };
 
 #[test]
-fn growths_of_an_alloc(rt: HostRuntime) -> Result<(), Fail> {
-    growths_of(&rt, rt.alloc(), &ALLOC)
+fn growths_of_an_alloc(rt: HostRuntime) {
+    growths_of(&rt, rt.alloc(), &ALLOC);
 }
 
 /// Node 1 asks for a block.
@@ -366,8 +353,8 @@ const ALLOC_OF_NODE_1: Growing = Growing {
 };
 
 #[test]
-fn growths_of_an_alloc_that_asks(rt: HostRuntime) -> Result<(), Fail> {
-    growths_of(&rt, rt.alloc(), &ALLOC_OF_NODE_1)
+fn growths_of_an_alloc_that_asks(rt: HostRuntime) {
+    growths_of(&rt, rt.alloc(), &ALLOC_OF_NODE_1);
 }
 
 /// Node 0 is asked for it. Where it is refused, the block has its place again when it is asked once more.
@@ -381,8 +368,8 @@ const ALLOC_COMES: Growing = Growing {
 };
 
 #[test]
-fn growths_of_an_alloc_that_comes(rt: HostRuntime) -> Result<(), Fail> {
-    growths_of(&rt, rt.alloc(), &ALLOC_COMES)
+fn growths_of_an_alloc_that_comes(rt: HostRuntime) {
+    growths_of(&rt, rt.alloc(), &ALLOC_COMES);
 }
 
 /// Node 0 is asked to end that block. Where it is refused, the block is still there to be ended.
@@ -405,8 +392,8 @@ const FREE_COMES: Growing = Growing {
 };
 
 #[test]
-fn growths_of_a_free_that_comes(rt: HostRuntime) -> Result<(), Fail> {
-    growths_of(&rt, rt.alloc(), &FREE_COMES)
+fn growths_of_a_free_that_comes(rt: HostRuntime) {
+    growths_of(&rt, rt.alloc(), &FREE_COMES);
 }
 
 /// The block comes to node 1.
@@ -423,89 +410,61 @@ const BLOCK_COMES: Growing = Growing {
 };
 
 #[test]
-fn growths_of_a_block_that_comes(rt: HostRuntime) -> Result<(), Fail> {
-    growths_of(&rt, rt.alloc(), &BLOCK_COMES)
-}
-
-/// Node 1 makes two turns, and its request goes on the wire.
-fn ask<A: Allocator + Copy>(site: &mut Site<A>) -> Result<(), Fault>
-    ensures { (site.new.config ≡ site.old.config) × (site.new.me ≡ site.old.me) }
-{
-    take_turn(site)?;
-    take_turn(site)?;
-    let _ = site.take_frame();
-    Ok(())
+fn growths_of_a_block_that_comes(rt: HostRuntime) {
+    growths_of(&rt, rt.alloc(), &BLOCK_COMES);
 }
 
 /// Node 1, whose request is on the wire.
-fn asking<A: Allocator + Copy>(alloc: A) -> Result<Site<A>, Fail>
-    ensures { IfOk result (λ site. (site.config.nodes ≡ 2) × (site.me ≡ 1)) }
-{
-    let mut site = node_of(alloc, 1, LOADS)?;
-    ask(&mut site)?;
-    Ok(site)
+fn asking<A: Allocator + Copy>(rt: &impl Abort, alloc: A) -> Site<A> {
+    let mut site = node_of(rt, alloc, 1, LOADS);
+    make_all(rt, alloc, &mut site, &LOADING);
+    site
 }
 
-/// Node 1 sends again what it keeps for node 0.
-fn pulse<A: Allocator + Copy>(site: &mut Site<A>) -> Result<(), Fault>
-    requires nodes { site.old.config.nodes ≡ 2 }
-    requires me { site.old.me ≡ 1 }
-    ensures { (site.new.config ≡ site.old.config) × (site.new.me ≡ site.old.me) }
-{
-    site.pulse(0)
+/// How many calls of its program a node answered, and how many events it had.
+fn shown<A: Allocator + Copy>(site: &Site<A>) -> (usize, usize) {
+    (site.history().len(), site.events().len())
 }
 
-/// The request goes to the owner once more.
+/// The request goes to the owner once more, and nothing more.
 fn pulse_of<A: Allocator + Copy>(
     rt: &impl Abort,
     memory: &Refusing<Global>,
     n: u64,
     site: &mut Site<A>,
-) -> bool
-    requires nodes { site.old.config.nodes ≡ 2 }
-    requires me { site.old.me ≡ 1 }
-{
-    let before = site.events().len();
+) -> bool {
+    let before = shown(site);
     memory.refuse(n);
-    let fault = pulse(site).err();
+    let fault = pulse(rt, site, 0).err();
     let met = is_met(rt, memory, n, fault);
     if met {
-        assert!(rt;
-            site.history().is_empty() && site.events().len() == before,
-            "growth {n}"
-        );
-        expect_same_at(rt, n, pulse(site), Ok(()));
+        expect_same_at(rt, n, shown(site), before);
+        expect_same_at(rt, n, pulse(rt, site, 0), Ok(()));
     }
     met
 }
 
-/// What node 1 sends then is its request, and nothing more.
-fn sends_request<A: Allocator + Copy>(
+fn pulse_at<A: Allocator + Copy>(
     rt: &impl Abort,
+    memory: &Refusing<Global>,
     alloc: A,
     n: u64,
-    site: &mut Site<A>,
-) -> Result<(), Fail> {
-    assert!(rt; has_next(alloc, site, (REQUEST, None))?, "growth {n}");
-    assert!(rt; site.take_frame().is_none(), "growth {n}");
-    Ok(())
-}
-
-fn pulse_at(rt: &impl Abort, memory: &Refusing<Global>, n: u64) -> Result<bool, Fail> {
-    let mut site = asking(memory)?;
+) -> bool {
+    let mut site = asking(rt, alloc);
     let met = pulse_of(rt, memory, n, &mut site);
-    sends_request(rt, memory, n, &mut site)?;
-    Ok(met)
+    expect_next(rt, alloc, &mut site, (REQUEST, None));
+    assert!(rt; site.take_frame().is_none());
+    met
 }
 
 #[test]
-fn growths_of_a_pulse(rt: HostRuntime) -> Result<(), Fail> {
+fn growths_of_a_pulse(rt: HostRuntime) {
     let memory = Refusing::new(rt.alloc());
     for n in 1..MANY {
-        if !pulse_at(&rt, &memory, n)? {
-            assert!(rt; n > 1);
-            return Ok(());
+        if !pulse_at(&rt, &memory, &memory, n) {
+            assert!(&rt; n > 1);
+            return;
         }
     }
-    Err("no end of growths".into())
+    panic!(&rt; "no end of growths");
 }

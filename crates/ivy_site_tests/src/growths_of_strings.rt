@@ -8,7 +8,6 @@ use ivy_pagetable::PageTable;
 use ivy_wire::{Content, Frame, Message, Parcel, decode, encode};
 use std::alloc::Global;
 use std::process::Abort;
-use std::test::Fail;
 
 const PAGE: [u8; 64] = [7; 64];
 
@@ -40,7 +39,7 @@ fn same_frames(one: &[Frame<&[u8]>], other: &[Frame<&[u8]>]) -> bool {
     one == other
 }
 
-fn encode_at(rt: &impl Abort, memory: &Refusing<Global>, n: u64) -> Result<bool, Fail> {
+fn encode_at(rt: &impl Abort, memory: &Refusing<Global>, n: u64) -> bool {
     let frame = Frame {
         source: 0,
         dest: 1,
@@ -48,86 +47,82 @@ fn encode_at(rt: &impl Abort, memory: &Refusing<Global>, n: u64) -> Result<bool,
         ack: 0,
         body: Some(message()),
     };
-    PAIR.check()?;
+    PAIR.check().expect(rt, "a configuration");
     assert!(rt; frame.fits(&PAIR));
     memory.refuse(n);
     let fault = encode(memory, &PAIR, &frame).err();
-    Ok(is_met(rt, memory, n, fault))
+    is_met(rt, memory, n, fault)
 }
 
-fn decode_at(rt: &impl Abort, memory: &Refusing<Global>, n: u64) -> Result<bool, Fail> {
-    let string = string(memory, (REPLY, Some(0)))?;
-    PAIR.check()?;
+fn decode_at(rt: &impl Abort, memory: &Refusing<Global>, n: u64) -> bool {
+    let string = string(rt, memory, (REPLY, Some(0)));
+    PAIR.check().expect(rt, "a configuration");
     memory.refuse(n);
     let fault = decode(memory, &PAIR, &string).err();
-    Ok(is_met(rt, memory, n, fault))
+    is_met(rt, memory, n, fault)
 }
 
 /// A refused message is sent later, under the number that it would have had.
-fn send_at(rt: &impl Abort, memory: &Refusing<Global>, n: u64) -> Result<bool, Fail> {
+fn send_at(rt: &impl Abort, memory: &Refusing<Global>, n: u64) -> bool {
     let parcels = [Parcel {
         source: 0,
         dest: 1,
         message: message(),
     }];
-    let mut link = Link::new(memory, 0, 2)?;
-    let mut twin = Link::new(memory, 0, 2)?;
+    let mut link = Link::new(memory, 0, 2).expect(rt, "memory");
+    let mut twin = Link::new(memory, 0, 2).expect(rt, "memory");
     memory.refuse(n);
     let fault = link.send(&parcels).err();
     let met = is_met(rt, memory, n, fault);
     if fault.is_some() {
-        let again = link.send(&parcels)?;
-        let sent = twin.send(&parcels)?;
+        let again = link.send(&parcels).expect(rt, "memory");
+        let sent = twin.send(&parcels).expect(rt, "memory");
         assert!(rt; same_frames(&again, &sent), "growth {n}");
     }
-    Ok(met)
+    met
 }
 
 /// A refused pulse leaves all that is kept.
-fn pulse_at(rt: &impl Abort, memory: &Refusing<Global>, n: u64) -> Result<bool, Fail> {
-    let mut link = Link::new(memory, 0, 2)?;
+fn pulse_at(rt: &impl Abort, memory: &Refusing<Global>, n: u64) -> bool {
+    let mut link = Link::new(memory, 0, 2).expect(rt, "memory");
     let parcels = [Parcel {
         source: 0,
         dest: 1,
         message: message(),
     }];
-    let _ = link.send(&parcels)?;
+    let _ = link.send(&parcels).expect(rt, "memory");
     memory.refuse(n);
     let fault = link.pulse(1).err();
     let met = is_met(rt, memory, n, fault);
-    let frames = link.pulse_frames(1)?;
+    let frames = link.pulse_frames(1).expect(rt, "memory");
     assert!(rt; frames.len() == 1, "growth {n}");
-    Ok(met)
+    met
 }
 
-fn check_order_at(rt: &impl Abort, memory: &Refusing<Global>, n: u64) -> Result<bool, Fail> {
-    let block = Record {
-        node: 1,
-        call: Call::Alloc { size: 8 },
-        reply: Reply::Value(64),
-    };
-    PAIR.check()?;
+const BLOCK: Record = Record {
+    node: 1,
+    call: Call::Alloc { size: 8 },
+    reply: Reply::Value(64),
+};
+
+fn check_order_at(rt: &impl Abort, memory: &Refusing<Global>, n: u64) -> bool {
+    PAIR.check().expect(rt, "a configuration");
     memory.refuse(n);
-    let answer = check_order(memory, &PAIR, &[block]);
+    let answer = check_order(memory, &PAIR, &[BLOCK]);
     let met = is_met(rt, memory, n, answer.err());
     assert!(rt; met || answer == Ok(true));
-    Ok(met)
+    met
 }
 
-fn page_table_at(rt: &impl Abort, memory: &Refusing<Global>, n: u64) -> Result<bool, Fail> {
-    PAIR.check()?;
+fn page_table_at(rt: &impl Abort, memory: &Refusing<Global>, n: u64) -> bool {
+    PAIR.check().expect(rt, "a configuration");
     memory.refuse(n);
     let fault = PageTable::new(memory, &PAIR, 0).err();
-    Ok(is_met(rt, memory, n, fault))
+    is_met(rt, memory, n, fault)
 }
 
 /// The call with the n-th growth refused. Whether that growth was asked for.
-fn refused_at(
-    rt: &impl Abort,
-    memory: &Refusing<Global>,
-    n: u64,
-    growing: Growing,
-) -> Result<bool, Fail> {
+fn refused_at(rt: &impl Abort, memory: &Refusing<Global>, n: u64, growing: Growing) -> bool {
     match growing {
         Growing::Encode => encode_at(rt, memory, n),
         Growing::Decode => decode_at(rt, memory, n),
@@ -139,43 +134,43 @@ fn refused_at(
 }
 
 /// Refuses each growth in turn, until one is not asked for.
-fn growths_of(rt: &impl Abort, alloc: Global, growing: Growing) -> Result<(), Fail> {
+fn growths_of(rt: &impl Abort, alloc: Global, growing: Growing) {
     let memory = Refusing::new(alloc);
     for n in 1..MANY {
-        if !refused_at(rt, &memory, n, growing)? {
+        if !refused_at(rt, &memory, n, growing) {
             assert!(rt; n > 1);
-            return Ok(());
+            return;
         }
     }
-    Err("no end of growths".into())
+    panic!(rt; "no end of growths");
 }
 
 #[test]
-fn growths_of_encode(rt: HostRuntime) -> Result<(), Fail> {
-    growths_of(&rt, rt.alloc(), Growing::Encode)
+fn growths_of_encode(rt: HostRuntime) {
+    growths_of(&rt, rt.alloc(), Growing::Encode);
 }
 
 #[test]
-fn growths_of_decode(rt: HostRuntime) -> Result<(), Fail> {
-    growths_of(&rt, rt.alloc(), Growing::Decode)
+fn growths_of_decode(rt: HostRuntime) {
+    growths_of(&rt, rt.alloc(), Growing::Decode);
 }
 
 #[test]
-fn growths_of_send(rt: HostRuntime) -> Result<(), Fail> {
-    growths_of(&rt, rt.alloc(), Growing::Send)
+fn growths_of_send(rt: HostRuntime) {
+    growths_of(&rt, rt.alloc(), Growing::Send);
 }
 
 #[test]
-fn growths_of_pulse(rt: HostRuntime) -> Result<(), Fail> {
-    growths_of(&rt, rt.alloc(), Growing::Pulse)
+fn growths_of_pulse(rt: HostRuntime) {
+    growths_of(&rt, rt.alloc(), Growing::Pulse);
 }
 
 #[test]
-fn growths_of_check_order(rt: HostRuntime) -> Result<(), Fail> {
-    growths_of(&rt, rt.alloc(), Growing::CheckOrder)
+fn growths_of_check_order(rt: HostRuntime) {
+    growths_of(&rt, rt.alloc(), Growing::CheckOrder);
 }
 
 #[test]
-fn growths_of_a_page_table(rt: HostRuntime) -> Result<(), Fail> {
-    growths_of(&rt, rt.alloc(), Growing::PageTable)
+fn growths_of_a_page_table(rt: HostRuntime) {
+    growths_of(&rt, rt.alloc(), Growing::PageTable);
 }

@@ -1,21 +1,21 @@
 //! The first moves of three seeds. The expected ones were computed from the definition of the generator, by
 //! another program.
-ghost use Rattle.std.specs.Prelude.{◌≤◌, All, IfOk, length};
+ghost use Rattle.std.specs.Prelude.{◌≤◌, All, length};
 
+use crate::common::expect_same;
 use ivy_events::Move;
 use ivy_texts::{draw, generator_of};
 use ivy_wire::Bytes;
 use std::alloc::Global;
 use std::process::Abort;
-use std::test::Fail;
 
 /// A string of 24 bytes to a node.
-fn string_to(alloc: Global, dest: u8) -> Result<Bytes<Global>, Fail>
-    ensures { IfOk result (λ string. 24 ≤ length string) }
+fn string_to(rt: &impl Abort, alloc: Global, dest: u8) -> Bytes<Global>
+    ensures { 24 ≤ length result }
 {
     let mut text = [0; 24];
     text[5] = dest;
-    Ok(Bytes::new(alloc, &text)?)
+    Bytes::new(alloc, &text).expect(rt, "memory")
 }
 
 fn check<R: Abort>(rt: &R, seed: u64, nodes: u8, sent: &[Bytes<Global>], moves: &[Move])
@@ -24,17 +24,17 @@ fn check<R: Abort>(rt: &R, seed: u64, nodes: u8, sent: &[Bytes<Global>], moves: 
 {
     let mut generator = generator_of(seed);
     for step in moves {
-        assert_eq!(rt; draw(&mut generator, nodes, sent), *step);
+        expect_same(rt, draw(&mut generator, nodes, sent), *step);
     }
 }
 
 #[test]
-fn two_nodes(rt: HostRuntime) -> Result<(), Fail> {
+fn two_nodes(rt: HostRuntime) {
     let alloc = rt.alloc();
     let sent = [
-        string_to(alloc, 1)?,
-        string_to(alloc, 0)?,
-        string_to(alloc, 1)?,
+        string_to(&rt, alloc, 1),
+        string_to(&rt, alloc, 0),
+        string_to(&rt, alloc, 1),
     ];
     let moves = [
         Move::Deliver { index: 0, to: 1 },
@@ -51,16 +51,15 @@ fn two_nodes(rt: HostRuntime) -> Result<(), Fail> {
         Move::Pulse { from: 1, to: 0 },
     ];
     check(&rt, 1, 2, &sent, &moves);
-    Ok(())
 }
 
 #[test]
-fn eight_nodes(rt: HostRuntime) -> Result<(), Fail> {
+fn eight_nodes(rt: HostRuntime) {
     let alloc = rt.alloc();
     let sent = [
-        string_to(alloc, 7)?,
-        string_to(alloc, 3)?,
-        string_to(alloc, 0)?,
+        string_to(&rt, alloc, 7),
+        string_to(&rt, alloc, 3),
+        string_to(&rt, alloc, 0),
     ];
     let moves = [
         Move::Deliver { index: 1, to: 3 },
@@ -77,7 +76,6 @@ fn eight_nodes(rt: HostRuntime) -> Result<(), Fail> {
         Move::Deliver { index: 0, to: 7 },
     ];
     check(&rt, u64::MAX, 8, &sent, &moves);
-    Ok(())
 }
 
 /// Where no string was sent a turn stands for a delivery.
