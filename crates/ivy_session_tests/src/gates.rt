@@ -4,7 +4,6 @@ use ivy_session::{Gate, Role};
 use std::process::Abort;
 use std::sync::Wait;
 use std::sync::atomic::{AtomicBool, Ordering};
-use std::test::Fail;
 use std::thread::{self, Threads};
 
 /// So often a worker that is held looks for the other.
@@ -50,12 +49,11 @@ fn check_printed<R: Abort + AllocGlobal + Threads + Wait + Sync, G: Gate>(
     text: &str,
     gate: &G,
     printed: &[&[u64]],
-) -> Result<(), Fail> {
-    let report = run_behind(rt, rt.alloc(), PAIR, text, LIMITS, gate)?;
+) {
+    let report = run_behind(rt, rt.alloc(), PAIR, text, LIMITS, gate).expect(rt, "a report");
     for (node, numbers) in printed.iter().enumerate() {
         expect_same_at(rt, node, shown_of(&report, node as u64).1, *numbers);
     }
-    Ok(())
 }
 
 /// Holds node 0's first turn until node 1's program worker has come to its own, and that one until node 0's program has
@@ -103,7 +101,7 @@ print r2
 
 /// Two program workers are in their turns at the same time.
 #[test]
-fn programs_at_once(rt: HostRuntime) -> Result<(), Fail> {
+fn programs_at_once(rt: HostRuntime) {
     let gate = AtOnce {
         first: Flag::new(),
         second: Flag::new(),
@@ -111,10 +109,9 @@ fn programs_at_once(rt: HostRuntime) -> Result<(), Fail> {
         saw_second: Flag::new(),
         saw_answered: Flag::new(),
     };
-    check_printed(&rt, STORES_AND_LOADS, &gate, &[&[7], &[7]])?;
-    assert!(rt; gate.saw_second.is_raised());
-    assert!(rt; gate.saw_answered.is_raised());
-    Ok(())
+    check_printed(&rt, STORES_AND_LOADS, &gate, &[&[7], &[7]]);
+    assert!(&rt; gate.saw_second.is_raised());
+    assert!(&rt; gate.saw_answered.is_raised());
 }
 
 /// Holds the first turn of each wire worker of two nodes until the other has come to its own.
@@ -143,15 +140,14 @@ impl Gate for OnTheWire {
 
 /// Two wire workers are in their turns at the same time.
 #[test]
-fn wires_at_once(rt: HostRuntime) -> Result<(), Fail> {
+fn wires_at_once(rt: HostRuntime) {
     let gate = OnTheWire {
         first: Flag::new(),
         second: Flag::new(),
         saw_first: Flag::new(),
         saw_second: Flag::new(),
     };
-    check_printed(&rt, LOADS, &gate, &[&[], &[0]])?;
-    assert!(rt; gate.saw_first.is_raised());
-    assert!(rt; gate.saw_second.is_raised());
-    Ok(())
+    check_printed(&rt, LOADS, &gate, &[&[], &[0]]);
+    assert!(&rt; gate.saw_first.is_raised());
+    assert!(&rt; gate.saw_second.is_raised());
 }

@@ -8,7 +8,6 @@ use ivy_session::{OpenGate, Session};
 use std::alloc::Global;
 use std::process::Abort;
 use std::sync::Wait;
-use std::test::Fail;
 use std::thread::Threads;
 
 /// More growths than any session here asks for.
@@ -21,8 +20,8 @@ fn asks_for_fewer<R: Abort + AllocGlobal + Threads + Wait + Sync>(
     (memory, n): (&Refusing<Global>, u64),
     text: &str,
     printed: &[u64],
-) -> Result<bool, Fail> {
-    let programs = parse(memory, text)?;
+) -> bool {
+    let programs = parse(memory, text).expect(rt, "programs");
     memory.refuse(n);
     let answer = Session::run(rt, memory, PAIR, programs, LIMITS, &OpenGate);
     let asked = memory.asked(n);
@@ -31,7 +30,7 @@ fn asks_for_fewer<R: Abort + AllocGlobal + Threads + Wait + Sync>(
         Ok(report) => expect_same(rt, shown_of(&report, 0).1, printed),
         Err(fault) => expect_same_at(rt, n, (fault, n <= asked), (Fault::Memory, true)),
     }
-    Ok(asked < n)
+    asked < n
 }
 
 /// Runs the programs once for each growth, which is refused, and once with none refused. How many were refused.
@@ -39,14 +38,14 @@ fn refuse_each<R: Abort + AllocGlobal + Threads + Wait + Sync>(
     rt: &R,
     text: &str,
     printed: &[u64],
-) -> Result<u64, Fail> {
+) -> u64 {
     let memory = Refusing::new(rt.alloc());
     for n in 1..MANY {
-        if asks_for_fewer(rt, (&memory, n), text, printed)? {
-            return Ok(n - 1);
+        if asks_for_fewer(rt, (&memory, n), text, printed) {
+            return n - 1;
         }
     }
-    Ok(MANY)
+    MANY
 }
 
 /// Asserts that a session asks for at least so many growths, and ends where one of them is refused.
@@ -55,14 +54,13 @@ fn check_refused<R: Abort + AllocGlobal + Threads + Wait + Sync>(
     text: &str,
     printed: &[u64],
     least: u64,
-) -> Result<(), Fail> {
-    let refused = refuse_each(rt, text, printed)?;
+) {
+    let refused = refuse_each(rt, text, printed);
     assert!(rt; least <= refused && refused < MANY, "{refused}");
-    Ok(())
 }
 
 #[test]
-fn each_refused(rt: HostRuntime) -> Result<(), Fail> {
-    check_refused(&rt, LOADS, &[], 20)?;
-    check_refused(&rt, NOTICE, &[9], 40)
+fn each_refused(rt: HostRuntime) {
+    check_refused(&rt, LOADS, &[], 20);
+    check_refused(&rt, NOTICE, &[9], 40);
 }

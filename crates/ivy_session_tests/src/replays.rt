@@ -5,7 +5,7 @@ use crate::common::{
     expect_same_at, run,
 };
 use ivy_events::Event;
-use ivy_model::{Config, Fault, Kind};
+use ivy_model::{Config, Kind};
 use ivy_node::{Move, World};
 use ivy_program::parse;
 use ivy_session::{Limits, Report};
@@ -13,7 +13,6 @@ use ivy_wire::Bytes;
 use std::alloc::{Allocator, Global};
 use std::process::Abort;
 use std::sync::Wait;
-use std::test::Fail;
 use std::thread::Threads;
 
 /// The place of a string among those sent.
@@ -43,33 +42,32 @@ fn move_of<A: Allocator + Copy>(
 
 /// Makes a move so often.
 fn repeat<A: Allocator + Copy>(
+    rt: &impl Abort,
     world: &mut World<A>,
     moves: &mut Vec<Move, A>,
     (step, count): (Move, u64),
-) -> Result<(), Fail> {
+) {
     for _ in 0..count {
-        if world.run(&[step]).is_err() {
-            return Err("a move was refused".into());
-        }
-        moves.push(step)?;
+        expect_same(rt, world.run(&[step]), Ok(()));
+        moves.push(step).expect(rt, "memory");
     }
-    Ok(())
 }
 
 /// Makes the events of a node from this place on, up to one whose string was not sent yet, and gives that place.
 fn go_on<A: Allocator + Copy>(
+    rt: &impl Abort,
     world: &mut World<A>,
     moves: &mut Vec<Move, A>,
     node: u64,
     (events, from): (&[Event<Bytes<A>>], usize),
-) -> Result<usize, Fail> {
+) -> usize {
     for place in from..events.len() {
         let Some(repeated) = move_of(world, node, &events[place]) else {
-            return Ok(place);
+            return place;
         };
-        repeat(world, moves, repeated)?;
+        repeat(rt, world, moves, repeated);
     }
-    Ok(events.len())
+    events.len()
 }
 
 /// What one round made of the events: whether any was made, and whether any is left.
@@ -81,11 +79,12 @@ struct Round {
 
 /// Makes the events of each node from its place on, as far as it can, and keeps the place that it comes to.
 fn go_round<A: Allocator + Copy>(
+    rt: &impl Abort,
     world: &mut World<A>,
     moves: &mut Vec<Move, A>,
     report: &Report<A>,
     places: &mut [usize],
-) -> Result<Round, Fail> {
+) -> Round {
     let mut round = Round {
         went: false,
         left: false,
@@ -94,34 +93,33 @@ fn go_round<A: Allocator + Copy>(
         let node = node as u64;
         if node < report.nodes() {
             let events = report.events(node);
-            let next = go_on(world, moves, node, (events, *place))?;
+            let next = go_on(rt, world, moves, node, (events, *place));
             round.went = round.went || next != *place;
             round.left = round.left || next < events.len();
             *place = next;
         }
     }
-    Ok(round)
+    round
 }
 
-/// Makes the events of all nodes, each as soon as it can be made, and gives the moves. An event that can't be made in
-/// the end is an error.
+/// Makes the events of all nodes, each as soon as it can be made, and gives the moves. In the end every event can be
+/// made.
 fn merge<A: Allocator + Copy>(
+    rt: &impl Abort,
     alloc: A,
     world: &mut World<A>,
     report: &Report<A>,
-) -> Result<Vec<Move, A>, Fail> {
+) -> Vec<Move, A> {
     let mut moves = Vec::new(alloc);
-    let mut places = vec![in alloc; 0; report.nodes() as usize]?;
+    let mut places = vec![in alloc; 0; report.nodes() as usize].expect(rt, "memory");
     for _ in 0..u64::MAX {
-        let round = go_round(world, &mut moves, report, &mut places)?;
+        let round = go_round(rt, world, &mut moves, report, &mut places);
         if !round.left {
-            return Ok(moves);
+            return moves;
         }
-        if !round.went {
-            return Err("a string was not sent".into());
-        }
+        assert!(rt; round.went, "a string was not sent");
     }
-    Err("the events have no end".into())
+    panic!(rt; "the events have no end");
 }
 
 /// Whether the same strings were sent.
@@ -135,8 +133,14 @@ fn same_sent<A: Allocator + Copy>(one: &World<A>, other: &World<A>) -> bool {
 }
 
 /// A world of the programs of a text, which has not moved yet.
-fn world_of<A: Allocator + Copy>(alloc: A, config: Config, text: &str) -> Result<World<A>, Fault> {
-    World::new(alloc, config, parse(alloc, text)?)
+fn world_of<A: Allocator + Copy>(
+    rt: &impl Abort,
+    alloc: A,
+    config: Config,
+    text: &str,
+) -> World<A> {
+    let programs = parse(alloc, text).expect(rt, "programs");
+    World::new(alloc, config, programs).expect(rt, "memory")
 }
 
 /// Asserts that every node of a world has ended, with the history and the output of the report.
@@ -156,29 +160,27 @@ fn check_replay<R: Abort + AllocGlobal + Threads + Wait + Sync>(
     config: Config,
     text: &str,
     limits: Limits,
-) -> Result<(), Fail> {
+) {
     let alloc = rt.alloc();
-    let report = run(rt, alloc, config, text, limits)?;
-    let mut world = world_of(alloc, config, text)?;
-    let moves = merge(alloc, &mut world, &report)?;
+    let report = run(rt, alloc, config, text, limits).expect(rt, "a report");
+    let mut world = world_of(rt, alloc, config, text);
+    let moves = merge(rt, alloc, &mut world, &report);
     check_ends(rt, &world, &report);
-    let mut again = world_of(alloc, config, text)?;
+    let mut again = world_of(rt, alloc, config, text);
     expect_same(rt, again.run(&moves), Ok(()));
     assert!(rt; same_sent(&world, &again));
-    Ok(())
 }
 
 #[test]
-fn worked_sessions(rt: HostRuntime) -> Result<(), Fail> {
+fn worked_sessions(rt: HostRuntime) {
     for (config, text) in [(PAIR, LOADS), (PAIR, NOTICE), (TRIO, FOUR_ADVANCES)] {
         for manager in [Kind::Fixed, Kind::Dynamic] {
             for limits in [LIMITS, NARROW] {
                 let config = Config { manager, ..config };
-                check_replay(&rt, config, text, limits)?;
+                check_replay(&rt, config, text, limits);
             }
         }
     }
-    Ok(())
 }
 
 /// What each of eight nodes does, but for where it stores: it stores to a page, loads from a common one, takes a block and
@@ -207,23 +209,22 @@ print r10
 ";
 
 /// Eight nodes that are busy, of which two each share a page.
-fn busy_text(alloc: Global) -> Result<String, Fail> {
+fn busy_text(rt: &impl Abort, alloc: Global) -> String {
     let mut text = String::new(alloc);
     for node in 0..8u64 {
         let page = 2 + node / 2;
         let addr = 64 * page + 8 * (node % 2);
-        write!(text, "node {node}\nset r1 {addr}")?;
-        text.push_str(BUSY)?;
+        write!(text, "node {node}\nset r1 {addr}").expect(rt, "memory");
+        text.push_str(BUSY).expect(rt, "memory");
     }
-    Ok(text)
+    text
 }
 
 #[test]
-fn busy_session(rt: HostRuntime) -> Result<(), Fail> {
-    let text = busy_text(rt.alloc())?;
+fn busy_session(rt: HostRuntime) {
+    let text = busy_text(&rt, rt.alloc());
     for manager in [Kind::Fixed, Kind::Dynamic] {
         let config = Config { manager, ..EIGHT };
-        check_replay(&rt, config, text.as_str(), PULSING)?;
+        check_replay(&rt, config, text.as_str(), PULSING);
     }
-    Ok(())
 }

@@ -7,7 +7,6 @@ use ivy_model::{Config, Kind, Record};
 use ivy_session::Limits;
 use std::process::Abort;
 use std::sync::Wait;
-use std::test::Fail;
 use std::thread::Threads;
 
 /// Programs, and what each node was answered and printed.
@@ -81,34 +80,28 @@ fn check_session<R: Abort + AllocGlobal + Threads + Wait + Sync>(
     row: &Row,
     manager: Kind,
     limits: Limits,
-) -> Result<(), Fail> {
+) {
     let config = Config {
         manager,
         ..row.config
     };
-    let report = run(rt, rt.alloc(), config, row.text, limits)?;
+    let report = run(rt, rt.alloc(), config, row.text, limits).expect(rt, "a report");
     expect_same(rt, report.nodes(), row.nodes.len() as u64);
     for (node, shown) in row.nodes.iter().enumerate() {
         expect_same_at(rt, node, shown_of(&report, node as u64), *shown);
     }
-    Ok(())
 }
 
-fn check_row<R: Abort + AllocGlobal + Threads + Wait + Sync>(
-    rt: &R,
-    row: &Row,
-) -> Result<(), Fail> {
+fn check_row<R: Abort + AllocGlobal + Threads + Wait + Sync>(rt: &R, row: &Row) {
     for manager in [Kind::Fixed, Kind::Dynamic] {
-        check_session(rt, row, manager, LIMITS)?;
-        check_session(rt, row, manager, NARROW)?;
+        check_session(rt, row, manager, LIMITS);
+        check_session(rt, row, manager, NARROW);
     }
-    Ok(())
 }
 
 #[test]
-fn rows(rt: HostRuntime) -> Result<(), Fail> {
+fn rows(rt: HostRuntime) {
     for row in &ROWS {
-        check_row(&rt, row)?;
+        check_row(&rt, row);
     }
-    Ok(())
 }

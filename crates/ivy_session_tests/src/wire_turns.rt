@@ -1,5 +1,5 @@
 //! Turns on the wire of two sites, one after the other, at an ether that holds one item.
-ghost use Rattle.std.specs.Prelude.{◌≡◌, ◌<◌, length, slice_get, Some, true, IfOk};
+ghost use Rattle.std.specs.Prelude.{◌≡◌, ◌<◌, length, slice_get, Some, true};
 ghost use Rattle.ivy_model.specs.Config.{IsConfig};
 ghost use Rattle.ivy_ether.specs.Rule.{times};
 ghost use Rattle.ivy_ether.specs.Views.{with_issued};
@@ -36,7 +36,7 @@ load 8 r2 r1
 ";
 
 /// Issues a node's seat, takes it, and seats the node's site.
-fn seat<'e, S: Setup, R: Wait>(
+fn seat<'e, S: Setup, R: Wait + Abort>(
     rt: &R,
     alloc: Global,
     ether: &'e Ether<S, Global>,
@@ -45,7 +45,7 @@ fn seat<'e, S: Setup, R: Wait>(
     pass: Pass<Wired<Global>>,
     node: u8,
     program: Program<Global>,
-) -> Result<Seated<'e, S, Global>, Fail>
+) -> Seated<'e, S, Global>
     requires config { config.now ≡ S.config }
     requires limits { IsConfig config.now }
     requires each { length S.programs ≡ config.now.nodes }
@@ -55,25 +55,20 @@ fn seat<'e, S: Setup, R: Wait>(
     requires node { node < length S.programs }
     requires new { times node starter.old.known.issued ≡ 0 }
     ensures starter { starter.new.ether ≡ starter.old.ether }
-    ensures issued { IfOk result (λ _. starter.new.known ≡ with_issued starter.old.known node) }
+    ensures issued { starter.new.known ≡ with_issued starter.old.known node }
 {
     let mut pass = pass;
-    if !ether.issue_seat(rt, starter, node) {
-        return Err("the ether was full".into());
-    }
-    if ether.take_seat(rt, &mut pass) != Some(node) {
-        return Err("the seat was not there".into());
-    }
-    let site = Site::new(alloc, config, node, program)?;
-    Ok(Seated::new(ether, site, pass))
+    assert!(rt; ether.issue_seat(rt, starter, node));
+    assert!(rt; ether.take_seat(rt, &mut pass) == Some(node));
+    let site = Site::new(alloc, config, node, program).expect(rt, "memory");
+    Seated::new(ether, site, pass)
 }
 
 /// Two turns of a site's program: a register is set, and a call begins.
-fn begin<S: Setup>(rt: &impl Abort, site: &mut Seated<'_, S, Global>) -> Result<(), Fail> {
+fn begin<S: Setup>(rt: &impl Abort, site: &mut Seated<'_, S, Global>) {
     for _ in 0..2 {
-        expect_same(rt, site.program_turn()?, Turn::Moved);
+        expect_same(rt, site.program_turn(), Ok(Turn::Moved));
     }
-    Ok(())
 }
 
 /// One turn on the wire of a site, which is this one.
@@ -81,9 +76,8 @@ fn expect_turn<S: Setup, R: Wait + Abort>(
     rt: &R,
     site: &mut Seated<'_, S, Global>,
     wanted: WireTurn,
-) -> Result<(), Fail> {
-    expect_same(rt, site.wire_turn(rt)?, wanted);
-    Ok(())
+) {
+    expect_same(rt, site.wire_turn(rt), Ok(wanted));
 }
 
 /// One turn on the wire after the other, of node 2 and then of node 1.
@@ -91,18 +85,18 @@ fn turn_by_turn<S: Setup, R: Wait + Abort>(
     rt: &R,
     one: &mut Seated<'_, S, Global>,
     two: &mut Seated<'_, S, Global>,
-) -> Result<(), Fail> {
-    begin(rt, two)?;
-    begin(rt, one)?;
+) {
+    begin(rt, two);
+    begin(rt, one);
     expect_same(rt, two.next_destination(), Some(1));
-    expect_turn(rt, two, WireTurn::Sent)?;
+    expect_turn(rt, two, WireTurn::Sent);
     expect_same(rt, one.next_destination(), Some(0));
-    expect_turn(rt, one, WireTurn::Lost)?;
-    expect_turn(rt, two, WireTurn::Returned)?;
-    expect_turn(rt, one, WireTurn::Served(Verdict::Next))?;
+    expect_turn(rt, one, WireTurn::Lost);
+    expect_turn(rt, two, WireTurn::Returned);
+    expect_turn(rt, one, WireTurn::Served(Verdict::Next));
     expect_same(rt, one.next_destination(), Some(0));
-    expect_turn(rt, two, WireTurn::Empty)?;
-    expect_turn(rt, one, WireTurn::Sent)
+    expect_turn(rt, two, WireTurn::Empty);
+    expect_turn(rt, one, WireTurn::Sent);
 }
 
 /// Seats nodes 1 and 2, and makes the turns.
@@ -127,17 +121,16 @@ fn play<S: Setup, R: Wait + Abort>(
     let (Some(loads), Some(asks)) = (programs.pop(), programs.pop()) else {
         return Err("there are three programs".into());
     };
-    let mut one = seat(rt, alloc, &ether, config, &mut starter, first, 1, asks)?;
-    let mut two = seat(rt, alloc, &ether, config, &mut starter, second, 2, loads)?;
-    turn_by_turn(rt, &mut one, &mut two)
+    let mut one = seat(rt, alloc, &ether, config, &mut starter, first, 1, asks);
+    let mut two = seat(rt, alloc, &ether, config, &mut starter, second, 2, loads);
+    turn_by_turn(rt, &mut one, &mut two);
+    Ok(())
 }
 
 #[test]
 fn wire_turns_at_capacity_one(rt: HostRuntime) -> Result<(), Fail> {
     let programs = parse(rt.alloc(), ASKS)?;
     FIXED_TRIO.check()?;
-    if programs.len() != 3 {
-        return Err("there are three programs".into());
-    }
+    assert!(&rt; programs.len() == 3);
     play::<Brand, HostRuntime>(&rt, rt.alloc(), &FIXED_TRIO, programs)
 }

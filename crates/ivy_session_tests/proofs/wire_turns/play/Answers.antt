@@ -9,8 +9,8 @@ use Rattle.ivy_ether.specs.Words.{IsNewcomer}
 use Rattle.ivy_session.proofs.Told.{fresh_pop, issued_more}
 use Rattle.ivy_session_tests.proofs.wire_turns.play.Goals as goal
 
-pub seat-requires-clause-there : goal.seat-requires-clause-there
-seat-requires-clause-there g c =
+pub seat-one-requires-clause-there : goal.seat-one-requires-clause-there
+seat-one-requires-clause-there g c =
     let all = c.in-Some-Some.ensures.items in
     let front = c.in-Some-Some.ensures'.items in
     let asks = c.in-Some-Some.asks in
@@ -24,33 +24,33 @@ seat-requires-clause-there g c =
     (slice_get_read c.args.programs.items 3 1 asks (sym long) (omega arith)
     (sym (ap (λ l. get_or l 1 asks) all ∙ inside ∙ ap (λ l. get_or l 1 asks) front ∙ at)))
 
-pub seat-requires-clause-pass : goal.seat-requires-clause-pass
-seat-requires-clause-pass g c =
+pub seat-one-requires-clause-pass : goal.seat-one-requires-clause-pass
+seat-one-requires-clause-pass g c =
     let passes = c.in-Some-Some-Some in
     let newcomers = (fresh_pop _ _ c.pop.new.self.items passes.starter c.in_ok-ether.ensures.fresh
     passes.ensures.items).0 in
     (All-pop (IsNewcomer _) _ _ (Some passes.first) passes.ensures'.items newcomers).1
 
-pub seat-requires-2-clause-starter : goal.seat-requires-2-clause-starter
-seat-requires-2-clause-starter g c =
+pub seat-two-requires-clause-starter : goal.seat-two-requires-clause-starter
+seat-two-requires-clause-starter g c =
     let starter = (fresh_pop _ _ c.pop.new.self.items c.in-Some-Some-Some.starter
     c.in_ok-ether.ensures.fresh c.in-Some-Some-Some.ensures.items).1 in (
-      c.in_ok-one.ensures.starter ∙ ap (λ (h : Held). h.ether) starter,
-      ap (λ (v : View). v.starts) c.in_ok-one.ensures.issued
+      c.seat-one.ensures.starter ∙ ap (λ (h : Held). h.ether) starter,
+      ap (λ (v : View). v.starts) c.seat-one.ensures.issued
           ∙ ap (λ (h : Held). h.known.starts) starter,
     )
 
-pub seat-requires-2-clause-pass : goal.seat-requires-2-clause-pass
-seat-requires-2-clause-pass g c =
+pub seat-two-requires-clause-pass : goal.seat-two-requires-clause-pass
+seat-two-requires-clause-pass g c =
     let passes = c.in-Some-Some-Some in
     let newcomers = (fresh_pop _ _ c.pop.new.self.items passes.starter c.in_ok-ether.ensures.fresh
     passes.ensures.items).0 in
     let rest = (All-pop (IsNewcomer _) _ _ (Some passes.first) passes.ensures'.items newcomers).0 in
     (All-pop (IsNewcomer _) _ _ (Some passes.second) passes.ensures''.items rest).1
 
-pub seat-requires-2-clause-new : goal.seat-requires-2-clause-new
-seat-requires-2-clause-new g c =
+pub seat-two-requires-clause-new : goal.seat-two-requires-clause-new
+seat-two-requires-clause-new g c =
     let starter = (fresh_pop _ _ c.pop.new.self.items c.in-Some-Some-Some.starter
     c.in_ok-ether.ensures.fresh c.in-Some-Some-Some.ensures.items).1 in
-    issued_more _ c.seat.new.starter.known 1 c.in_ok-one.ensures.issued
+    issued_more _ c.seat-one.new.starter.known 1 c.seat-one.ensures.issued
     (λ j le. ap (λ (h : Held). times j h.known.issued) starter) 2 (omega arith)
