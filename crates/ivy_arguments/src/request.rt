@@ -83,22 +83,34 @@ fn subcommand<'a>(alloc: Global, name: &'a str) -> Result<Command<'a>, AllocErro
         .arg(option(alloc, MANAGER))
 }
 
-fn command<'a>(alloc: Global) -> Result<Command<'a>, AllocError> {
-    let run = subcommand(alloc, "run")?
+fn run_command<'a>(alloc: Global) -> Result<Command<'a>, AllocError> {
+    subcommand(alloc, "run")?
         .arg(option(alloc, TURNS.0))?
         .arg(option(alloc, CAPACITY.0))?
-        .arg(option(alloc, PULSE.0))?;
-    let step = subcommand(alloc, "step")?.arg(file(alloc, SCHEDULE))?;
-    let sim = subcommand(alloc, "sim")?
+        .arg(option(alloc, PULSE.0))
+}
+
+fn step_command<'a>(alloc: Global) -> Result<Command<'a>, AllocError> {
+    subcommand(alloc, "step")?.arg(file(alloc, SCHEDULE))
+}
+
+fn sim_command<'a>(alloc: Global) -> Result<Command<'a>, AllocError> {
+    subcommand(alloc, "sim")?
         .arg(option(alloc, SEED.0))?
-        .arg(option(alloc, MOVES.0))?;
-    let check = Command::new(alloc, "check").arg(file(alloc, ORDER))?;
-    Command::new(alloc, "ivy")
-        .subcommand_required(true)
-        .subcommand(run)?
-        .subcommand(step)?
-        .subcommand(sim)?
-        .subcommand(check)
+        .arg(option(alloc, MOVES.0))
+}
+
+fn check_command<'a>(alloc: Global) -> Result<Command<'a>, AllocError> {
+    Command::new(alloc, "check").arg(file(alloc, ORDER))
+}
+
+// Each way out drops what was made, so few commands live at each.
+fn command<'a>(alloc: Global) -> Result<Command<'a>, AllocError> {
+    let ivy = Command::new(alloc, "ivy").subcommand_required(true);
+    let ivy = ivy.subcommand(run_command(alloc)?)?;
+    let ivy = ivy.subcommand(step_command(alloc)?)?;
+    let ivy = ivy.subcommand(sim_command(alloc)?)?;
+    ivy.subcommand(check_command(alloc)?)
 }
 
 /// The word that a required argument was given.
