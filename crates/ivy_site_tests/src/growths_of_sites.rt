@@ -140,7 +140,8 @@ fn check_both<A: Allocator + Copy>(
     assert!(rt; same_sites(site, twin));
 }
 
-/// The n-th growth is refused. Whether it was asked for.
+/// The n-th growth of a memory is refused. Whether it was asked for. Sites take that memory as any allocator, by which
+/// they cost less proof.
 fn refused_at<A: Allocator + Copy>(
     rt: &impl Abort,
     (memory, alloc): (&Refusing<Global>, A),
@@ -426,7 +427,7 @@ fn shown<A: Allocator + Copy>(site: &Site<A>) -> (usize, usize) {
     (site.history().len(), site.events().len())
 }
 
-/// The request goes to the owner once more, and nothing more.
+/// The request goes to the owner once more.
 fn pulse_of<A: Allocator + Copy>(
     rt: &impl Abort,
     memory: &Refusing<Global>,
@@ -444,6 +445,7 @@ fn pulse_of<A: Allocator + Copy>(
     met
 }
 
+/// The same where node 1 pulses, which sends its request again, and nothing more.
 fn pulse_at<A: Allocator + Copy>(
     rt: &impl Abort,
     memory: &Refusing<Global>,
