@@ -1,10 +1,10 @@
 //! What the words of a command line ask for.
 
 use crate::error::CommandLineError;
-use crate::settings::Settings;
 use clap::{Arg, ArgAction, ArgMatches, Command};
 use ivy_model::Kind;
 use ivy_program::parse_number;
+use ivy_settings::Settings;
 use std::alloc::{AllocError, Global};
 
 /// What a command line asks for.

@@ -3,7 +3,7 @@ use Rattle.std.specs.Prelude.{◌≡◌, ◌↔◌, ℕ, Bool, IsTrue, List, ◌
 use Rattle.std.specs.Io.KnownBytes.{Appends}
 use Rattle.ivy_arguments.specs.declared.Request.{Request}
 use Rattle.ivy_arguments.specs.declared.Request.TheVariants as request
-use Rattle.ivy_arguments.specs.declared.Settings.{Settings}
+use Rattle.ivy_settings.specs.declared.Settings.{Settings}
 use Rattle.ivy_model.specs.declared.Config.{Config}
 use Rattle.ivy_model.specs.declared.Fault.{Fault}
 use Rattle.ivy_model.specs.declared.Fault.TheVariants.{BadConfig, ProgramFault}

@@ -29,42 +29,70 @@ fn small_heap<A: Allocator + Copy>(rt: &impl Abort, alloc: A) -> Heap<A> {
     Heap::new(alloc, &SMALL).expect(rt, "memory")
 }
 
+/// A block of the heap. Of all that is promised of it, callers need nothing.
+fn take<A: Allocator + Copy>(heap: &mut Heap<A>, size: u64) -> Result<u64, Fault> {
+    heap.alloc(size)
+}
+
+/// The end of a block of the heap. Of all that is promised of it, callers need nothing.
+fn end<A: Allocator + Copy>(heap: &mut Heap<A>, addr: u64) -> Result<(), Fault> {
+    heap.free(addr)
+}
+
+/// That blocks are taken at the least addresses with room for them.
+fn check_least<A: Allocator + Copy>(rt: &impl Abort, heap: &mut Heap<A>) {
+    expect_same(rt, take(heap, 64), Ok(64));
+    expect_same(rt, take(heap, 1), Err(Fault::NoRoom));
+    expect_same(rt, end(heap, 64), Ok(()));
+    expect_same(rt, end(heap, 64), Err(Fault::NotABlock));
+    expect_same(rt, take(heap, 1), Ok(64));
+    expect_same(rt, take(heap, 3), Ok(72));
+    expect_same(rt, take(heap, 0), Err(Fault::ZeroSize));
+    expect_same(rt, take(heap, u64::MAX), Err(Fault::NoRoom));
+    expect_same(rt, take(heap, 48), Ok(80));
+    expect_same(rt, take(heap, 8), Err(Fault::NoRoom));
+}
+
 #[test]
 fn least_address(rt: HostRuntime) {
-    let mut heap = small_heap(&rt, rt.alloc());
-    expect_same(&rt, heap.alloc(64), Ok(64));
-    expect_same(&rt, heap.alloc(1), Err(Fault::NoRoom));
-    expect_same(&rt, heap.free(64), Ok(()));
-    expect_same(&rt, heap.free(64), Err(Fault::NotABlock));
-    expect_same(&rt, heap.alloc(1), Ok(64));
-    expect_same(&rt, heap.alloc(3), Ok(72));
-    expect_same(&rt, heap.alloc(0), Err(Fault::ZeroSize));
-    expect_same(&rt, heap.alloc(u64::MAX), Err(Fault::NoRoom));
-    expect_same(&rt, heap.alloc(48), Ok(80));
-    expect_same(&rt, heap.alloc(8), Err(Fault::NoRoom));
+    check_least(&rt, &mut small_heap(&rt, rt.alloc()));
+}
+
+/// That a block is one where it starts, until it ends, and nowhere else.
+fn check_starts<A: Allocator + Copy>(rt: &impl Abort, heap: &mut Heap<A>) {
+    assert!(rt; !heap.is_block(64));
+    expect_same(rt, take(heap, 16), Ok(64));
+    assert!(rt; heap.is_block(64) && !heap.is_block(72));
+    expect_same(rt, end(heap, 72), Err(Fault::NotABlock));
+    expect_same(rt, end(heap, 64), Ok(()));
+    assert!(rt; !heap.is_block(64));
 }
 
 #[test]
 fn blocks_start_where_they_were_given(rt: HostRuntime) {
-    let mut heap = small_heap(&rt, rt.alloc());
-    assert!(rt; !heap.is_block(64));
-    expect_same(&rt, heap.alloc(16), Ok(64));
-    assert!(rt; heap.is_block(64) && !heap.is_block(72));
-    expect_same(&rt, heap.free(72), Err(Fault::NotABlock));
-    expect_same(&rt, heap.free(64), Ok(()));
-    assert!(rt; !heap.is_block(64));
+    check_starts(&rt, &mut small_heap(&rt, rt.alloc()));
+}
+
+/// Takes blocks of these sizes.
+fn take_blocks<A: Allocator + Copy>(rt: &impl Abort, heap: &mut Heap<A>, sizes: &[u64]) {
+    for &size in sizes {
+        take(heap, size).expect(rt, "room");
+    }
+}
+
+/// Ends the blocks that begin here.
+fn end_blocks<A: Allocator + Copy>(rt: &impl Abort, heap: &mut Heap<A>, starts: &[u64]) {
+    for &addr in starts {
+        expect_same_at(rt, addr, end(heap, addr), Ok(()));
+    }
 }
 
 /// Whether the whole heap has room again after blocks that fill it end in this order.
 fn joins_again(rt: &(impl Abort + AllocGlobal), order: [u64; 3]) -> bool {
     let mut heap = small_heap(rt, rt.alloc());
-    for size in [16, 24, 24] {
-        heap.alloc(size).expect(rt, "room");
-    }
-    for addr in order {
-        heap.free(addr).expect(rt, "a block");
-    }
-    heap.alloc(64) == Ok(64)
+    take_blocks(rt, &mut heap, &[16, 24, 24]);
+    end_blocks(rt, &mut heap, &order);
+    take(&mut heap, 64) == Ok(64)
 }
 
 #[test]
@@ -83,10 +111,20 @@ fn ended_blocks_join(rt: HostRuntime) {
 }
 
 /// A live block of the plain list: its first byte, and the byte after it.
-#[derive(Clone, Copy, Debug, PartialEq, Eq)]
+#[derive(Clone, Copy)]
 struct Block {
     from: u64,
     to: u64,
+}
+
+/// Whether these bytes meet none of the blocks.
+fn is_apart(blocks: &[Block], from: u64, to: u64) -> bool {
+    for block in blocks {
+        if block.from < to && from < block.to {
+            return false;
+        }
+    }
+    true
 }
 
 /// The least address, tried one word after another, at which so many bytes meet none of the blocks.
@@ -94,7 +132,7 @@ fn plain_room(blocks: &[Block], size: u64) -> Option<u64> {
     for word in 8..64u64 {
         let from = 8 * word;
         let to = from.saturating_add(size);
-        if to <= END && blocks.iter().all(|b| to <= b.from || b.to <= from) {
+        if to <= END && is_apart(blocks, from, to) {
             return Some(from);
         }
     }
@@ -135,12 +173,12 @@ fn drawn_call(
     let drawn = word / 2 % 64;
     if word % 2 == 0 {
         let plain = plain_alloc(rt, blocks, drawn);
-        expect_same_at(rt, drawn, heap.alloc(drawn), plain);
+        expect_same_at(rt, drawn, take(heap, drawn), plain);
     } else {
         let addr = LEAST + 8 * drawn;
         assert!(rt; heap.is_block(addr) == blocks.iter().any(|b| b.from == addr));
         let plain = plain_free(blocks, addr);
-        expect_same_at(rt, addr, heap.free(addr), plain);
+        expect_same_at(rt, addr, end(heap, addr), plain);
     }
 }
 
@@ -172,11 +210,11 @@ fn new_at(rt: &impl Abort, memory: &Refusing<Global>, n: u64) -> bool {
 fn alloc_at(rt: &impl Abort, memory: &Refusing<Global>, n: u64) -> bool {
     let mut heap = small_heap(rt, memory);
     memory.refuse(n);
-    let fault = heap.alloc(8).err();
+    let fault = take(&mut heap, 8).err();
     let met = is_met(rt, memory, n, fault);
     assert!(rt; heap.is_block(64) != met, "growth {n}");
     if met {
-        expect_same_at(rt, n, heap.alloc(64), Ok(64));
+        expect_same_at(rt, n, take(&mut heap, 64), Ok(64));
     }
     met
 }
@@ -186,16 +224,12 @@ fn alloc_at(rt: &impl Abort, memory: &Refusing<Global>, n: u64) -> bool {
 fn ending_a_block_takes_no_memory(rt: HostRuntime) {
     let memory = Refusing::new(rt.alloc());
     let mut heap = small_heap(&rt, &memory);
-    for _ in 0..8 {
-        heap.alloc(8).expect(&rt, "room");
-    }
+    take_blocks(&rt, &mut heap, &[8; 8]);
     memory.refuse(1);
-    for addr in [64, 80, 96, 112, 72, 104, 120, 88] {
-        expect_same(&rt, heap.free(addr), Ok(()));
-    }
+    end_blocks(&rt, &mut heap, &[64, 80, 96, 112, 72, 104, 120, 88]);
     expect_same(&rt, memory.asked(1), 0);
     memory.refuse(0);
-    expect_same(&rt, heap.alloc(64), Ok(64));
+    expect_same(&rt, take(&mut heap, 64), Ok(64));
 }
 
 #[test]

@@ -23,7 +23,7 @@ const OF_EACH_KIND: u32 = 5_000;
 
 /// Whether a string is refused as one that spells no frame.
 fn is_misspelled(fault: Fault) -> bool {
-    (11..=16).contains(&fault.number())
+    matches!(fault.number(), 11..=16)
 }
 
 /// Whether the string spells a frame, and then the frame is spelled so. A string that is none is refused with 11 to 16.

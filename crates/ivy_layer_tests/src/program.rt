@@ -3,14 +3,19 @@ use crate::common::{expect_items, expect_same, expect_same_at};
 use growths::Refusing;
 use ivy_model::{Call, Fault, Reply};
 use ivy_program::{
-    Instruction, Machine, Next, Operation, Register, Width, parse, parse_number, words_of,
+    Instruction, Machine, Next, Operation, Program, Register, Width, parse, parse_number, words_of,
 };
-use std::alloc::Global;
+use std::alloc::{Allocator, Global};
 use std::process::Abort;
+
+/// The programs of a text, or its fault. Of all that is promised of them, callers need nothing.
+fn read<A: Allocator + Copy>(alloc: A, text: &str) -> Result<Vec<Program<A>, A>, Fault> {
+    parse(alloc, text)
+}
 
 /// The line at fault, or 0 where the text is in order.
 fn line_at_fault(rt: &impl AllocGlobal, text: &str) -> u64 {
-    match parse(rt.alloc(), text).err() {
+    match read(rt.alloc(), text).err() {
         Some(Fault::ProgramFault(line)) => line,
         _ => 0,
     }
@@ -48,11 +53,15 @@ fn bad_program_text(rt: HostRuntime) {
     expect_faults(&rt, &rows);
 }
 
+/// The text of a program that has this line alone.
+fn after_node(rt: &(impl Abort + AllocGlobal), line: &str) -> String {
+    format!(in rt.alloc(); "node 0\n{line}\n").expect(rt, "memory")
+}
+
 /// That a program that has one of these lines alone is at fault there.
 fn expect_at_fault(rt: &(impl Abort + AllocGlobal), lines: &[&str]) {
     for line in lines {
-        let text = format!(in rt.alloc(); "node 0\n{line}\n").expect(rt, "memory");
-        expect_same_at(rt, line, line_at_fault(rt, text.as_str()), 2);
+        expect_same_at(rt, line, line_at_fault(rt, &after_node(rt, line)), 2);
     }
 }
 
@@ -189,13 +198,22 @@ fn register(rt: &impl Abort, number: u8) -> Register {
     Register::new(number).expect(rt, "a register")
 }
 
-/// That a text has as many programs as there are lists here, and each the instructions of its list.
-fn expect_programs(rt: &(impl Abort + AllocGlobal), text: &str, wanted: &[&[Instruction]]) {
-    let programs = parse(rt.alloc(), text).expect(rt, text);
+/// That there are as many programs as lists here, and each has the instructions of its list.
+fn expect_each<A: Allocator + Copy>(
+    rt: &impl Abort,
+    programs: &[Program<A>],
+    wanted: &[&[Instruction]],
+) {
     expect_same(rt, programs.len(), wanted.len());
     for (program, lines) in programs.iter().zip(wanted) {
         expect_items(rt, program.instructions(), lines);
     }
+}
+
+/// That a text has as many programs as there are lists here, and each the instructions of its list.
+fn expect_programs(rt: &(impl Abort + AllocGlobal), text: &str, wanted: &[&[Instruction]]) {
+    let programs = read(rt.alloc(), text).expect(rt, text);
+    expect_each(rt, &programs, wanted);
 }
 
 /// One name is a label of each of two programs, at a place of its own.
@@ -251,15 +269,14 @@ fn lines_of_calls(rt: HostRuntime) {
 
 /// How many programs a text in order has.
 fn count_of_programs(rt: &(impl Abort + AllocGlobal), text: &str) -> usize {
-    parse(rt.alloc(), text).expect(rt, "a text in order").len()
+    read(rt.alloc(), text).expect(rt, text).len()
 }
 
 /// A text that starts so many programs.
 fn nodes(rt: &(impl Abort + AllocGlobal), count: u64) -> String {
     let mut text = String::new(rt.alloc());
     for node in 0..count {
-        let line = format!(in rt.alloc(); "node {node}\n").expect(rt, "memory");
-        text.push_str(line.as_str()).expect(rt, "memory");
+        writeln!(text, "node {node}").expect(rt, "memory");
     }
     text
 }
@@ -322,10 +339,15 @@ fn growths_of_a_text(rt: HostRuntime) {
     check_growths(&rt, at_fault, Some(Fault::ProgramFault(2)));
 }
 
+/// The last of some programs.
+fn last_of<A: Allocator + Copy>(rt: &impl Abort, mut programs: Vec<Program<A>, A>) -> Program<A> {
+    programs.pop().expect(rt, "a program")
+}
+
 /// The machine of the last program of a text.
 fn machine_of(rt: &(impl Abort + AllocGlobal), text: &str) -> Machine<Global> {
-    let mut programs = parse(rt.alloc(), text).expect(rt, text);
-    Machine::new(programs.pop().expect(rt, text))
+    let programs = read(rt.alloc(), text).expect(rt, text);
+    Machine::new(last_of(rt, programs))
 }
 
 /// That the next turn of a machine gives this call, which is then answered so.
@@ -352,19 +374,26 @@ fn first_load(rt: HostRuntime) {
     expect_items(&rt, machine.output(), &[7]);
 }
 
-/// That a program which ends within 40 turns makes these calls, each with its reply, and prints these numbers.
-fn plays(rt: &(impl Abort + AllocGlobal), text: &str, calls: &[(Call, Reply)], printed: &[u64]) {
-    let mut machine = machine_of(rt, text);
+/// Whether a machine has ended within 40 turns, in which it makes these calls and no others, each
+/// with its reply.
+fn answers_all(rt: &impl Abort, machine: &mut Machine<Global>, calls: &[(Call, Reply)]) -> bool {
     let mut left = calls.iter();
     for _ in 0..40 {
-        if let Next::Call(call) = machine.next().expect(rt, text) {
+        if let Next::Call(call) = machine.next().expect(rt, "a turn") {
             let (wanted, reply) = *left.next().expect(rt, "a call too many");
             machine.answer(reply);
             expect_same(rt, call, wanted);
         }
     }
-    assert!(rt; machine.ended());
     expect_same(rt, left.next(), None);
+    machine.ended()
+}
+
+/// That a program which ends within 40 turns makes these calls, each with its reply, and prints
+/// these numbers.
+fn plays(rt: &(impl Abort + AllocGlobal), text: &str, calls: &[(Call, Reply)], printed: &[u64]) {
+    let mut machine = machine_of(rt, text);
+    assert!(rt; answers_all(rt, &mut machine, calls), "{text}");
     expect_items(rt, machine.output(), printed);
 }
 

@@ -31,25 +31,29 @@ const ONES: &[u8] = &[255; 64];
 pub(crate) fn string(rt: &(impl Abort + AllocGlobal), words: &str, page: &[u8]) -> Vec<u8> {
     let mut string = Vec::new(rt.alloc());
     for word in words.split(' ') {
-        let bytes = hex::decode(rt.alloc(), word).expect(rt, word);
-        string.extend_from_slice(&bytes).expect(rt, "memory");
+        add_word(rt, &mut string, word);
     }
     string.extend_from_slice(page).expect(rt, "memory");
     string
 }
 
-/// That the string is read as this frame, its page lent or copied.
-fn expect_read(
-    rt: &(impl Abort + AllocGlobal),
-    config: &Config,
-    string: &[u8],
-    frame: &Frame<&[u8]>,
-) {
+/// Adds the bytes of a hexadecimal word.
+fn add_word(rt: &(impl Abort + AllocGlobal), string: &mut Vec<u8>, word: &str) {
+    let bytes = hex::decode(rt.alloc(), word).expect(rt, word);
+    string.extend_from_slice(&bytes).expect(rt, "memory");
+}
+
+/// That the string is read as this frame, its page lent.
+fn expect_read(rt: &impl Abort, config: &Config, string: &[u8], frame: &Frame<&[u8]>) {
     config.check().expect(rt, "a configuration");
     let lent = read(config, string).expect(rt, "a frame");
     assert!(rt; lent == *frame);
-    let copied = decode(rt.alloc(), config, string).expect(rt, "a frame");
-    assert!(rt; copied.lent() == *frame);
+}
+
+/// The frame that the string is read as, its page copied.
+fn decoded(rt: &(impl Abort + AllocGlobal), config: &Config, string: &[u8]) -> Frame<Page<Global>> {
+    config.check().expect(rt, "a configuration");
+    decode(rt.alloc(), config, string).expect(rt, "a frame")
 }
 
 /// That the frame is spelled so.
@@ -75,6 +79,7 @@ fn spells(
 ) {
     let string = string(rt, words, page);
     expect_read(rt, config, &string, &frame);
+    assert!(rt; decoded(rt, config, &string).lent() == frame);
     expect_spelled(rt, config, &frame, &string);
 }
 

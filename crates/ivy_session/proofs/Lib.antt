@@ -1,3 +1,2 @@
-pub mod Seats
-pub mod Told
-pub mod WireTurns
+-- what callers of a session use of the seating of its nodes
+pub use Rattle.ivy_seating.proofs.Told

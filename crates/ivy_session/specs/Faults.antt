@@ -1,19 +1,9 @@
--- Why a session ends before its programs do.
-use Rattle.std.specs.Prelude.{◌≡◌, Bool, true, false}
+-- What a session may be refused for.
 use Rattle.ivy_model.specs.declared.Fault.{Fault}
-use Rattle.ivy_model.specs.declared.Fault.TheVariants.{Memory, BadConfig, NumbersSpent, TurnLimit}
+use Rattle.ivy_model.specs.declared.Fault.TheVariants.{BadConfig}
+use Rattle.ivy_seating.specs.Faults.{IsStop}
 
--- want of memory, want of message numbers, or a limit
-abbrev pub is_stop : Fault → Bool
-is_stop Memory = true
-is_stop NumbersSpent = true
-is_stop TurnLimit = true
-is_stop f = false
-
-abbrev pub IsStop : Fault → Type 0
-IsStop f = is_stop f ≡ true
-
--- or the configuration, the number of programs or a limit does not suit
+-- the configuration, the number of programs or a limit does not suit, or it ends before its programs
 abbrev pub IsSessionFault : Fault → Type 0
 IsSessionFault BadConfig = Unit {0}
 IsSessionFault f = IsStop f

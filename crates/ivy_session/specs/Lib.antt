@@ -1,6 +1,4 @@
 pub mod Limits
 pub mod Faults
-pub mod Places
-pub mod Wire
-pub mod Reports
-pub mod Told
+-- what a session promises of its report
+pub use Rattle.ivy_seating.specs.Reports

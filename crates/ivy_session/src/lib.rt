@@ -9,18 +9,12 @@
 mod bells;
 mod gate;
 mod limits;
-mod report;
-mod seated;
-mod seating;
 mod session;
 mod shared;
 mod watch;
-mod wire_turn;
 mod workers;
 
 pub use gate::{Gate, OpenGate, Role};
+pub use ivy_seating::{Report, Seated, WireTurn};
 pub use limits::Limits;
-pub use report::Report;
-pub use seated::Seated;
 pub use session::Session;
-pub use wire_turn::WireTurn;

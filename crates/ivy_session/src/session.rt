@@ -1,51 +1,25 @@
 //! Sessions.
 ghost use Rattle.std.specs.Prelude.{◌≡◌, ◌↔◌, ◌<◌, IsErrOf, IfOk, IfErr, length};
 ghost use Rattle.ivy_model.specs.Config.{IsConfig};
-ghost use Rattle.ivy_session.specs.Faults.{IsStop, IsSessionFault};
+ghost use Rattle.ivy_seating.specs.Faults.{IsStop};
+ghost use Rattle.ivy_seating.specs.Reports.{IsReport};
+ghost use Rattle.ivy_session.specs.Faults.{IsSessionFault};
 ghost use Rattle.ivy_session.specs.Limits.{AreLimits};
-ghost use Rattle.ivy_session.specs.Reports.{IsReport};
 
 use crate::gate::Gate;
 use crate::limits::Limits;
-use crate::report::Report;
-use crate::seated::Seated;
-use crate::seating::{seat_all, take_all};
 use crate::workers::run_workers;
-use ivy_ether::{Ether, Pass, Setup, Wired};
+use ivy_ether::{Ether, Setup};
 use ivy_model::{Config, Fault};
 use ivy_program::Program;
+use ivy_seating::{Report, collect, seat_all};
 use std::alloc::Allocator;
 use std::marker::Brand;
-use std::sync::{Mutex, Wait};
+use std::sync::Wait;
 use std::thread::Threads;
 
 /// Runs the programs of all nodes in threads.
 pub struct Session;
-
-/// Takes the reports of so many nodes from their sites, and hands out what they tell together [1, 21].
-fn collect<S: Setup, A: Allocator + Copy, R: Wait>(
-    rt: &R,
-    alloc: A,
-    ether: &Ether<S, A>,
-    starter: Pass<Wired<A>>,
-    seats: Vec<Mutex<Seated<'_, S, A>>, A>,
-    nodes: usize,
-) -> Result<Report<A>, Fault>
-    requires limits { IsConfig S.config }
-    requires each { length S.programs ≡ S.config.nodes }
-    requires nodes { nodes ≡ length S.programs }
-    requires starter { starter.ether ≡ ether.now }
-    ensures report { IfOk result (λ report. IsReport S.config S.programs report) }
-    ensures stop { IfErr result IsStop }
-{
-    let mut starter = starter;
-    let sites = take_all(rt, alloc, ether, &mut starter, seats)?;
-    if sites.len() != nodes {
-        return Err(Fault::TurnLimit);
-    }
-    ether.learn(&mut starter);
-    Ok(Report::new(sites))
-}
 
 /// Seats the nodes, runs their workers, and takes their reports [1, 17, 21].
 fn play<S, A, R, G>(

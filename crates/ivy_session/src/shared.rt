@@ -1,11 +1,11 @@
 //! What the workers of a session tell one another.
 ghost use Rattle.std.specs.Prelude.{IfSome, IfErr};
-ghost use Rattle.ivy_session.specs.Faults.{IsStop};
+ghost use Rattle.ivy_seating.specs.Faults.{IsStop};
 
 use crate::bells::Bells;
-use crate::wire_turn::WireTurn;
 use ivy_link::Verdict;
 use ivy_model::Fault;
+use ivy_seating::WireTurn;
 use std::alloc::Allocator;
 use std::sync::atomic::{AtomicBool, AtomicU64, Ordering};
 use std::sync::{Mutex, Wait};

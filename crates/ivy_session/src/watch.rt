@@ -1,7 +1,7 @@
 //! When a worker makes its next turn, and when it sleeps.
 use crate::bells::Bells;
 use crate::shared::Shared;
-use crate::wire_turn::WireTurn;
+use ivy_seating::WireTurn;
 use std::alloc::Allocator;
 use std::hint::spin_loop;
 use std::sync::Wait;

@@ -1,17 +1,15 @@
 //! The workers of a session, two for each node.
 ghost use Rattle.std.specs.Prelude.{IfErr};
-ghost use Rattle.ivy_session.specs.Faults.{IsStop};
+ghost use Rattle.ivy_seating.specs.Faults.{IsStop};
 
 use crate::bells::Bells;
 use crate::gate::{Gate, Role};
 use crate::limits::Limits;
-use crate::seated::Seated;
 use crate::shared::Shared;
 use crate::watch::{Watch, rest_program};
-use crate::wire_turn::WireTurn;
 use ivy_ether::Setup;
 use ivy_model::Fault;
-use ivy_site::Turn;
+use ivy_seating::{Seated, Turn, WireTurn};
 use std::alloc::Allocator;
 use std::sync::{Mutex, Wait};
 use std::thread;

@@ -2,7 +2,7 @@
 use growths::Refusing;
 use ivy_model::{Config, Fault, Kind};
 use ivy_site::{Program, Site, Turn, Verdict, parse};
-use ivy_wire::{FrameKind, read};
+use ivy_wire::{Bytes, FrameKind, read};
 use std::alloc::{Allocator, Global};
 use std::fmt::{Debug, Display};
 use std::process::Abort;
@@ -115,6 +115,12 @@ pub(crate) fn pulse<A: Allocator + Copy>(
     site.pulse(to)
 }
 
+/// The next string of a node, which is gone from it then. Of all that is promised of it, callers
+/// need nothing.
+pub(crate) fn taken<A: Allocator + Copy>(site: &mut Site<A>) -> Option<Bytes<A>> {
+    site.take_frame()
+}
+
 /// Takes the next string of a node, which is this one.
 pub(crate) fn expect_next<A: Allocator + Copy>(
     rt: &impl Abort,
@@ -123,7 +129,7 @@ pub(crate) fn expect_next<A: Allocator + Copy>(
     written: Written,
 ) {
     let wanted = string(rt, alloc, written);
-    let sent = site.take_frame().expect(rt, "a string waits");
+    let sent = taken(site).expect(rt, "a string waits");
     assert!(rt; sent.bytes() == wanted.as_slice(), "{}", written.0);
 }
 
@@ -135,16 +141,23 @@ pub(crate) fn string<A: Allocator + Copy>(
 ) -> Vec<u8, A> {
     let mut string = Vec::new(alloc);
     for word in written.0.split(' ') {
-        let bytes = hex::decode(alloc, word).expect(rt, word);
-        string.extend_from_slice(&bytes).expect(rt, "memory");
+        add_word(rt, alloc, &mut string, word);
     }
     if let Some(first) = written.1 {
-        string
-            .extend_from_slice(&first.to_be_bytes())
-            .expect(rt, "memory");
-        string.extend_from_slice(&[0; 56]).expect(rt, "memory");
+        add(rt, &mut string, &first.to_be_bytes());
+        add(rt, &mut string, &[0; 56]);
     }
     string
+}
+
+/// Adds bytes to a string.
+fn add<A: Allocator + Copy>(rt: &impl Abort, string: &mut Vec<u8, A>, bytes: &[u8]) {
+    string.extend_from_slice(bytes).expect(rt, "memory");
+}
+
+/// Adds the bytes of a hexadecimal word.
+fn add_word<A: Allocator + Copy>(rt: &impl Abort, alloc: A, string: &mut Vec<u8, A>, word: &str) {
+    add(rt, string, &hex::decode(alloc, word).expect(rt, word));
 }
 
 /// What a string is about, its source and its destination.

@@ -1,12 +1,8 @@
 //! Pages with counts that come to a node: thrice, and with a count that is full.
-use crate::common::{
-    COUNT_ASKS, COUNT_GETS, RETRY_ASKS, RETRY_GETS, Written, comes, expect_next, node_of,
-    take_turns,
-};
+use crate::common::{COUNT_ASKS, COUNT_GETS, RETRY_ASKS, RETRY_GETS};
+use crate::steps::{Step, play};
 use ivy_model::{Call, Record, Reply};
-use ivy_site::{Site, Verdict};
-use std::alloc::Allocator;
-use std::process::Abort;
+use ivy_site::Verdict;
 
 /// A node stores and then advances count 0.
 const NOTICE: &str = "node 0
@@ -48,50 +44,28 @@ const NOTICED: [Record; 2] = [
     },
 ];
 
-/// A string comes to a node three times in a row: it is new, and then a repeat, twice.
-fn is_once_new<A: Allocator + Copy>(
-    rt: &impl Abort,
-    alloc: A,
-    site: &mut Site<A>,
-    written: Written,
-) {
-    for verdict in [Verdict::Next, Verdict::Repeat, Verdict::Repeat] {
-        assert!(rt; comes(rt, alloc, site, written) == Ok(verdict));
-    }
-}
-
-/// A node makes so many turns and asks for a page, which comes three times.
-fn gets_thrice<A: Allocator + Copy>(
-    rt: &impl Abort,
-    alloc: A,
-    site: &mut Site<A>,
-    turns: u64,
-    asks: &str,
-    gets: &str,
-) {
-    take_turns(rt, site, turns);
-    expect_next(rt, alloc, site, (asks, None));
-    is_once_new(rt, alloc, site, (gets, Some(0)));
-}
-
-fn gets_both_thrice<A: Allocator + Copy>(rt: &impl Abort, alloc: A, site: &mut Site<A>) {
-    gets_thrice(rt, alloc, site, 3, STORE_ASKS, STORE_GETS);
-    gets_thrice(rt, alloc, site, 2, ADVANCE_ASKS, ADVANCE_GETS);
-    take_turns(rt, site, 1);
-    assert!(rt; site.take_frame().is_none());
-    assert!(rt; site.ended());
-    assert!(rt; site.history() == NOTICED.as_slice());
-}
-
-fn check_notice<A: Allocator + Copy>(rt: &impl Abort, alloc: A) {
-    let mut site = node_of(rt, alloc, 1, NOTICE);
-    gets_both_thrice(rt, alloc, &mut site);
-}
+/// What happens at node 1: each page comes three times, and is new once.
+const GIVEN_THRICE: [Step; 14] = [
+    Step::Turns(3),
+    Step::Sends((STORE_ASKS, None)),
+    Step::Comes((STORE_GETS, Some(0)), Ok(Verdict::Next)),
+    Step::Comes((STORE_GETS, Some(0)), Ok(Verdict::Repeat)),
+    Step::Comes((STORE_GETS, Some(0)), Ok(Verdict::Repeat)),
+    Step::Turns(2),
+    Step::Sends((ADVANCE_ASKS, None)),
+    Step::Comes((ADVANCE_GETS, Some(0)), Ok(Verdict::Next)),
+    Step::Comes((ADVANCE_GETS, Some(0)), Ok(Verdict::Repeat)),
+    Step::Comes((ADVANCE_GETS, Some(0)), Ok(Verdict::Repeat)),
+    Step::Turns(1),
+    Step::Silent,
+    Step::Ended,
+    Step::Answered(&NOTICED),
+];
 
 /// Both pages come to node 1 three times, and it asks and is answered as if they came once.
 #[test]
 fn pages_given_thrice(rt: HostRuntime) {
-    check_notice(&rt, rt.alloc());
+    play(&rt, rt.alloc(), 1, NOTICE, &GIVEN_THRICE);
 }
 
 /// A node advances and reads a count, and advances it again.
@@ -122,35 +96,22 @@ const FULL_ANSWERS: [Record; 3] = [
     REFUSED,
 ];
 
-/// Node 1 asks for the page, which comes with a full count, and goes on to its end.
-fn gets_full<A: Allocator + Copy>(rt: &impl Abort, alloc: A, site: &mut Site<A>) {
-    take_turns(rt, site, 1);
-    expect_next(rt, alloc, site, (COUNT_ASKS, None));
-    assert!(rt; comes(rt, alloc, site, (COUNT_GETS, Some(u64::MAX))) == Ok(Verdict::Next));
-    take_turns(rt, site, 6);
-}
-
-/// Another node asks for a copy of the page, whose count is full still.
-fn gives_full<A: Allocator + Copy>(rt: &impl Abort, alloc: A, site: &mut Site<A>) {
-    assert!(rt; comes(rt, alloc, site, (RETRY_ASKS, None)) == Ok(Verdict::Next));
-    expect_next(rt, alloc, site, (RETRY_GETS, Some(u64::MAX)));
-}
-
-fn is_full<A: Allocator + Copy>(rt: &impl Abort, alloc: A, site: &mut Site<A>) {
-    gets_full(rt, alloc, site);
-    assert!(rt; site.history() == FULL_ANSWERS.as_slice());
-    assert!(rt; site.ended());
-    assert!(rt; site.output() == [18_446_744_073_709_551_615, 7].as_slice());
-    gives_full(rt, alloc, site);
-}
-
-fn check_full<A: Allocator + Copy>(rt: &impl Abort, alloc: A) {
-    let mut site = node_of(rt, alloc, 1, FULL);
-    is_full(rt, alloc, &mut site);
-}
+/// What happens at node 1: it asks for the page, which comes with a full count, and goes on to its
+/// end. Then another node asks for a copy of the page, whose count is full still.
+const GIVEN_FULL: [Step; 9] = [
+    Step::Turns(1),
+    Step::Sends((COUNT_ASKS, None)),
+    Step::Comes((COUNT_GETS, Some(u64::MAX)), Ok(Verdict::Next)),
+    Step::Turns(6),
+    Step::Answered(&FULL_ANSWERS),
+    Step::Ended,
+    Step::Printed(&[18_446_744_073_709_551_615, 7]),
+    Step::Comes((RETRY_ASKS, None), Ok(Verdict::Next)),
+    Step::Sends((RETRY_GETS, Some(u64::MAX))),
+];
 
 /// The page is forged: its count is full. Nothing changes, neither where the page comes nor where it is at hand.
 #[test]
 fn full_count(rt: HostRuntime) {
-    check_full(&rt, rt.alloc());
+    play(&rt, rt.alloc(), 1, FULL, &GIVEN_FULL);
 }

@@ -1,9 +1,6 @@
 //! Frames that nobody sent come to node 0: what each is answered, and how many messages fitted no rule.
-use crate::common::{
-    LOADS, REPLY, Written, comes, expect_next, expect_same, expect_same_at, node_of, pulse,
-    receive, string, take_turns,
-};
-use crate::site_alone::is_misspelled;
+use crate::common::{LOADS, REPLY, Written, receive};
+use crate::steps::{Step, play};
 use ivy_model::Fault;
 use ivy_site::{Site, Verdict};
 use rand_core::SeedableRng;
@@ -11,9 +8,6 @@ use rand_core::utils::NextWord;
 use rand_pcg::Lcg64Xsh32;
 use std::alloc::Allocator;
 use std::process::Abort;
-
-/// A string, how it is answered, and how many messages fitted no rule then.
-type Row<'a> = (Written<'a>, Result<Verdict, Fault>, u64);
 
 /// A page with its ownership, that nobody asked for.
 const PAGE: Written = (
@@ -23,44 +17,28 @@ const PAGE: Written = (
     None,
 );
 
-/// Each string in its turn: the page, and again; an order to its owner to give a copy of it up; a request of this
-/// node's own; and a request with an acknowledgement of what was never sent, without its last byte and whole.
-const FORGED: [Row; 6] = [
-    (PAGE, Ok(Verdict::Next), 1),
-    (PAGE, Ok(Verdict::Repeat), 1),
-    (
-        (
-            "495602050100000d 0000000000000002 0000000000000000 01 0000000000000001 00000001",
-            None,
-        ),
-        Ok(Verdict::Next),
-        2,
-    ),
-    (
-        (
-            "495602010100000d 0000000000000003 0000000000000000 00 0000000000000001 00000001",
-            None,
-        ),
-        Ok(Verdict::Next),
-        3,
-    ),
-    (
-        (
-            "495602020100000d 0000000000000004 0000000000000009 01 0000000000000001 000000",
-            None,
-        ),
-        Err(Fault::ShortFrame),
-        3,
-    ),
-    (
-        (
-            "495602020100000d 0000000000000004 0000000000000009 01 0000000000000001 00000001",
-            None,
-        ),
-        Ok(Verdict::Next),
-        3,
-    ),
-];
+/// An order to the owner of the page to give a copy of it up.
+const ORDER: Written = (
+    "495602050100000d 0000000000000002 0000000000000000 01 0000000000000001 00000001",
+    None,
+);
+
+/// A request of node 0's own.
+const OWN_REQUEST: Written = (
+    "495602010100000d 0000000000000003 0000000000000000 00 0000000000000001 00000001",
+    None,
+);
+
+/// A request with an acknowledgement of what was never sent, without its last byte and whole.
+const CUT_REQUEST: Written = (
+    "495602020100000d 0000000000000004 0000000000000009 01 0000000000000001 000000",
+    None,
+);
+
+const WHOLE_REQUEST: Written = (
+    "495602020100000d 0000000000000004 0000000000000009 01 0000000000000001 00000001",
+    None,
+);
 
 /// The answer to the last request, and what a pulse makes of it: the acknowledgement of what was never sent counts for
 /// nothing.
@@ -74,42 +52,33 @@ const AGAIN: Written = (
     Some(0),
 );
 
-/// The strings come to a node one after another, and each is answered so, with so many breaches then.
-fn check_rows<A: Allocator + Copy>(rt: &impl Abort, alloc: A, site: &mut Site<A>, rows: &[Row]) {
-    for (written, answer, breaches) in rows {
-        assert!(rt;
-            comes(rt, alloc, site, *written) == *answer,
-            "{}",
-            written.0
-        );
-        expect_same_at(rt, written.0, site.breaches(), *breaches);
-    }
-}
-
-/// What waits at the node is this string alone.
-fn check_sent<A: Allocator + Copy>(
-    rt: &impl Abort,
-    alloc: A,
-    site: &mut Site<A>,
-    written: Written,
-) {
-    expect_next(rt, alloc, site, written);
-    assert!(rt; !site.has_frame());
-}
-
-fn check_forged<A: Allocator + Copy>(rt: &impl Abort, alloc: A) {
-    let mut site = node_of(rt, alloc, 0, "node 0\n");
-    check_rows(rt, alloc, &mut site, &FORGED);
-    check_sent(rt, alloc, &mut site, ANSWER);
-    expect_same(rt, pulse(rt, &mut site, 1), Ok(()));
-    check_sent(rt, alloc, &mut site, AGAIN);
-}
+/// Each string in its turn, and how many messages fitted no rule then; and what the node sends,
+/// also at a pulse.
+const FORGED: [Step; 17] = [
+    Step::Comes(PAGE, Ok(Verdict::Next)),
+    Step::Breaches(1),
+    Step::Comes(PAGE, Ok(Verdict::Repeat)),
+    Step::Breaches(1),
+    Step::Comes(ORDER, Ok(Verdict::Next)),
+    Step::Breaches(2),
+    Step::Comes(OWN_REQUEST, Ok(Verdict::Next)),
+    Step::Breaches(3),
+    Step::Comes(CUT_REQUEST, Err(Fault::ShortFrame)),
+    Step::Breaches(3),
+    Step::Comes(WHOLE_REQUEST, Ok(Verdict::Next)),
+    Step::Breaches(3),
+    Step::Sends(ANSWER),
+    Step::Silent,
+    Step::Pulse,
+    Step::Sends(AGAIN),
+    Step::Silent,
+];
 
 /// Messages that fit no rule are counted and change nothing else. The one request that fits is answered, and its
 /// acknowledgement of what was never sent counts for nothing.
 #[test]
 fn forged_frames_at_node_0(rt: HostRuntime) {
-    check_forged(&rt, rt.alloc());
+    play(&rt, rt.alloc(), 0, "node 0\n", &FORGED);
 }
 
 /// Puts a byte at a place, both of them drawn, where there is such a place.
@@ -130,8 +99,17 @@ fn shown<A: Allocator + Copy>(site: &Site<A>) -> (u64, bool, usize, usize) {
     )
 }
 
+/// Whether a string is refused as one that spells no frame.
+fn is_misspelled(answer: Result<Verdict, Fault>) -> bool {
+    matches!(answer, Err(fault) if matches!(fault.number(), 11..=16))
+}
+
 /// Bytes are taken, or refused as ones that spell no frame. Then the node shows what it did.
-fn check_altered<A: Allocator + Copy>(rt: &impl Abort, site: &mut Site<A>, bytes: &[u8]) {
+pub(crate) fn expect_judged<A: Allocator + Copy>(
+    rt: &impl Abort,
+    site: &mut Site<A>,
+    bytes: &[u8],
+) {
     let before = shown(site);
     let answer = receive(site, bytes);
     if answer.is_err() {
@@ -154,18 +132,22 @@ fn altered<A: Allocator + Copy>(
     bytes
 }
 
+/// Ten thousand strings come that differ from this one in drawn bytes.
+pub(crate) fn hand_drawn<A: Allocator + Copy>(
+    rt: &impl Abort,
+    alloc: A,
+    site: &mut Site<A>,
+    reply: &[u8],
+) {
+    let mut generator = Lcg64Xsh32::seed_from_u64(3);
+    for _ in 0..10_000u32 {
+        expect_judged(rt, site, &altered(rt, alloc, reply, &mut generator));
+    }
+}
+
 /// A node that waits for a reply is handed ten thousand that differ from it in drawn bytes.
 #[test]
 fn altered_replies(rt: HostRuntime) {
-    let reply = string(&rt, rt.alloc(), (REPLY, Some(0)));
-    let mut site = node_of(&rt, rt.alloc(), 1, LOADS);
-    take_turns(&rt, &mut site, 2);
-    let mut generator = Lcg64Xsh32::seed_from_u64(3);
-    for _ in 0..10_000u32 {
-        check_altered(
-            &rt,
-            &mut site,
-            &altered(&rt, rt.alloc(), &reply, &mut generator),
-        );
-    }
+    let steps = [Step::Turns(2), Step::Drawn((REPLY, Some(0)))];
+    play(&rt, rt.alloc(), 1, LOADS, &steps);
 }

@@ -4,12 +4,13 @@
 //! to the same strings and replies.
 use crate::common::{
     ALLOC_ASKS, ALLOC_GETS, COUNT_ASKS, COUNT_GETS, LOADS, MANY, REPLY, REQUEST, RETRY_ASKS,
-    RETRY_GETS, Written, comes, expect_next, expect_same_at, is_met, node_of, pulse, receive,
-    string, take_turn, take_turns,
+    RETRY_GETS, Written, expect_next, expect_same_at, is_met, node_of, pulse, receive, string,
+    take_turn, take_turns,
 };
+use crate::steps::{Step, expect_silent, make_all};
 use growths::Refusing;
 use ivy_model::{Call, Fault, Record, Reply};
-use ivy_site::Site;
+use ivy_site::{Site, Verdict};
 use std::alloc::{Allocator, Global};
 use std::process::Abort;
 
@@ -20,15 +21,6 @@ const ADVANCES: &str = "node 0\nadvance r0\n";
 const AWAITS: &str = "node 0\nset r1 1\nawait r2 r0 r1\n";
 
 const ALLOCS: &str = "node 0\nset r1 8\nalloc r2 r1\n";
-
-/// What happens to a node, with no growth refused.
-#[derive(Clone, Copy)]
-enum Step<'a> {
-    Turn,
-    Comes(Written<'a>),
-    /// This is its next string.
-    Sends(Written<'a>),
-}
 
 /// A turn of a node, or a delivery to it, in which growths are refused.
 #[derive(Clone, Copy)]
@@ -43,22 +35,6 @@ struct Growing<'a> {
     sends: Option<Written<'a>>,
     /// What its program was answered after one more turn.
     answers: &'a [Record],
-}
-
-fn make<A: Allocator + Copy>(rt: &impl Abort, alloc: A, site: &mut Site<A>, step: &Step) {
-    match step {
-        Step::Turn => take_turns(rt, site, 1),
-        Step::Comes(written) => {
-            comes(rt, alloc, site, *written).expect(rt, written.0);
-        }
-        Step::Sends(written) => expect_next(rt, alloc, site, *written),
-    }
-}
-
-fn make_all<A: Allocator + Copy>(rt: &impl Abort, alloc: A, site: &mut Site<A>, steps: &[Step]) {
-    for step in steps {
-        make(rt, alloc, site, step);
-    }
 }
 
 /// The node before growths are refused.
@@ -123,7 +99,7 @@ fn check_site<A: Allocator + Copy>(
         expect_next(rt, alloc, site, sends);
     }
     take_turns(rt, site, 1);
-    assert!(rt; site.take_frame().is_none());
+    expect_silent(rt, site);
     assert!(rt; site.history() == growing.answers);
 }
 
@@ -150,9 +126,35 @@ fn refused_at<A: Allocator + Copy>(
     comes: Option<&[u8]>,
 ) -> bool {
     let mut site = begun(rt, alloc, growing);
+    refused_beside_twin(rt, (memory, alloc), n, growing, comes, &mut site)
+}
+
+/// The same of a node that has begun. It and its twin are held by two functions, which costs less
+/// proof than one.
+fn refused_beside_twin<A: Allocator + Copy>(
+    rt: &impl Abort,
+    (memory, alloc): (&Refusing<Global>, A),
+    n: u64,
+    growing: &Growing,
+    comes: Option<&[u8]>,
+    site: &mut Site<A>,
+) -> bool {
     let mut twin = begun(rt, alloc, growing);
-    let met = go_on_at(rt, memory, n, comes, &mut site, &mut twin);
-    check_both(rt, alloc, growing, &mut site, &mut twin);
+    refused_in_one(rt, (memory, alloc), n, growing, comes, site, &mut twin)
+}
+
+/// The same of two nodes that have begun.
+fn refused_in_one<A: Allocator + Copy>(
+    rt: &impl Abort,
+    (memory, alloc): (&Refusing<Global>, A),
+    n: u64,
+    growing: &Growing,
+    comes: Option<&[u8]>,
+    site: &mut Site<A>,
+    twin: &mut Site<A>,
+) -> bool {
+    let met = go_on_at(rt, memory, n, comes, site, twin);
+    check_both(rt, alloc, growing, site, twin);
     met
 }
 
@@ -182,7 +184,7 @@ fn growths_of(rt: &impl Abort, alloc: Global, growing: &Growing) {
 const TURN: Growing = Growing {
     me: 1,
     text: LOADS,
-    before: &[Step::Turn],
+    before: &[Step::Turns(1)],
     comes: None,
     sends: Some((REQUEST, None)),
     answers: &[],
@@ -233,7 +235,7 @@ const AWAITED: [Record; 1] = [Record {
 }];
 
 /// Node 1 at its load, and once it asked for the page.
-const LOADING: [Step; 3] = [Step::Turn, Step::Turn, Step::Sends((REQUEST, None))];
+const LOADING: [Step; 3] = [Step::Turns(1), Step::Turns(1), Step::Sends((REQUEST, None))];
 
 /// The reply comes to the node that asked.
 const REPLY_COMES: Growing = Growing {
@@ -282,19 +284,19 @@ fn growths_of_an_advance_that_asks(rt: HostRuntime) {
 
 /// Node 0 is at an await that waits, and gives its page to node 1.
 const GIVING: [Step; 4] = [
-    Step::Turn,
-    Step::Turn,
-    Step::Comes((COUNT_ASKS, None)),
+    Step::Turns(1),
+    Step::Turns(1),
+    Step::Comes((COUNT_ASKS, None), Ok(Verdict::Next)),
     Step::Sends((COUNT_GETS, Some(0))),
 ];
 
 /// Then it tries the await again, and asks for a copy.
 const WAITING: [Step; 6] = [
-    Step::Turn,
-    Step::Turn,
-    Step::Comes((COUNT_ASKS, None)),
+    Step::Turns(1),
+    Step::Turns(1),
+    Step::Comes((COUNT_ASKS, None), Ok(Verdict::Next)),
     Step::Sends((COUNT_GETS, Some(0))),
-    Step::Turn,
+    Step::Turns(1),
     Step::Sends((RETRY_ASKS, None)),
 ];
 
@@ -332,7 +334,7 @@ fn growths_of_an_answer_to_an_await(rt: HostRuntime) {
 const ALLOC: Growing = Growing {
     me: 0,
     text: ALLOCS,
-    before: &[Step::Turn],
+    before: &[Step::Turns(1)],
     comes: None,
     sends: None,
     answers: &[ALLOCATED],
@@ -347,7 +349,7 @@ fn growths_of_an_alloc(rt: HostRuntime) {
 const ALLOC_OF_NODE_1: Growing = Growing {
     me: 1,
     text: ALLOCS,
-    before: &[Step::Turn],
+    before: &[Step::Turns(1)],
     comes: None,
     sends: Some((ALLOC_ASKS, None)),
     answers: &[],
@@ -378,7 +380,7 @@ const FREE_COMES: Growing = Growing {
     me: 0,
     text: EMPTY,
     before: &[
-        Step::Comes((ALLOC_ASKS, None)),
+        Step::Comes((ALLOC_ASKS, None), Ok(Verdict::Next)),
         Step::Sends((ALLOC_GETS, None)),
     ],
     comes: Some((
@@ -401,7 +403,11 @@ fn growths_of_a_free_that_comes(rt: HostRuntime) {
 const BLOCK_COMES: Growing = Growing {
     me: 1,
     text: ALLOCS,
-    before: &[Step::Turn, Step::Turn, Step::Sends((ALLOC_ASKS, None))],
+    before: &[
+        Step::Turns(1),
+        Step::Turns(1),
+        Step::Sends((ALLOC_ASKS, None)),
+    ],
     comes: Some((ALLOC_GETS, None)),
     sends: None,
     answers: &[Record {
@@ -427,10 +433,11 @@ fn shown<A: Allocator + Copy>(site: &Site<A>) -> (usize, usize) {
     (site.history().len(), site.events().len())
 }
 
-/// The request goes to the owner once more.
+/// The request goes to the owner once more, and nothing else does.
 fn pulse_of<A: Allocator + Copy>(
     rt: &impl Abort,
     memory: &Refusing<Global>,
+    alloc: A,
     n: u64,
     site: &mut Site<A>,
 ) -> bool {
@@ -442,10 +449,12 @@ fn pulse_of<A: Allocator + Copy>(
         expect_same_at(rt, n, shown(site), before);
         expect_same_at(rt, n, pulse(rt, site, 0), Ok(()));
     }
+    expect_next(rt, alloc, site, (REQUEST, None));
+    expect_silent(rt, site);
     met
 }
 
-/// The same where node 1 pulses, which sends its request again, and nothing more.
+/// The same where node 1 pulses, which sends its request again.
 fn pulse_at<A: Allocator + Copy>(
     rt: &impl Abort,
     memory: &Refusing<Global>,
@@ -453,10 +462,7 @@ fn pulse_at<A: Allocator + Copy>(
     n: u64,
 ) -> bool {
     let mut site = asking(rt, alloc);
-    let met = pulse_of(rt, memory, n, &mut site);
-    expect_next(rt, alloc, &mut site, (REQUEST, None));
-    assert!(rt; site.take_frame().is_none());
-    met
+    pulse_of(rt, memory, alloc, n, &mut site)
 }
 
 #[test]

@@ -17,3 +17,5 @@ mod growths_of_sites;
 mod growths_of_strings;
 #[cfg(test)]
 mod site_alone;
+#[cfg(test)]
+mod steps;

@@ -3,7 +3,7 @@ ghost use Rattle.std.specs.Prelude.{◌<◌, length, IfErr};
 
 use ivy_model::{Call, Config, Fault, Kind, Record, Reply};
 use ivy_node::{Move, World, parse};
-use ivy_wire::{FrameKind, read};
+use ivy_wire::{Bytes, FrameKind, read};
 use std::alloc::Allocator;
 use std::fmt::{Debug, Display};
 use std::process::Abort;
@@ -34,12 +34,6 @@ pub(crate) const REPLY: &str =
 pub(crate) fn loaded(node: u8, width: u8, addr: u64, value: u64) -> Record {
     let call = Call::Load { width, addr };
     let reply = Reply::Value(value);
-    Record { node, call, reply }
-}
-
-/// A call that is refused by this number.
-pub(crate) fn refused(node: u8, call: Call, fault: u8) -> Record {
-    let reply = Reply::Refused(fault);
     Record { node, call, reply }
 }
 
@@ -130,34 +124,44 @@ pub(crate) fn shows<A: Allocator + Copy>(world: &World<A>, shown: &Shown) -> boo
         && world.ended(shown.node) == shown.ended
 }
 
-fn play_stages<A: Allocator + Copy>(rt: &impl Abort, world: &mut World<A>, stages: &[Stage]) {
+/// Makes the moves of each stage, and asserts how many strings were sent then.
+pub(crate) fn play_stages<A: Allocator + Copy>(
+    rt: &impl Abort,
+    world: &mut World<A>,
+    stages: &[Stage],
+) {
     for (stage, (moves, sent)) in stages.iter().enumerate() {
-        expect_same_at(rt, stage, play(world, moves), Ok(()));
-        expect_same_at(rt, stage, world.sent().len(), *sent);
+        let made = play(world, moves);
+        expect_same_at(rt, stage, (made, world.sent().len()), (Ok(()), *sent));
     }
 }
 
-fn check_kinds<A: Allocator + Copy>(rt: &impl Abort, world: &World<A>, run: &Run) {
-    for (sent, kind) in world.sent().iter().zip(run.kinds) {
-        expect_same(rt, ends_of(&run.config, sent.bytes()), Ok(*kind));
+fn check_kinds<A: Allocator>(
+    rt: &impl Abort,
+    config: &Config,
+    sent: &[Bytes<A>],
+    kinds: &[(FrameKind, u8, u8)],
+) {
+    for (string, kind) in sent.iter().zip(kinds) {
+        expect_same(rt, ends_of(config, string.bytes()), Ok(*kind));
     }
 }
 
 fn check_strings<A: Allocator + Copy>(
     rt: &impl Abort,
     alloc: A,
-    world: &World<A>,
+    sent: &[Bytes<A>],
     strings: &[(usize, Written)],
 ) -> Result<(), Fail> {
     for (index, written) in strings {
-        assert!(rt; is_sent(alloc, world, *index, *written)?, "string {index}");
+        expect_same_at(rt, *index, is_sent(alloc, sent, *index, *written)?, true);
     }
     Ok(())
 }
 
 fn check_nodes<A: Allocator + Copy>(rt: &impl Abort, world: &World<A>, nodes: &[Shown]) {
     for shown in nodes {
-        assert!(rt; shows(world, shown), "node {}", shown.node);
+        expect_same_at(rt, shown.node, shows(world, shown), true);
     }
 }
 
@@ -166,17 +170,36 @@ fn check_world<A: Allocator + Copy>(
     alloc: A,
     world: &mut World<A>,
     run: &Run,
+    stages: &[Stage],
 ) -> Result<(), Fail> {
-    play_stages(rt, world, run.stages);
+    play_stages(rt, world, stages);
     check_nodes(rt, world, run.nodes);
-    check_kinds(rt, world, run);
-    check_strings(rt, alloc, world, run.strings)
+    check_kinds(rt, &run.config, world.sent(), run.kinds);
+    check_strings(rt, alloc, world.sent(), run.strings)
 }
 
 /// Makes the moves of a run, and asserts that the world shows what it has to.
 pub(crate) fn check_run<R: Abort + AllocGlobal>(rt: &R, run: &Run) -> Result<(), Fail> {
+    check_stages(rt, run, run.stages)
+}
+
+/// The same with these moves in place of those of the run.
+pub(crate) fn check_stages<R: Abort + AllocGlobal>(
+    rt: &R,
+    run: &Run,
+    stages: &[Stage],
+) -> Result<(), Fail> {
     let mut world = world(rt.alloc(), run.config, run.text)?;
-    check_world(rt, rt.alloc(), &mut world, run)
+    check_world(rt, rt.alloc(), &mut world, run, stages)
+}
+
+fn add_word<A: Allocator + Copy>(
+    alloc: A,
+    string: &mut Vec<u8, A>,
+    word: &str,
+) -> Result<(), Fail> {
+    string.extend_from_slice(&hex::decode(alloc, word)?)?;
+    Ok(())
 }
 
 fn add_words<A: Allocator + Copy>(
@@ -185,7 +208,7 @@ fn add_words<A: Allocator + Copy>(
     words: &str,
 ) -> Result<(), Fail> {
     for word in words.split(' ') {
-        string.extend_from_slice(&hex::decode(alloc, word)?)?;
+        add_word(alloc, string, word)?;
     }
     Ok(())
 }
@@ -206,17 +229,21 @@ pub(crate) fn string<A: Allocator + Copy>(alloc: A, written: Written) -> Result<
     Ok(string)
 }
 
-/// Whether the string of this index was sent, and is this one.
+/// Whether the string of this index is one of those sent, and is this.
 pub(crate) fn is_sent<A: Allocator + Copy>(
     alloc: A,
-    world: &World<A>,
+    sent: &[Bytes<A>],
     index: usize,
     written: Written,
 ) -> Result<bool, Fail> {
     let wanted = string(alloc, written)?;
-    match world.sent().get(index) {
-        Some(sent) => Ok(sent.bytes() == wanted.as_slice()),
-        None => Ok(false),
+    Ok(is_string(sent, index, &wanted))
+}
+
+fn is_string<A: Allocator>(sent: &[Bytes<A>], index: usize, wanted: &[u8]) -> bool {
+    match sent.get(index) {
+        Some(string) => string.bytes() == wanted,
+        None => false,
     }
 }
 
@@ -230,11 +257,6 @@ pub(crate) fn ends_of(config: &Config, bytes: &[u8]) -> Result<(FrameKind, u8, u
 /// A delivery of the string of this index to a node.
 pub(crate) fn deliver(index: u64, to: u64) -> Move {
     Move::Deliver { index, to }
-}
-
-/// A pulse from a node to another.
-pub(crate) fn pulse(from: u64, to: u64) -> Move {
-    Move::Pulse { from, to }
 }
 
 /// More growths than any call here asks for.

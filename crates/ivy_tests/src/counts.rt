@@ -1,6 +1,6 @@
 //! Counts: nodes that advance them and wait for them. A count is a word of page 0, so a node reads and writes
 //! it where it has that page, and faults for it as for any other.
-use crate::common::{IDLE, Run, STUCK, Shown, Written, check_run};
+use crate::common::{IDLE, Run, STUCK, Shown, Written, check_run, check_stages};
 use ivy_model::{Call, Reply};
 use ivy_node::Move;
 use std::alloc::Allocator;
@@ -131,13 +131,7 @@ fn thrice<A: Allocator>(alloc: A, moves: &[Move]) -> Result<Vec<Move, A>, Fail> 
 #[test]
 fn every_string_thrice(rt: HostRuntime) -> Result<(), Fail> {
     let moves = thrice(rt.alloc(), &NOTICE_MOVES)?;
-    check_run(
-        &rt,
-        &Run {
-            stages: &[(&moves, 8), (&NOTICE_AGAIN, 8)],
-            ..NOTICE_RUN
-        },
-    )
+    check_stages(&rt, &NOTICE_RUN, &[(&moves, 8), (&NOTICE_AGAIN, 8)])
 }
 
 const WAITS: &str = "node 0

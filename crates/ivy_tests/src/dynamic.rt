@@ -1,7 +1,8 @@
 //! Worlds under the dynamic manager: hints that lead to the owner of a page, at once or over other nodes.
 //! One of the worlds is played under the fixed manager too, where the requests go other ways.
 use crate::common::{
-    IDLE, PAIR, Run, Shown, TRIO, Written, check_run, ends_of, play, shows, world,
+    IDLE, PAIR, Run, Shown, Stage, TRIO, Written, check_run, ends_of, expect_same, expect_same_at,
+    play, shows, world,
 };
 use crate::eight_nodes::deliver_from;
 use crate::stores::UPGRADE_SHOWN;
@@ -65,26 +66,37 @@ const LATE_SENT: [(usize, Written); 6] = [
 ];
 
 /// The copy for node 1, string 1, is held back until the message that is to end it came.
-const LATE_MOVES: [Move; 14] = [
-    Move::Turn(1),
-    Move::Turn(1),
-    Move::Deliver { index: 0, to: 0 },
-    Move::Turn(2),
-    Move::Turn(2),
-    Move::Turn(2),
-    Move::Deliver { index: 2, to: 0 },
-    Move::Deliver { index: 3, to: 2 },
-    Move::Deliver { index: 4, to: 1 },
-    Move::Deliver { index: 1, to: 1 },
-    Move::Deliver { index: 5, to: 2 },
-    Move::Turn(1),
-    Move::Turn(1),
-    Move::Turn(2),
+const LATE_MOVES: [Stage; 2] = [
+    (
+        &[
+            Move::Turn(1),
+            Move::Turn(1),
+            Move::Deliver { index: 0, to: 0 },
+            Move::Turn(2),
+            Move::Turn(2),
+            Move::Turn(2),
+            Move::Deliver { index: 2, to: 0 },
+            Move::Deliver { index: 3, to: 2 },
+            Move::Deliver { index: 4, to: 1 },
+        ],
+        5,
+    ),
+    (
+        &[
+            Move::Deliver { index: 1, to: 1 },
+            Move::Deliver { index: 5, to: 2 },
+            Move::Turn(1),
+            Move::Turn(1),
+            Move::Turn(2),
+        ],
+        6,
+    ),
 ];
 
-const LATE_RUN: Run = Run {
+static LATE_RUN: Run<'static> = Run {
     config: HINTS,
     text: LATE,
+    stages: &LATE_MOVES,
     strings: &LATE_SENT,
     nodes: &[
         ended!(1, &[loaded!(1, 64, 0)], &[0]),
@@ -96,13 +108,7 @@ const LATE_RUN: Run = Run {
 /// The copy for node 1 is late: the message that is to end it comes first, and waits for it.
 #[test]
 fn late_read_page(rt: HostRuntime) -> Result<(), Fail> {
-    check_run(
-        &rt,
-        &Run {
-            stages: &[(&LATE_MOVES[..9], 5), (&LATE_MOVES[9..], 6)],
-            ..LATE_RUN
-        },
-    )
+    check_run(&rt, &LATE_RUN)
 }
 
 /// Nodes 1 and 2 hold a copy, and then both store. Node 0 loads last.
@@ -471,26 +477,27 @@ fn is_request<A: Allocator + Copy>(world: &World<A>, index: usize, from: u8, to:
 
 fn goes_over_all<A: Allocator + Copy>(rt: &impl Abort, world: &World<A>) {
     for (index, from, to) in OVER_ALL {
-        assert!(rt; is_request(world, index, from, to), "string {index}");
+        expect_same_at(rt, index, is_request(world, index, from, to), true);
     }
 }
 
 /// Node 0 is given what the last node stored.
 static CHAIN_SHOWN: Shown<'static> = ended!(0, &[loaded!(0, 64, 7)], &[7]);
 
-fn check_chain<A: Allocator + Copy>(rt: &impl Abort, world: &mut World<A>) -> Result<(), Fail> {
-    let next = hand_on(world)?;
-    assert!(rt; next == 49);
-    let next = ask(world, &[Move::Turn(0); 2], next)?;
-    assert!(rt; next == 57);
-    play(world, &[Move::Turn(0); 2])?;
-    assert!(rt; shows(world, &CHAIN_SHOWN));
+/// Node 0 asks, and then records its load and prints.
+static NODE_0_TURNS: [Move; 2] = [Move::Turn(0), Move::Turn(0)];
+
+fn check_chain<A: Allocator + Copy>(rt: &impl Abort, world: &mut World<A>) {
+    expect_same(rt, hand_on(world), Ok(49));
+    expect_same(rt, ask(world, &NODE_0_TURNS, 49), Ok(57));
+    expect_same(rt, play(world, &NODE_0_TURNS), Ok(()));
+    expect_same(rt, shows(world, &CHAIN_SHOWN), true);
     goes_over_all(rt, world);
-    Ok(())
 }
 
 #[test]
 fn chain_of_seven_hints(rt: HostRuntime) -> Result<(), Fail> {
     let mut world = world(rt.alloc(), EIGHT_HINTS, CHAIN)?;
-    check_chain(&rt, &mut world)
+    check_chain(&rt, &mut world);
+    Ok(())
 }

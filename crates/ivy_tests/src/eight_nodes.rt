@@ -1,6 +1,6 @@
 //! Eight nodes that all load the same word, under several schedules, and that all store to one page.
 use crate::common::{
-    IDLE, Run, Shown, check_run, deliver, ended, expect_same, loaded, play, shows, world,
+    IDLE, Run, Shown, check_stages, deliver, ended, expect_same, loaded, play, shows, world,
 };
 use ivy_model::{Config, Fault, Kind};
 use ivy_node::{Move, World};
@@ -127,28 +127,43 @@ fn all_have_loaded_zero<A: Allocator + Copy>(world: &World<A>) -> bool {
     true
 }
 
+/// The order in which the nodes load.
+#[derive(Clone, Copy)]
+enum Order {
+    AskAllFirst,
+    TellAll,
+    OneByOne,
+}
+
+fn check_all_load<A: Allocator + Copy>(rt: &impl Abort, world: &mut World<A>, order: Order) {
+    let made = match order {
+        Order::AskAllFirst => ask_all_first(world),
+        Order::TellAll => tell_all(world),
+        Order::OneByOne => turn_one_by_one(world),
+    };
+    expect_same(rt, made, Ok(()));
+    expect_same(rt, all_have_loaded_zero(world), true);
+}
+
+fn check_loads<R: Abort + AllocGlobal>(rt: &R, order: Order) -> Result<(), Fail> {
+    let mut world = world(rt.alloc(), EIGHT, ALL_LOAD)?;
+    check_all_load(rt, &mut world, order);
+    Ok(())
+}
+
 #[test]
 fn all_ask_before_any_is_answered(rt: HostRuntime) -> Result<(), Fail> {
-    let mut world = world(rt.alloc(), EIGHT, ALL_LOAD)?;
-    expect_same(&rt, ask_all_first(&mut world), Ok(()));
-    assert!(rt; all_have_loaded_zero(&world));
-    Ok(())
+    check_loads(&rt, Order::AskAllFirst)
 }
 
 #[test]
 fn each_string_goes_to_every_node(rt: HostRuntime) -> Result<(), Fail> {
-    let mut world = world(rt.alloc(), EIGHT, ALL_LOAD)?;
-    expect_same(&rt, tell_all(&mut world), Ok(()));
-    assert!(rt; all_have_loaded_zero(&world));
-    Ok(())
+    check_loads(&rt, Order::TellAll)
 }
 
 #[test]
 fn one_node_after_another(rt: HostRuntime) -> Result<(), Fail> {
-    let mut world = world(rt.alloc(), EIGHT, ALL_LOAD)?;
-    expect_same(&rt, turn_one_by_one(&mut world), Ok(()));
-    assert!(rt; all_have_loaded_zero(&world));
-    Ok(())
+    check_loads(&rt, Order::OneByOne)
 }
 
 /// Each node stores its own number, counted from 1, to a word of its own, all in one page. Node 7 loads its
@@ -257,58 +272,51 @@ const STORED: [Shown; 8] = [
     ended!(7, &[loaded!(7, 120, 0), stored!(7, 120, 8)], &[]),
 ];
 
+const STORES: Run = Run {
+    config: EIGHT,
+    text: ALL_STORE,
+    nodes: &STORED,
+    ..IDLE
+};
+
 /// Each order in which the nodes ask, and what is shown then: the last string has the page as it comes to the node
 /// that asked last. Seven words are stored, its own is not.
-const ORDERS: [([u64; 7], Run); 2] = [
+static ORDERS: [([u64; 7], Run<'static>); 2] = [
     (
         [7, 0, 2, 3, 4, 5, 6],
         Run {
-            config: EIGHT,
-            text: ALL_STORE,
-            strings: &[(
+            strings: &[string!(
                 26,
-                (
-                    "4956020405060051 0000000000000001 0000000000000000 06 0000000000000001 00000001 00000000 \
+                "4956020405060051 0000000000000001 0000000000000000 06 0000000000000001 00000001 00000000 \
          0000000000000001 0000000000000002 0000000000000003 0000000000000004 \
-         0000000000000005 0000000000000006 0000000000000000 0000000000000008",
-                    None,
-                ),
+         0000000000000005 0000000000000006 0000000000000000 0000000000000008"
             )],
-            nodes: &STORED,
-            ..IDLE
+            ..STORES
         },
     ),
     (
         [6, 5, 4, 3, 2, 0, 7],
         Run {
-            config: EIGHT,
-            text: ALL_STORE,
-            strings: &[(
+            strings: &[string!(
                 26,
-                (
-                    "4956020400070051 0000000000000002 0000000000000000 07 0000000000000002 00000001 00000000 \
+                "4956020400070051 0000000000000002 0000000000000000 07 0000000000000002 00000001 00000000 \
          0000000000000001 0000000000000002 0000000000000003 0000000000000004 \
-         0000000000000005 0000000000000006 0000000000000007 0000000000000000",
-                    None,
-                ),
+         0000000000000005 0000000000000006 0000000000000007 0000000000000000"
             )],
-            nodes: &STORED,
-            ..IDLE
+            ..STORES
         },
     ),
 ];
 
+fn check_put_off<R: Abort + AllocGlobal>(rt: &R, order: &[u64; 7], run: &Run) -> Result<(), Fail> {
+    let moves = put_off_by_a_writer(rt.alloc(), order)?;
+    check_stages(rt, run, &[(&moves, 27)])
+}
+
 #[test]
 fn seven_requests_put_off(rt: HostRuntime) -> Result<(), Fail> {
     for (order, run) in &ORDERS {
-        let moves = put_off_by_a_writer(rt.alloc(), order)?;
-        check_run(
-            &rt,
-            &Run {
-                stages: &[(&moves, 27)],
-                ..*run
-            },
-        )?;
+        check_put_off(&rt, order, run)?;
     }
     Ok(())
 }
@@ -360,11 +368,5 @@ static LATE_RUN: Run<'static> = Run {
 #[test]
 fn seven_requests_for_a_page_that_is_late(rt: HostRuntime) -> Result<(), Fail> {
     let moves = moves_of(rt.alloc(), &PUT_OFF_WHILE_AWAITED)?;
-    check_run(
-        &rt,
-        &Run {
-            stages: &[(&moves, 23)],
-            ..LATE_RUN
-        },
-    )
+    check_stages(&rt, &LATE_RUN, &[(&moves, 23)])
 }

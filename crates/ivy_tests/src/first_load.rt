@@ -37,8 +37,10 @@ fn empty_programs(rt: HostRuntime) -> Result<(), Fail> {
 
 #[test]
 fn first_load(rt: HostRuntime) -> Result<(), Fail> {
-    check_run(&rt, &FIRST_LOAD)
+    check_run(&rt, &UNDISTURBED)
 }
+
+static UNDISTURBED: Run<'static> = FIRST_LOAD;
 
 /// The moves of the first load, and then pulses of both nodes, twice.
 const PULSES: [Stage; 3] = [

@@ -4,7 +4,10 @@
 //! copies that are ended at once and once they came, acknowledgements, the last of them and others, and seven
 //! requests that are put off and then served in one event. One more run has calls of the heap that node 0 serves for
 //! another node.
-use crate::common::{HAS_LOADED, LOADS, MANY, PAIR, TRIO, deliver, play, pulse, shows, world};
+use crate::common::{
+    HAS_LOADED, LOADS, MANY, PAIR, Stage, TRIO, expect_same, expect_same_at, play, play_stages,
+    shows, world,
+};
 use crate::counts::{NOTICE, NOTICE_MOVES};
 use crate::dynamic::{HINTS, UPGRADE, upgrade_moves};
 use crate::eight_nodes::{
@@ -93,23 +96,24 @@ fn refused_of<A: Allocator + Copy>(
     let Err((place, fault)) = answer else {
         return met;
     };
-    assert!(rt; met && fault == Fault::Memory, "growth {n}");
-    assert!(rt; play(twin, &moves[..place]).is_ok(), "growth {n}");
-    assert!(rt; same_worlds(refused, twin), "growth {n}");
-    check_rest(rt, &moves[place..], refused, twin);
+    expect_same_at(rt, n, (met, fault), (true, Fault::Memory));
+    expect_same_at(rt, n, play(twin, &moves[..place]), Ok(()));
+    expect_same_at(rt, n, same_worlds(refused, twin), true);
+    check_rest(rt, n, &moves[place..], refused, twin);
     true
 }
 
 /// Both worlds go on to the same end.
 fn check_rest<A: Allocator + Copy>(
     rt: &impl Abort,
+    n: u64,
     moves: &[Move],
     refused: &mut World<A>,
     twin: &mut World<A>,
 ) {
-    assert!(rt; play(refused, moves).is_ok());
-    assert!(rt; play(twin, moves).is_ok());
-    assert!(rt; same_worlds(refused, twin));
+    expect_same_at(rt, n, play(refused, moves), Ok(()));
+    expect_same_at(rt, n, play(twin, moves), Ok(()));
+    expect_same_at(rt, n, same_worlds(refused, twin), true);
 }
 
 fn refused_at(
@@ -134,7 +138,7 @@ fn growths_of(rt: &impl Abort, memory: &Refusing<Global>, growing: &Growing) -> 
     Err("no end of growths".into())
 }
 
-const RUNS: [Growing; 5] = [
+static RUNS: [Growing<'static>; 5] = [
     Growing {
         config: PAIR,
         text: LOADS,
@@ -206,28 +210,49 @@ fn growths_of_the_heap(rt: HostRuntime) -> Result<(), Fail> {
     growths_of_moves(&rt, PAIR, text.as_str(), moves)
 }
 
+/// Node 1 asks, and node 0 is to be given its request.
+static ASKS: [Move; 2] = [Move::Turn(1), Move::Turn(1)];
+
+static IS_ASKED: [Move; 1] = [Move::Deliver { index: 0, to: 0 }];
+
 /// A pulse and the delivery of what it sends replace the delivery that was refused.
+static REPLACES: [Stage<'static>; 2] = [
+    (
+        &[
+            Move::Pulse { from: 1, to: 0 },
+            Move::Deliver { index: 1, to: 0 },
+            Move::Deliver { index: 2, to: 1 },
+        ],
+        3,
+    ),
+    (&[Move::Turn(1), Move::Turn(1)], 3),
+];
+
+fn check_replaced<A: Allocator + Copy>(rt: &impl Abort, n: u64, world: &mut World<A>) {
+    expect_same_at(rt, n, world.sent().len(), 1);
+    play_stages(rt, world, &REPLACES);
+    expect_same_at(rt, n, shows(world, &HAS_LOADED), true);
+}
+
+/// Delivers the request with the n-th growth refused. Whether that growth was asked for.
 fn replaced_of<A: Allocator + Copy>(
     rt: &impl Abort,
     memory: &Refusing<Global>,
     n: u64,
     world: &mut World<A>,
 ) -> bool {
-    assert!(rt; play(world, &[Move::Turn(1), Move::Turn(1)]).is_ok());
+    expect_same(rt, play(world, &ASKS), Ok(()));
     memory.refuse(n);
-    let answer = play(world, &[deliver(0, 0)]);
+    let answer = play(world, &IS_ASKED);
     let met = memory.asked(n) >= n;
     memory.refuse(0);
-    if !met {
-        assert!(rt; answer.is_ok());
-        return false;
+    if met {
+        expect_same_at(rt, n, answer, Err((0, Fault::Memory)));
+        check_replaced(rt, n, world);
+    } else {
+        expect_same_at(rt, n, answer, Ok(()));
     }
-    assert!(rt; answer == Err((0, Fault::Memory)) && world.sent().len() == 1);
-    assert!(rt; play(world, &[pulse(1, 0), deliver(1, 0), deliver(2, 1)]).is_ok());
-    assert!(rt; world.sent().len() == 3);
-    assert!(rt; play(world, &[Move::Turn(1), Move::Turn(1)]).is_ok());
-    assert!(rt; shows(world, &HAS_LOADED));
-    true
+    met
 }
 
 fn replaced_at(rt: &impl Abort, memory: &Refusing<Global>, n: u64) -> Result<bool, Fail> {

@@ -1,24 +1,18 @@
 //! Blocks: calls of the heap, which node 0 serves at once and any other node asks node 0 for.
-use crate::common::{IDLE, PAIR, Run, STUCK, Shown, Written, check_run, ended, refused};
+use crate::common::{IDLE, PAIR, Run, STUCK, Shown, Written, check_run, check_stages, expect_same};
 use crate::eight_nodes::{Part, moves_of};
 use ivy_model::{Call, Record, Reply, check_order};
 use ivy_node::Move;
 use ivy_wire::FrameKind;
-use std::alloc::{AllocError, Allocator};
+use std::alloc::{AllocError, Allocator, Global};
+use std::process::Abort;
 use std::test::Fail;
 
-/// A block that is given at an address.
-fn allocated(node: u8, size: u64, addr: u64) -> Record {
-    let call = Call::Alloc { size };
-    let reply = Reply::Value(addr);
-    Record { node, call, reply }
-}
-
-/// A block that is ended.
-fn freed(node: u8, addr: u64) -> Record {
-    let call = Call::Free { addr };
-    let reply = Reply::Done;
-    Record { node, call, reply }
+/// A block that is given at an address, in the value of a constant.
+macro_rules! allocated {
+    ($node:expr, $size:expr, $addr:expr) => {
+        answered!($node, Call::Alloc { size: $size }, Reply::Value($addr))
+    };
 }
 
 /// The eight calls, after four turns and before six.
@@ -43,17 +37,19 @@ print r9
 ";
 
 /// What they are answered: one block fills the heap, and each ended block has room again.
-fn answers(node: u8) -> [Record; 8] {
-    [
-        allocated(node, 64, 64),
-        refused(node, Call::Alloc { size: 1 }, 9),
-        freed(node, 64),
-        refused(node, Call::Free { addr: 64 }, 10),
-        allocated(node, 1, 64),
-        allocated(node, 3, 72),
-        refused(node, Call::Alloc { size: 0 }, 8),
-        refused(node, Call::Alloc { size: u64::MAX }, 9),
-    ]
+macro_rules! answers {
+    ($node:expr) => {
+        [
+            allocated!($node, 64, 64),
+            refused!($node, Call::Alloc { size: 1 }, 9),
+            answered!($node, Call::Free { addr: 64 }, Reply::Done),
+            refused!($node, Call::Free { addr: 64 }, 10),
+            allocated!($node, 1, 64),
+            allocated!($node, 3, 72),
+            refused!($node, Call::Alloc { size: 0 }, 8),
+            refused!($node, Call::Alloc { size: u64::MAX }, 9),
+        ]
+    };
 }
 
 /// The registers, of which a refused call leaves its own as it was, and the last refusal.
@@ -63,18 +59,18 @@ const PRINTED: [u64; 5] = [64, 64, 72, 0, 9];
 #[test]
 fn calls_of_node_0(rt: HostRuntime) -> Result<(), Fail> {
     let text = format!(in rt.alloc(); "node 0\n{CALLS}node 1\n")?;
-    check_run(
-        &rt,
-        &Run {
-            config: PAIR,
-            text: text.as_str(),
-            stages: &[(&[Move::Turn(0); 18], 0)],
-            kinds: &[],
-            strings: &[],
-            nodes: &[ended(0, &answers(0), &PRINTED)],
-        },
-    )
+    let run = Run {
+        text: text.as_str(),
+        ..NODE_0_CALLS
+    };
+    check_run(&rt, &run)
 }
+
+static NODE_0_CALLS: Run<'static> = Run {
+    stages: &[(&[Move::Turn(0); 18], 0)],
+    nodes: &[ended!(0, &answers!(0), &PRINTED)],
+    ..IDLE
+};
 
 /// The programs where node 1 makes the calls.
 pub(crate) fn asking_text<A: Allocator + Copy>(alloc: A) -> Result<String<A>, Fail> {
@@ -107,7 +103,7 @@ pub(crate) fn asking_moves<A: Allocator>(alloc: A) -> Result<Vec<Move, A>, Alloc
 }
 
 /// Each string of its calls once more, late.
-const ASKING_AGAIN: [Move; 16] = [
+static ASKING_AGAIN: [Move; 16] = [
     Move::Deliver { index: 0, to: 0 },
     Move::Deliver { index: 1, to: 1 },
     Move::Deliver { index: 2, to: 0 },
@@ -178,18 +174,19 @@ const ASKING_SENT: [(usize, Written); 5] = [
 fn calls_of_node_1(rt: HostRuntime) -> Result<(), Fail> {
     let text = asking_text(rt.alloc())?;
     let moves = asking_moves(rt.alloc())?;
-    check_run(
-        &rt,
-        &Run {
-            text: text.as_str(),
-            stages: &[(&moves, 16), (&ASKING_AGAIN, 16)],
-            kinds: &ASKING_KINDS,
-            strings: &ASKING_SENT,
-            nodes: &[ended(0, &[], &[]), ended(1, &answers(1), &PRINTED)],
-            ..IDLE
-        },
-    )
+    let run = Run {
+        text: text.as_str(),
+        ..NODE_1_ASKS
+    };
+    check_stages(&rt, &run, &[(&moves, 16), (&ASKING_AGAIN, 16)])
 }
+
+static NODE_1_ASKS: Run<'static> = Run {
+    kinds: &ASKING_KINDS,
+    strings: &ASKING_SENT,
+    nodes: &[ended!(0, &[], &[]), ended!(1, &answers!(1), &PRINTED)],
+    ..IDLE
+};
 
 /// Node 1 asks for eight bytes, as the first of its calls, and is given them at 64.
 const ALLOC_ASKS: &str =
@@ -253,14 +250,24 @@ static IN_PROGRESS: Run<'static> = Run {
     ..IDLE
 };
 
+/// Whether these records explain what both nodes were answered, in this order.
+fn check_explains(
+    rt: &impl Abort,
+    alloc: Global,
+    order: &[Record],
+    explains: bool,
+) -> Result<(), Fail> {
+    PAIR.check()?;
+    expect_same(rt, check_order(alloc, &PAIR, order)?, explains);
+    Ok(())
+}
+
 /// Node 0 is answered as if node 1, which has no reply yet, had been answered before.
 #[test]
 fn alloc_in_progress(rt: HostRuntime) -> Result<(), Fail> {
     check_run(&rt, &IN_PROGRESS)?;
-    PAIR.check()?;
-    assert!(rt; check_order(rt.alloc(), &PAIR, &[EIGHT_AT_64, EIGHT_AT_72])?);
-    assert!(rt; !check_order(rt.alloc(), &PAIR, &[EIGHT_AT_72])?);
-    Ok(())
+    check_explains(&rt, rt.alloc(), &[EIGHT_AT_64, EIGHT_AT_72], true)?;
+    check_explains(&rt, rt.alloc(), &[EIGHT_AT_72], false)
 }
 
 static ANSWERED_LATER: Run<'static> = Run {

@@ -64,28 +64,19 @@ enum Step<'a> {
     Sent(usize),
 }
 
-fn check_step<A: Allocator + Copy>(
-    rt: &impl Abort,
-    world: &mut World<A>,
-    index: usize,
-    step: &Step,
-) {
+/// Whether the step goes as it says.
+fn goes<A: Allocator + Copy>(world: &mut World<A>, step: &Step) -> bool {
     match step {
-        Step::Plays(moves) => expect_same_at(rt, index, play(world, moves), Ok(())),
-        Step::Settles(moves, rest) => {
-            expect_same_at(rt, index, settle(world, *moves), Ok(*rest));
-        }
-        Step::Shows(shown, least) => {
-            assert!(rt; shows(world, shown), "step {index}");
-            expect_same_at(rt, index, awaits(world, shown.node), *least);
-        }
-        Step::Sent(count) => expect_same_at(rt, index, world.sent().len(), *count),
+        Step::Plays(moves) => play(world, moves).is_ok(),
+        Step::Settles(moves, rest) => settle(world, *moves) == Ok(*rest),
+        Step::Shows(shown, least) => { shows(world, shown) && awaits(world, shown.node) == *least }
+        Step::Sent(count) => world.sent().len() == *count,
     }
 }
 
 fn check_steps<A: Allocator + Copy>(rt: &impl Abort, world: &mut World<A>, steps: &[Step]) {
     for (index, step) in steps.iter().enumerate() {
-        check_step(rt, world, index, step);
+        expect_same_at(rt, index, goes(world, step), true);
     }
 }
 
@@ -109,7 +100,15 @@ const HINTS: Config = Config {
     ..PAIR
 };
 
-const CROSSED_SCENE: Scene = Scene {
+/// The same under either manager.
+fn check_both<R: Abort + AllocGlobal>(rt: &R, scene: &Scene) -> Result<(), Fail> {
+    for config in [PAIR, HINTS] {
+        check(rt, &Scene { config, ..*scene })?;
+    }
+    Ok(())
+}
+
+static CROSSED_SCENE: Scene<'static> = Scene {
     config: PAIR,
     text: CROSSED,
     steps: &[
@@ -121,19 +120,10 @@ const CROSSED_SCENE: Scene = Scene {
 
 #[test]
 fn awaits_that_cross(rt: HostRuntime) -> Result<(), Fail> {
-    for config in [PAIR, HINTS] {
-        check(
-            &rt,
-            &Scene {
-                config,
-                ..CROSSED_SCENE
-            },
-        )?;
-    }
-    Ok(())
+    check_both(&rt, &CROSSED_SCENE)
 }
 
-const NOTICE_SCENE: Scene = Scene {
+static NOTICE_SCENE: Scene<'static> = Scene {
     config: PAIR,
     text: NOTICE,
     steps: &[
@@ -146,16 +136,7 @@ const NOTICE_SCENE: Scene = Scene {
 /// Node 0 is answered what node 1 stored before it advanced the count.
 #[test]
 fn notice_to_its_end(rt: HostRuntime) -> Result<(), Fail> {
-    for config in [PAIR, HINTS] {
-        check(
-            &rt,
-            &Scene {
-                config,
-                ..NOTICE_SCENE
-            },
-        )?;
-    }
-    Ok(())
+    check_both(&rt, &NOTICE_SCENE)
 }
 
 static TOO_FEW: Scene<'static> = Scene {
@@ -274,7 +255,7 @@ fn check_same<A: Allocator + Copy>(
 ) {
     expect_same_at(rt, n, settle(refused, ENOUGH), Ok(Rest::Still));
     expect_same_at(rt, n, settle(twin, ENOUGH), Ok(Rest::Still));
-    assert!(rt; same_worlds(refused, twin), "growth {n}");
+    expect_same_at(rt, n, same_worlds(refused, twin), true);
 }
 
 /// Settles a world with the n-th growth refused, and one without. Whether that growth was asked for.
@@ -293,10 +274,10 @@ fn refused_of<A: Allocator + Copy>(
         expect_same(rt, answer, Ok(Rest::Still));
         return met;
     };
-    assert!(rt; met && fault == Fault::Memory, "growth {n}");
+    expect_same_at(rt, n, (met, fault), (true, Fault::Memory));
     // The moves before the refused one were made, and it changed nothing.
     expect_same_at(rt, n, settle(twin, made), Ok(Rest::Going));
-    assert!(rt; same_worlds(refused, twin), "growth {n}");
+    expect_same_at(rt, n, same_worlds(refused, twin), true);
     check_same(rt, n, refused, twin);
     true
 }

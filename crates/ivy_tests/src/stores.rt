@@ -1,5 +1,5 @@
 //! Stores: to a page that the node owns, to one that others have copies of, and by several nodes at once.
-use crate::common::{IDLE, PAIR, Run, STUCK, Shown, TRIO, Written, check_run};
+use crate::common::{IDLE, PAIR, Run, STUCK, Shown, TRIO, Written, check_run, check_stages};
 use ivy_model::{Call, Config, Record};
 use ivy_node::Move;
 use ivy_wire::FrameKind;
@@ -127,7 +127,7 @@ const LATE_SENT: [(usize, Written); 7] = [
     ),
 ];
 
-const LATE_RUN: Run = Run {
+static LATE_RUN: Run<'static> = Run {
     config: TRIO,
     text: LATE,
     strings: &LATE_SENT,
@@ -141,16 +141,14 @@ const LATE_RUN: Run = Run {
 /// The copy for node 2 is late: the message that is to end it comes first, and waits for it.
 #[test]
 fn late_read_page(rt: HostRuntime) -> Result<(), Fail> {
-    check_run(
+    check_stages(
         &rt,
-        &Run {
-            stages: &[(&LATE_MOVES[..10], 6), (&LATE_MOVES[10..], 7)],
-            ..LATE_RUN
-        },
+        &LATE_RUN,
+        &[(&LATE_MOVES[..10], 6), (&LATE_MOVES[10..], 7)],
     )
 }
 
-const WAITING_RUN: Run = Run {
+static WAITING_RUN: Run<'static> = Run {
     config: TRIO,
     text: LATE,
     nodes: &[Shown { node: 1, ..STUCK }],
@@ -160,13 +158,7 @@ const WAITING_RUN: Run = Run {
 /// The store has no answer before the last acknowledgement.
 #[test]
 fn store_that_waits(rt: HostRuntime) -> Result<(), Fail> {
-    check_run(
-        &rt,
-        &Run {
-            stages: &[(&LATE_MOVES[..12], 7)],
-            ..WAITING_RUN
-        },
-    )
+    check_stages(&rt, &WAITING_RUN, &[(&LATE_MOVES[..12], 7)])
 }
 
 /// Both nodes hold a copy, and then both store.

@@ -4,7 +4,7 @@ use crate::common::{
 };
 use ivy_model::{Config, Kind};
 use ivy_node::{Move, World};
-use std::alloc::{AllocError, Allocator};
+use std::alloc::Allocator;
 use std::process::Abort;
 use std::test::Fail;
 
@@ -18,13 +18,19 @@ const THIRTY_TWO: Config = Config {
 /// The node that stores.
 const WRITER: u8 = 31;
 
-/// Nodes 1 to 31 load the word at 64, and the last of them stores 5 there.
-fn readers<A: Allocator + Copy>(alloc: A) -> Result<String<A>, AllocError> {
-    let mut text = String::from_str(alloc, "node 0\n")?;
+fn add_programs<A: Allocator>(text: &mut String<A>) -> Result<(), Fail> {
+    text.push_str("node 0\n")?;
     for node in 1..32 {
-        text.push_str(format!(in alloc; "node {node}\nset r1 64\nload 8 r2 r1\n")?.as_str())?;
+        write!(text, "node {node}\nset r1 64\nload 8 r2 r1\n")?;
     }
     text.push_str("set r3 5\nstore 8 r1 r3\n")?;
+    Ok(())
+}
+
+/// Nodes 1 to 31 load the word at 64, and the last of them stores 5 there.
+fn readers<A: Allocator>(alloc: A) -> Result<String<A>, Fail> {
+    let mut text = String::new(alloc);
+    add_programs(&mut text)?;
     Ok(text)
 }
 
@@ -62,31 +68,48 @@ fn one_stores<A: Allocator + Copy>(rt: &impl Abort, world: &mut World<A>) {
     expect_same(rt, play(world, &[Move::Turn(last)]), Ok(()));
 }
 
-/// Whether this string was sent, of these words and, where one is said, a page whose first word it is.
-fn sent<A: Allocator + Copy>(
-    alloc: A,
-    world: &World<A>,
-    index: usize,
-    words: &str,
-    page: Option<u64>,
-) -> Result<bool, Fail> {
-    is_sent(alloc, world, index, (words, page))
-}
-
-/// Asserts that this string was sent.
+/// Asserts that this string was sent, of these words and, where one is said, a page whose first word it is.
 fn check_sent<A: Allocator + Copy>(
     rt: &impl Abort,
     alloc: A,
     world: &World<A>,
     index: usize,
-    words: String<A>,
+    words: &str,
     page: Option<u64>,
 ) -> Result<(), Fail> {
-    assert!(rt; sent(alloc, world, index, words.as_str(), page)?, "{words}");
+    let is_sent = is_sent(alloc, world.sent(), index, (words, page))?;
+    expect_same_at(rt, words, is_sent, true);
     Ok(())
 }
 
-/// The strings of a node's load: its request to node 0, and the copy.
+/// The words with the number of a node wherever NN stands.
+fn words_of<A: Allocator + Copy>(alloc: A, words: &str, node: u8) -> Result<String<A>, Fail> {
+    let number = format!(in alloc; "{node:02x}")?;
+    Ok(words.replace(alloc, "NN", number.as_str())?)
+}
+
+/// The same of words in which NN stands for the number of a node.
+fn check_of_node<A: Allocator + Copy>(
+    rt: &impl Abort,
+    alloc: A,
+    world: &World<A>,
+    index: usize,
+    node: u8,
+    words: &str,
+    page: Option<u64>,
+) -> Result<(), Fail> {
+    let words = words_of(alloc, words, node)?;
+    check_sent(rt, alloc, world, index, words.as_str(), page)
+}
+
+/// A node's request for a copy, to node 0, and the copy.
+const LOAD_ASKS: &str =
+    "49560201NN00000d 0000000000000001 0000000000000000 NN 0000000000000001 00000001";
+
+const LOAD_GETS: &str =
+    "4956020300NN004d 0000000000000001 0000000000000000 NN 0000000000000001 00000001";
+
+/// The strings of a node's load.
 fn check_load<A: Allocator + Copy>(
     rt: &impl Abort,
     alloc: A,
@@ -94,32 +117,26 @@ fn check_load<A: Allocator + Copy>(
     node: u8,
 ) -> Result<(), Fail> {
     let index = 2 * usize::from(node).saturating_sub(1);
-    let asks = format!(in alloc;
-        "49560201{node:02x}00000d 0000000000000001 0000000000000000 {node:02x} 0000000000000001 00000001"
-    )?;
-    check_sent(rt, alloc, world, index, asks, None)?;
-    let brings = format!(in alloc;
-        "4956020300{node:02x}004d 0000000000000001 0000000000000000 {node:02x} 0000000000000001 00000001"
-    )?;
-    check_sent(rt, alloc, world, index + 1, brings, Some(0))
+    check_of_node(rt, alloc, world, index, node, LOAD_ASKS, None)?;
+    check_of_node(rt, alloc, world, index + 1, node, LOAD_GETS, Some(0))
 }
 
 /// The order to a node to give its copy up, and its acknowledgement.
+const ORDERS: &str =
+    "495602051fNN000d 0000000000000001 0000000000000000 1f 0000000000000002 00000001";
+
+const GIVES_UP: &str =
+    "49560206NN1f000d 0000000000000001 0000000000000000 1f 0000000000000002 00000001";
+
 fn check_order<A: Allocator + Copy>(
     rt: &impl Abort,
     alloc: A,
     world: &World<A>,
     node: u8,
 ) -> Result<(), Fail> {
-    let orders = format!(in alloc;
-        "495602051f{node:02x}000d 0000000000000001 0000000000000000 1f 0000000000000002 00000001"
-    )?;
     let index = 63 + usize::from(node);
-    check_sent(rt, alloc, world, index, orders, None)?;
-    let gives_up = format!(in alloc;
-        "49560206{node:02x}1f000d 0000000000000001 0000000000000000 1f 0000000000000002 00000001"
-    )?;
-    check_sent(rt, alloc, world, index + 30, gives_up, None)
+    check_of_node(rt, alloc, world, index, node, ORDERS, None)?;
+    check_of_node(rt, alloc, world, index + 30, node, GIVES_UP, None)
 }
 
 /// The request of the node that stores, and the page, which comes with the 30 nodes that have a copy too.
@@ -139,8 +156,8 @@ fn check_strings<A: Allocator + Copy>(
     for node in 1..32 {
         check_load(rt, alloc, world, node)?;
     }
-    assert!(rt; sent(alloc, world, 62, ASKS, None)?);
-    assert!(rt; sent(alloc, world, 63, BRINGS, Some(0))?);
+    check_sent(rt, alloc, world, 62, ASKS, None)?;
+    check_sent(rt, alloc, world, 63, BRINGS, Some(0))?;
     for node in 1..WRITER {
         check_order(rt, alloc, world, node)?;
     }
@@ -158,12 +175,10 @@ static WRITER_SHOWN: Shown<'static> = ended!(
 fn check_nodes<A: Allocator + Copy>(rt: &impl Abort, world: &World<A>) {
     for node in 1..WRITER {
         let answers = [loaded(node, 8, 64, 0)];
-        assert!(rt;
-            shows(world, &ended(u64::from(node), &answers, &[])),
-            "{node}"
-        );
+        let shown = ended(u64::from(node), &answers, &[]);
+        expect_same_at(rt, node, shows(world, &shown), true);
     }
-    assert!(rt; shows(world, &WRITER_SHOWN));
+    expect_same(rt, shows(world, &WRITER_SHOWN), true);
 }
 
 fn check_world<A: Allocator + Copy>(

@@ -1,0 +1,449 @@
+-- A seated site stays seated, and may give its list.
+use Rattle.std.proofs.Common.{◌≡◌, ◌≢◌, ℕ, zero, suc, ◌+◌, ◌<◌, List, [], ◌∷◌, ◌++◌, length}
+use Rattle.std.proofs.Common.{slice_get, Contains, Option, Some, None, refl, sym, ap}
+use Rattle.std.proofs.Common.{subst, ◌∙◌, arith, append-nil, append_assoc}
+use Rattle.std.specs.Prelude.{MatchResult, MatchOption, Result, Ok, Err}
+use Rattle.ivy_model.specs.declared.Fault.{Fault}
+use Rattle.ivy_ether.specs.Data.{Put, Item}
+use Rattle.ivy_ether.specs.Items.{strings_in}
+use Rattle.ivy_ether.specs.Words.{MatchPut}
+use Rattle.ivy_ether.specs.declared.ether.Put.TheVariants.{Sent, Lost}
+use Rattle.std.proofs.lemmas.List.Elements.{Contains-append_left}
+use Rattle.std.proofs.lemmas.Option.{none-some, same_Some}
+use Rattle.atomic_table.specs.Seated.{TableId}
+use Rattle.ivy_model.specs.declared.Config.{Config}
+use Rattle.ivy_model.specs.Config.{IsConfig}
+use Rattle.ivy_program.specs.declared.Instruction.{Instruction}
+use Rattle.ivy_link.specs.declared.Verdict.{Verdict}
+use Rattle.ivy_link.specs.declared.Verdict.TheVariants as verdict
+use Rattle.ivy_events.specs.Marks.{Mark, Turn, Delivery}
+use Rattle.ivy_events.specs.Nodes.{Node, pulsing}
+use Rattle.ivy_events.specs.Parts.{AllHappen, AllCanBeMade, pulse_marks}
+use Rattle.ivy_wire.specs.Data.{Frame}
+use Rattle.ivy_events.proofs.Early.{early-can}
+use Rattle.ivy_events.proofs.Splitting.{can-append, can-more}
+use Rattle.ivy_host.specs.Hosts.{Host, host_rules}
+use Rattle.ivy_host.specs.Managers.{Managed, managed_ops}
+use Rattle.ivy_host.specs.Openings.{first_node, first_nodes}
+use Rattle.ivy_host.proofs.Tame.{first_length}
+use Rattle.ivy_ether.specs.Going.{IsListOf}
+use Rattle.ivy_ether.specs.Held.{Held, held}
+use Rattle.ivy_ether.specs.Programs.{beginning, MayGive, SendsFrom}
+use Rattle.ivy_ether.specs.Views.{View, with_put, with_taken}
+use Rattle.ivy_site.specs.declared.turn.Turn as turn
+use Rattle.ivy_site.specs.declared.turn.Turn.TheVariants.{Idle, Moved, Ended}
+use Rattle.ivy_site.specs.Shown.{Shown, after_hearing, after_delivery, after_pulse_to}
+use Rattle.ivy_site.specs.Sites.{first_shown, IsMadeByEvents, IsSentBy, AfterTurn, AfterDelivery, SiteDelivers, without_ready, GoesOnOnce, FollowsDelivery}
+use Rattle.ivy_site.specs.Sites as sites
+use Rattle.ivy_host.proofs.Programs.{turned-program, posting-core, delivered-program}
+use Rattle.ivy_program.specs.Steps.{HasEnded}
+use Rattle.ivy_seating.specs.Places.{IsSeated, IsFreshSeat}
+use Rattle.ivy_seating.specs.Reports.{IsDone}
+
+abbrev program_in : Shown → List Instruction
+program_in s = s.node.core.process.program
+
+-- the first node of a program
+first_there : (c : Config) (me k : ℕ) (programs : List (List Instruction)) (i : ℕ)
+    (program : List Instruction) → me + i ≡ k → slice_get programs i ≡ Some program
+    → slice_get (first_nodes managed_ops c me programs) i
+    ≡ Some (first_node managed_ops c k program)
+first_there c me k [] i program at is = absurd (none-some program is)
+first_there c me k (p ∷ ps) zero program at is =
+    let here : me ≡ k = omega (arith, at) in
+    ap (λ j. Some (first_node managed_ops c j p)) here
+    ∙ ap (λ q. Some (first_node managed_ops c k q)) (same_Some p program is)
+first_there c me k (p ∷ ps) (suc i) program at is =
+    first_there c (me + 1) k ps i program (omega (arith, at)) is
+
+module _ (c : Config) (programs : List (List Instruction)) where
+  -- the site's list is one of its node
+  pub its_list : (s : Shown) (made : IsMadeByEvents s) → s.config ≡ c
+      → slice_get programs s.me ≡ Some (program_in s)
+      → IsListOf (host_rules managed_ops) c (beginning c programs) s.me s.events made.effect
+  its_list s made config program = record {
+    node = first_node managed_ops c s.me (program_in s);
+    there = first_there c 0 s.me programs s.me (program_in s) (omega arith) program;
+    happen = subst
+        (λ k. AllHappen (host_rules managed_ops) k (first_node managed_ops k s.me (program_in s))
+        s.events made.effect)
+        config made.happen;
+  }
+
+  -- so it may be given
+  pub may_give : (wire : TableId) (s : Shown) (p : Held) (es : List Mark) → es ≡ s.events
+      → IsSeated wire c programs s p → IsMadeByEvents s → MayGive c programs p.known es
+  may_give wire s p es is h made = subst (MayGive c programs p.known) (sym is) (record {
+    node = s.me;
+    sits = h.node;
+    unreported = h.unreported;
+    goes_on = record {
+      more = h.given.more;
+      is = h.given.is;
+      effect = made.effect;
+      list = its_list s made h.config h.program;
+      can = subst (λ k. AllCanBeMade p.known.took k s.me h.given.more)
+          (sym (first_length managed_ops c 0 programs)) h.given.can;
+    };
+  })
+
+  -- and sends what its events sent
+  pub sends_from : (wire : TableId) (s s' : Shown) (p : Held) (es : List Mark) (bytes : List ℕ)
+      → es ≡ s'.events → s' ≡ record s { waiting = s'.waiting } → IsSeated wire c programs s p
+      → IsSentBy s bytes → SendsFrom c programs p.known es bytes
+  sends_from wire s s' p es bytes is same h sent =
+      subst (λ l. SendsFrom c programs p.known l bytes)
+      (sym (is ∙ ap (λ (x : Shown). x.events) same)) (record {
+        node = s.me;
+        sits = h.node;
+        sends = record {
+          effect = sent.made.effect;
+          list = its_list s sent.made h.config h.program;
+          sent = sent.sent;
+        };
+      })
+
+  -- one more event, or none
+  record StaysAt (s s' : Shown) (took : List (List ℕ)) : Type 0 where
+    me : s'.me ≡ s.me
+    config : s'.config ≡ s.config
+    program : program_in s' ≡ program_in s
+    ms : List Mark
+    events : s'.events ≡ s.events ++ ms
+    can : AllCanBeMade took (length programs) s.me ms
+
+  stays_same : (s s' : Shown) (took : List (List ℕ)) → s' ≡ s → StaysAt s s' took
+  stays_same s s' took same = record {
+    me = ap (λ (x : Shown). x.me) same;
+    config = ap (λ (x : Shown). x.config) same;
+    program = ap program_in same;
+    ms = [];
+    events = ap (λ (x : Shown). x.events) same ∙ sym (append-nil s.events);
+    can = tt;
+  }
+
+  stays_took : (s s' : Shown) (took : List (List ℕ))
+      → AllCanBeMade took (length programs) s.me s.events → StaysAt s s' took
+      → AllCanBeMade took (length programs) s'.me s'.events
+  stays_took s s' took before on =
+      subst (λ i. AllCanBeMade took (length programs) i s'.events) (sym on.me)
+      (subst (AllCanBeMade took (length programs) s.me) (sym on.events)
+      (can-append took (length programs) s.me s.events on.ms before on.can))
+
+  stays_on : (a b d : Shown) (took : List (List ℕ)) → StaysAt a b took → StaysAt b d took
+      → StaysAt a d took
+  stays_on a b d took x y = record {
+    me = y.me ∙ x.me;
+    config = y.config ∙ x.config;
+    program = y.program ∙ x.program;
+    ms = x.ms ++ y.ms;
+    events = y.events ∙ ap (λ l. l ++ y.ms) x.events ∙ append_assoc a.events x.ms y.ms;
+    can = can-append took (length programs) a.me x.ms y.ms x.can
+        (subst (λ i. AllCanBeMade took (length programs) i y.ms) x.me y.can);
+  }
+
+  stays_seated : (wire : TableId) (s s' : Shown) (p : Held) → IsSeated wire c programs s p
+      → StaysAt s s' p.known.took → IsSeated wire c programs s' p
+  stays_seated wire s s' p h on = record {
+    limits = h.limits;
+    each = h.each;
+    ether = h.ether;
+    node = h.node ∙ ap Some (sym on.me);
+    unreported = h.unreported;
+    config = on.config ∙ h.config;
+    program = ap (slice_get programs) on.me ∙ h.program ∙ ap Some (sym on.program);
+    given = record {
+      more = h.given.more ++ on.ms;
+      is = on.events ∙ ap (λ l. l ++ on.ms) h.given.is
+          ∙ append_assoc p.known.events h.given.more on.ms;
+      can = subst (λ i. AllCanBeMade p.known.took (length programs) i (h.given.more ++ on.ms))
+          (sym on.me)
+          (can-append p.known.took (length programs) s.me h.given.more on.ms h.given.can on.can);
+    };
+    took = stays_took s s' p.known.took h.took on;
+  }
+
+  -- after a turn
+  turn_stays : (t : turn.Turn) (s s' : Shown) (took : List (List ℕ)) → AfterTurn t s s'
+      → StaysAt s s' took
+  turn_stays Idle s s' took after = stays_same s s' took after.1
+  turn_stays Ended s s' took after = stays_same s s' took after.2
+  turn_stays Moved s s' took after = record {
+    me = ap (λ (x : Shown). x.me) after.after;
+    config = ap (λ (x : Shown). x.config) after.after;
+    program = ap program_in after.after
+        ∙ ap (λ (k : Host Managed). k.process.program)
+        (posting-core s.node after.outcome.after after.outcome.posted after.effect after.sent)
+        ∙ turned-program s.node.core after.outcome after.turn;
+    ms = Turn ∷ [];
+    events = ap (λ (x : Shown). x.events) after.after;
+    can = (tt, tt);
+  }
+
+  pub turn_seated : (wire : TableId) (t : turn.Turn) (s s' : Shown) (p : Held)
+      → IsSeated wire c programs s p → AfterTurn t s s' → IsSeated wire c programs s' p
+  turn_seated wire t s s' p h after =
+      stays_seated wire s s' p h (turn_stays t s s' p.known.took after)
+
+  -- after a delivery of a string that the pass took
+  listed : (bytes : List ℕ) (v w : Verdict) (s s' : Shown) (took : List (List ℕ))
+      → IsConfig s.config
+      → Contains took bytes → (d : SiteDelivers bytes v s s')
+      → s' ≡ after_hearing s bytes w d.frame.source d.effect → StaysAt s s' took
+  listed bytes v w s s' took limits there d after = record {
+    me = ap (λ (x : Shown). x.me) after;
+    config = ap (λ (x : Shown). x.config) after;
+    program = ap program_in after
+        ∙ delivered-program s.config limits s.node d.frame bytes d.effect d.spelled d.delivered;
+    ms = Delivery bytes ∷ [];
+    events = ap (λ (x : Shown). x.events) after;
+    can = (there, tt);
+  }
+
+  delivery_as : (bytes : List ℕ) (v w : Verdict) (s s' : Shown) (took : List (List ℕ)) → v ≡ w
+      → IsConfig s.config → Contains took bytes → (d : SiteDelivers bytes v s s')
+      → StaysAt s s' took
+  delivery_as bytes v verdict.NotMine s s' took is limits there d =
+      stays_same s s' took (d.after ∙ ap (λ x. after_delivery s bytes x d.frame.source d.effect) is)
+  delivery_as bytes v verdict.Next s s' took is limits there d =
+      listed bytes v verdict.Next s s' took limits there d
+      (d.after ∙ ap (λ x. after_delivery s bytes x d.frame.source d.effect) is)
+  delivery_as bytes v verdict.Repeat s s' took is limits there d =
+      listed bytes v verdict.Repeat s s' took limits there d
+      (d.after ∙ ap (λ x. after_delivery s bytes x d.frame.source d.effect) is)
+  delivery_as bytes v verdict.Ahead s s' took is limits there d =
+      listed bytes v verdict.Ahead s s' took limits there d
+      (d.after ∙ ap (λ x. after_delivery s bytes x d.frame.source d.effect) is)
+
+  -- and of one that it held, which the pass took once
+  once_stays : (source : ℕ) (bytes : List ℕ) (s s' : Shown) (took : List (List ℕ))
+      → IsConfig s.config → AllCanBeMade took (length programs) s.me s.events
+      → GoesOnOnce source bytes s s' → StaysAt s s' took
+  once_stays source bytes s s' took limits before once =
+      let there : Contains took bytes =
+      early-can (host_rules managed_ops) s.config took (length programs) s.me
+      (first_node managed_ops s.config s.me (program_in s)) s.events bytes before once.early in
+      let x : StaysAt (without_ready s source) s' took =
+      delivery_as bytes verdict.Next verdict.Next (without_ready s source) s' took refl limits there
+      once.next in
+      record {
+        me = x.me;
+        config = x.config;
+        program = x.program;
+        ms = x.ms;
+        events = x.events;
+        can = x.can;
+      }
+
+  all_stay : (source : ℕ) (more : List (List ℕ)) (s s' : Shown) (took : List (List ℕ))
+      → IsConfig s.config → AllCanBeMade took (length programs) s.me s.events
+      → sites.SiteGoesOn source more s s' → StaysAt s s' took
+  all_stay source [] s s' took limits before same = stays_same s s' took same
+  all_stay source (bytes ∷ more) s s' took limits before on =
+      let x : StaysAt s on.0 took = once_stays source bytes s on.0 took limits before on.1 in
+      stays_on s on.0 s' took x
+      (all_stay source more on.0 s' took (subst IsConfig (sym x.config) limits)
+      (stays_took s on.0 took before x) on.2)
+
+  holding_stays : (s s' : Shown) (took : List (List ℕ)) → s' ≡ record s { held = s'.held }
+      → StaysAt s s' took
+  holding_stays s s' took same = record {
+    me = ap (λ (x : Shown). x.me) same;
+    config = ap (λ (x : Shown). x.config) same;
+    program = ap program_in same;
+    ms = [];
+    events = ap (λ (x : Shown). x.events) same ∙ sym (append-nil s.events);
+    can = tt;
+  }
+
+  follows_stay : (v : Verdict) (f : Frame) (bytes : List ℕ) (s s' : Shown) (took : List (List ℕ))
+      → IsConfig s.config → AllCanBeMade took (length programs) s.me s.events
+      → FollowsDelivery v f bytes s s' → StaysAt s s' took
+  follows_stay verdict.NotMine f bytes s s' took limits before same = stays_same s s' took same
+  follows_stay verdict.Repeat f bytes s s' took limits before same = stays_same s s' took same
+  follows_stay verdict.Ahead f bytes s s' took limits before same =
+      holding_stays s s' took
+      (same ∙ ap (λ h. record s { held = h }) (sym (ap (λ (x : Shown). x.held) same)))
+  follows_stay verdict.Next f bytes s s' took limits before on =
+      all_stay f.source on.0 s s' took limits before on.1
+
+  pub delivery_seated : (wire : TableId) (bytes : List ℕ) (v : Verdict) (s s' : Shown) (p : Held)
+      → IsSeated wire c programs s p → Contains p.known.took bytes → AfterDelivery bytes v s s'
+      → IsSeated wire c programs s' p
+  delivery_seated wire bytes v s s' p h there d =
+      let limits : IsConfig s.config = subst IsConfig (sym h.config) h.limits in
+      let x : StaysAt s d.mid p.known.took =
+      delivery_as bytes v v s d.mid p.known.took refl limits there d.first in
+      stays_seated wire s s' p h
+      (stays_on s d.mid s' p.known.took x
+      (follows_stay v d.first.frame bytes d.mid s' p.known.took
+      (subst IsConfig (sym x.config) limits)
+      (stays_took s d.mid p.known.took h.took x) d.follows))
+
+  -- after a pulse to another node
+  pulse_can : (to : ℕ) (me nodes : ℕ) (took strings : List (List ℕ)) → to < nodes → me ≢ to
+      → AllCanBeMade took nodes me (pulse_marks to strings)
+  pulse_can to me nodes took [] below apart = tt
+  pulse_can to me nodes took (x ∷ xs) below apart = ((below, apart), tt)
+
+  pub pulse_seated : (wire : TableId) (to : ℕ) (s s' : Shown) (p : Held)
+      → IsSeated wire c programs s p → to < s.config.nodes → to ≢ s.me
+      → s' ≡ after_pulse_to s to (pulsing s.node to) → IsSeated wire c programs s' p
+  unfolding pulsing
+  pulse_seated wire to s s' p h below apart after =
+      let inside : to < length programs =
+      subst (λ k. to < k) (ap (λ (k : Config). k.nodes) h.config ∙ sym h.each) below in
+      stays_seated wire s s' p h (record {
+        me = ap (λ (x : Shown). x.me) after;
+        config = ap (λ (x : Shown). x.config) after;
+        program = ap program_in after;
+        ms = pulse_marks to (pulsing s.node to).sent;
+        events = ap (λ (x : Shown). x.events) after;
+        can = pulse_can to s.me (length programs) p.known.took (pulsing s.node to).sent inside
+            (λ same. apart (sym same));
+      })
+
+  -- after a step that gave the list
+  record Gives (old new : Held) (es : List Mark) : Type 0 where
+    ether : new.ether ≡ old.ether
+    node : new.known.node ≡ old.known.node
+    reported : new.known.reported ≡ old.known.reported
+    events : new.known.events ≡ es
+    took : (b : List ℕ) → Contains old.known.took b → Contains new.known.took b
+
+  gave_seated : (wire : TableId) (s : Shown) (p p' : Held) → IsSeated wire c programs s p
+      → Gives p p' s.events → IsSeated wire c programs s p'
+  gave_seated wire s p p' h g = record {
+    limits = h.limits;
+    each = h.each;
+    ether = g.ether ∙ h.ether;
+    node = g.node ∙ h.node;
+    unreported = g.reported ∙ h.unreported;
+    config = h.config;
+    program = h.program;
+    given = record { more = []; is = sym (append-nil p'.known.events ∙ g.events); can = tt };
+    took = can-more p.known.took p'.known.took (length programs) s.me s.events g.took h.took;
+  }
+
+  pub given_seated : (wire : TableId) (s : Shown) (p p' : Held) (es : List Mark)
+      (strings : List (List ℕ)) → es ≡ s.events → p'.ether ≡ p.ether
+      → p'.known ≡ with_put p.known es strings → IsSeated wire c programs s p
+      → IsSeated wire c programs s p'
+  given_seated wire s p p' es strings is ether known h = gave_seated wire s p p' h (record {
+    ether = ether;
+    node = ap (λ (v : View). v.node) known;
+    reported = ap (λ (v : View). v.reported) known;
+    events = ap (λ (v : View). v.events) known ∙ is;
+    took = λ b there. subst (λ (v : View). Contains v.took b) (sym known) there;
+  })
+
+  pub taken_seated : (wire : TableId) (s : Shown) (p p' : Held) (es : List Mark)
+      (strings : List (List ℕ)) → es ≡ s.events → p'.ether ≡ p.ether
+      → p'.known ≡ with_taken p.known es strings → IsSeated wire c programs s p
+      → IsSeated wire c programs s p'
+  taken_seated wire s p p' es strings is ether known h = gave_seated wire s p p' h (record {
+    ether = ether;
+    node = ap (λ (v : View). v.node) known;
+    reported = ap (λ (v : View). v.reported) known;
+    events = ap (λ (v : View). v.events) known ∙ is;
+    took = λ b there. subst (λ (v : View). Contains v.took b) (sym known)
+        (Contains-append_left p.known.took strings b there);
+  })
+
+  pub same_seated : (wire : TableId) (s : Shown) (p p' : Held) → p'.ether ≡ p.ether
+      → p'.known ≡ p.known → IsSeated wire c programs s p → IsSeated wire c programs s p'
+  same_seated wire s p p' ether known h =
+      subst (IsSeated wire c programs s) (λ k. held (sym ether k) (sym known k)) h
+
+  -- a string less waits
+  pub less_seated : (wire : TableId) (s s' : Shown) (p : Held)
+      → s' ≡ record s { waiting = s'.waiting } → IsSeated wire c programs s p
+      → IsSeated wire c programs s' p
+  less_seated wire s s' p same h = stays_seated wire s s' p h (record {
+    me = ap (λ (x : Shown). x.me) same;
+    config = ap (λ (x : Shown). x.config) same;
+    program = ap program_in same;
+    ms = [];
+    events = ap (λ (x : Shown). x.events) same ∙ sym (append-nil s.events);
+    can = tt;
+  })
+
+  -- at first
+  pub fresh_seated : (wire : TableId) (s : Shown) (p : Held) → IsFreshSeat wire c programs s p
+      → IsSeated wire c programs s p
+  fresh_seated wire s p f = record {
+    limits = f.limits;
+    each = f.each;
+    ether = f.ether;
+    node = ap (λ (v : View). v.node) f.pass;
+    unreported = ap (λ (v : View). v.reported) f.pass;
+    config = ap (λ (x : Shown). x.config) f.site;
+    program = f.there ∙ ap Some (sym (ap program_in f.site));
+    given = record {
+      more = [];
+      is = ap (λ (x : Shown). x.events) f.site ∙ sym (ap (λ (v : View). v.events) f.pass)
+          ∙ sym (append-nil p.known.events);
+      can = tt;
+    };
+    took = subst (AllCanBeMade p.known.took (length programs) s.me)
+        (sym (ap (λ (x : Shown). x.events) f.site)) tt;
+  }
+
+  -- as the calls of a site answer
+  pub turned : (wire : TableId) (r : Result turn.Turn Fault) (s s' : Shown) (p : Held)
+      → MatchResult r (λ t. AfterTurn t s s') (λ _. s' ≡ s) → IsSeated wire c programs s p
+      → IsSeated wire c programs s' p
+  turned wire (Ok t) s s' p after h = turn_seated wire t s s' p h after
+  turned wire (Err fault) s s' p same h =
+      stays_seated wire s s' p h (stays_same s s' p.known.took same)
+
+  pub delivered : (wire : TableId) (r : Result Verdict Fault) (bytes : List ℕ) (s s' : Shown)
+      (p : Held) → MatchResult r (λ v. AfterDelivery bytes v s s') (λ _. s' ≡ s)
+      → Contains p.known.took bytes → IsSeated wire c programs s p → IsSeated wire c programs s' p
+  delivered wire (Ok v) bytes s s' p after there h =
+      delivery_seated wire bytes v s s' p h there after
+  delivered wire (Err fault) bytes s s' p same there h =
+      stays_seated wire s s' p h (stays_same s s' p.known.took same)
+
+  pub pulsed : (wire : TableId) (r : Result (Unit {0}) Fault) (to : ℕ) (s s' : Shown) (p : Held)
+      → MatchResult r (λ _. s' ≡ after_pulse_to s to (pulsing s.node to)) (λ _. s' ≡ s)
+      → to < s.config.nodes → to ≢ s.me → IsSeated wire c programs s p
+      → IsSeated wire c programs s' p
+  pulsed wire (Ok done) to s s' p after below apart h =
+      pulse_seated wire to s s' p h below apart after
+  pulsed wire (Err fault) to s s' p same below apart h =
+      stays_seated wire s s' p h (stays_same s s' p.known.took same)
+
+  -- and those of the ether
+  pub put_seated : (wire : TableId) (r : Put) (s : Shown) (p p' : Held) (es : List Mark)
+      (frame : List ℕ) → es ≡ s.events → p'.ether ≡ p.ether
+      → MatchPut r (p'.known ≡ with_put p.known es (frame ∷ []))
+      (λ back. (back ≡ frame) × (p'.known ≡ p.known))
+      → IsSeated wire c programs s p → IsSeated wire c programs s p'
+  put_seated wire Sent s p p' es frame is ether known h =
+      given_seated wire s p p' es (frame ∷ []) is ether known h
+  put_seated wire (Lost back) s p p' es frame is ether known h =
+      same_seated wire s p p' ether known.1 h
+
+  pub take_seated : (wire : TableId) (r : Option Item) (s : Shown) (p p' : Held) (es : List Mark)
+      → es ≡ s.events → p'.ether ≡ p.ether
+      → MatchOption r (p'.known ≡ p.known) (λ x. p'.known ≡ with_taken p.known es (strings_in x))
+      → IsSeated wire c programs s p → IsSeated wire c programs s p'
+  take_seated wire None s p p' es is ether known h = same_seated wire s p p' ether known h
+  take_seated wire (Some x) s p p' es is ether known h =
+      taken_seated wire s p p' es (strings_in x) is ether known h
+
+  -- a site whose program has ended is done
+  pub is_done : (wire : TableId) (s : Shown) (p : Held) (i : ℕ) → IsSeated wire c programs s p
+      → IsMadeByEvents s → s.me ≡ i → HasEnded s.node.core.process → IsDone c programs i s
+  is_done wire s p i h made at ended = record {
+    of = record {
+      effect = made.effect;
+      list = subst
+          (λ j. IsListOf (host_rules managed_ops) c (beginning c programs) j s.events made.effect)
+          at (its_list s made h.config h.program);
+      history = ap (λ (n : Node (Host Managed)). n.core.history) made.node;
+      output = ap (λ (n : Node (Host Managed)). n.core.process.state.output) made.node;
+    };
+    ended = subst (λ (n : Node (Host Managed)). HasEnded n.core.process) made.node ended;
+  }

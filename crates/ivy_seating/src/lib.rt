@@ -1,0 +1,20 @@
+//! The nodes of a session at its ether: how each is seated, the turns of a seated site, and the report of all.
+//!
+//! A seated site is a site with its pass. At every moment its event list is one that the pass may give, so the event
+//! lists of all of them are the parts of one run of the world, whoever makes their turns. Nothing here starts a thread.
+//!
+//! In a comment, numbers in brackets as [1, 17] are the fault numbers that a call may answer.
+#![tactic(auto)]
+
+mod report;
+mod seated;
+mod seating;
+mod wire_turn;
+
+pub use report::Report;
+pub use seated::Seated;
+pub use seating::{collect, seat_all};
+pub use wire_turn::WireTurn;
+
+// what a turn of a seated site's program came to
+pub use ivy_site::Turn;

@@ -1,0 +1,248 @@
+//! A site that is seated at an ether.
+ghost use Rattle.std.specs.Prelude.{◌≡◌, ◌≢◌, ◌↔◌, ◌<◌, ◌≤◌, [], Err, Contains, IsTrue, MatchBool, MatchOption, MatchResult, IfOk, IfErr, IsSome, IsOkUnless, length};
+ghost use Rattle.ivy_model.specs.Wants.{IsWant};
+ghost use Rattle.ivy_wire.specs.Faults.{checked};
+ghost use Rattle.ivy_events.specs.Nodes.{pulsing, verdict_of};
+ghost use Rattle.ivy_program.specs.Steps.{HasEnded};
+ghost use Rattle.ivy_outbox.specs.Outboxes.{next_dest};
+ghost use Rattle.ivy_site.specs.Shown.{after_pulse_to};
+ghost use Rattle.ivy_site.specs.Sites.{AfterTurn, AfterDelivery, IsSpentTurn, IsSpentDelivery};
+ghost use Rattle.ivy_seating.specs.Places.{place, IsSeated, IsFreshSeat, KeepsSeat};
+ghost use Rattle.ivy_seating.specs.Wire.{AfterWire, RefusesString, IsNextOther, pass_after_putting, pass_after_taking};
+
+use crate::wire_turn::WireTurn;
+use ivy_ether::{Ether, Item, Pass, Put, Setup, Wired};
+use ivy_link::Verdict;
+use ivy_model::Fault;
+use ivy_site::{Site, Turn};
+use ivy_wire::{Bytes, destination};
+use std::alloc::Allocator;
+use std::marker::Model;
+use std::sync::Wait;
+
+/// A site with its pass and a reference to the ether that the pass is of, as it stands behind its lock.
+///
+/// At every moment the site's event list goes on from the list that the pass gave last, by deliveries of strings that
+/// the pass took.
+#[derive(Drop)]
+pub struct Seated<'e, S: Setup, A: Allocator> {
+    ether: &'e Ether<S, A>,
+    site: Site<A>,
+    pass: Pass<Wired<A>>,
+}
+
+impl<'e, S: Setup, A: Allocator> Model for Seated<'e, S, A> {
+    ghost use Rattle.ivy_seating.specs.Places.{SeatedState, place, IsSeated};
+
+    ghost Value = { SeatedState };
+
+    ghost use Rattle.std.specs.Coded.{codes};
+    ghost use Rattle.ivy_pagetable.specs.NodeSets.{nodes_code};
+    ghost use Rattle.ivy_alloc.specs.Heap.{heap_state_code};
+
+    ghost coded = { Prim.hlevel (codes, nodes_code, heap_state_code) };
+
+    ghost view = { λ s. place s.site s.pass };
+
+    ghost invariant = { λ s. IsSeated s.ether.now S.config S.programs s.site s.pass };
+}
+
+/// The node after this one, round, that is not `me`.
+fn next_other(nodes: u8, me: u8, last: u8) -> u8
+    requires { 2 ≤ nodes }
+    ensures { IsNextOther nodes me last result }
+{
+    let next = if last < nodes - 1 { last + 1 } else { 0 };
+    if next != me {
+        next
+    } else if next < nodes - 1 {
+        next + 1
+    } else {
+        0
+    }
+}
+
+impl<'e, S: Setup, A: Allocator + Copy> Seated<'e, S, A> {
+    /// Seats a site that has made no event yet, with a pass that took the seat of its node.
+    pub fn new(ether: &'e Ether<S, A>, site: Site<A>, pass: Pass<Wired<A>>) -> Self
+        requires fresh { IsFreshSeat ether.now S.config S.programs site pass }
+        ensures { result ≡ place site pass }
+    {
+        Seated { ether, site, pass }
+    }
+
+    /// What holds of a seated site at every moment. It takes no memory.
+    ///
+    /// The node is what the site's events make of the first one of its program, and the strings that wait were sent by
+    /// them. The list that the pass gave last is a beginning of the site's, and each string that was delivered to the
+    /// site was taken by the pass.
+    pub fn keeps(&self)
+        ensures { KeepsSeat S.config S.programs self.now }
+    {
+        let _ = self.site.event_list();
+    }
+
+    /// How many records the site's history has.
+    pub fn records(&self) -> u64
+        ensures { result ≡ length self.now.site.node.core.history }
+    {
+        self.site.history().len() as u64
+    }
+
+    /// Whether a frame waits to be put.
+    pub fn has_frame(&self) -> bool
+        ensures { IsTrue result ↔ (self.now.site.waiting ≢ []) }
+    {
+        self.site.has_frame()
+    }
+
+    /// The node that the first frame that waits is for.
+    pub fn next_destination(&self) -> Option<u8>
+        ensures { result ≡ next_dest self.now.site.waiting }
+    {
+        self.site.next_destination()
+    }
+
+    /// One turn of the site's program [1, 17]. A refused turn changes nothing.
+    pub fn program_turn(&mut self) -> Result<Turn, Fault>
+        ensures pass { self.new.pass ≡ self.old.pass }
+        ensures done { MatchResult result (λ turn. AfterTurn turn self.old.site self.new.site) (λ _. self.new ≡ self.old) }
+        ensures ended { IfOk result (λ turn. (turn ≡ Turn.Ended) ↔ HasEnded self.old.site.node.core.process) }
+        ensures waits { IfOk result (λ turn. turn ≡ Turn.Idle → IsSome self.old.site.node.core.memory.asked) }
+        ensures spent { IfErr result (IsSpentTurn self.old.site) }
+        ensures want { IfErr result IsWant }
+    {
+        self.site.program_turn()
+    }
+
+    /// A pulse to another node [1]. A refused pulse changes nothing.
+    pub fn pulse(&mut self, to: u8) -> Result<(), Fault>
+        requires to { to < self.old.site.config.nodes }
+        requires other { to ≢ self.old.site.me }
+        ensures pass { self.new.pass ≡ self.old.pass }
+        ensures done { MatchResult result (λ _. self.new.site ≡ after_pulse_to self.old.site to (pulsing self.old.site.node to)) (λ _. self.new ≡ self.old) }
+        ensures memory { IsOkUnless result Fault.Memory }
+    {
+        self.site.pulse(to)
+    }
+
+    /// A pulse to the other node that follows this one, in ascending order and round, which is the answer [1].
+    pub fn pulse_next(&mut self, last: u8) -> Result<u8, Fault>
+        ensures pass { self.new.pass ≡ self.old.pass }
+        ensures done { MatchResult result (λ to. self.new.site ≡ after_pulse_to self.old.site to (pulsing self.old.site.node to)) (λ _. self.new ≡ self.old) }
+        ensures to { IfOk result (λ to. IsNextOther self.old.site.config.nodes self.old.site.me last to) }
+        ensures memory { IsOkUnless result Fault.Memory }
+    {
+        let to = next_other(self.site.config().nodes, self.site.me(), last);
+        self.pulse(to)?;
+        Ok(to)
+    }
+
+    /// A string that the pass took is delivered to the site [1, 11 to 17]. A refused delivery changes nothing.
+    pub fn deliver(&mut self, string: &Bytes<A>) -> Result<Verdict, Fault>
+        requires took { Contains self.old.pass.known.took string.now }
+        ensures pass { self.new.pass ≡ self.old.pass }
+        ensures done { MatchResult result (λ verdict. AfterDelivery string.now verdict self.old.site self.new.site) (λ _. self.new ≡ self.old) }
+        ensures verdict { IfOk result (λ verdict. verdict ≡ verdict_of self.old.site.config self.old.site.node string.now) }
+        ensures refused { MatchResult (checked self.old.site.config string.now) (λ _. IfErr result IsWant) (λ fault. result ≡ Err fault) }
+        ensures spent { IfErr result (IsSpentDelivery self.old.site string.now) }
+    {
+        self.site.deliver_shared(string)
+    }
+
+    /// Puts the first frame that waits, if there is one. It says whom the frame is for.
+    fn send_first<R: Wait>(&mut self, rt: &R) -> Option<(WireTurn, Option<u8>)>
+        ensures { MatchOption result ((self.new ≡ self.old) × (self.old.site.waiting ≡ [])) (λ sent. AfterWire sent.0 self.old self.new) }
+    {
+        let to = self.site.next_destination();
+        let frame = self.site.take_frame()?;
+        match self
+            .ether
+            .put(rt, &mut self.pass, self.site.event_list(), frame)
+        {
+            Put::Sent => Some((WireTurn::Sent, to)),
+            Put::Lost(_) => Some((WireTurn::Lost, to)),
+        }
+    }
+
+    /// Takes an item.
+    fn take_item<R: Wait>(&mut self, rt: &R) -> Option<Wired<A>>
+        ensures site { self.new.site ≡ self.old.site }
+        ensures pass { MatchOption result (self.new.pass ≡ self.old.pass) (λ item. self.new.pass ≡ pass_after_taking self.old item) }
+    {
+        self.ether.take(rt, &mut self.pass, self.site.event_list())
+    }
+
+    /// Puts back a frame that was taken. It says whether the ether had a place for it.
+    fn give_back<R: Wait>(&mut self, rt: &R, frame: Bytes<A>) -> bool
+        requires took { Contains self.old.pass.known.took frame }
+        ensures site { self.new.site ≡ self.old.site }
+        ensures pass { MatchBool result (self.new.pass ≡ pass_after_putting self.old frame) (self.new.pass ≡ self.old.pass) }
+    {
+        match self
+            .ether
+            .put_back(rt, &mut self.pass, self.site.event_list(), frame)
+        {
+            Put::Sent => true,
+            Put::Lost(_) => false,
+        }
+    }
+
+    /// One turn on the wire: the first frame that waits is put, else an item is taken, and a frame is served, or put
+    /// back where it is for another node [1, 17]. Where it is refused the site is as it was, and the frame is lost.
+    pub fn wire_turn<R: Wait>(&mut self, rt: &R) -> Result<WireTurn, Fault>
+        ensures done { MatchResult result (λ turn. AfterWire turn self.old self.new) (λ fault. RefusesString fault self.old self.new) }
+        ensures want { IfErr result IsWant }
+    {
+        let (turn, _) = self.wire_turn_to(rt)?;
+        Ok(turn)
+    }
+
+    /// The same. It also says whom the frame is for that was put, or put back.
+    pub fn wire_turn_to<R: Wait>(&mut self, rt: &R) -> Result<(WireTurn, Option<u8>), Fault>
+        ensures done { MatchResult result (λ done. AfterWire done.0 self.old self.new) (λ fault. RefusesString fault self.old self.new) }
+        ensures want { IfErr result IsWant }
+    {
+        if let Some(sent) = self.send_first(rt) {
+            return Ok(sent);
+        }
+        let Some(item) = self.take_item(rt) else {
+            return Ok((WireTurn::Empty, None));
+        };
+        let Item::Frame(frame) = item else {
+            return Ok((WireTurn::Dropped, None));
+        };
+        match self.deliver(&frame) {
+            Ok(Verdict::NotMine) => {
+                let to = destination(frame.bytes());
+                if self.give_back(rt, frame) {
+                    return Ok((WireTurn::Returned, to));
+                }
+                Ok((WireTurn::Dropped, to))
+            }
+            Ok(verdict) => Ok((WireTurn::Served(verdict), None)),
+            Err(Fault::Memory) => Err(Fault::Memory),
+            Err(Fault::NumbersSpent) => Err(Fault::NumbersSpent),
+            Err(_) => Ok((WireTurn::Dropped, None)),
+        }
+    }
+
+    /// Takes what is left in the ether, so many items at most.
+    pub fn drain<R: Wait>(&mut self, rt: &R, most: u64)
+        ensures site { self.new.site ≡ self.old.site }
+    {
+        for _ in 0..most {
+            if self.take_item(rt).is_none() {
+                break;
+            }
+        }
+    }
+
+    /// The ether, the site and its pass.
+    pub(crate) fn into_parts(self) -> (&'e Ether<S, A>, Site<A>, Pass<Wired<A>>)
+        ensures { IsSeated result.0.now S.config S.programs result.1 result.2 }
+    {
+        let Seated { ether, site, pass } = self;
+        (ether, site, pass)
+    }
+}

@@ -1,5 +1,0 @@
-use Rattle.ivy_session.proofs.Seats.{fresh_seated}
-use Rattle.ivy_session.proofs.seated.Seated.new.Goals as goal
-
-pub invariant_of-result : goal.invariant_of-result
-invariant_of-result g c = fresh_seated _ _ _ _ _ c.requires.fresh
