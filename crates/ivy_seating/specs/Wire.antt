@@ -1,9 +1,11 @@
 -- What the turns of a seated site leave.
-use Rattle.std.specs.Prelude.{◌≡◌, ◌≢◌, ◌<◌, ◌≤◌, ℕ, List, [], ◌∷◌, All}
+use Rattle.std.specs.Prelude.{◌≡◌, ◌≢◌, ◌<◌, ◌≤◌, ℕ, List, Option, [], ◌∷◌, All}
 use Rattle.ivy_model.specs.declared.Fault.{Fault}
 use Rattle.ivy_link.specs.declared.Verdict.{Verdict}
 use Rattle.ivy_link.specs.declared.Verdict.TheVariants as verdict
+use Rattle.ivy_wire.specs.Destinations.{dest_of}
 use Rattle.ivy_events.specs.Nodes.{verdict_of}
+use Rattle.ivy_outbox.specs.Outboxes.{next_dest}
 use Rattle.ivy_site.specs.Shown.{Shown}
 use Rattle.ivy_site.specs.Sites.{AfterDelivery, IsSpentDelivery}
 use Rattle.ivy_ether.specs.Data.{Item}
@@ -82,6 +84,13 @@ AfterWire Empty old new = Rests old new × (new.pass ≡ old.pass)
 AfterWire (Served v) old new = ServesString v old new
 AfterWire Returned old new = ReturnsString old new
 AfterWire Dropped old new = DropsItem old new
+
+-- whom the string is for that the turn put, or put back
+abbrev pub IsPutFor : WireTurn → Option ℕ → SeatedState → SeatedState → Type 0
+IsPutFor Sent to old new = to ≡ next_dest old.site.waiting
+IsPutFor Returned to old new =
+    (returned : ReturnsString old new) × (to ≡ dest_of returned.bytes)
+IsPutFor turn to old new = Unit {0}
 
 -- the other node that follows the last one; where none does, the first other one
 pub record IsNextOther (nodes me last to : ℕ) : Type 0 where

@@ -1,5 +1,5 @@
 //! A site that is seated at an ether.
-ghost use Rattle.std.specs.Prelude.{◌≡◌, ◌≢◌, ◌↔◌, ◌<◌, ◌≤◌, [], Err, Contains, IsTrue, MatchBool, MatchOption, MatchResult, IfOk, IfErr, IsSome, IsOkUnless, length};
+ghost use Rattle.std.specs.Prelude.{◌≡◌, ◌≢◌, ◌↔◌, ◌<◌, ◌≤◌, [], Err, Contains, IsTrue, MatchBool, MatchOption, MatchResult, IfOk, IfErr, IfSome, IsSome, IsOkUnless, length};
 ghost use Rattle.ivy_model.specs.Wants.{IsWant};
 ghost use Rattle.ivy_wire.specs.Faults.{checked};
 ghost use Rattle.ivy_events.specs.Nodes.{pulsing, verdict_of};
@@ -8,7 +8,7 @@ ghost use Rattle.ivy_outbox.specs.Outboxes.{next_dest};
 ghost use Rattle.ivy_site.specs.Shown.{after_pulse_to};
 ghost use Rattle.ivy_site.specs.Sites.{AfterTurn, AfterDelivery, IsSpentTurn, IsSpentDelivery};
 ghost use Rattle.ivy_seating.specs.Places.{place, IsSeated, IsFreshSeat, KeepsSeat};
-ghost use Rattle.ivy_seating.specs.Wire.{AfterWire, RefusesString, IsNextOther, pass_after_putting, pass_after_taking};
+ghost use Rattle.ivy_seating.specs.Wire.{AfterWire, RefusesString, IsPutFor, IsNextOther, pass_after_putting, pass_after_taking};
 
 use crate::wire_turn::WireTurn;
 use ivy_ether::{Ether, Item, Pass, Put, Setup, Wired};
@@ -152,7 +152,8 @@ impl<'e, S: Setup, A: Allocator + Copy> Seated<'e, S, A> {
 
     /// Puts the first frame that waits, if there is one. It says whom the frame is for.
     fn send_first<R: Wait>(&mut self, rt: &R) -> Option<(WireTurn, Option<u8>)>
-        ensures { MatchOption result ((self.new ≡ self.old) × (self.old.site.waiting ≡ [])) (λ sent. AfterWire sent.0 self.old self.new) }
+        ensures done { MatchOption result ((self.new ≡ self.old) × (self.old.site.waiting ≡ [])) (λ sent. AfterWire sent.0 self.old self.new) }
+        ensures to { IfSome result (λ sent. IsPutFor sent.0 sent.1 self.old self.new) }
     {
         let to = self.site.next_destination();
         let frame = self.site.take_frame()?;
@@ -198,9 +199,10 @@ impl<'e, S: Setup, A: Allocator + Copy> Seated<'e, S, A> {
         Ok(turn)
     }
 
-    /// The same. It also says whom the frame is for that was put, or put back.
+    /// The same. Where a frame was put, or put back, it also says whom that is for.
     pub fn wire_turn_to<R: Wait>(&mut self, rt: &R) -> Result<(WireTurn, Option<u8>), Fault>
         ensures done { MatchResult result (λ done. AfterWire done.0 self.old self.new) (λ fault. RefusesString fault self.old self.new) }
+        ensures to { IfOk result (λ done. IsPutFor done.0 done.1 self.old self.new) }
         ensures want { IfErr result IsWant }
     {
         if let Some(sent) = self.send_first(rt) {

@@ -72,6 +72,7 @@ pub fn seat_all<'e, S: Setup, A: Allocator + Copy, R: Wait>(
     requires starter { (starter.old.ether ≡ ether.now) × (starter.old.known ≡ beginner) }
     requires passes { All (IsNewcomer ether.now) passes.items }
     requires enough { vec_len passes ≡ length programs.items }
+    ensures seats { IfOk result (λ seats. vec_len seats ≡ length programs.items) }
     ensures starter { starter.new.ether ≡ starter.old.ether }
     ensures stop { IfErr result IsStop }
 {

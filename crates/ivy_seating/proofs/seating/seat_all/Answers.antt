@@ -21,6 +21,7 @@ loop-program-init g c =
       starts = ap (λ (v : View). v.starts) c.requires.starter.1;
       issued = λ j le. ap (λ (v : View). times j v.issued) c.requires.starter.1;
       passes = c.requires.passes;
+      seated = search rules;
       enough = c.requires.enough ∙ ap length (sym gives.0);
     }
 
@@ -59,6 +60,7 @@ loop-program-preserved g c =
       issued = issued_more _ _ at.node c.in_ok-seated.ensures.issued at.invariant.issued;
       passes = (All-pop (IsNewcomer c.args.ether.now) _ _ (Some c.in-Some-pop.pass)
           c.in-Some-pop.ensures.items at.invariant.passes).0;
+      seated = omega arith;
       enough = omega arith;
     }
 

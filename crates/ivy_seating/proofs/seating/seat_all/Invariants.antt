@@ -18,5 +18,6 @@ invariant-loop-program g l = record {
   starts : l.starter.known.starts ≡ true;
   issued : (j : ℕ) → l.node ≤ j → times j l.starter.known.issued ≡ 0;
   passes : All (IsNewcomer l.ether) l.passes.items;
+  seated : vec_len l.seats ≡ l.node;
   enough : vec_len l.passes ≡ length (into_iter_items l.program-iterator);
 }

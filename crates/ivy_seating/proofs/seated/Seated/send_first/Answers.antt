@@ -30,12 +30,19 @@ returns g c =
     elim c.match-put.branch [
       | in-Sent w ↦
           rw (w.result-is, ← c.self.view_is)
-          (put_own c.self.inside.site c.take_frame.new.self c.self.inside.pass c.put.new.pass _
-          c.in_ok-frame.frame c.in_ok-frame.ensures.taken.0 c.in_ok-frame.ensures.taken.1
-          c.event_list.ensures.is c.put.ensures.pass w.in-Sent.ensures.known)
+          (record {
+            done = put_own c.self.inside.site c.take_frame.new.self c.self.inside.pass
+                c.put.new.pass _ c.in_ok-frame.frame c.in_ok-frame.ensures.taken.0
+                c.in_ok-frame.ensures.taken.1 c.event_list.ensures.is c.put.ensures.pass
+                w.in-Sent.ensures.known;
+            to = c.next_destination-to.ensures;
+          })
       | in-Lost w ↦
           rw (w.result-is, ← c.self.view_is)
-          (lost_own c.self.inside.site c.take_frame.new.self c.self.inside.pass c.put.new.pass
-          c.in_ok-frame.frame c.in_ok-frame.ensures.taken.0 c.in_ok-frame.ensures.taken.1
-          c.put.ensures.pass w.in-Lost.ensures.known.1)
+          (record {
+            done = lost_own c.self.inside.site c.take_frame.new.self c.self.inside.pass
+                c.put.new.pass c.in_ok-frame.frame c.in_ok-frame.ensures.taken.0
+                c.in_ok-frame.ensures.taken.1 c.put.ensures.pass w.in-Lost.ensures.known.1;
+            to = tt;
+          })
     ]

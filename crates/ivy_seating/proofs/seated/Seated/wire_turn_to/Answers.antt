@@ -8,17 +8,28 @@ use Rattle.ivy_seating.proofs.seated.Seated.wire_turn_to.Goals as goal
 pub give_back-requires : goal.give_back-requires
 give_back-requires g c =
     let taken : HasTaken c.in-Frame.frame c.args.self.now c.take_item.new.self =
-    has_taken _ _ _ _ _ c.in-Frame.is c.in_default.ensures c.in-Some-take_item.ensures.site
+    has_taken _ _ _ _ _ c.in-Frame.is c.in_default.ensures.done c.in-Some-take_item.ensures.site
     c.in-Some-take_item.ensures.pass in
     record {
       took = subst (λ (p : Held). Contains p.known.took c.in-Frame.frame)
           (sym c.in-Ok-NotMine.ensures.pass) (took_string _ _ _ taken);
     }
 
+pub returns-then-give_back-clause-to : goal.returns-then-give_back-clause-to
+returns-then-give_back-clause-to g c = (
+  record {
+    rests = search rules;
+    bytes = c.in-Frame.frame;
+    foreign = search rules;
+    put = search rules;
+  },
+  search rules,
+)
+
 pub returns : goal.returns
 returns g c =
     let taken : HasTaken c.in-Frame.frame c.args.self.now c.take_item.new.self =
-    has_taken _ _ _ _ _ c.in-Frame.is c.in_default.ensures c.in-Some-take_item.ensures.site
+    has_taken _ _ _ _ _ c.in-Frame.is c.in_default.ensures.done c.in-Some-take_item.ensures.site
     c.in-Some-take_item.ensures.pass in
     let some : c.in-Err.field-0 ≢ fault.Memory = search rules in
     let numbers : c.in-Err.field-0 ≢ fault.NumbersSpent = search rules in
@@ -28,5 +39,6 @@ returns g c =
           (refused_as (checked here.config c.in-Frame.frame) here.node c.in-Frame.frame
           c.deliver.result c.in-Err.field-0 c.in-Err.is c.deliver.ensures.refused some numbers)
           c.in-Err.ensures.done;
+      to = tt;
       want = tt;
     }
