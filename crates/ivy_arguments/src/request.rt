@@ -1,4 +1,6 @@
 //! What the words of a command line ask for.
+ghost use Rattle.std.specs.Prelude.{IfOk};
+ghost use Rattle.ivy_arguments.specs.Requests.{AsksNoMore};
 
 use crate::error::CommandLineError;
 use clap::{Arg, ArgAction, ArgMatches, Command};
@@ -147,7 +149,9 @@ fn settings_of<'a>(matches: &ArgMatches<'a>) -> Result<Settings, CommandLineErro
     })
 }
 
-fn run_of<'a>(matches: &ArgMatches<'a>) -> Result<Request<'a>, CommandLineError> {
+fn run_of<'a>(matches: &ArgMatches<'a>) -> Result<Request<'a>, CommandLineError>
+    ensures { IfOk result AsksNoMore }
+{
     Ok(Request::Run {
         file: word_of(matches, FILE)?,
         turns: number_of(matches, TURNS)?,
@@ -157,7 +161,9 @@ fn run_of<'a>(matches: &ArgMatches<'a>) -> Result<Request<'a>, CommandLineError>
     })
 }
 
-fn step_of<'a>(matches: &ArgMatches<'a>) -> Result<Request<'a>, CommandLineError> {
+fn step_of<'a>(matches: &ArgMatches<'a>) -> Result<Request<'a>, CommandLineError>
+    ensures { IfOk result AsksNoMore }
+{
     Ok(Request::Step {
         file: word_of(matches, FILE)?,
         schedule: word_of(matches, SCHEDULE)?,
@@ -165,7 +171,9 @@ fn step_of<'a>(matches: &ArgMatches<'a>) -> Result<Request<'a>, CommandLineError
     })
 }
 
-fn sim_of<'a>(matches: &ArgMatches<'a>) -> Result<Request<'a>, CommandLineError> {
+fn sim_of<'a>(matches: &ArgMatches<'a>) -> Result<Request<'a>, CommandLineError>
+    ensures { IfOk result AsksNoMore }
+{
     let moves = number_of(matches, MOVES)?;
     if moves > MOST_MOVES {
         return Err(CommandLineError::BadCommandLine);
@@ -178,7 +186,9 @@ fn sim_of<'a>(matches: &ArgMatches<'a>) -> Result<Request<'a>, CommandLineError>
     })
 }
 
-fn check_of<'a>(matches: &ArgMatches<'a>) -> Result<Request<'a>, CommandLineError> {
+fn check_of<'a>(matches: &ArgMatches<'a>) -> Result<Request<'a>, CommandLineError>
+    ensures { IfOk result AsksNoMore }
+{
     Ok(Request::Check {
         order: word_of(matches, ORDER)?,
     })
@@ -187,8 +197,11 @@ fn check_of<'a>(matches: &ArgMatches<'a>) -> Result<Request<'a>, CommandLineErro
 impl<'a> Request<'a> {
     /// What the words ask for. The first is the program's name.
     ///
-    /// Refused for memory where a growth was refused, and else as a bad command line where they are no request.
-    pub fn read(alloc: Global, words: &'a [String]) -> Result<Request<'a>, CommandLineError> {
+    /// Refused for memory where a growth was refused, and else as a bad command line where they are no request. A
+    /// request for drawn moves is for 1,000,000 of them at most.
+    pub fn read(alloc: Global, words: &'a [String]) -> Result<Request<'a>, CommandLineError>
+        ensures few { IfOk result AsksNoMore }
+    {
         let matches = command(alloc)?.try_get_matches_from(words)?;
         match matches.subcommand() {
             Some(("run", matches)) => run_of(matches),

@@ -389,26 +389,18 @@ impl<M: Manager, A: Allocator> Coherence<M, A> {
         requires foreign { from ≢ self.old.me }
         requires fits { FitsMessage self.old.config (owned_message message) }
         requires post { IsPostOf P.ops post.old self.old.config self.old.me }
-        ensures ok { OnOk result
-            (self.new ≡ (handled M.ops self.old from (owned_message message.entry)).after) }
+        ensures ok { OnOk result (self.new ≡ (handled M.ops self.old from (owned_message message.entry)).after) }
         ensures few { length (handled M.ops self.old from (owned_message message.entry)).posted ≤ most_posted }
-        ensures posted { OnOk result
-            (post.new ≡ P.ops.after post.old (handled M.ops self.old from (owned_message message.entry)).posted) }
+        ensures posted { OnOk result (post.new ≡ P.ops.after post.old (handled M.ops self.old from (owned_message message.entry)).posted) }
         ensures err { OnErr result (self.new ≡ self.old) }
-        ensures took { OnOk result
-            (P.ops.takes post.old (handled M.ops self.old from (owned_message message.entry)).posted) }
-        ensures fault { IfErr result (HasRefused P.ops post.old post.new
-            (handled M.ops self.old from (owned_message message.entry)).posted) }
+        ensures took { OnOk result (P.ops.takes post.old (handled M.ops self.old from (owned_message message.entry)).posted) }
+        ensures fault { IfErr result (HasRefused P.ops post.old post.new (handled M.ops self.old from (owned_message message.entry)).posted) }
         ensures want { IfErr result IsWant }
     {
         self.sound();
-        let Message {
-            origin,
-            call,
-            content,
-        } = message;
+        let (origin, call) = (message.origin, message.call);
         let mine = origin == self.me;
-        match content {
+        match message.content {
             Content::ReadReq { page } if !mine => {
                 let kind = Request::Read;
                 self.asked(page, PutOff { kind, origin, call }, post)?;
@@ -429,8 +421,7 @@ impl<M: Manager, A: Allocator> Coherence<M, A> {
                 copies,
                 bytes,
             } if mine => {
-                let copies = NodeSet::from_bits(copies);
-                self.page_came(from, call, page, copies, bytes, post)?;
+                self.page_came(from, call, page, NodeSet::from_bits(copies), bytes, post)?;
             }
             Content::InvalAck { page } if mine => {
                 self.acknowledged(from, call, page, post)?;

@@ -7,7 +7,7 @@ use Rattle.ivy_coherence.proofs.coherence.Coherence.handle.Goals as goal
 
 pub page_came-requires-clause-copies : goal.page_came-requires-clause-copies
 page_came-requires-clause-copies g c =
-    rw c.from_bits-copies.ensures
+    rw c.from_bits.ensures
     (with_below c.args.self.now.config.nodes c.in-WriteRep.copies
     (subst (FitsContent c.args.self.now.config) (ap owned_content c.in-WriteRep.is)
     c.requires.fits.content).1)
