@@ -1,4 +1,7 @@
-"""Sessions of threads, timed by the clock and by the processor: what a turn, a hand-over and an idle worker cost."""
+"""Sessions of threads, timed by the clock and by the processor: what a turn, a hand-over and an idle worker cost, and
+how many times as long they take as drawn moves of the same programs, and as plain threads that hand over or meet as
+often.
+"""
 
 import subprocess
 import sys
@@ -13,6 +16,7 @@ PAGE_SIZE = 256
 LARGE_PAGE = 4096
 RUNS = 3
 COMPUTES = "while True: pass"
+PLAIN = Path(__file__).resolve().parent / "plain.c"
 
 
 @dataclass(frozen=True)
@@ -25,6 +29,10 @@ class Session:
     text: Callable[[int], Iterable]
     beside: int = 0
     options: tuple = ()
+    # What plain threads do so often, and how many.
+    plain: tuple | None = None
+    # Whether drawn moves of the same programs are timed, too.
+    drawn: bool = False
 
 
 def loop(laps, body, name="again"):
@@ -62,6 +70,28 @@ def barrier(meetings):
     for node in range(8):
         yield from (f"node {node}", "set r1 8", "set r2 8")
         yield from loop(meetings, ["advance r0", "await r3 r0 r1", "add r1 r1 r2"])
+
+
+def meet(_):
+    """Thirty-two nodes meet once."""
+    for node in range(32):
+        yield from (f"node {node}", "set r1 32", "advance r0", "await r2 r0 r1")
+
+
+def tree(_):
+    """Thirty-two nodes add their numbers by twos, and two such sums by twos, up to one. A sum stands in a word of its
+    node, and the node's count says that it does.
+    """
+    for node in range(32):
+        yield from (f"node {node}", f"set r1 {PAGE_SIZE + 8 * node}", f"set r2 {node + 1}", "set r3 1")
+        step = 1
+        while step < 32 and node % (2 * step) == 0:
+            other = node + step
+            yield from (f"set r4 {other}", "await r5 r4 r3", f"set r6 {PAGE_SIZE + 8 * other}", "load 8 r7 r6")
+            yield "add r2 r2 r7"
+            step *= 2
+        yield "store 8 r1 r2"
+        yield from ("print r2",) if node == 0 else (f"set r4 {node}", "advance r4")
 
 
 def page(hand_overs):
@@ -103,8 +133,10 @@ SESSIONS = (
     Session("run-hits-8", "lap", 1_000_000, hits(8)),
     Session("run-ring-2", "hand-over", 4_000, ring(2)),
     Session("run-ring-2-beside", "hand-over", 4_000, ring(2), beside=4),
-    Session("run-ring-8", "hand-over", 1_600, ring(8)),
-    Session("run-barrier", "meeting", 300, barrier),
+    Session("run-ring-8", "hand-over", 1_600, ring(8), plain=("ring", 8)),
+    Session("run-barrier", "meeting", 300, barrier, plain=("meet", 8)),
+    Session("run-meet-32", "session", 1, meet, drawn=True),
+    Session("run-tree-32", "session", 1, tree, drawn=True),
     Session("run-page", "hand-over", 10_000, page, options=("--page-size", str(LARGE_PAGE), "--pages", "2")),
     Session("run-sum", "number", 80_000, sums, options=("--page-size", str(LARGE_PAGE), "--pages", "160")),
     Session("run-waits", "lap", 3_000_000, waits),
@@ -118,15 +150,52 @@ def timed(words):
     return time.monotonic() - began, seconds, memory
 
 
+def best_wall(words):
+    return min(timed(words) for _ in range(RUNS))[0]
+
+
+def all_ended(program, file, moves):
+    """Whether so many drawn moves are enough for all programs to end."""
+    words = [program, "sim", file, "--moves", str(moves)]
+    printed = subprocess.run(words, stdout=subprocess.PIPE, check=True, text=True).stdout
+    return all(line.endswith(" ended") for line in printed.splitlines() if line.count(":") == 0)
+
+
+def drawn_wall(program, file):
+    """The seconds of the least drawn moves after which all programs have ended."""
+    most = 1
+    while not all_ended(program, file, most):
+        most *= 2
+    least = most // 2
+    while least + 1 < most:
+        middle = (least + most) // 2
+        least, most = (least, middle) if all_ended(program, file, middle) else (middle, most)
+    return best_wall([program, "sim", file, "--moves", str(most)])
+
+
+def plain_wall(kind, threads, count, folder):
+    """The seconds that plain threads take, which are compiled here."""
+    plain = Path(folder) / "plain"
+    subprocess.run(["cc", "-O2", "-pthread", PLAIN, "-o", plain], check=True)
+    return best_wall([plain, kind, str(threads), str(count)])
+
+
+def times(wall, other):
+    return f"{wall / other:.1f}"
+
+
 def row_of(program, session, folder):
     """The columns of a session: those of the run that took the least time of three."""
     others = [subprocess.Popen([sys.executable, "-c", COMPUTES]) for _ in range(session.beside)]
-    words = [program, "run", write_lines(Path(folder) / "program", session.text(session.count)), *session.options]
+    file = write_lines(Path(folder) / "program", session.text(session.count))
     try:
-        wall, seconds, memory = min(timed(words) for _ in range(RUNS))
+        wall, seconds, memory = min(timed([program, "run", file, *session.options]) for _ in range(RUNS))
     finally:
         for other in others:
             other.kill()
             other.wait()
     each = f"{wall / session.count * 1e6:.3f}"
-    return session.name, session.unit, session.count, f"{wall:.2f}", f"{seconds:.2f}", each, f"{memory:.0f}"
+    plain = times(wall, plain_wall(*session.plain, session.count, folder)) if session.plain else ""
+    drawn = times(wall, drawn_wall(program, file)) if session.drawn else ""
+    kept = (session.name, session.unit, session.count)
+    return *kept, f"{wall:.2f}", f"{seconds:.2f}", each, f"{memory:.0f}", plain, drawn

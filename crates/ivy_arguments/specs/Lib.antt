@@ -1,1 +1,2 @@
 pub mod Requests
+pub use Rattle.ivy_texts.specs as ivy_texts

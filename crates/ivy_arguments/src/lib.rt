@@ -7,4 +7,5 @@ mod error;
 mod request;
 
 pub use error::CommandLineError;
+pub use ivy_texts;
 pub use request::Request;

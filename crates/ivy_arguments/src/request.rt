@@ -6,7 +6,7 @@ use crate::error::CommandLineError;
 use clap::{Arg, ArgAction, ArgMatches, Command};
 use ivy_model::Kind;
 use ivy_program::parse_number;
-use ivy_settings::Settings;
+use ivy_texts::Settings;
 use std::alloc::{AllocError, Global};
 
 /// What a command line asks for.

@@ -11,8 +11,8 @@ use Rattle.ivy_pagetable.specs.Tables.{entry_at, page_at, with_entry, with_page}
 use Rattle.ivy_pagetable.specs.Manager.{Ops, KeepsElsewhere}
 use Rattle.ivy_coherence.specs.Coherent.{Coherent}
 use Rattle.ivy_coherence.specs.Sound.{IsSoundEntry, IsSound}
-use Rattle.ivy_serving.proofs.NextHop.{IsManaged}
-use Rattle.ivy_serving.proofs.IdleServing.{IsPlace}
+use Rattle.ivy_coherence.proofs.NextHop.{IsManaged}
+use Rattle.ivy_coherence.proofs.IdleServing.{IsPlace}
 
 -- an entry that is written, and any other
 pub entry_with : (t : Table) (page : ℕ) (e : Entry) (p : ℕ) → page < length t.entries

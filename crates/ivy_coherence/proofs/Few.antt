@@ -16,12 +16,12 @@ use Rattle.ivy_pagetable.specs.Words.{carried_out}
 use Rattle.ivy_pagetable.specs.Manager.{Ops}
 use Rattle.ivy_pagetable.proofs.Bits.{with_below}
 use Rattle.ivy_coherence.specs.Coherent.{Coherent}
-use Rattle.ivy_serving.specs.Limits.{most_posted}
-use Rattle.ivy_serving.specs.Serving.{invalidations}
+use Rattle.ivy_coherence.specs.Limits.{most_posted}
+use Rattle.ivy_coherence.specs.Serving.{invalidations}
 use Rattle.ivy_coherence.specs.Steps.{unlocked, handled}
 use Rattle.ivy_coherence.specs.Faults.{begun}
 use Rattle.ivy_coherence.specs.Sound.{IsSound}
-use Rattle.ivy_serving.proofs.Few.{put_off_served-few, invalidations-few}
+use Rattle.ivy_coherence.proofs.FewServed.{put_off_served-few, invalidations-few}
 use Rattle.ivy_coherence.proofs.Rows.{Rows, AccessRows, handled-by_rows, begun-by_rows}
 
 module _ {S : Type 0} (ops : Ops S) where

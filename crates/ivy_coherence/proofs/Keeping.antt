@@ -29,16 +29,16 @@ use Rattle.ivy_pagetable.specs.Manager.{Ops, Laws}
 use Rattle.ivy_pagetable.proofs.Bits.{with_below}
 use Rattle.ivy_pagetable.proofs.Words.{length-carried_out}
 use Rattle.ivy_coherence.specs.Coherent.{Coherent}
-use Rattle.ivy_serving.specs.Serving.{Serving, serving, told, put_off_served, invalidations}
+use Rattle.ivy_coherence.specs.Serving.{Serving, serving, told, put_off_served, invalidations}
 use Rattle.ivy_coherence.specs.Steps.{CoherenceEffect, collected, still_collecting, IsWaiting, IsCollecting, unlocked_as, breach, after_serving, unlocked, put_by, given_up, asked, handled}
 use Rattle.ivy_coherence.specs.Faults.{Begun, hit, faulted, waiting_from, begun, suffices}
-use Rattle.ivy_serving.specs.Sound.{CanBeServed, AreOthers, IsSoundIdle}
+use Rattle.ivy_coherence.specs.IdleSound.{CanBeServed, AreOthers, IsSoundIdle}
 use Rattle.ivy_coherence.specs.Sound.{IsSoundEntry, IsSound}
-use Rattle.ivy_serving.proofs.IdleServing.{IsServing, all_none, all_one, parcel_fits, fewer_others, copying-sound, owning-sound, keeps_all, all_served-keeps}
+use Rattle.ivy_coherence.proofs.IdleServing.{IsServing, all_none, all_one, parcel_fits, fewer_others, copying-sound, owning-sound, keeps_all, all_served-keeps}
 use Rattle.ivy_coherence.proofs.Rows.{Rows, AccessRows, MayAsk, asking-fits, asker_foreign, handled-by_rows, fault-by_rows, begun-by_rows}
 use Rattle.ivy_coherence.proofs.Changing.{AreLocks, change-sound, same_pages, other_page, same_locks, unlocks, locks, place, managed}
 use Rattle.ivy_coherence.proofs.SoundEntries.{idle-sound, reading-sound, writing-sound, collecting-sound, owner_put, locked_put, put_entry-sound, entry_is, entry-sound}
-use Rattle.ivy_serving.proofs.NextHop.{IsManaged, replied-node, invalidated-node, read-away, invalidated-away}
+use Rattle.ivy_coherence.proofs.NextHop.{IsManaged, replied-node, invalidated-node, read-away, invalidated-away}
 
 -- what an event has to keep
 abbrev pub Keeps : {S : Type 0} → Ops S → Coherent S → CoherenceEffect S → Type 0

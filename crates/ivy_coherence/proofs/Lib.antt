@@ -1,3 +1,7 @@
+pub mod NextHop
+pub mod IdleServing
+pub mod FewServed
+pub mod Undoing
 pub mod Changing
 pub mod Rows
 pub mod SoundEntries

@@ -27,16 +27,16 @@ use Rattle.ivy_pagetable.specs.Words.{IsWord, width_of, offset_of, number_at, ca
 use Rattle.ivy_pagetable.proofs.Words.{taken_back}
 use Rattle.ivy_pagetable.specs.Manager.{Ops, Laws}
 use Rattle.ivy_coherence.specs.Coherent.{Coherent}
-use Rattle.ivy_serving.specs.Limits.{most_posted}
-use Rattle.ivy_serving.specs.Serving.{put_off_served, invalidations}
+use Rattle.ivy_coherence.specs.Limits.{most_posted}
+use Rattle.ivy_coherence.specs.Serving.{put_off_served, invalidations}
 use Rattle.ivy_coherence.specs.Steps.{asked, asked_at, IsWaiting, IsCollecting, is_none, unlocked_as}
 use Rattle.ivy_coherence.specs.Faults.{IsIdleAt, HasToAsk, suffices, fault_entry}
-use Rattle.ivy_serving.specs.Sound.{CanBeServed, AreOthers, IsSoundIdle}
+use Rattle.ivy_coherence.specs.IdleSound.{CanBeServed, AreOthers, IsSoundIdle}
 use Rattle.ivy_coherence.specs.Sound.{IsSound}
 use Rattle.ivy_pagetable.specs.Entries.{can_put_off, with_put_off, owning}
-use Rattle.ivy_serving.proofs.IdleServing.{fewer_others}
+use Rattle.ivy_coherence.proofs.IdleServing.{fewer_others}
 use Rattle.ivy_coherence.proofs.Changing.{change-sound}
-use Rattle.ivy_serving.proofs.Few.{nodes-few}
+use Rattle.ivy_coherence.proofs.FewServed.{nodes-few}
 use Rattle.ivy_coherence.proofs.SoundEntries.{entry_is, entry-sound, put_entry-sound, owner_put, locked_put}
 use Rattle.ivy_coherence.proofs.Keeping.{idle_asked-keeps, hit-keeps, fault-keeps, invalidations-fit, waiting_word, collecting_word, unlocking-keeps, last-keeps, giving-keeps, collecting-keeps}
 use Rattle.ivy_coherence.proofs.Keeping.{left-keeps}

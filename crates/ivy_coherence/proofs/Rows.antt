@@ -25,7 +25,7 @@ use Rattle.ivy_pagetable.specs.Tables.{entry_at, page_at, with_entry}
 use Rattle.ivy_pagetable.specs.Words.{needs_write}
 use Rattle.ivy_pagetable.specs.Manager.{Ops}
 use Rattle.ivy_coherence.specs.Coherent.{Coherent}
-use Rattle.ivy_serving.specs.Serving.{serving, put_off_served, counted, served_by_owner, served_by_other, invalidations}
+use Rattle.ivy_coherence.specs.Serving.{serving, put_off_served, counted, served_by_owner, served_by_other, invalidations}
 use Rattle.ivy_coherence.specs.Steps.{CoherenceEffect, collected, still_collecting, is_none}
 use Rattle.ivy_coherence.specs.Steps.{is_order, breach, after_serving, unlocked, put_aside, put_by}
 use Rattle.ivy_coherence.specs.Steps.{given_up, asked, copy_came, page_came, acknowledged, handled}

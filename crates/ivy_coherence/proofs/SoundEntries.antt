@@ -18,9 +18,9 @@ use Rattle.ivy_pagetable.specs.Tables.{entry_at, first_entry}
 use Rattle.ivy_pagetable.specs.Words.{IsWord, needs_write}
 use Rattle.ivy_pagetable.specs.Manager.{Ops, Laws}
 use Rattle.ivy_coherence.specs.Coherent.{Coherent}
-use Rattle.ivy_serving.specs.Sound.{CanBeServed, AreOthers, IsSoundIdle}
+use Rattle.ivy_coherence.specs.IdleSound.{CanBeServed, AreOthers, IsSoundIdle}
 use Rattle.ivy_coherence.specs.Sound.{IsSoundEntry, IsSound, first_coherent}
-use Rattle.ivy_serving.proofs.IdleServing.{all_none, without-sound, owning-sound, keeps_all}
+use Rattle.ivy_coherence.proofs.IdleServing.{all_none, without-sound, owning-sound, keeps_all}
 use Rattle.ivy_coherence.proofs.Changing.{IsChange, same_pages, same_locks}
 
 -- entries of each kind

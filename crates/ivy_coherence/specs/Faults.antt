@@ -17,7 +17,7 @@ use Rattle.ivy_pagetable.specs.Manager.{Ops}
 use Rattle.ivy_coherence.specs.declared.need.Need.{Need}
 use Rattle.ivy_coherence.specs.declared.need.Need.TheVariants.{Have, Started, Busy}
 use Rattle.ivy_coherence.specs.Coherent.{Coherent}
-use Rattle.ivy_serving.specs.Serving.{invalidations}
+use Rattle.ivy_coherence.specs.Serving.{invalidations}
 
 -- what an access came to, the node's coherence after it, and what is posted
 pub record Begun (S : Type 0) : Type 0 where

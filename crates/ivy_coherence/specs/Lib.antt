@@ -1,3 +1,7 @@
+pub mod Limits
+pub mod Serving
+pub mod IdleSound
+pub mod Served
 pub mod Coherent
 pub mod Steps
 pub mod Outcomes
@@ -8,7 +12,5 @@ pub use Rattle.ivy_model.specs.Wants
 pub use Rattle.ivy_wire.specs.Data
 pub use Rattle.ivy_wire.specs.Spelling
 pub use Rattle.ivy_pagetable.specs.Entries
-pub use Rattle.ivy_pagetable.specs.Tables
 pub use Rattle.ivy_pagetable.specs.Manager
-pub use Rattle.ivy_serving.specs.Limits
-pub use Rattle.ivy_serving.specs.Serving
+pub use Rattle.ivy_pagetable.specs.Tables

@@ -11,7 +11,7 @@ use Rattle.ivy_pagetable.specs.Entries.{is_owner, is_locked, put_offs}
 use Rattle.ivy_pagetable.specs.Tables.{entry_at, page_at, first_table}
 use Rattle.ivy_pagetable.specs.Words.{IsWord, needs_write}
 use Rattle.ivy_pagetable.specs.Manager.{Ops}
-use Rattle.ivy_serving.specs.Sound.{CanBeServed, AreOthers, IsSoundIdle}
+use Rattle.ivy_coherence.specs.IdleSound.{CanBeServed, AreOthers, IsSoundIdle}
 use Rattle.ivy_coherence.specs.Coherent.{Coherent}
 
 -- a word that waits lies in the page, and reads or writes

@@ -17,7 +17,7 @@ use Rattle.ivy_pagetable.specs.Tables.{entry_at, page_at, with_entry, with_page}
 use Rattle.ivy_pagetable.specs.Words.{carried_out}
 use Rattle.ivy_pagetable.specs.Manager.{Ops}
 use Rattle.ivy_coherence.specs.Coherent.{Coherent}
-use Rattle.ivy_serving.specs.Serving.{Serving, counted, is_write, put_off_served, invalidations}
+use Rattle.ivy_coherence.specs.Serving.{Serving, counted, is_write, put_off_served, invalidations}
 
 -- the coherence after a message, and what is posted
 pub record CoherenceEffect (S : Type 0) : Type 0 where

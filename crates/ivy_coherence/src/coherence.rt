@@ -10,11 +10,11 @@ ghost use Rattle.ivy_coherence.specs.Faults.{suffices, IsIdleAt, HasToAsk, fault
 ghost use Rattle.ivy_coherence.specs.Sound.{first_coherent, IsSound};
 
 use crate::need::Need;
+use crate::serving::invalidate;
 use ivy_model::{Config, Fault};
 use ivy_pagetable::{
     Access, AwaitAcks, AwaitWrite, Entry, Idle, Manager, Out, Page, PageTable, Waiting, Word,
 };
-use ivy_serving::invalidate;
 use ivy_wire::{Content, Post, post_one};
 use std::alloc::Allocator;
 use std::marker::Model;

@@ -9,18 +9,18 @@ ghost use Rattle.ivy_pagetable.specs.declared.Request.TheVariants as request;
 ghost use Rattle.ivy_pagetable.specs.Entries.{owning};
 ghost use Rattle.ivy_pagetable.specs.Tables.{entry_at, page_at};
 ghost use Rattle.ivy_pagetable.specs.NodeSets.{IsBelow};
-ghost use Rattle.ivy_serving.specs.Sound.{CanBeServed, AreOthers};
-ghost use Rattle.ivy_serving.specs.Limits.{most_posted};
+ghost use Rattle.ivy_coherence.specs.IdleSound.{CanBeServed, AreOthers};
+ghost use Rattle.ivy_coherence.specs.Limits.{most_posted};
 ghost use Rattle.ivy_coherence.specs.Outcomes.{IsStep};
 ghost use Rattle.ivy_coherence.specs.Steps.{IsWaiting, IsCollecting, is_none, unlocked_as, unlocked_by_reply, unlocked_by_last};
 ghost use Rattle.ivy_coherence.specs.Steps.{put_aside_at, given_up, asked_at, copy_came_at, owned_with, page_came_at, left_with, acknowledged_at, handled};
 
 use crate::coherence::Coherence;
+use crate::serving::{Place, count, invalidate, serve_put_off};
 use ivy_model::Fault;
 use ivy_pagetable::{
     Access, AwaitAcks, AwaitWrite, Entry, Idle, Manager, NodeSet, PutOff, Request, Waiting, Word,
 };
-use ivy_serving::{Place, count, invalidate, serve_put_off};
 use ivy_wire::{Content, Message, Post, post_one};
 use std::alloc::Allocator;
 

@@ -2,18 +2,18 @@
 use Rattle.std.proofs.Common.{◌≡◌, ℕ, ◌+◌, ◌<◌, List, [], ◌∷◌, length, take, get_or, Option, ap, sym, subst, ◌∙◌}
 use Rattle.std.proofs.lemmas.List.{take_more}
 use Rattle.std.specs.Io.KnownBytes.{Appends}
-use Rattle.ivy_settings.specs.declared.Settings.{Settings}
+use Rattle.ivy_arguments.specs.ivy_texts.declared.Settings.{Settings}
 use Rattle.ivy_model.specs.declared.Config.{Config}
 use Rattle.ivy_program.specs.declared.Instruction.{Instruction}
-use Rattle.ivy_events.specs.declared.Move.{Move}
-use Rattle.ivy_events.specs.Worlds.{World}
-use Rattle.ivy_host.specs.Hosts.{Host, host_rules}
-use Rattle.ivy_host.specs.Managers.{Managed, managed_ops}
-use Rattle.ivy_host.specs.Openings.{opening}
-use Rattle.ivy_headline.specs.Reached.{IsLedTo}
-use Rattle.ivy_headline.specs.RunState.{Run}
-use Rattle.ivy_events.proofs.Leading.{leads_on}
-use Rattle.ivy_texts.specs.Drawn.{seeded}
+use Rattle.ivy_moves.specs.declared.Move.{Move}
+use Rattle.ivy_moves.specs.Worlds.{World}
+use Rattle.ivy_world.specs.ivy_host.Hosts.{Host, host_rules}
+use Rattle.ivy_world.specs.ivy_host.Managers.{Managed, managed_ops}
+use Rattle.ivy_world.specs.ivy_host.Openings.{opening}
+use Rattle.ivy_world.specs.proof_headline.Reached.{IsLedTo}
+use Rattle.ivy_world.specs.proof_headline.RunState.{Run}
+use Rattle.ivy_moves.proofs.Leading.{leads_on}
+use Rattle.ivy_arguments.specs.ivy_texts.Drawn.{seeded}
 use Rattle.ivy_commands.specs.Commands.{Adds, PrintsDrawn, PrintsMoves, config_of, world_text}
 use Rattle.ivy_commands.specs.Simulated.{DrawnTo}
 use Rattle.ivy_commands.proofs.Printing.{adds-last}

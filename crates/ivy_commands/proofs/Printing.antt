@@ -7,7 +7,7 @@ use Rattle.std.proofs.lemmas.List.{length-take-le}
 use Rattle.std.proofs.lemmas.Option.{slice_get_within, slice_get_cases}
 use Rattle.ivy_program.specs.Steps.{Step, Local, Asks, Ends}
 use Rattle.std.specs.Io.KnownBytes.{Appends}
-use Rattle.ivy_texts.proofs.Printing.{appends-more, taken-more}
+use Rattle.ivy_arguments.proofs.of_ivy_texts.Printing.{appends-more, taken-more}
 use Rattle.ivy_commands.specs.Commands.{Adds, AddsLast}
 use Rattle.ivy_commands.specs.Nodes.{numbered_texts, is_end}
 

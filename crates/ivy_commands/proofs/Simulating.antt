@@ -2,12 +2,12 @@
 use Rattle.std.proofs.Common.{◌≡◌, ℕ, suc, ◌+◌, [], ◌∷◌, subst, arith}
 use Rattle.rand_pcg.specs.Lcg.{Lcg}
 use Rattle.ivy_model.specs.declared.Config.{Config}
-use Rattle.ivy_events.specs.declared.Move.{Move}
-use Rattle.ivy_events.specs.Worlds.{World}
-use Rattle.ivy_host.specs.Hosts.{Host}
-use Rattle.ivy_host.specs.Managers.{Managed}
-use Rattle.ivy_headline.specs.Reached.{IsLedTo}
-use Rattle.ivy_texts.specs.Drawn.{drawn}
+use Rattle.ivy_moves.specs.declared.Move.{Move}
+use Rattle.ivy_moves.specs.Worlds.{World}
+use Rattle.ivy_world.specs.ivy_host.Hosts.{Host}
+use Rattle.ivy_world.specs.ivy_host.Managers.{Managed}
+use Rattle.ivy_world.specs.proof_headline.Reached.{IsLedTo}
+use Rattle.ivy_arguments.specs.ivy_texts.Drawn.{drawn}
 use Rattle.ivy_commands.specs.Simulated.{DrawnTo}
 
 -- whatever is drawn from here on, it was drawn from the start, with so many moves before it

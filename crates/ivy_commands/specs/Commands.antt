@@ -3,24 +3,27 @@ use Rattle.std.specs.Prelude.{◌≡◌, ◌↔◌, ℕ, Bool, IsTrue, List, ◌
 use Rattle.std.specs.Io.KnownBytes.{Appends}
 use Rattle.ivy_arguments.specs.declared.Request.{Request}
 use Rattle.ivy_arguments.specs.declared.Request.TheVariants as request
-use Rattle.ivy_settings.specs.declared.Settings.{Settings}
+use Rattle.ivy_arguments.specs.ivy_texts.declared.Settings.{Settings}
 use Rattle.ivy_model.specs.declared.Config.{Config}
+use Rattle.ivy_model.specs.declared.Kind.TheVariants.{Fixed}
 use Rattle.ivy_model.specs.declared.Fault.{Fault}
 use Rattle.ivy_model.specs.declared.Fault.TheVariants.{BadConfig, ProgramFault}
 use Rattle.ivy_model.specs.declared.Record.{Record}
 use Rattle.ivy_model.specs.Legal.{Legal}
 use Rattle.ivy_program.specs.declared.Instruction.{Instruction}
 use Rattle.ivy_program.specs.Texts.{SpellsText}
-use Rattle.ivy_events.specs.declared.Move.{Move}
-use Rattle.ivy_events.specs.Worlds.{World}
-use Rattle.ivy_host.specs.Hosts.{Host}
-use Rattle.ivy_host.specs.Managers.{Managed, managed_ops}
-use Rattle.ivy_host.specs.Openings.{opening}
-use Rattle.ivy_headline.specs.Reached.{IsLedTo}
+use Rattle.ivy_moves.specs.declared.Move.{Move}
+use Rattle.ivy_moves.specs.Worlds.{World}
+use Rattle.ivy_world.specs.ivy_host.Hosts.{Host}
+use Rattle.ivy_world.specs.ivy_host.Managers.{Managed, managed_ops}
+use Rattle.ivy_world.specs.ivy_host.Openings.{opening}
+use Rattle.ivy_world.specs.proof_headline.Reached.{IsLedTo}
 use Rattle.ivy_session.specs.Faults.{IsSessionFault}
 use Rattle.ivy_session.specs.Reports.{NodeReport, IsReport}
-use Rattle.ivy_texts.specs.Drawn.{seeded}
-use Rattle.ivy_texts.specs.Lines.{verdict_line}
+use Rattle.ivy_arguments.specs.ivy_texts.Drawn.{seeded}
+use Rattle.ivy_arguments.specs.ivy_texts.Lines.{verdict_line}
+use Rattle.ivy_arguments.specs.ivy_texts.Spelled.{SpellsOrder, SpellsSchedule}
+use Rattle.ivy_arguments.specs.ivy_texts.declared.order.Sizes.{Sizes}
 use Rattle.ivy_commands.specs.declared.failure.Failure.{Failure}
 use Rattle.ivy_commands.specs.declared.failure.Failure.TheVariants.{BadCommandLine, CannotRead, Refused, Unwritten}
 use Rattle.ivy_commands.specs.Nodes.{outputs_text, outputs_of, ends_text}
@@ -64,11 +67,25 @@ module _ (c : Config) (programs : List (List Instruction)) (old new : Option (Li
     pub drawn : DrawnTo c (seeded seed) moves (opening managed_ops c programs) end
     pub printed : Appends old new (world_text end)
 
--- whether some records are legal under some configuration, and that was printed
-pub record PrintsVerdict (yes : Bool) (old new : Option (List ℕ)) : Type 0 where
-  pub config : Config
+-- the moves that the text says led from the opening of these programs to a world, and after some
+-- trace its text was printed
+pub record PrintsSchedule (c : Config) (programs : List (List Instruction)) (text : List ℕ)
+    (old new : Option (List ℕ)) : Type 0 where
+  pub moves : List Move
+  pub said : SpellsSchedule text moves
+  pub made : PrintsMoves c programs old new moves
+
+-- the configuration of the sizes of an order; whether it is legal does not depend on the manager
+abbrev pub config_of_sizes : Sizes → Config
+config_of_sizes s =
+    record { nodes = s.nodes; pages = s.pages; page_size = s.page_size; manager = Fixed }
+
+-- whether the order that the text says is legal, and that was printed
+pub record PrintsVerdict (text : List ℕ) (yes : Bool) (old new : Option (List ℕ)) : Type 0 where
+  pub sizes : Sizes
   pub records : List Record
-  pub legal : IsTrue yes ↔ Legal config records
+  pub said : SpellsOrder text sizes records
+  pub legal : IsTrue yes ↔ Legal (config_of_sizes sizes) records
   pub printed : Appends old new (verdict_line yes)
 
 -- some text spells these programs
@@ -85,11 +102,12 @@ IsCarriedOut (request.Run file turns capacity pulse settings) status old new = (
     × SomeSpelled (λ ps. PrintsSession (config_of settings (length ps)) ps old new)
 IsCarriedOut (request.Step file schedule settings) status old new = (status ≡ 0)
     × SomeSpelled
-    (λ ps. (moves : List Move) × PrintsMoves (config_of settings (length ps)) ps old new moves)
+    (λ ps. (text : List ℕ) × PrintsSchedule (config_of settings (length ps)) ps text old new)
 IsCarriedOut (request.Sim file seed moves settings) status old new = (status ≡ 0)
     × SomeSpelled (λ ps. PrintsDrawn (config_of settings (length ps)) ps old new seed moves)
 IsCarriedOut (request.Check order) status old new =
-    (yes : Bool) × (status ≡ (if yes then 0 else 3)) × PrintsVerdict yes old new
+    (yes : Bool) × (status ≡ (if yes then 0 else 3))
+    × ((text : List ℕ) × PrintsVerdict text yes old new)
 
 -- some request was
 abbrev pub IsRequestDone : ℕ → Option (List ℕ) → Option (List ℕ) → Type 0

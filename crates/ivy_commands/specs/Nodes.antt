@@ -1,9 +1,9 @@
 -- What is printed of all nodes: what their programs printed, and which of them have ended.
 use Rattle.std.specs.Prelude.{ℕ, ◌+◌, Bool, true, false, List, [], ◌∷◌, ◌++◌, flat_map, map}
 use Rattle.ivy_program.specs.Steps.{Process, Step, Local, Asks, Ends, step_of}
-use Rattle.ivy_events.specs.Nodes.{Node}
-use Rattle.ivy_host.specs.Hosts.{Host}
-use Rattle.ivy_texts.specs.Lines.{value_line, end_line}
+use Rattle.ivy_moves.specs.Nodes.{Node}
+use Rattle.ivy_world.specs.ivy_host.Hosts.{Host}
+use Rattle.ivy_arguments.specs.ivy_texts.Lines.{value_line, end_line}
 
 -- the text of each item, numbered from this number on, one after another
 abbrev pub numbered_texts : {X : Type 0} → (ℕ → X → List ℕ) → ℕ → List X → List ℕ

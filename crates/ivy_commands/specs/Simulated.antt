@@ -2,11 +2,11 @@
 use Rattle.std.specs.Prelude.{◌≡◌, ℕ, zero, suc, [], ◌∷◌}
 use Rattle.rand_pcg.specs.Lcg.{Lcg}
 use Rattle.ivy_model.specs.declared.Config.{Config}
-use Rattle.ivy_events.specs.Worlds.{World}
-use Rattle.ivy_host.specs.Hosts.{Host}
-use Rattle.ivy_host.specs.Managers.{Managed}
-use Rattle.ivy_headline.specs.Reached.{IsLedTo}
-use Rattle.ivy_texts.specs.Drawn.{drawn}
+use Rattle.ivy_moves.specs.Worlds.{World}
+use Rattle.ivy_world.specs.ivy_host.Hosts.{Host}
+use Rattle.ivy_world.specs.ivy_host.Managers.{Managed}
+use Rattle.ivy_world.specs.proof_headline.Reached.{IsLedTo}
+use Rattle.ivy_arguments.specs.ivy_texts.Drawn.{drawn}
 
 -- so many moves lead from one world to another, each drawn over the strings that were sent before
 -- it

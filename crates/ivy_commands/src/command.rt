@@ -3,8 +3,8 @@ ghost use Rattle.std.specs.Prelude.{◌≡◌, ◌≤◌, ◌↔◌, ◌⊎◌, 
 ghost use Rattle.std.specs.Io.KnownBytes.{Appends};
 ghost use Rattle.ivy_model.specs.Config.{IsConfig};
 ghost use Rattle.ivy_model.specs.Legal.{Legal};
-ghost use Rattle.ivy_texts.specs.Lines.{verdict_line};
-ghost use Rattle.ivy_commands.specs.Commands.{config_of, final_status, AreSpelled, IsCarriedOut, IsRequestDone, IsSessionFailure, PrintsDrawn, PrintsMoves, PrintsSession, PrintsVerdict};
+ghost use Rattle.ivy_arguments.specs.ivy_texts.Lines.{verdict_line};
+ghost use Rattle.ivy_commands.specs.Commands.{config_of, final_status, AreSpelled, IsCarriedOut, IsRequestDone, IsSessionFailure, PrintsDrawn, PrintsMoves, PrintsSchedule, PrintsSession, PrintsVerdict};
 
 use crate::failure::Failure;
 use crate::print::{print_outputs, print_world};
@@ -12,11 +12,10 @@ use crate::simulation::run_drawn;
 use crate::texts::Texts;
 use crate::trace::trace_moves;
 use ivy_arguments::Request;
+use ivy_arguments::ivy_texts::{Settings, parse_order, parse_schedule, print_verdict};
 use ivy_model::{Config, Kind, Record, check_order};
-use ivy_node::{Move, Program, World, parse};
 use ivy_session::{Limits, OpenGate, Session};
-use ivy_settings::Settings;
-use ivy_texts::{Order, parse_order, parse_schedule, print_verdict};
+use ivy_world::{Move, Program, World, parse};
 use std::alloc::Global;
 use std::io::{self, Write};
 use std::sync::Wait;
@@ -43,24 +42,6 @@ fn programs_of<'a, T: Texts>(
     Ok(parse(alloc, text_of(files, name)?.as_str())?)
 }
 
-/// The order of a file.
-fn order_of<'a, T: Texts>(
-    alloc: Global,
-    files: &T,
-    name: &'a str,
-) -> Result<Order<Global>, Failure<'a>> {
-    Ok(parse_order(alloc, text_of(files, name)?.as_str())?)
-}
-
-/// The moves of a file.
-fn moves_of<'a, T: Texts>(
-    alloc: Global,
-    files: &T,
-    name: &'a str,
-) -> Result<Vec<Move>, Failure<'a>> {
-    Ok(parse_schedule(alloc, text_of(files, name)?.as_str())?)
-}
-
 /// Runs programs in threads, and prints what they printed.
 fn run<'a, R: Threads + Wait + Sync, W: Write>(
     rt: &R,
@@ -79,8 +60,8 @@ fn run<'a, R: Threads + Wait + Sync, W: Write>(
     Ok(())
 }
 
-/// Runs programs by a schedule, and prints each move and what they printed.
-fn step<'a, W: Write>(
+/// Runs programs by moves, and prints each move and what they printed.
+fn trace<'a, W: Write>(
     alloc: Global,
     programs: Vec<Program<Global>>,
     moves: &[Move],
@@ -94,6 +75,20 @@ fn step<'a, W: Write>(
     trace_moves(&config, &mut world, moves, out)?;
     print_world(&world, out)?;
     Ok(())
+}
+
+/// Runs programs by the schedule of a text, and prints each move and what they printed.
+fn step<'a, W: Write>(
+    alloc: Global,
+    programs: Vec<Program<Global>>,
+    schedule: &str,
+    settings: Settings,
+    out: &mut W,
+) -> Result<(), Failure<'a>>
+    ensures { OnOk result (PrintsSchedule (config_of settings (length programs.items)) programs.items schedule.now (W.contents out.old) (W.contents out.new)) }
+{
+    let moves = parse_schedule(alloc, schedule)?;
+    trace(alloc, programs, &moves, settings, out)
 }
 
 /// Runs programs by moves that the generator of a seed draws, and prints what they printed.
@@ -130,14 +125,11 @@ fn judge<'a, W: Write>(
     Ok(is_legal)
 }
 
-/// Prints whether an order is legal, and says it.
-fn check<'a, W: Write>(
-    alloc: Global,
-    order: &Order<Global>,
-    out: &mut W,
-) -> Result<bool, Failure<'a>>
-    ensures { MatchResult result (λ yes. PrintsVerdict yes (W.contents out.old) (W.contents out.new)) (λ _. Unit {0}) }
+/// Prints whether the order of a text is legal, and says it.
+fn check<'a, W: Write>(alloc: Global, text: &str, out: &mut W) -> Result<bool, Failure<'a>>
+    ensures { MatchResult result (λ yes. PrintsVerdict text.now yes (W.contents out.old) (W.contents out.new)) (λ _. Unit {0}) }
 {
+    let order = parse_order(alloc, text)?;
     // Legality does not depend on how owners are found.
     let settings = Settings {
         pages: order.sizes.pages,
@@ -181,8 +173,8 @@ fn carry_out<'a, R: Threads + Wait + Sync, T: Texts, W: Write>(
             settings,
         } => {
             let programs = programs_of(alloc, files, file)?;
-            let moves = moves_of(alloc, files, schedule)?;
-            step(alloc, programs, &moves, settings, out)?;
+            let schedule = text_of(files, schedule)?;
+            step(alloc, programs, schedule.as_str(), settings, out)?;
             Ok(0)
         }
         Request::Sim {
@@ -196,8 +188,8 @@ fn carry_out<'a, R: Threads + Wait + Sync, T: Texts, W: Write>(
             Ok(0)
         }
         Request::Check { order } => {
-            let order = order_of(alloc, files, order)?;
-            let is_legal = check(alloc, &order, out)?;
+            let text = text_of(files, order)?;
+            let is_legal = check(alloc, text.as_str(), out)?;
             Ok(if is_legal { 0 } else { NOT_LEGAL })
         }
     }

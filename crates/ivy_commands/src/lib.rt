@@ -17,4 +17,9 @@ mod trace;
 
 pub use command::perform;
 pub use failure::Failure;
+pub use ivy_arguments::ivy_texts;
+pub use ivy_session;
+pub use ivy_session::ivy_ether;
+pub use ivy_world;
+pub use ivy_world::ivy_site;
 pub use texts::{FilesOf, Texts};

@@ -1,10 +1,10 @@
 //! One move of a world that a command runs.
 ghost use Rattle.std.specs.Prelude.{◌≡◌, [], ◌∷◌, OnOk};
-ghost use Rattle.ivy_host.specs.Holding.{AllSpell};
-ghost use Rattle.ivy_headline.specs.Reached.{IsLedTo, IsReached};
+ghost use Rattle.ivy_world.specs.ivy_host.Holding.{AllSpell};
+ghost use Rattle.ivy_world.specs.proof_headline.Reached.{IsLedTo, IsReached};
 
 use ivy_model::Fault;
-use ivy_node::{Move, World};
+use ivy_world::{Move, World};
 use std::alloc::Allocator;
 
 /// Makes a move, or changes nothing [1, 17, 19].

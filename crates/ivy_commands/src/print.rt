@@ -4,9 +4,9 @@ ghost use Rattle.std.specs.Io.KnownBytes.{Appends};
 ghost use Rattle.ivy_commands.specs.Commands.{world_text};
 ghost use Rattle.ivy_commands.specs.Nodes.{outputs_text, ends_text};
 
-use ivy_node::World;
+use ivy_arguments::ivy_texts::{print_end, print_output};
 use ivy_session::Report;
-use ivy_texts::{print_end, print_output};
+use ivy_world::World;
 use std::alloc::Allocator;
 use std::io::{self, Write};
 

@@ -1,14 +1,14 @@
 //! Worlds that run by drawn moves.
 ghost use Rattle.std.specs.Prelude.{◌≡◌, OnOk};
 ghost use Rattle.ivy_model.specs.Config.{IsConfig};
-ghost use Rattle.ivy_headline.specs.Reached.{IsReached};
+ghost use Rattle.ivy_world.specs.proof_headline.Reached.{IsReached};
 ghost use Rattle.ivy_commands.specs.Simulated.{DrawnTo};
-ghost use Rattle.ivy_texts.specs.Drawn.{seeded};
+ghost use Rattle.ivy_arguments.specs.ivy_texts.Drawn.{seeded};
 
 use crate::moves::make;
+use ivy_arguments::ivy_texts::{draw, generator_of};
 use ivy_model::{Config, Fault};
-use ivy_node::World;
-use ivy_texts::{draw, generator_of};
+use ivy_world::World;
 use std::alloc::Allocator;
 
 /// Makes so many moves, which the generator of a seed draws, up to the first that is refused [1, 17, 19].

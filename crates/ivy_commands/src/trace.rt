@@ -1,15 +1,15 @@
 //! Worlds that run by a schedule, with a trace of each move.
 ghost use Rattle.std.specs.Prelude.{◌≡◌, [], ◌∷◌, OnOk};
 ghost use Rattle.ivy_model.specs.Config.{IsConfig};
-ghost use Rattle.ivy_headline.specs.Reached.{IsLedTo};
+ghost use Rattle.ivy_world.specs.proof_headline.Reached.{IsLedTo};
 ghost use Rattle.ivy_commands.specs.Commands.{Adds};
 
 use crate::failure::Failure;
 use crate::moves::make;
+use ivy_arguments::ivy_texts::{Decimal, MoveText, RecordText, kind_name};
 use ivy_model::{Config, Record};
-use ivy_node::{Move, World};
-use ivy_texts::{Decimal, MoveText, RecordText, kind_name};
 use ivy_wire::{Bytes, read};
+use ivy_world::{Move, World};
 use std::alloc::Allocator;
 use std::io::{self, Write};
 

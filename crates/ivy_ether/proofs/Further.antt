@@ -2,14 +2,14 @@
 use Rattle.std.proofs.Common.{◌≡◌, ◌⊎◌, ℕ, ◌≤◌, List, [], ◌++◌, length, slice_get, Some, refl, sym, ap, subst, ◌∙◌, inl, inr, arith, append-nil}
 use Rattle.std.proofs.lemmas.Option.{same_Some, slice_get_within}
 use Rattle.ivy_model.specs.declared.Config.{Config}
-use Rattle.ivy_events.specs.Cores.{Core}
-use Rattle.ivy_events.specs.Marks.{Mark}
-use Rattle.ivy_events.specs.Nodes.{Node, Effect, stays}
-use Rattle.ivy_events.specs.Parts.{AllHappen, AllCanBeMade, AreParts, GoOn}
-use Rattle.ivy_events.specs.Worlds.{World}
-use Rattle.ivy_events.proofs.GoingOn.{parts_go_on}
-use Rattle.ivy_events.proofs.Parts.{runs_are_their_parts}
-use Rattle.ivy_events.proofs.Splitting.{IsSplit, all-split, same-effect, part-sent}
+use Rattle.ivy_moves.specs.Cores.{Core}
+use Rattle.ivy_moves.specs.Marks.{Mark}
+use Rattle.ivy_moves.specs.Nodes.{Node, Effect, stays}
+use Rattle.ivy_moves.specs.Parts.{AllHappen, AllCanBeMade, AreParts, GoOn}
+use Rattle.ivy_moves.specs.Worlds.{World}
+use Rattle.ivy_moves.proofs.GoingOn.{parts_go_on}
+use Rattle.ivy_moves.proofs.Parts.{runs_are_their_parts}
+use Rattle.ivy_moves.proofs.Splitting.{IsSplit, all-split, same-effect, part-sent}
 use Rattle.ivy_ether.specs.Going.{ListGoesOn, ListsGoOn}
 
 module _ {C : Type 0} (rules : Core C) (c : Config) (opening : World C) where

@@ -11,12 +11,12 @@ use Rattle.std.proofs.lemmas.List.Elements.{Contains-append_right, Contains-appe
 use Rattle.crossbeam_queue.specs.Fifo.{Pushes, Pops, Forks, Learns}
 use Rattle.crossbeam_queue.proofs.Lists.{at_set, set_here, set_else, set_again, at_snoc, at_longer}
 use Rattle.ivy_model.specs.declared.Config.{Config}
-use Rattle.ivy_events.specs.Cores.{Core}
-use Rattle.ivy_events.specs.Marks.{Mark}
-use Rattle.ivy_events.specs.Listed.{Listed}
-use Rattle.ivy_events.specs.Parts.{AreParts}
-use Rattle.ivy_events.specs.Worlds.{World}
-use Rattle.ivy_events.proofs.Splitting.{none-in, can-more}
+use Rattle.ivy_moves.specs.Cores.{Core}
+use Rattle.ivy_moves.specs.Marks.{Mark}
+use Rattle.ivy_moves.specs.Listed.{Listed}
+use Rattle.ivy_moves.specs.Parts.{AreParts}
+use Rattle.ivy_moves.specs.Worlds.{World}
+use Rattle.ivy_moves.proofs.Splitting.{none-in, can-more}
 use Rattle.ivy_ether.specs.Data.{Item}
 use Rattle.ivy_ether.specs.declared.item.Item.TheVariants.{Seat, Frame, Report}
 use Rattle.ivy_ether.specs.Views.{View, newcomer, beginner, with_put, with_taken, with_report, with_issued, with_seat, with_told}

@@ -1,6 +1,6 @@
 -- Items of the ether, and what a pass that takes one knows then.
 use Rattle.std.specs.Prelude.{ℕ, List, [], ◌∷◌}
-use Rattle.ivy_events.specs.Marks.{Mark}
+use Rattle.ivy_moves.specs.Marks.{Mark}
 use Rattle.ivy_ether.specs.Data.{Item}
 use Rattle.ivy_ether.specs.declared.item.Item.TheVariants.{Seat, Frame, Report}
 use Rattle.ivy_ether.specs.Views.{View, with_seat, with_told}

@@ -3,8 +3,8 @@ use Rattle.std.specs.Prelude.{ℕ, List}
 use Rattle.ivy_model.specs.declared.Config.{Config}
 use Rattle.ivy_model.specs.declared.Kind.TheVariants.{Fixed}
 use Rattle.ivy_program.specs.declared.Instruction.{Instruction}
-use Rattle.ivy_events.specs.Marks.{Mark}
-use Rattle.ivy_events.specs.Worlds.{World}
+use Rattle.ivy_moves.specs.Marks.{Mark}
+use Rattle.ivy_moves.specs.Worlds.{World}
 use Rattle.ivy_host.specs.Hosts.{Host, host_rules}
 use Rattle.ivy_host.specs.Managers.{Managed, managed_ops}
 use Rattle.ivy_host.specs.Openings.{opening}

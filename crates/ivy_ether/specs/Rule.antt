@@ -3,10 +3,10 @@ use Rattle.std.specs.Prelude.{◌≡◌, ℕ, ◌+◌, ◌<◌, ◌≤◌, ◌==
 use mathlib.Core.Option.{some}
 use lib.ListN.{get_elem?}
 use Rattle.ivy_model.specs.declared.Config.{Config}
-use Rattle.ivy_events.specs.Cores.{Core}
-use Rattle.ivy_events.specs.Marks.{Mark}
-use Rattle.ivy_events.specs.Parts.{AreParts}
-use Rattle.ivy_events.specs.Worlds.{World}
+use Rattle.ivy_moves.specs.Cores.{Core}
+use Rattle.ivy_moves.specs.Marks.{Mark}
+use Rattle.ivy_moves.specs.Parts.{AreParts}
+use Rattle.ivy_moves.specs.Worlds.{World}
 use Rattle.ivy_ether.specs.Data.{Item}
 use Rattle.ivy_ether.specs.declared.item.Item.TheVariants.{Seat, Frame, Report}
 use Rattle.ivy_ether.specs.Going.{ListGoesOn, Sends}

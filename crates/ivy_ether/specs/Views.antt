@@ -1,6 +1,6 @@
 -- What a pass knows, and how the steps of the ether change it.
 use Rattle.std.specs.Prelude.{ℕ, Bool, true, false, Option, Some, None, List, [], ◌∷◌, ◌++◌}
-use Rattle.ivy_events.specs.Marks.{Mark}
+use Rattle.ivy_moves.specs.Marks.{Mark}
 
 -- what a pass knows
 pub record View : Type 0 where

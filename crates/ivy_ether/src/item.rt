@@ -1,5 +1,5 @@
 //! What the ether holds, and what a pass knows.
-use ivy_events::Events;
+use ivy_moves::Events;
 use ivy_wire::Bytes;
 use std::marker::Model;
 

@@ -8,7 +8,7 @@ use std::marker::{Brand, PhantomData};
 /// The event list that a step is given. Each step picks it.
 pub trait Given {
     ghost use Rattle.std.specs.Prelude.{List};
-    ghost use Rattle.ivy_events.specs.Marks.{Mark};
+    ghost use Rattle.ivy_moves.specs.Marks.{Mark};
 
     ghost events: { List Mark };
 }

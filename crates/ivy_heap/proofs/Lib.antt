@@ -2,3 +2,4 @@ pub mod Rows
 pub mod Spelled
 pub mod Growing
 pub mod Errands
+pub use Rattle.ivy_alloc.proofs as of_ivy_alloc

@@ -1,1 +1,2 @@
 pub mod HeapCalls
+pub use Rattle.ivy_alloc.specs as ivy_alloc

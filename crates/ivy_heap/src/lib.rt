@@ -10,3 +10,4 @@ mod heap_side;
 
 pub use answer::Answer;
 pub use heap_side::{Errand, HeapCall, HeapSide};
+pub use ivy_alloc;

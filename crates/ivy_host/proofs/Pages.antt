@@ -4,7 +4,7 @@ use Rattle.std.proofs.Common.{◌≡◌, ℕ, true, sym, ap, subst}
 use Rattle.std.specs.Prelude.{All}
 use Rattle.ivy_wire.specs.Data.{Message}
 use Rattle.ivy_pagetable.specs.Manager.{Ops}
-use Rattle.ivy_events.specs.Cores.{Outcome}
+use Rattle.ivy_moves.specs.Cores.{Outcome}
 use Rattle.ivy_memory.specs.Memories.{MemoryEffect, by_coherence, memory_handled}
 use Rattle.ivy_memory.proofs.Pages.{is_of_pages, IsOfPages, handled-pages, page_handled}
 use Rattle.ivy_host.specs.Hosts.{Host, serving}

@@ -7,15 +7,15 @@ use Rattle.ivy_model.specs.declared.Call.{Call}
 use Rattle.ivy_wire.specs.Data.{Parcel, Frame, Message}
 use Rattle.ivy_wire.specs.Spelling.{spelling, Spells}
 use Rattle.ivy_wire.proofs.Frames.{spelled_once}
-use Rattle.ivy_link.specs.declared.Verdict.{Verdict}
-use Rattle.ivy_link.specs.declared.Verdict.TheVariants as verdict
-use Rattle.ivy_link.specs.Linked.{has_numbers, sends}
-use Rattle.ivy_link.specs.Accepted.{offered, accepted}
+use Rattle.ivy_moves.specs.ivy_link.declared.Verdict.{Verdict}
+use Rattle.ivy_moves.specs.ivy_link.declared.Verdict.TheVariants as verdict
+use Rattle.ivy_moves.specs.ivy_link.Linked.{has_numbers, sends}
+use Rattle.ivy_moves.specs.ivy_link.Accepted.{offered, accepted}
 use Rattle.ivy_program.specs.Steps.{Step, Local, Asks, Ends, step_of, at_state}
-use Rattle.ivy_events.specs.Cores.{Outcome}
-use Rattle.ivy_events.specs.Nodes.{Node, Effect, stays, posting, accepting, served_next, received_as, received, delivered_as, delivered}
-use Rattle.ivy_heap.specs.declared.Answer.{Answer}
-use Rattle.ivy_heap.specs.declared.Answer.TheVariants.{Given, Awaited, Unserved}
+use Rattle.ivy_moves.specs.Cores.{Outcome}
+use Rattle.ivy_moves.specs.Nodes.{Node, Effect, stays, posting, accepting, served_next, received_as, received, delivered_as, delivered}
+use Rattle.ivy_memory.specs.ivy_heap.declared.Answer.{Answer}
+use Rattle.ivy_memory.specs.ivy_heap.declared.Answer.TheVariants.{Given, Awaited, Unserved}
 use Rattle.ivy_memory.specs.Memories.{CallBegun, call_begun, polled}
 use Rattle.ivy_host.specs.Managers.{Managed, managed_ops}
 use Rattle.ivy_host.specs.Hosts.{Host, host_rules, turn_of, serving, turned_at, steps, begins, begins_as, begins_with, quietly, recorded}

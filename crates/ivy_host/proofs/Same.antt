@@ -4,9 +4,9 @@ use Rattle.std.proofs.lemmas.Option.{same_Some, none-some}
 use Rattle.ivy_model.specs.declared.Call.{Call}
 use Rattle.ivy_pagetable.specs.Manager.{Ops}
 use Rattle.ivy_program.specs.Steps.{Step, Local, Asks, Ends, step_of, at_state}
-use Rattle.ivy_events.specs.Cores.{Outcome}
-use Rattle.ivy_heap.specs.declared.Answer.{Answer}
-use Rattle.ivy_heap.specs.declared.Answer.TheVariants.{Given, Awaited, Unserved}
+use Rattle.ivy_moves.specs.Cores.{Outcome}
+use Rattle.ivy_memory.specs.ivy_heap.declared.Answer.{Answer}
+use Rattle.ivy_memory.specs.ivy_heap.declared.Answer.TheVariants.{Given, Awaited, Unserved}
 use Rattle.ivy_memory.specs.Memories.{CallBegun, call_begun, polled}
 use Rattle.ivy_host.specs.Hosts.{Host, recorded, quietly, begins, begins_as, begins_with, steps, turned_at, turn_of}
 use Rattle.ivy_memory.proofs.Tame.{SameNode, call-same}

@@ -13,15 +13,15 @@ use Rattle.ivy_model.specs.Legal.{HasWidth}
 use Rattle.ivy_wire.specs.Data.{Message}
 use Rattle.ivy_wire.specs.Spelling.{FitsMessage, FitsParcel}
 use Rattle.ivy_pagetable.specs.Manager.{Ops, Laws}
-use Rattle.ivy_serving.proofs.IdleServing.{all_none}
+use Rattle.ivy_memory.proofs.of_ivy_coherence.IdleServing.{all_none}
 use Rattle.ivy_program.specs.declared.Instruction.{Instruction}
 use Rattle.ivy_program.specs.Steps.{Step, Local, Asks, Ends, step_of, at_state}
 use Rattle.ivy_program.proofs.Running.{asked_legal}
-use Rattle.ivy_events.specs.Cores.{Outcome}
-use Rattle.ivy_events.specs.Nodes.{Node}
-use Rattle.ivy_events.specs.Following.{IsTame, IsOpening}
-use Rattle.ivy_heap.specs.declared.Answer.{Answer}
-use Rattle.ivy_heap.specs.declared.Answer.TheVariants.{Given, Awaited, Unserved}
+use Rattle.ivy_moves.specs.Cores.{Outcome}
+use Rattle.ivy_moves.specs.Nodes.{Node}
+use Rattle.ivy_moves.specs.Following.{IsTame, IsOpening}
+use Rattle.ivy_memory.specs.ivy_heap.declared.Answer.{Answer}
+use Rattle.ivy_memory.specs.ivy_heap.declared.Answer.TheVariants.{Given, Awaited, Unserved}
 use Rattle.ivy_memory.specs.Memories.{CallBegun, call_begun, polled}
 use Rattle.ivy_memory.specs.Sound.{IsSoundMemory}
 use Rattle.ivy_host.specs.Sound.{IsSoundHost}

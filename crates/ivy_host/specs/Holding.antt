@@ -7,8 +7,8 @@ use Rattle.ivy_pagetable.specs.Entries.{readable, writable}
 use Rattle.ivy_pagetable.specs.Tables.{entry_at}
 use Rattle.ivy_program.specs.declared.Instruction.{Instruction}
 use Rattle.ivy_program.specs.Runs.{IsRunTo}
-use Rattle.ivy_events.specs.Nodes.{Node}
-use Rattle.ivy_events.specs.Worlds.{World}
+use Rattle.ivy_moves.specs.Nodes.{Node}
+use Rattle.ivy_moves.specs.Worlds.{World}
 use Rattle.ivy_host.specs.Hosts.{Host}
 
 module _ {S : Type 0} where

@@ -11,9 +11,9 @@ use Rattle.ivy_pagetable.specs.Manager.{Ops}
 use Rattle.ivy_program.specs.declared.Instruction.{Instruction}
 use Rattle.ivy_program.specs.States.{first_state}
 use Rattle.ivy_program.specs.Steps.{Process, Step, Local, Asks, Ends, step_of, at_state, answered_with}
-use Rattle.ivy_events.specs.Cores.{Core, Outcome}
-use Rattle.ivy_heap.specs.declared.Answer.{Answer}
-use Rattle.ivy_heap.specs.declared.Answer.TheVariants.{Given, Awaited, Unserved}
+use Rattle.ivy_moves.specs.Cores.{Core, Outcome}
+use Rattle.ivy_memory.specs.ivy_heap.declared.Answer.{Answer}
+use Rattle.ivy_memory.specs.ivy_heap.declared.Answer.TheVariants.{Given, Awaited, Unserved}
 use Rattle.ivy_memory.specs.Memories.{NodeMemory, CallBegun, first_memory, call_begun, polled, memory_handled, memory_told}
 
 -- a node's memory, its program and where it stands, and what it was answered

@@ -2,11 +2,11 @@
 -- nothing was sent.
 use Rattle.std.specs.Prelude.{ℕ, ◌+◌, List, [], ◌∷◌, map}
 use Rattle.ivy_model.specs.declared.Config.{Config}
-use Rattle.ivy_link.specs.Linked.{first_link}
+use Rattle.ivy_moves.specs.ivy_link.Linked.{first_link}
 use Rattle.ivy_pagetable.specs.Manager.{Ops}
 use Rattle.ivy_program.specs.declared.Instruction.{Instruction}
-use Rattle.ivy_events.specs.Nodes.{Node}
-use Rattle.ivy_events.specs.Worlds.{World}
+use Rattle.ivy_moves.specs.Nodes.{Node}
+use Rattle.ivy_moves.specs.Worlds.{World}
 use Rattle.ivy_host.specs.Hosts.{Host, first_host}
 
 module _ {S : Type 0} (ops : Ops S) where

@@ -6,4 +6,8 @@
 
 mod manager;
 
+pub use ivy_dynamic;
+pub use ivy_fixed;
+pub use ivy_memory;
+pub use ivy_memory::{ivy_alloc, ivy_coherence, ivy_event};
 pub use manager::NodeManager;

@@ -5,18 +5,21 @@ use Rattle.std.proofs.lemmas.List.Elements.{All-contains, All-from_recursion}
 use Rattle.std.proofs.lemmas.Option.{none-some}
 use Rattle.ivy_model.specs.declared.Config.{Config}
 use Rattle.ivy_model.specs.declared.Call.{Call}
-use Rattle.ivy_model.specs.declared.Call.TheVariants as call
+use Rattle.ivy_model.specs.declared.CallKind.{CallKind}
+use Rattle.ivy_model.specs.declared.CallKind.TheVariants as kind
 use Rattle.ivy_model.specs.declared.Fault.TheVariants.{NoSuchCount}
+use Rattle.ivy_model.specs.Accesses.{kind_of_call}
 use Rattle.ivy_model.specs.Config.{IsConfig, count_len}
-use Rattle.ivy_model.specs.Legal.{IsWidth, HasWidth}
+use Rattle.ivy_model.specs.Legal.{IsWidth, HasKindWidth, HasWidth}
 use Rattle.ivy_model.specs.Serves.{access_refusal}
 use Rattle.ivy_model.proofs.Limits.{page_has_words}
 use Rattle.ivy_model.proofs.Sizes.{access_placed}
 use Rattle.ivy_model.proofs.Words.{IsPlaced}
 use Rattle.ivy_pagetable.specs.declared.Word.{Word}
 use Rattle.ivy_pagetable.specs.declared.Word.TheVariants as word
-use Rattle.ivy_pagetable.specs.Words.{IsWord, width_of, offset_of}
-use Rattle.ivy_memory.specs.Asking.{CanAsk, asked_of, count_asked, word_unless}
+use Rattle.ivy_pagetable.specs.Words.{IsWord, width_of, offset_of, word_with}
+use Rattle.ivy_pagetable.proofs.Words.{width-word_with, offset-word_with}
+use Rattle.ivy_memory.specs.Asking.{CanAsk, asked_kind, asked_of, count_asked, word_unless}
 
 offset_aligned : (width m o : ℕ) → IsWidth width → (8 * m + o) % width ≡ 0 → o % width ≡ 0
 offset_aligned width m o h =
@@ -100,16 +103,16 @@ accessed c width addr w config legal wide at =
       },
     )))
 
-pub can_ask : (c : Config) (k : Call) → IsConfig c → HasWidth k → CanAsk c (asked_of c k)
-can_ask c (call.Load width addr) config legal =
-    accessed c width addr (word.Load width (addr % c.page_size)) config legal refl refl
-can_ask c (call.Store width addr value) config legal =
-    accessed c width addr (word.Store width (addr % c.page_size) value) config legal refl refl
-can_ask c (call.Swap width addr value) config legal =
-    accessed c width addr (word.Swap width (addr % c.page_size) value) config legal refl refl
-can_ask c (call.Count k) config legal = counted c k (word.Count (8 * k)) config refl refl
-can_ask c (call.Advance k) config legal = counted c k (word.Advance (8 * k)) config refl refl
-can_ask c (call.Await k least) config legal =
+can_ask_kind : (c : Config) (k : CallKind) → IsConfig c → HasKindWidth k → CanAsk c (asked_kind c k)
+can_ask_kind c (kind.Word width addr act) config legal =
+    accessed c width addr (word_with width (addr % c.page_size) act) config legal
+    (width-word_with width (addr % c.page_size) act) (offset-word_with width (addr % c.page_size) act)
+can_ask_kind c (kind.Count k) config legal = counted c k (word.Count (8 * k)) config refl refl
+can_ask_kind c (kind.Advance k) config legal = counted c k (word.Advance (8 * k)) config refl refl
+can_ask_kind c (kind.Await k least) config legal =
     counted c k (word.Await (8 * k) least) config refl refl
-can_ask c (call.Alloc size) config legal = tt
-can_ask c (call.Free addr) config legal = tt
+can_ask_kind c (kind.Alloc size) config legal = tt
+can_ask_kind c (kind.Free addr) config legal = tt
+
+pub can_ask : (c : Config) (k : Call) → IsConfig c → HasWidth k → CanAsk c (asked_of c k)
+can_ask c k config legal = can_ask_kind c (kind_of_call k) config legal

@@ -38,7 +38,7 @@ use Rattle.ivy_memory.proofs.Asking.{can_ask}
 use Rattle.ivy_memory.specs.Sound.{IsInProgress, IsSoundMemory}
 use Rattle.ivy_memory.proofs.Tame.{Begins, begun-begins, one_wide, had-sound, started-sound, told-sound, needed-posted, call-few, call-sound, told-few}
 use Rattle.ivy_memory.proofs.Sides.{idle_words, word_words}
-use Rattle.ivy_serving.specs.Limits.{most_posted}
+use Rattle.ivy_coherence.specs.Limits.{most_posted}
 
 none_of : {A : Type 0} (o : Option A) → is_some o ≡ false → o ≡ None
 none_of None h = refl

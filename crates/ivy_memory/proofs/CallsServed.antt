@@ -1,25 +1,28 @@
 -- A call by what it is to the memory of a node: its word, carried out on its page, is the call, and
 -- what is refused the flat memory refuses.
-use Rattle.std.proofs.Common.{◌≡◌, ◌≤◌, ◌<◌, ℕ, ◌*◌, ◌/◌, ◌%◌, Bool, true, false, get_or, Option, Some, None, Ok, Err, nat_lt, refl, ap, subst, arith, if◌then◌else◌, slice_get}
+use Rattle.std.proofs.Common.{◌≡◌, ◌≤◌, ◌<◌, ℕ, ◌*◌, ◌/◌, ◌%◌, Bool, true, false, get_or, Option, Some, None, Ok, Err, nat_lt, refl, sym, ap, subst, arith, if◌then◌else◌, slice_get}
 use Rattle.std.proofs.lemmas.Bool.{ltb-true, ltb-false}
 use Rattle.std.proofs.lemmas.Option.{slice_get-get_or, slice_get_past}
 use Rattle.ivy_model.specs.declared.Config.{Config}
 use Rattle.ivy_model.specs.declared.Call.{Call}
 use Rattle.ivy_model.specs.declared.Call.TheVariants as call
+use Rattle.ivy_model.specs.declared.Act.{Act}
+use Rattle.ivy_model.specs.declared.CallKind.TheVariants as kind
 use Rattle.ivy_model.specs.declared.Reply.TheVariants as reply
 use Rattle.ivy_model.specs.declared.Fault.TheVariants.{NoSuchCount}
+use Rattle.ivy_model.specs.Accesses.{kind_of_call}
 use Rattle.ivy_model.specs.Config.{IsConfig, count_len}
 use Rattle.ivy_model.specs.Memory.{IsSized, flat_page}
 use Rattle.ivy_model.specs.Memory as model
-use Rattle.ivy_model.specs.Serves.{Serves, Loads, Stores, Swaps, access_refusal}
-use Rattle.ivy_model.specs.Legal.{HasWidth}
+use Rattle.ivy_model.specs.Serves.{Serves, ServesKind, Accesses, access_refusal}
+use Rattle.ivy_model.specs.Legal.{HasWidth, IsWidth}
 use Rattle.ivy_pagetable.specs.declared.Word.{Word}
 use Rattle.ivy_pagetable.specs.declared.Word.TheVariants as word
-use Rattle.ivy_pagetable.specs.Words.{carried_out}
+use Rattle.ivy_pagetable.specs.Words.{carried_out, word_with}
 use Rattle.ivy_memory.specs.declared.asked.Asked.TheVariants as asked
 use Rattle.ivy_memory.specs.Asking.{asked_of, count_asked, word_unless}
 use Rattle.ivy_memory.specs.Flat.{IsServed, WordsAreFlat, RefusalsAreFlat}
-use Rattle.ivy_memory.proofs.WordsServed.{load_served, store_served, swap_served, access_refused, count_served, advance_served, await_served, count_refused, advance_refused, await_refused}
+use Rattle.ivy_memory.proofs.WordsServed.{access_served, access_refused, count_served, advance_served, await_served, count_refused, advance_refused, await_refused}
 
 -- what a word that is not refused is, and the code of one that is
 is_word : (o : Option ℕ) (p q : ℕ) (v w : Word) → word_unless o p v ≡ asked.Word q w
@@ -70,30 +73,22 @@ module _ (c : Config) (mem : model.Memory) (sized : IsSized c mem) where
       subst (λ r. IsServed c mem called r (carried_out w (flat_page c mem r))) a
       (subst (λ u. IsServed c mem called p (carried_out u (flat_page c mem p))) b served)
 
+  access_word : (called : Call) (width addr : ℕ) (a : Act)
+      → kind_of_call called ≡ kind.Word width addr a → IsConfig c → (page : ℕ) (w : Word)
+      → IsWidth width
+      → word_unless (access_refusal c width addr) (addr / c.page_size)
+      (word_with width (addr % c.page_size) a) ≡ asked.Word page w
+      → IsServed c mem called page (carried_out w (flat_page c mem page))
+  access_word called width addr a known config page w legal of =
+      let is =
+      is_word (access_refusal c width addr) (addr / c.page_size) page
+      (word_with width (addr % c.page_size) a) w of in
+      this_word called (addr / c.page_size) page (word_with width (addr % c.page_size) a) w is.1 is.2
+      (access_served c mem config width addr legal is.0 sized a called known)
+
   pub word_served : IsConfig c → (called : Call) (page : ℕ) (w : Word) → HasWidth called
       → asked_of c called ≡ asked.Word page w
       → IsServed c mem called page (carried_out w (flat_page c mem page))
-  word_served config (call.Load width addr) page w legal of =
-      let is =
-      is_word (access_refusal c width addr) (addr / c.page_size) page
-      (word.Load width (addr % c.page_size)) w of in
-      this_word (call.Load width addr) (addr / c.page_size) page
-      (word.Load width (addr % c.page_size)) w is.1 is.2
-      (load_served c mem config width addr legal is.0)
-  word_served config (call.Store width addr value) page w legal of =
-      let is =
-      is_word (access_refusal c width addr) (addr / c.page_size) page
-      (word.Store width (addr % c.page_size) value) w of in
-      this_word (call.Store width addr value) (addr / c.page_size) page
-      (word.Store width (addr % c.page_size) value) w is.1 is.2
-      (store_served c mem config width addr legal is.0 sized value)
-  word_served config (call.Swap width addr value) page w legal of =
-      let is =
-      is_word (access_refusal c width addr) (addr / c.page_size) page
-      (word.Swap width (addr % c.page_size) value) w of in
-      this_word (call.Swap width addr value) (addr / c.page_size) page
-      (word.Swap width (addr % c.page_size) value) w is.1 is.2
-      (swap_served c mem config width addr legal is.0 sized value)
   word_served config (call.Count k) page w legal of =
       let is = count_there (nat_lt k (count_len c)) page (word.Count (8 * k)) w of in
       this_word (call.Count k) 0 page (word.Count (8 * k)) w is.1 is.2
@@ -108,24 +103,23 @@ module _ (c : Config) (mem : model.Memory) (sized : IsSized c mem) where
       (await_served c mem sized k (count_at k) (counts_on k is.0) least)
   word_served config (call.Alloc size) page w legal of = absurd cc
   word_served config (call.Free addr) page w legal of = absurd cc
+  word_served config called page w legal of =
+      access_word called _ _ _ refl config page w legal of
+
+  access_gone : (called : Call) (width addr : ℕ) (a : Act)
+      → kind_of_call called ≡ kind.Word width addr a → (code : ℕ)
+      → word_unless (access_refusal c width addr) (addr / c.page_size)
+      (word_with width (addr % c.page_size) a) ≡ asked.Refused code
+      → Serves c mem called (reply.Refused code) mem
+  access_gone called width addr a is code of =
+      subst (λ k. ServesKind c mem k (reply.Refused code) mem) (sym is)
+      (access_refused c mem width addr code
+      (is_refused (access_refusal c width addr) (addr / c.page_size) code
+      (word_with width (addr % c.page_size) a) of)
+      (Accesses c mem width addr a (reply.Refused code) mem))
 
   pub refusal_served : (called : Call) (code : ℕ) → asked_of c called ≡ asked.Refused code
       → Serves c mem called (reply.Refused code) mem
-  refusal_served (call.Load width addr) code is =
-      access_refused c mem width addr code
-      (is_refused (access_refusal c width addr) (addr / c.page_size) code
-      (word.Load width (addr % c.page_size)) is)
-      (Loads c mem width addr (reply.Refused code) mem)
-  refusal_served (call.Store width addr value) code is =
-      access_refused c mem width addr code
-      (is_refused (access_refusal c width addr) (addr / c.page_size) code
-      (word.Store width (addr % c.page_size) value) is)
-      (Stores c mem width addr value (reply.Refused code) mem)
-  refusal_served (call.Swap width addr value) code is =
-      access_refused c mem width addr code
-      (is_refused (access_refusal c width addr) (addr / c.page_size) code
-      (word.Swap width (addr % c.page_size) value) is)
-      (Swaps c mem width addr value (reply.Refused code) mem)
   refusal_served (call.Count k) code is =
       let gone = count_gone (nat_lt k (count_len c)) code (word.Count (8 * k)) is in
       subst (λ n. Serves c mem (call.Count k) (reply.Refused n) mem) gone.1
@@ -140,6 +134,7 @@ module _ (c : Config) (mem : model.Memory) (sized : IsSized c mem) where
       (await_refused c mem k (no_count k gone.0) least)
   refusal_served (call.Alloc size) code is = absurd cc
   refusal_served (call.Free addr) code is = absurd cc
+  refusal_served called code is = access_gone called _ _ _ refl code is
 
 pub words_are_flat : WordsAreFlat
 words_are_flat c m called page w config sized legal of =

@@ -4,7 +4,7 @@ use Rattle.std.proofs.Common.{◌≡◌, ℕ, Some, ap}
 use Rattle.ivy_model.specs.declared.Reply.{Reply}
 use Rattle.ivy_wire.specs.Data.{Message}
 use Rattle.ivy_pagetable.specs.Manager.{Ops}
-use Rattle.ivy_alloc.specs.Heap.{HeapState}
+use Rattle.ivy_heap.specs.ivy_alloc.Heap.{HeapState}
 use Rattle.ivy_heap.specs.declared.HeapCall.{HeapCall}
 use Rattle.ivy_heap.specs.declared.Errand.TheVariants as errand
 use Rattle.ivy_heap.specs.HeapCalls.{request, reply_in, served_at, learned}

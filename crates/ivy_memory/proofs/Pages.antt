@@ -14,8 +14,8 @@ use Rattle.ivy_pagetable.specs.declared.Request.TheVariants as request
 use Rattle.ivy_pagetable.specs.NodeSets.{Nodes, nodes_of, nodes_with}
 use Rattle.ivy_pagetable.specs.States.{IdleState}
 use Rattle.ivy_pagetable.specs.Manager.{Ops}
-use Rattle.ivy_serving.specs.Serving.{Serving, serving, served_by_owner, served_by_other, served, all_served, told, put_off_served, invalidations}
-use Rattle.ivy_serving.proofs.IdleServing.{all_none, all_one}
+use Rattle.ivy_coherence.specs.Serving.{Serving, serving, served_by_owner, served_by_other, served, all_served, told, put_off_served, invalidations}
+use Rattle.ivy_coherence.proofs.IdleServing.{all_none, all_one}
 use Rattle.ivy_pagetable.specs.declared.Word.{Word}
 use Rattle.ivy_pagetable.specs.Tables.{page_at}
 use Rattle.ivy_pagetable.specs.Entries.{copying, owning}

@@ -18,8 +18,8 @@ use Rattle.ivy_coherence.specs.Coherent.{Coherent}
 use Rattle.ivy_coherence.specs.Faults.{Begun, HasToAsk, suffices, accessed, begun_at, begun}
 use Rattle.ivy_coherence.specs.Sound.{IsSound}
 use Rattle.ivy_coherence.proofs.Keeping.{begun-keeps}
-use Rattle.ivy_serving.specs.Limits.{most_posted}
-use Rattle.ivy_serving.proofs.IdleServing.{all_none}
+use Rattle.ivy_coherence.specs.Limits.{most_posted}
+use Rattle.ivy_coherence.proofs.IdleServing.{all_none}
 use Rattle.ivy_coherence.proofs.Few.{begun-few}
 use Rattle.ivy_heap.specs.declared.Answer.{Answer}
 use Rattle.ivy_heap.specs.declared.Answer.TheVariants.{Given, Awaited, Unserved}

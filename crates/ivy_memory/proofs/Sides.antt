@@ -10,9 +10,9 @@ use Rattle.ivy_model.specs.Config.{IsConfig}
 use Rattle.ivy_wire.specs.Data.{Message}
 use Rattle.ivy_wire.specs.Spelling.{FitsMessage, FitsParcel}
 use Rattle.ivy_wire.specs.Posts.{parcel_to}
-use Rattle.ivy_serving.specs.Limits.{most_posted}
-use Rattle.ivy_serving.proofs.IdleServing.{all_none, all_one}
-use Rattle.ivy_alloc.specs.Heap.{HeapState, first_heap}
+use Rattle.ivy_coherence.specs.Limits.{most_posted}
+use Rattle.ivy_coherence.proofs.IdleServing.{all_none, all_one}
+use Rattle.ivy_heap.specs.ivy_alloc.Heap.{HeapState, first_heap}
 use Rattle.ivy_heap.specs.declared.HeapCall.{HeapCall}
 use Rattle.ivy_heap.specs.declared.Errand.{Errand}
 use Rattle.ivy_heap.specs.declared.Errand.TheVariants as errand

@@ -26,7 +26,8 @@ use Rattle.ivy_pagetable.specs.States.{IdleState, WaitingState}
 use Rattle.ivy_pagetable.specs.Entries.{is_locked, copying, owning}
 use Rattle.ivy_pagetable.specs.TableState.{Table}
 use Rattle.ivy_pagetable.specs.Tables.{page_at, with_page}
-use Rattle.ivy_pagetable.specs.Words.{Carried, number_at, carried_out}
+use Rattle.ivy_pagetable.specs.Words.{number_at, carried_out, offset_of, width_of}
+use Rattle.ivy_pagetable.proofs.Words.{not_yet}
 use Rattle.ivy_pagetable.specs.Manager.{Ops, Laws}
 use Rattle.ivy_coherence.specs.declared.Need.{Need}
 use Rattle.ivy_coherence.specs.declared.Need.TheVariants as need
@@ -36,9 +37,9 @@ use Rattle.ivy_coherence.specs.Faults.{Begun, started, hit, begun}
 use Rattle.ivy_coherence.specs.Sound.{IsSound}
 use Rattle.ivy_coherence.proofs.SoundEntries.{first-sound}
 use Rattle.ivy_coherence.proofs.Keeping.{handled-keeps, begun-keeps}
-use Rattle.ivy_serving.specs.Limits.{most_posted}
-use Rattle.ivy_alloc.specs.Heap.{HeapState}
-use Rattle.ivy_serving.proofs.IdleServing.{all_none, all_one}
+use Rattle.ivy_coherence.specs.Limits.{most_posted}
+use Rattle.ivy_heap.specs.ivy_alloc.Heap.{HeapState}
+use Rattle.ivy_coherence.proofs.IdleServing.{all_none, all_one}
 use Rattle.ivy_coherence.proofs.Rows.{Rows, AccessRows, handled-by_rows, begun-by_rows}
 use Rattle.ivy_coherence.proofs.Few.{begun-few, handled-few}
 use Rattle.ivy_heap.specs.declared.Answer.{Answer}
@@ -92,25 +93,20 @@ kept_page t page bytes is =
     ap (λ x. record { page_size = t.page_size; entries = t.entries; pages = x })
     (ap (slice_set t.pages page) is ∙ set-get_or t.pages page [])
 
-abbrev advance_by : Bool → List ℕ → List ℕ → Carried
-advance_by b bytes more =
-    if b then record { out = out.Full; bytes = bytes } else record { out = out.Done; bytes = more }
-
-quiet_advance : (b : Bool) (bytes more : List ℕ) → reply_of (advance_by b bytes more).out ≡ None
-    → (advance_by b bytes more).bytes ≡ bytes
-quiet_advance true bytes more h = refl
-quiet_advance false bytes more h = absurd cc
+unanswered_out : (o : Out) → reply_of o ≡ None → o ≡ out.NotYet
+unanswered_out (out.Value value) h = absurd cc
+unanswered_out out.Done h = absurd cc
+unanswered_out out.Full h = absurd cc
+unanswered_out out.NotYet h = refl
 
 -- a word that has no answer yet writes nothing
 quiet_bytes : (w : Word) (bytes : List ℕ) → reply_of (carried_out w bytes).out ≡ None
     → (carried_out w bytes).bytes ≡ bytes
-quiet_bytes (word.Load width offset) bytes h = refl
-quiet_bytes (word.Store width offset value) bytes h = absurd cc
-quiet_bytes (word.Swap width offset value) bytes h = absurd cc
-quiet_bytes (word.Count offset) bytes h = refl
-quiet_bytes (word.Advance offset) bytes h =
-    quiet_advance (number_at 8 offset bytes == 2 ^ 64 - 1) bytes _ h
-quiet_bytes (word.Await offset least) bytes h = refl
+quiet_bytes w bytes h =
+    let waits =
+    not_yet w (number_at (width_of w) (offset_of w) bytes)
+    (unanswered_out (carried_out w bytes).out h) in
+    subst (λ v. (carried_out v bytes).bytes ≡ bytes) (sym waits.is) refl
 
 reply_done : (d : Option Out) (r : Reply) → reply_there d ≡ Some r → (o : Out) × (d ≡ Some o)
 reply_done None r h = absurd (none-some r h)

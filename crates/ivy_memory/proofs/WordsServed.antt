@@ -1,22 +1,25 @@
 -- A word carried out on a page of the flat memory is one call of it: the page has the bytes after
 -- the word then, the others stay as they are, and the word gives the call's reply.
 use Rattle.std.proofs.Common.{◌≡◌, ℕ, ◌+◌, ◌-◌, ◌*◌, ◌/◌, ◌%◌, ◌^◌, ◌≤◌, Bool, true}
-use Rattle.std.proofs.Common.{false, nat_le, List, Some, None, MatchOption, MatchBool, refl}
+use Rattle.std.proofs.Common.{false, nat_le, List, Option, Some, None, MatchOption, MatchBool, refl}
 use Rattle.std.proofs.Common.{sym, ap, subst, if◌then◌else◌, ◌==◌, slice_get, slice_set}
 use Rattle.std.proofs.lemmas.Bool.{ne_eqb, leb-true}
 use Rattle.std.proofs.lemmas.Option.{slice_get_within}
-use Rattle.byteorder.specs.Endian.{big_bytes}
 use Rattle.ivy_model.specs.declared.Config.{Config}
 use Rattle.ivy_model.specs.declared.Call.{Call}
 use Rattle.ivy_model.specs.declared.Call.TheVariants as call
+use Rattle.ivy_model.specs.declared.Act.{Act}
+use Rattle.ivy_model.specs.declared.CallKind.TheVariants as kind
 use Rattle.ivy_model.specs.declared.Reply.{Reply}
 use Rattle.ivy_model.specs.declared.Reply.TheVariants as reply
+use Rattle.ivy_model.specs.Accesses.{access_reply, gives_number, kind_of_call, next_number}
 use Rattle.ivy_model.specs.Config.{IsConfig}
 use Rattle.ivy_model.specs.Memory.{IsSized, flat_page}
 use Rattle.ivy_model.specs.Memory as model
 use Rattle.ivy_model.specs.Numbers.{fault_number}
 use Rattle.ivy_model.specs.declared.fault.Fault.TheVariants.{NoSuchCount, CountFull}
-use Rattle.ivy_model.specs.Serves.{Serves, Loads, Stores, Swaps, Refuses, Advances, access_refusal, overwrite}
+use Rattle.ivy_model.specs.Serves.{Serves, ServesKind, Accesses, Refuses, Advances, access_refusal, overwrite}
+use Rattle.ivy_model.specs.Serves.{with_written}
 use Rattle.ivy_model.specs.Legal.{IsWidth}
 use Rattle.ivy_model.proofs.Counts.{read_count, write_count}
 use Rattle.ivy_model.proofs.Sizes.{access_placed}
@@ -24,9 +27,16 @@ use Rattle.ivy_model.proofs.Words.{IsPlaced, read_by_page, with_word, write_by_p
 use Rattle.ivy_pagetable.specs.declared.Out.{Out}
 use Rattle.ivy_pagetable.specs.declared.Out.TheVariants as out
 use Rattle.ivy_pagetable.specs.declared.Word.TheVariants as word
-use Rattle.ivy_pagetable.specs.Words.{number_at, advanced, awaited, carried_out}
+use Rattle.ivy_pagetable.specs.Words.{number_at, access_outcome, advanced, awaited, carried, carried_out, word_with}
+use Rattle.ivy_pagetable.proofs.Words.{carried-word_with}
 use Rattle.ivy_memory.specs.Memories.{reply_of}
 use Rattle.ivy_memory.specs.Flat.{Answers, IsServed}
+
+given_as : (b : Bool) (n : ℕ)
+    → reply_of (if b then out.Value n else out.Done)
+    ≡ Some (if b then reply.Value n else reply.Done)
+given_as true n = refl
+given_as false n = refl
 
 module _ (c : Config) (old : model.Memory) where
   -- what the memory answers and stays as it is
@@ -46,33 +56,40 @@ module _ (c : Config) (old : model.Memory) where
     placed : IsPlaced c width addr
     placed = access_placed c width addr config legal permitted
 
-    pub load_served : IsServed c old (call.Load width addr) (addr / c.page_size)
-        (carried_out (word.Load width (addr % c.page_size)) (flat_page c old (addr / c.page_size)))
-    load_served =
-        let value : ℕ =
-        number_at width (addr % c.page_size) (flat_page c old (addr / c.page_size)) in
-        unchanged (call.Load width addr) (addr / c.page_size) (out.Value value)
-        (subst (λ o. MatchOption o (Loads c old width addr (reply.Value value) old)
-        (λ code. Refuses old code (reply.Value value) old)) (sym permitted)
-        (ap reply.Value (sym (read_by_page c old width addr placed)), refl))
+    module _ (sized : IsSized c old) (a : Act) (called : Call)
+        (is : kind_of_call called ≡ kind.Word width addr a) where
+      abbrev page : List ℕ
+      page = flat_page c old (addr / c.page_size)
 
-    module _ (sized : IsSized c old) (value : ℕ) where
-      abbrev new : model.Memory
-      new = with_word c old width addr value
+      abbrev here : ℕ
+      here = number_at width (addr % c.page_size) page
 
-      -- what the memory answers, with the value in the word's place then
-      written : (called : Call) (given : Out) → Answers c old called (reply_of given) new
+      -- what the memory answers, from the number in the page
+      access_answers : (new : model.Memory)
+          → new ≡ with_written c old width addr (next_number width a here)
+          → Answers c old called (reply_of (access_outcome width a here).out) new
+      access_answers new next =
+          subst (λ o. Answers c old called o new) (sym (given_as (gives_number a) here))
+          (subst (λ k. ServesKind c old k (access_reply a here) new) (sym is)
+          (subst (λ o. MatchOption o (Accesses c old width addr a (access_reply a here) new)
+          (λ code. Refuses old code (access_reply a here) new)) (sym permitted)
+          (subst (λ (n : ℕ). (access_reply a here ≡ access_reply a n)
+          × (new ≡ with_written c old width addr (next_number width a n)))
+          (sym (read_by_page c old width addr placed)) (refl, next))))
+
+      access_by : (next : Option ℕ) → next ≡ next_number width a here
           → IsServed c old called (addr / c.page_size)
-          (record {
-            out = given;
-            bytes =
-                overwrite (flat_page c old (addr / c.page_size)) (addr % c.page_size)
-                (big_bytes width value);
-          })
-      written called given answers =
+          (carried width (addr % c.page_size)
+          (record { out = (access_outcome width a here).out; next = next }) page)
+      access_by None stays =
+          unchanged called (addr / c.page_size) (access_outcome width a here).out
+          (access_answers old (ap (with_written c old width addr) stays))
+      access_by (Some value) puts =
           record {
-            new = new;
-            answers = answers;
+            new = with_word c old width addr value;
+            answers =
+                access_answers (with_word c old width addr value)
+                (ap (with_written c old width addr) puts);
             here = write_by_page c old width addr value sized.bytes placed;
             others =
                 λ q inside ne. write_elsewhere c old width addr value q sized.bytes placed inside
@@ -80,24 +97,12 @@ module _ (c : Config) (old : model.Memory) where
             blocks = refl;
           }
 
-      pub store_served : IsServed c old (call.Store width addr value) (addr / c.page_size)
-          (carried_out (word.Store width (addr % c.page_size) value)
-          (flat_page c old (addr / c.page_size)))
-      store_served =
-          written (call.Store width addr value) out.Done
-          (subst (λ o. MatchOption o (Stores c old width addr value reply.Done new)
-          (λ code. Refuses old code reply.Done new)) (sym permitted) (refl, refl))
-
-      pub swap_served : IsServed c old (call.Swap width addr value) (addr / c.page_size)
-          (carried_out (word.Swap width (addr % c.page_size) value)
-          (flat_page c old (addr / c.page_size)))
-      swap_served =
-          let before : ℕ =
-          number_at width (addr % c.page_size) (flat_page c old (addr / c.page_size)) in
-          written (call.Swap width addr value) (out.Value before)
-          (subst (λ o. MatchOption o (Swaps c old width addr value (reply.Value before) new)
-          (λ code. Refuses old code (reply.Value before) new)) (sym permitted)
-          ((ap reply.Value (sym (read_by_page c old width addr placed)), refl), (refl, refl)))
+      pub access_served : IsServed c old called (addr / c.page_size)
+          (carried_out (word_with width (addr % c.page_size) a) page)
+      access_served =
+          subst (IsServed c old called (addr / c.page_size))
+          (sym (carried-word_with width (addr % c.page_size) a page))
+          (access_by (next_number width a here) refl)
 
   module _ (width addr code : ℕ) (refusal : access_refusal c width addr ≡ Some code) where
     -- the memory refuses the access, whatever it would do otherwise
@@ -138,8 +143,8 @@ module _ (c : Config) (old : model.Memory) where
 
     advanced_by : (b : Bool) → (n == 2 ^ 64 - 1) ≡ b
         → IsServed c old (call.Advance k) 0
-        (if b then record { out = out.Full; bytes = words }
-        else record { out = out.Done; bytes = overwrite words (8 * k) (big_bytes 8 (n + 1)) })
+        (carried 8 (8 * k) (if b then record { out = out.Full; next = None }
+        else record { out = out.Done; next = Some (n + 1) }) words)
     advanced_by true full =
         unchanged (call.Advance k) 0 out.Full
         (advances (reply.Refused 7) old true full (refl, refl))
@@ -154,7 +159,8 @@ module _ (c : Config) (old : model.Memory) where
     pub advance_served : IsServed c old (call.Advance k) 0
         (carried_out (word.Advance (8 * k)) words)
     advance_served =
-        subst (λ m. IsServed c old (call.Advance k) 0 (advanced m (8 * k) words)) (sym count_read)
+        subst (λ (m : ℕ). IsServed c old (call.Advance k) 0 (carried 8 (8 * k) (advanced m) words))
+        (sym count_read)
         (advanced_by (n == 2 ^ 64 - 1) refl)
 
     awaited_by : (least : ℕ) (b : Bool) → nat_le least n ≡ b

@@ -2,14 +2,16 @@
 use Rattle.std.specs.Prelude.{◌≡◌, ◌⊎◌, ◌<◌, ℕ, ◌/◌, ◌%◌, Option, Some, None, Result, Ok, Err}
 use Rattle.ivy_model.specs.declared.Config.{Config}
 use Rattle.ivy_model.specs.declared.Call.{Call}
-use Rattle.ivy_model.specs.declared.Call.TheVariants.{Load, Store, Swap, Count, Advance, Await, Alloc, Free}
+use Rattle.ivy_model.specs.declared.CallKind.{CallKind}
+use Rattle.ivy_model.specs.declared.CallKind.TheVariants as kind
 use Rattle.ivy_model.specs.declared.Fault.{Fault}
+use Rattle.ivy_model.specs.Accesses.{kind_of_call}
 use Rattle.ivy_model.specs.Numbers.{fault_number}
 use Rattle.ivy_model.specs.Serves.{access_refusal}
 use Rattle.ivy_event.specs.Counts.{word_of_count}
 use Rattle.ivy_pagetable.specs.declared.Word.{Word}
 use Rattle.ivy_pagetable.specs.declared.Word.TheVariants as word
-use Rattle.ivy_pagetable.specs.Words.{IsWord}
+use Rattle.ivy_pagetable.specs.Words.{IsWord, word_with}
 use Rattle.ivy_coherence.specs.Coherent.{Coherent}
 use Rattle.ivy_coherence.specs.Faults.{HasToAsk}
 use Rattle.ivy_memory.specs.declared.asked.Asked.{Asked}
@@ -29,24 +31,19 @@ abbrev pub count_asked : Result Word Fault → Asked
 count_asked (Ok w) = asked.Word 0 w
 count_asked (Err fault) = asked.Refused (fault_number fault)
 
--- a load reads the word at its place in the page
-abbrev pub word_loaded : Config → ℕ → ℕ → Word
-word_loaded c width addr = word.Load width (addr % c.page_size)
+-- a call of this kind: an access is the word at its place in its page
+abbrev pub asked_kind : Config → CallKind → Asked
+asked_kind c (kind.Word width addr act) =
+    word_unless (access_refusal c width addr) (addr / c.page_size)
+    (word_with width (addr % c.page_size) act)
+asked_kind c (kind.Count k) = count_asked (word_of_count c k word.Count)
+asked_kind c (kind.Advance k) = count_asked (word_of_count c k word.Advance)
+asked_kind c (kind.Await k least) = count_asked (word_of_count c k (λ offset. word.Await offset least))
+asked_kind c (kind.Alloc size) = asked.Heap (heap.Alloc size)
+asked_kind c (kind.Free addr) = asked.Heap (heap.Free addr)
 
 abbrev pub asked_of : Config → Call → Asked
-asked_of c (Load width addr) =
-    word_unless (access_refusal c width addr) (addr / c.page_size) (word_loaded c width addr)
-asked_of c (Store width addr value) =
-    word_unless (access_refusal c width addr) (addr / c.page_size)
-    (word.Store width (addr % c.page_size) value)
-asked_of c (Swap width addr value) =
-    word_unless (access_refusal c width addr) (addr / c.page_size)
-    (word.Swap width (addr % c.page_size) value)
-asked_of c (Count k) = count_asked (word_of_count c k word.Count)
-asked_of c (Advance k) = count_asked (word_of_count c k word.Advance)
-asked_of c (Await k least) = count_asked (word_of_count c k (λ offset. word.Await offset least))
-asked_of c (Alloc size) = asked.Heap (heap.Alloc size)
-asked_of c (Free addr) = asked.Heap (heap.Free addr)
+asked_of c call = asked_kind c (kind_of_call call)
 
 -- other nodes have to be asked: it is a word of a page, and not at hand
 abbrev pub HasToAskFor : {S : Type 0} → Coherent S → Asked → Type 0

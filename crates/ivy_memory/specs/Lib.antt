@@ -2,3 +2,6 @@ pub mod Asking
 pub mod Flat
 pub mod Memories
 pub mod Sound
+pub use Rattle.ivy_heap.specs.ivy_alloc as ivy_alloc
+pub use Rattle.ivy_heap.specs as ivy_heap
+pub use Rattle.ivy_coherence.specs as ivy_coherence

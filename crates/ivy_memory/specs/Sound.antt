@@ -6,7 +6,7 @@ use Rattle.ivy_model.specs.Legal.{HasWidth}
 use Rattle.ivy_pagetable.specs.declared.Out.{Out}
 use Rattle.ivy_pagetable.specs.Manager.{Ops}
 use Rattle.ivy_coherence.specs.Sound.{IsSound}
-use Rattle.ivy_alloc.specs.Heap.{HeapState}
+use Rattle.ivy_heap.specs.ivy_alloc.Heap.{HeapState}
 use Rattle.ivy_memory.specs.declared.asked.Asked.TheVariants as kinds
 use Rattle.ivy_heap.specs.declared.HeapCall.{HeapCall}
 use Rattle.ivy_heap.specs.declared.Errand.{Errand}

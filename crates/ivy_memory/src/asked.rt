@@ -1,13 +1,13 @@
 //! What a call is to the memory of a node.
 ghost use Rattle.std.specs.Prelude.{◌≡◌, ◌/◌};
 ghost use Rattle.ivy_model.specs.Config.{IsConfig};
-ghost use Rattle.ivy_model.specs.Legal.{HasWidth, IsWidth};
+ghost use Rattle.ivy_model.specs.Legal.{HasKindWidth, HasWidth, IsWidth};
 ghost use Rattle.ivy_model.specs.Serves.{access_refusal};
-ghost use Rattle.ivy_memory.specs.Asking.{count_asked, asked_of, word_unless};
+ghost use Rattle.ivy_memory.specs.Asking.{count_asked, asked_kind, asked_of, word_unless};
 
 use ivy_event::{advance, await_at_least, read};
 use ivy_heap::HeapCall;
-use ivy_model::{Call, Config, Fault, access_refusal};
+use ivy_model::{Call, CallKind, Config, Fault, access_refusal};
 use ivy_pagetable::Word;
 
 /// What a call is to the memory of a node.
@@ -44,41 +44,31 @@ fn word_asked(config: &Config, width: u8, addr: u64, word: Word) -> Asked
     Asked::Word { page, word }
 }
 
-/// What a call of a legal width is: a load, a store or a swap is the word at its address, and a call on an eventcount is
-/// that of the 8 bytes at its place in page 0. It takes no memory.
+/// What a call of this kind is.
+fn asked_kind(config: &Config, kind: CallKind) -> Asked
+    requires limits { IsConfig config.now }
+    requires width { HasKindWidth kind }
+    ensures is { result ≡ asked_kind config.now kind }
+{
+    match kind {
+        CallKind::Word { width, addr, act } => {
+            let offset = (addr % u64::from(config.page_size)) as u32;
+            word_asked(config, width, addr, Word::new(act, width, offset))
+        }
+        CallKind::Count { k } => count_asked(read(config, k)),
+        CallKind::Advance { k } => count_asked(advance(config, k)),
+        CallKind::Await { k, least } => count_asked(await_at_least(config, k, least)),
+        CallKind::Alloc { size } => Asked::Heap(HeapCall::Alloc { size }),
+        CallKind::Free { addr } => Asked::Heap(HeapCall::Free { addr }),
+    }
+}
+
+/// What a call of a legal width is: an access to a word of the heap is the word at its address, and a call on an
+/// eventcount is that of the 8 bytes at its place in page 0. It takes no memory.
 pub fn asked_of(config: &Config, call: Call) -> Asked
     requires limits { IsConfig config.now }
     requires width { HasWidth call }
     ensures is { result ≡ asked_of config.now call }
 {
-    let size = u64::from(config.page_size);
-    match call {
-        Call::Load { width, addr } => {
-            let offset = (addr % size) as u32;
-            word_asked(config, width, addr, Word::Load { width, offset })
-        }
-        Call::Store { width, addr, value } => {
-            let offset = (addr % size) as u32;
-            let word = Word::Store {
-                width,
-                offset,
-                value,
-            };
-            word_asked(config, width, addr, word)
-        }
-        Call::Swap { width, addr, value } => {
-            let offset = (addr % size) as u32;
-            let word = Word::Swap {
-                width,
-                offset,
-                value,
-            };
-            word_asked(config, width, addr, word)
-        }
-        Call::Count { k } => count_asked(read(config, k)),
-        Call::Advance { k } => count_asked(advance(config, k)),
-        Call::Await { k, least } => count_asked(await_at_least(config, k, least)),
-        Call::Alloc { size } => Asked::Heap(HeapCall::Alloc { size }),
-        Call::Free { addr } => Asked::Heap(HeapCall::Free { addr }),
-    }
+    asked_kind(config, call.kind())
 }

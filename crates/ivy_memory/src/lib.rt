@@ -8,6 +8,8 @@ mod law;
 mod memory;
 
 pub use asked::{Asked, asked_of};
-pub use ivy_heap::{Answer, Errand, HeapCall, HeapSide};
+pub use ivy_coherence;
+pub use ivy_event;
+pub use ivy_heap::{Answer, Errand, HeapCall, HeapSide, ivy_alloc};
 pub use law::words_are_flat;
 pub use memory::Memory;

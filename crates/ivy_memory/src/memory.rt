@@ -9,7 +9,7 @@ ghost use Rattle.ivy_wire.specs.Posts.{IsPostOf, HasRefused};
 ghost use Rattle.ivy_memory.specs.Asking.{CallHasToAsk, IsOfHeap, MayBeRefused, asked_of};
 ghost use Rattle.ivy_heap.specs.HeapCalls.{IsGrowth, IsGrowthPosted};
 ghost use Rattle.ivy_memory.specs.Memories.{first_memory, reply_of, reply_at, HasToAskAgain, call_begun, polled, memory_handled, memory_told};
-ghost use Rattle.ivy_serving.specs.Limits.{most_posted};
+ghost use Rattle.ivy_coherence.specs.Limits.{most_posted};
 
 use crate::asked::{Asked, asked_of};
 use ivy_coherence::{Coherence, Need};
@@ -53,7 +53,7 @@ impl<M: Manager, A: Allocator> Model for Memory<M, A> {
 
     ghost use Rattle.std.specs.Coded.{codes};
     ghost use Rattle.ivy_pagetable.specs.NodeSets.{nodes_code};
-    ghost use Rattle.ivy_alloc.specs.Heap.{heap_state_code};
+    ghost use Rattle.ivy_heap.specs.ivy_alloc.Heap.{heap_state_code};
 
     ghost coded = { Prim.hlevel (codes, nodes_code, heap_state_code) };
 

@@ -11,14 +11,16 @@ use Rattle.byteorder.specs.Endian.{big_bytes}
 use Rattle.byteorder.specs.Numbers.{length-bytes_high_first}
 use Rattle.ivy_model.specs.declared.config.Config.{Config}
 use Rattle.ivy_model.specs.declared.call.Call.{Call}
-use Rattle.ivy_model.specs.declared.call.Call.TheVariants.{Load, Store, Swap, Count, Advance, Await, Alloc, Free}
+use Rattle.ivy_model.specs.declared.call.CallKind.{CallKind}
+use Rattle.ivy_model.specs.declared.call.CallKind.TheVariants.{Word, Count, Advance, Await, Alloc, Free}
 use Rattle.ivy_model.specs.declared.call.Record.{Record}
 use Rattle.ivy_model.specs.declared.call.Reply.{Reply}
 use Rattle.ivy_model.specs.declared.call.Reply.TheVariants.{Done, Refused, Value}
+use Rattle.ivy_model.specs.Accesses.{kind_of_call}
 use Rattle.ivy_model.specs.Config.{IsConfig, heap_end, heap_len, count_len}
-use Rattle.ivy_model.specs.Legal.{HasWidth, IsWidth, ServesAll}
+use Rattle.ivy_model.specs.Legal.{HasKindWidth, HasWidth, IsWidth, ServesAll}
 use Rattle.ivy_model.specs.Memory.{Memory, IsSized, first, flat_page}
-use Rattle.ivy_model.specs.Serves.{Serves, access_refusal}
+use Rattle.ivy_model.specs.Serves.{Serves, ServesKind, access_refusal, with_written}
 use Rattle.ivy_model.proofs.Counts.{length-words, zero_words}
 use Rattle.ivy_model.proofs.Limits.{page_has_words}
 use Rattle.ivy_model.proofs.Lists.{length-overwrite}
@@ -102,47 +104,48 @@ advanced_sized c m k n s small = record {
       ];
 }
 
--- from a memory of the configuration's size, each call leads to another
-pub serves_sized : (c : Config) (old new : Memory) (call : Call) (reply : Reply) → IsConfig c
-    → HasWidth call → IsSized c old → Serves c old call reply new → IsSized c new
-serves_sized c old new (Load width addr) reply h w s p =
-    by_option (access_refusal c width addr) p (λ _ x. subst (IsSized c) (sym x.1) s)
-    (λ _ _ x. subst (IsSized c) (sym x.1) s)
-serves_sized c old new (Store width addr value) reply h w s p =
+put_sized : (c : Config) (m : Memory) (width addr : ℕ) (next : Option ℕ) → IsSized c m
+    → IsPlaced c width addr → IsSized c (with_written c m width addr next)
+put_sized c m width addr None s h = s
+put_sized c m width addr (Some value) s h = stored_sized c m width addr value s h
+
+kind_sized : (c : Config) (old new : Memory) (kind : CallKind) (reply : Reply) → IsConfig c
+    → HasKindWidth kind → IsSized c old → ServesKind c old kind reply new → IsSized c new
+kind_sized c old new (Word width addr act) reply h w s p =
     by_option (access_refusal c width addr) p
     (λ e x. subst (IsSized c) (sym x.1)
-    (stored_sized c old width addr value s (access_placed c width addr h w e)))
+    (put_sized c old width addr _ s (access_placed c width addr h w e)))
     (λ _ _ x. subst (IsSized c) (sym x.1) s)
-serves_sized c old new (Swap width addr value) reply h w s p =
-    by_option (access_refusal c width addr) p
-    (λ e x. subst (IsSized c) (sym x.1.1)
-    (stored_sized c old width addr value s (access_placed c width addr h w e)))
-    (λ _ _ x. subst (IsSized c) (sym x.1) s)
-serves_sized c old new (Count k) reply h w s p =
+kind_sized c old new (Count k) reply h w s p =
     by_option (slice_get old.counts k) p (λ _ x. subst (IsSized c) (sym x.1) s)
     (λ _ _ x. subst (IsSized c) (sym x.1) s)
-serves_sized c old new (Advance k) reply h w s p =
+kind_sized c old new (Advance k) reply h w s p =
     by_option (slice_get old.counts k) p (λ _ x. subst (IsSized c) (sym x.1) s)
     (λ n e x. by_bool (n == 2 ^ 64 - 1) x (λ _ y. subst (IsSized c) (sym y.1) s)
     (λ more y. let other = eqb-false n (2 ^ 64 - 1) more in let small = s.words k n e in
     subst (IsSized c) (sym y.1)
     (advanced_sized c old k (n + 1) s (grind (arith, other, small)))))
-serves_sized c old new (Await k least) reply h w s p =
+kind_sized c old new (Await k least) reply h w s p =
     by_option (slice_get old.counts k) p (λ _ x. subst (IsSized c) (sym x.1) s)
     (λ _ _ x. subst (IsSized c) (sym x.2) s)
-serves_sized c old new (Alloc size) (Value addr) h w s p =
+kind_sized c old new (Alloc size) (Value addr) h w s p =
     by_bool (size == 0) p (λ _ x. subst (IsSized c) (sym x.1) s)
     (λ _ x. subst (IsSized c) (sym x.1)
     (record { bytes = s.bytes; counts = s.counts; words = s.words }))
-serves_sized c old new (Alloc size) Done h w s p =
+kind_sized c old new (Alloc size) Done h w s p =
     by_bool (size == 0) p (λ _ x. subst (IsSized c) (sym x.1) s) (λ _ x. absurd x)
-serves_sized c old new (Alloc size) (Refused code) h w s p =
+kind_sized c old new (Alloc size) (Refused code) h w s p =
     by_bool (size == 0) p (λ _ x. subst (IsSized c) (sym x.1) s)
     (λ _ x. subst (IsSized c) (sym x.2) s)
-serves_sized c old new (Free addr) reply h w s p =
+kind_sized c old new (Free addr) reply h w s p =
     by_option (get old.blocks addr) p (λ _ x. subst (IsSized c) (sym x.1) s)
     (λ _ _ x. subst (IsSized c) (sym x.1)
     (record { bytes = s.bytes; counts = s.counts; words = s.words }))
+
+-- from a memory of the configuration's size, each call leads to another
+pub serves_sized : (c : Config) (old new : Memory) (call : Call) (reply : Reply) → IsConfig c
+    → HasWidth call → IsSized c old → Serves c old call reply new → IsSized c new
+serves_sized c old new call reply h w s p = kind_sized c old new (kind_of_call call) reply h w s p
 
 pub leads_sized : (c : Config) (old new : Memory) (rs : List Record) → IsConfig c → IsSized c old
     → ServesAll c old rs new → IsSized c new

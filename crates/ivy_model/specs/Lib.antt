@@ -3,6 +3,7 @@ pub mod Numbers
 pub mod PageSize
 pub mod Config
 pub mod Memory
+pub mod Accesses
 pub mod Serves
 pub mod Legal
 pub mod Explains

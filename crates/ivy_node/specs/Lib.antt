@@ -1,4 +1,2 @@
-pub mod Runs
-pub mod WorldSites
-pub mod Settling
-pub mod Rounds
+pub use Rattle.ivy_session.specs as ivy_session
+pub use Rattle.ivy_world.specs as ivy_world

@@ -1,13 +1,25 @@
-//! Worlds of nodes that run programs over one shared memory.
+//! Nodes, their worlds and their sessions, each under one name.
 //!
-//! In a comment, numbers in brackets as [1, 17] are the fault numbers that a call may answer.
+//! This is the crate to name for a program of one's own. It has no function of its own: what stands here
+//! stands in `ivy_site` (a node and its turns), `ivy_world` (nodes whose moves a caller makes one by one),
+//! `ivy_ether` and `ivy_seating` (what a session is made of), and `ivy_session` (nodes that run in threads).
+//! Two calls make most programs' runs: [`World::run`] makes given moves, and [`Session::run`] runs each program
+//! in threads of its own until all have ended. Both take what [`parse`] gives, and a `Config` of `ivy_model`.
+//!
+//! Contracts cite the definitions by `Rattle.ivy_node.specs.ivy_session` and `Rattle.ivy_node.specs.ivy_world`.
 #![tactic(auto)]
 
-mod rest;
-mod round;
-mod world;
+// a node: its program's turns, its deliveries and its pulses, and what of them its event list has
+pub use ivy_session::ivy_ether::{Event, Events};
+pub use ivy_world::{Program, Site, Turn, Verdict, parse};
 
-pub use ivy_events::Move;
-pub use ivy_site::{Program, Site, Turn, Verdict, parse};
-pub use rest::Rest;
-pub use world::World;
+// a world: nodes, and all strings that they sent
+pub use ivy_world::{Move, Rest, World};
+
+// a session: seated nodes, and what is told of their turns
+pub use ivy_session::{Gate, Limits, OpenGate, Report, Role, Seated, Session, WireTurn};
+
+// the crates that these stand in, for what else they have
+pub use ivy_session;
+pub use ivy_session::ivy_ether;
+pub use ivy_world;

@@ -2,21 +2,24 @@
 -- carried out is taken back by storing the number that stood there.
 use Rattle.std.proofs.Common.{◌≡◌, ℕ, zero, suc, ◌+◌, ◌-◌, ◌*◌, ◌/◌, ◌%◌, ◌^◌, ◌<◌, ◌≤◌, Bool, true}
 use Rattle.std.proofs.Common.{false, List, [], ◌∷◌, ◌++◌, slice_index, length, take, drop, All}
-use Rattle.std.proofs.Common.{◌==◌, if◌then◌else◌, refl, sym, ap, ◌∙◌, arith, inl, inr}
+use Rattle.std.proofs.Common.{◌==◌, if◌then◌else◌, nat_le, Option, Some, None, refl, sym, ap, ◌∙◌, arith, inl, inr}
 use Rattle.std.proofs.Common.{length-append, length-drop, mod-lt}
 use Rattle.std.proofs.Math.Nat.{div-one, mod-eq_of_lt, mul-add-div_right, mul-add-mod_self_right, mul_assoc, pow-succ'}
-use Rattle.std.proofs.lemmas.Bool.{cases_lt}
+use Rattle.std.proofs.lemmas.Bool.{cases_lt, leb-false}
 use Rattle.std.proofs.lemmas.List.{get_or_past, length-take-le, places, same_lists}
 use Rattle.std.proofs.lemmas.List.Elements.{All-nil, All-cons, All-head, All-tail, All-get_or, All-append, All-take, All-drop}
 use Rattle.std.proofs.lemmas.Nat.{div-mul-add, pow-add}
 use Rattle.std.specs.Int.{byte_at}
 use Rattle.byteorder.specs.Endian.{big_number, big_bytes}
 use Rattle.byteorder.specs.Numbers.{big_from-cons, big_from-lt, length-bytes_high_first}
+use Rattle.ivy_model.specs.declared.Act.{Act}
+use Rattle.ivy_model.specs.declared.Act.TheVariants as act
 use Rattle.ivy_model.specs.Serves.{overwrite}
 use Rattle.ivy_pagetable.specs.declared.word.Word.{Word}
-use Rattle.ivy_pagetable.specs.declared.word.Word.TheVariants.{Load, Store, Swap, Count, Advance, Await}
-use Rattle.ivy_pagetable.specs.declared.word.Out.TheVariants.{Full, Done}
-use Rattle.ivy_pagetable.specs.Words.{IsWord, Carried, carried_out, number_at, width_of, offset_of}
+use Rattle.ivy_pagetable.specs.declared.word.Word.TheVariants.{Load, Store, Count, Advance, Await}
+use Rattle.ivy_pagetable.specs.declared.word.Outcome.{Outcome}
+use Rattle.ivy_pagetable.specs.declared.word.Out.TheVariants.{Value, Full, Done, NotYet}
+use Rattle.ivy_pagetable.specs.Words.{IsWord, access_outcome, carried, carried_out, needs_write, number_at, outcome_of, width_of, offset_of, with_number, word_with}
 
 pub length-overwrite : (bytes new : List ℕ) (at : ℕ) → at + length new ≤ length bytes
     → length (overwrite bytes at new) ≡ length bytes
@@ -35,29 +38,18 @@ written : (bytes : List ℕ) (n x at : ℕ) → at + n ≤ length bytes
 written bytes n x at le =
     length-overwrite bytes (big_bytes n x) at (omega (arith, le, length-bytes_high_first n x))
 
-abbrev unchanged : List ℕ → Carried
-unchanged bytes = record { out = Full; bytes = bytes }
-
-abbrev raised : List ℕ → ℕ → ℕ → Carried
-raised bytes count offset =
-    record { out = Done; bytes = overwrite bytes offset (big_bytes 8 (count + 1)) }
-
-counted : (b : Bool) (bytes : List ℕ) (count offset : ℕ) → offset + 8 ≤ length bytes
-    → length (if b then unchanged bytes else raised bytes count offset).bytes ≡ length bytes
-counted true bytes count offset le = refl
-counted false bytes count offset le = written bytes 8 (count + 1) offset le
+length-with_number : (width offset : ℕ) (next : Option ℕ) (bytes : List ℕ)
+    → offset + width ≤ length bytes
+    → length (with_number width offset next bytes) ≡ length bytes
+length-with_number width offset None bytes le = refl
+length-with_number width offset (Some value) bytes le = written bytes width value offset le
 
 -- the page keeps its length
 pub length-carried_out : (word : Word) (bytes : List ℕ) → IsWord (length bytes) word
     → length (carried_out word bytes).bytes ≡ length bytes
-length-carried_out (Load width offset) bytes h = refl
-length-carried_out (Store width offset value) bytes h = written bytes width value offset h.within
-length-carried_out (Swap width offset value) bytes h = written bytes width value offset h.within
-length-carried_out (Count offset) bytes h = refl
-length-carried_out (Advance offset) bytes h =
-    counted (number_at 8 offset bytes == 2 ^ 64 - 1) bytes (number_at 8 offset bytes) offset
-    h.within
-length-carried_out (Await offset least) bytes h = refl
+length-carried_out word bytes h =
+    length-with_number (width_of word) (offset_of word)
+    (outcome_of word (number_at (width_of word) (offset_of word) bytes)).next bytes h.within
 
 -- and stays one of bytes
 byte_low : (i x : ℕ) → byte_at i x < 256
@@ -78,21 +70,16 @@ overwritten bytes n x at all =
     (All-append (λ b. b < 256) (big_bytes n x) (drop (at + length (big_bytes n x)) bytes)
     (bytes_low n x) (All-drop (λ b. b < 256) (at + length (big_bytes n x)) bytes all))
 
-raised_bytes : (b : Bool) (bytes : List ℕ) (count offset : ℕ) → All (λ b. b < 256) bytes
-    → All (λ b. b < 256) (if b then unchanged bytes else raised bytes count offset).bytes
-raised_bytes true bytes count offset all = all
-raised_bytes false bytes count offset all = overwritten bytes 8 (count + 1) offset all
+bytes-with_number : (width offset : ℕ) (next : Option ℕ) (bytes : List ℕ)
+    → All (λ b. b < 256) bytes → All (λ b. b < 256) (with_number width offset next bytes)
+bytes-with_number width offset None bytes all = all
+bytes-with_number width offset (Some value) bytes all = overwritten bytes width value offset all
 
 pub bytes-carried_out : (word : Word) (bytes : List ℕ) → All (λ b. b < 256) bytes
     → All (λ b. b < 256) (carried_out word bytes).bytes
-bytes-carried_out (Load width offset) bytes all = all
-bytes-carried_out (Store width offset value) bytes all = overwritten bytes width value offset all
-bytes-carried_out (Swap width offset value) bytes all = overwritten bytes width value offset all
-bytes-carried_out (Count offset) bytes all = all
-bytes-carried_out (Advance offset) bytes all =
-    raised_bytes (number_at 8 offset bytes == 2 ^ 64 - 1) bytes (number_at 8 offset bytes) offset
-    all
-bytes-carried_out (Await offset least) bytes all = all
+bytes-carried_out word bytes all =
+    bytes-with_number (width_of word) (offset_of word)
+    (outcome_of word (number_at (width_of word) (offset_of word) bytes)).next bytes all
 
 -- the lowest n bytes of a number are those of what it is above a multiple of 256 ^ n
 byte_at-pow : (k x : ℕ) → byte_at k x ≡ x / 256 ^ k % 256
@@ -173,12 +160,11 @@ store_back bytes n at x le all =
     (omega (arith, le, new)) (omega (arith, new, old))
     ∙ number_back bytes n at le all
 
-raise_back : (b : Bool) (bytes : List ℕ) (count at : ℕ) → at + 8 ≤ length bytes
+put_back : (next : Option ℕ) (bytes : List ℕ) (n at : ℕ) → at + n ≤ length bytes
     → All (λ b. b < 256) bytes
-    → overwrite (if b then unchanged bytes else raised bytes count at).bytes at
-    (big_bytes 8 (number_at 8 at bytes)) ≡ bytes
-raise_back true bytes count at le all = number_back bytes 8 at le all
-raise_back false bytes count at le all = store_back bytes 8 at (count + 1) le all
+    → overwrite (with_number n at next bytes) at (big_bytes n (number_at n at bytes)) ≡ bytes
+put_back None bytes n at le all = number_back bytes n at le all
+put_back (Some value) bytes n at le all = store_back bytes n at value le all
 
 -- a word that was carried out is taken back by storing the number that stood there
 pub taken_back : (word : Word) (bytes : List ℕ) → IsWord (length bytes) word
@@ -186,11 +172,63 @@ pub taken_back : (word : Word) (bytes : List ℕ) → IsWord (length bytes) word
     → (carried_out
     (Store (width_of word) (offset_of word) (number_at (width_of word) (offset_of word) bytes))
     (carried_out word bytes).bytes).bytes ≡ bytes
-taken_back (Load width offset) bytes h all = number_back bytes width offset h.within all
-taken_back (Store width offset value) bytes h all = store_back bytes width offset value h.within all
-taken_back (Swap width offset value) bytes h all = store_back bytes width offset value h.within all
-taken_back (Count offset) bytes h all = number_back bytes 8 offset h.within all
-taken_back (Advance offset) bytes h all =
-    raise_back (number_at 8 offset bytes == 2 ^ 64 - 1) bytes (number_at 8 offset bytes) offset
-    h.within all
-taken_back (Await offset least) bytes h all = number_back bytes 8 offset h.within all
+taken_back word bytes h all =
+    put_back (outcome_of word (number_at (width_of word) (offset_of word) bytes)).next bytes
+    (width_of word) (offset_of word) h.within all
+
+-- the word of an access
+pub width-word_with : (width offset : ℕ) (a : Act) → width_of (word_with width offset a) ≡ width
+width-word_with width offset act.Load = refl
+width-word_with width offset a = refl
+
+pub offset-word_with : (width offset : ℕ) (a : Act) → offset_of (word_with width offset a) ≡ offset
+offset-word_with width offset act.Load = refl
+offset-word_with width offset a = refl
+
+-- does what the access does
+pub carried-word_with : (width offset : ℕ) (a : Act) (bytes : List ℕ)
+    → carried_out (word_with width offset a) bytes
+    ≡ carried width offset (access_outcome width a (number_at width offset bytes)) bytes
+carried-word_with width offset act.Load bytes = refl
+carried-word_with width offset a bytes = refl
+
+-- a word that needs no access to write puts no number in its place
+pub unwritten : (word : Word) (n : ℕ) → needs_write word ≡ false → (outcome_of word n).next ≡ None
+unwritten (Load width offset) n h = refl
+unwritten (Count offset) n h = refl
+unwritten (Await offset least) n h = refl
+unwritten word n h = absurd cc
+
+pub unwritten_bytes : (word : Word) (bytes : List ℕ) → needs_write word ≡ false
+    → (carried_out word bytes).bytes ≡ bytes
+unwritten_bytes word bytes reads =
+    ap (λ (next : Option ℕ). with_number (width_of word) (offset_of word) next bytes)
+    (unwritten word (number_at (width_of word) (offset_of word) bytes) reads)
+
+-- a word that has no answer yet is an await of more than the number there
+pub record IsNotYet (word : Word) (n : ℕ) : Type 0 where
+  pub offset : ℕ
+  pub least : ℕ
+  pub is : word ≡ Await offset least
+  pub below : n < least
+
+waits_advanced : (b : Bool) (n : ℕ)
+    → (let o : Outcome = if b then record { out = Full; next = None }
+    else record { out = Done; next = Some n } in o.out ≡ NotYet → ⊥)
+waits_advanced true n h = cc
+waits_advanced false n h = cc
+
+waits_awaited : (n least : ℕ) (b : Bool) → nat_le least n ≡ b
+    → (if b then Value n else NotYet) ≡ NotYet → n < least
+waits_awaited n least true e h = absurd cc
+waits_awaited n least false e h = leb-false least n e
+
+pub not_yet : (word : Word) (n : ℕ) → (outcome_of word n).out ≡ NotYet → IsNotYet word n
+not_yet (Await offset least) n h = record {
+  offset = offset;
+  least = least;
+  is = refl;
+  below = waits_awaited n least (nat_le least n) refl h;
+}
+not_yet (Advance offset) n h = absurd (waits_advanced (n == 2 ^ 64 - 1) (n + 1) h)
+not_yet word n h = absurd cc

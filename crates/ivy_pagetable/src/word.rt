@@ -2,9 +2,10 @@ ghost use Rattle.std.specs.Prelude.{◌≡◌, ◌+◌, ◌^◌, ◌<◌, ◌≤
 ghost use Rattle.byteorder.specs.Endian.{big_bytes};
 ghost use Rattle.ivy_model.specs.Legal.{IsWidth};
 ghost use Rattle.ivy_model.specs.Serves.{overwrite};
-ghost use Rattle.ivy_pagetable.specs.Words.{IsWord, needs_write, width_of, offset_of, number_at, advanced, awaited, carried_out};
+ghost use Rattle.ivy_pagetable.specs.Words.{IsWord, needs_write, width_of, offset_of, word_with, number_at, access_outcome, advanced, awaited, outcome_of, carried_out};
 
 use byteorder::{BigEndian, ByteOrder};
+use ivy_model::{Act, Reply};
 
 /// An access to one aligned word of a page. `offset` is its first byte's place in the page, and
 /// `width` its number of bytes, 1, 2, 4 or 8; an eventcount is a word of 8. Numbers stand with
@@ -12,17 +13,49 @@ use byteorder::{BigEndian, ByteOrder};
 #[derive(Clone, Copy, Debug, PartialEq, Eq)]
 pub enum Word {
     /// The number there.
-    Load { width: u8, offset: u32 },
+    Load {
+        width: u8,
+        offset: u32,
+    },
     /// Puts the lowest `width` bytes of the value there.
-    Store { width: u8, offset: u32, value: u64 },
+    Store {
+        width: u8,
+        offset: u32,
+        value: u64,
+    },
     /// The number there, in whose place it puts the lowest `width` bytes of the value.
-    Swap { width: u8, offset: u32, value: u64 },
+    Swap {
+        width: u8,
+        offset: u32,
+        value: u64,
+    },
+    /// The number there, in whose place it puts the lowest `width` bytes of the value where that number is the
+    /// one in the lowest `width` bytes of `expected`.
+    Cas {
+        width: u8,
+        offset: u32,
+        expected: u64,
+        value: u64,
+    },
+    /// The number there, in whose place it puts the sum of it and the value, modulo 2^(8·`width`).
+    FetchAdd {
+        width: u8,
+        offset: u32,
+        value: u64,
+    },
     /// The eventcount there.
-    Count { offset: u32 },
+    Count {
+        offset: u32,
+    },
     /// Adds one to the eventcount there.
-    Advance { offset: u32 },
+    Advance {
+        offset: u32,
+    },
     /// The eventcount there, once it is at least `least`.
-    Await { offset: u32, least: u64 },
+    Await {
+        offset: u32,
+        least: u64,
+    },
 }
 
 /// What carrying out a word gives.
@@ -38,14 +71,55 @@ pub enum Out {
     NotYet,
 }
 
+/// What a word gives, and the number that it puts in its place, if it writes it.
+#[derive(Clone, Copy, Debug, PartialEq, Eq)]
+pub(crate) struct Outcome {
+    out: Out,
+    next: Option<u64>,
+}
+
 impl Word {
+    /// The word with which an access does this, of so many bytes and at this place in its page.
+    pub fn new(act: Act, width: u8, offset: u32) -> Word
+        ensures { result ≡ word_with width offset act }
+    {
+        match act {
+            Act::Load => Word::Load { width, offset },
+            Act::Store { value } => Word::Store {
+                width,
+                offset,
+                value,
+            },
+            Act::Swap { value } => Word::Swap {
+                width,
+                offset,
+                value,
+            },
+            Act::Cas { expected, value } => Word::Cas {
+                width,
+                offset,
+                expected,
+                value,
+            },
+            Act::FetchAdd { value } => Word::FetchAdd {
+                width,
+                offset,
+                value,
+            },
+        }
+    }
+
     /// Whether the word is written, and so needs the access to write; the others need the access
     /// to read.
     pub fn needs_write(self) -> bool
         ensures { result ≡ needs_write self }
     {
         match self {
-            Word::Store { .. } | Word::Swap { .. } | Word::Advance { .. } => true,
+            Word::Store { .. }
+            | Word::Swap { .. }
+            | Word::Cas { .. }
+            | Word::FetchAdd { .. }
+            | Word::Advance { .. } => true,
             Word::Load { .. } | Word::Count { .. } | Word::Await { .. } => false,
         }
     }
@@ -55,8 +129,11 @@ impl Word {
         ensures { result ≡ width_of self }
     {
         match self {
-            Word::Load { width, .. } | Word::Store { width, .. } | Word::Swap { width, .. } =>
-                width,
+            Word::Load { width, .. }
+            | Word::Store { width, .. }
+            | Word::Swap { width, .. }
+            | Word::Cas { width, .. }
+            | Word::FetchAdd { width, .. } => width,
             Word::Count { .. } | Word::Advance { .. } | Word::Await { .. } => COUNT_WIDTH,
         }
     }
@@ -69,6 +146,8 @@ impl Word {
             Word::Load { offset, .. }
             | Word::Store { offset, .. }
             | Word::Swap { offset, .. }
+            | Word::Cas { offset, .. }
+            | Word::FetchAdd { offset, .. }
             | Word::Count { offset }
             | Word::Advance { offset }
             | Word::Await { offset, .. } => offset,
@@ -90,31 +169,42 @@ impl Word {
         ensures bytes { bytes.new ≡ (carried_out self bytes.old).bytes }
         ensures sized { length bytes.new ≡ length bytes.old }
     {
+        let outcome = self.outcome(self.number(bytes));
+        if let Some(value) = outcome.next {
+            overwrite(bytes, self.width(), self.offset(), value);
+        }
+        outcome.out
+    }
+
+    /// What the word comes to, from the number that stands in its place.
+    fn outcome(self, number: u64) -> Outcome
+        requires { IsWidth (width_of self) }
+        ensures { result ≡ outcome_of self number }
+    {
         match self {
-            Word::Load { width, offset } => Out::Value(number_at(bytes, width, offset)),
-            Word::Store {
+            Word::Load { width, .. } => access_outcome(Act::Load, width, number),
+            Word::Store { width, value, .. } => access_outcome(Act::Store { value }, width, number),
+            Word::Swap { width, value, .. } => access_outcome(Act::Swap { value }, width, number),
+            Word::Cas {
                 width,
-                offset,
+                expected,
                 value,
-            } => {
-                overwrite(bytes, width, offset, value);
-                Out::Done
-            }
-            Word::Swap {
+                ..
+            } => access_outcome(Act::Cas { expected, value }, width, number),
+            Word::FetchAdd { width, value, .. } => access_outcome(
+                Act::FetchAdd { value },
                 width,
-                offset,
-                value,
-            } => swap(bytes, width, offset, value),
-            Word::Count { offset } => Out::Value(number_at(bytes, COUNT_WIDTH, offset)),
-            Word::Advance { offset } => advance(bytes, offset),
-            Word::Await { offset, least } => {
-                let count = number_at(bytes, COUNT_WIDTH, offset);
-                if least <= count {
-                    Out::Value(count)
-                } else {
-                    Out::NotYet
-                }
-            }
+                number,
+            ),
+            Word::Count { .. } => Outcome {
+                out: Out::Value(number),
+                next: None,
+            },
+            Word::Advance { .. } => advanced(number),
+            Word::Await { least, .. } => Outcome {
+                out: awaited(number, least),
+                next: None,
+            },
         }
     }
 }
@@ -139,26 +229,42 @@ fn overwrite(bytes: &mut [u8], width: u8, offset: u32, value: u64)
     bytes[start..start + width].copy_from_slice(&value.to_be_bytes()[8 - width..]);
 }
 
-fn swap(bytes: &mut [u8], width: u8, offset: u32, next: u64) -> Out
-    requires width { IsWidth width }
-    requires within { offset + width ≤ length bytes.old }
-    ensures out { result ≡ Out.Value (number_at width offset bytes.old) }
-    ensures bytes { bytes.new ≡ overwrite bytes.old offset (big_bytes width next) }
+/// What an access to a word of so many bytes comes to, from the number that stands there.
+fn access_outcome(act: Act, width: u8, number: u64) -> Outcome
+    requires { IsWidth width }
+    ensures { result ≡ access_outcome width act number }
 {
-    let before = number_at(bytes, width, offset);
-    overwrite(bytes, width, offset, next);
-    Out::Value(before)
+    let out = match act.reply(number) {
+        Reply::Value(number) => Out::Value(number),
+        _ => Out::Done,
+    };
+    Outcome {
+        out,
+        next: act.next(width, number),
+    }
 }
 
-fn advance(bytes: &mut [u8], offset: u32) -> Out
-    requires { offset + 8 ≤ length bytes.old }
-    ensures out { result ≡ (advanced (number_at 8 offset bytes.old) offset bytes.old).out }
-    ensures bytes { bytes.new ≡ (advanced (number_at 8 offset bytes.old) offset bytes.old).bytes }
+fn advanced(count: u64) -> Outcome
+    ensures { result ≡ advanced count }
 {
-    let count = number_at(bytes, COUNT_WIDTH, offset);
     if count == u64::MAX {
-        return Out::Full;
+        return Outcome {
+            out: Out::Full,
+            next: None,
+        };
     }
-    overwrite(bytes, COUNT_WIDTH, offset, count + 1);
-    Out::Done
+    Outcome {
+        out: Out::Done,
+        next: Some(count + 1),
+    }
+}
+
+fn awaited(count: u64, least: u64) -> Out
+    ensures { result ≡ awaited count least }
+{
+    if least <= count {
+        Out::Value(count)
+    } else {
+        Out::NotYet
+    }
 }

@@ -1,37 +1,36 @@
 -- How many words a line that does something has.
 use Rattle.std.proofs.Common.{◌≡◌, ℕ, ◌≤◌, List, [], ◌∷◌, get_or, length, map, refl, ap, arith}
 use Rattle.ivy_program.specs.declared.instruction.Instruction.{Instruction}
-use Rattle.ivy_program.specs.declared.instruction.Instruction.TheVariants.{Set, Move, Compute, Load, Store, Swap, Count, Advance, Await, Alloc, Free, Status, Print, Stop}
+use Rattle.ivy_program.specs.declared.instruction.Instruction.TheVariants.{Move, Compute, Count, Advance, Await, Alloc, Free, Status, Print, Jump, JumpIfZero, Stop}
 use Rattle.ivy_program.specs.declared.line.Action.{Action}
 use Rattle.ivy_program.specs.declared.line.Action.TheVariants as action
 use Rattle.ivy_program.specs.Lines.{SpellsAction, SpellsPlain}
 
-abbrev HasOneToFive : List (List ℕ) → Type 0
-HasOneToFive ws = (1 ≤ length ws) × (length ws ≤ 5)
+abbrev HasOneToSix : List (List ℕ) → Type 0
+HasOneToSix ws = (1 ≤ length ws) × (length ws ≤ 6)
 
-counted : (ws vs : List (List ℕ)) → ws ≡ vs → HasOneToFive vs → HasOneToFive ws
+counted : (ws vs : List (List ℕ)) → ws ≡ vs → HasOneToSix vs → HasOneToSix ws
 counted ws vs e many = (omega (arith, ap length e, many.0), omega (arith, ap length e, many.1))
 
-plain_counted : (ws : List (List ℕ)) (i : Instruction) → SpellsPlain ws i → HasOneToFive ws
-plain_counted ws (Load width to addr) h = counted ws _ h.2 (omega arith, omega arith)
-plain_counted ws (Store width addr from) h = counted ws _ h.2 (omega arith, omega arith)
-plain_counted ws (Swap width to addr from) h = counted ws _ h.2 (omega arith, omega arith)
+plain_counted : (ws : List (List ℕ)) (i : Instruction) → SpellsPlain ws i → HasOneToSix ws
 plain_counted ws (Count to count) h = counted ws _ h (omega arith, omega arith)
 plain_counted ws (Advance count) h = counted ws _ h (omega arith, omega arith)
 plain_counted ws (Await to count least) h = counted ws _ h (omega arith, omega arith)
 plain_counted ws (Alloc to size) h = counted ws _ h (omega arith, omega arith)
 plain_counted ws (Free addr) h = counted ws _ h (omega arith, omega arith)
-plain_counted ws (Set to value) h = counted ws _ h.2 (omega arith, omega arith)
 plain_counted ws (Move to from) h = counted ws _ h (omega arith, omega arith)
 plain_counted ws (Compute operation to left right) h = counted ws _ h (omega arith, omega arith)
 plain_counted ws (Status to) h = counted ws _ h (omega arith, omega arith)
 plain_counted ws (Print from) h = counted ws _ h (omega arith, omega arith)
+plain_counted ws (Jump place) h = absurd h
+plain_counted ws (JumpIfZero from place) h = absurd h
 plain_counted ws Stop h = counted ws _ h (omega arith, omega arith)
-plain_counted ws _ h = absurd h
+-- the others have a number among their words
+plain_counted ws i h = counted ws _ h.2 (omega arith, omega arith)
 
--- it has one to five words
+-- it has one to six words
 pub action_counted : (ws : List (List ℕ)) (a : Action) → SpellsAction ws a
-    → (1 ≤ length ws) × (length ws ≤ 5)
+    → (1 ≤ length ws) × (length ws ≤ 6)
 action_counted ws (action.Plain i) h = plain_counted ws i h.1
 action_counted ws (action.Jump n) h = counted ws _ h.1 (omega arith, omega arith)
 action_counted ws (action.JumpIfZero f n) h = counted ws _ h.2 (omega arith, omega arith)
@@ -42,3 +41,10 @@ pub five_mapped : {X Y : Type 0} (xs : List X) (f : X → Y) (d : X) → length 
     ∷ f (get_or xs 4 d) ∷ [] ≡ map f xs
 five_mapped (v ∷ w ∷ x ∷ y ∷ z ∷ []) f d e = refl
 five_mapped xs f d e = absurd (omega (arith, e))
+
+-- and one of six
+pub six_mapped : {X Y : Type 0} (xs : List X) (f : X → Y) (d : X) → length xs ≡ 6
+    → f (get_or xs 0 d) ∷ f (get_or xs 1 d) ∷ f (get_or xs 2 d) ∷ f (get_or xs 3 d)
+    ∷ f (get_or xs 4 d) ∷ f (get_or xs 5 d) ∷ [] ≡ map f xs
+six_mapped (u ∷ v ∷ w ∷ x ∷ y ∷ z ∷ []) f d e = refl
+six_mapped xs f d e = absurd (omega (arith, e))

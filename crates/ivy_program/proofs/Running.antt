@@ -6,7 +6,7 @@ use Rattle.ivy_model.specs.Legal.{HasWidth, IsWidth}
 use Rattle.ivy_program.specs.declared.instruction.Width.{Width}
 use Rattle.ivy_program.specs.declared.instruction.Width.TheVariants.{One, Two, Four, Eight}
 use Rattle.ivy_program.specs.declared.instruction.Instruction.{Instruction}
-use Rattle.ivy_program.specs.declared.instruction.Instruction.TheVariants.{Load, Store, Swap, Count, Advance, Await, Alloc, Free}
+use Rattle.ivy_program.specs.declared.instruction.Instruction.TheVariants.{Set, Move, Compute, Status, Print, Jump, JumpIfZero, Stop}
 use Rattle.ivy_program.specs.Instructions.{bytes_in}
 use Rattle.ivy_program.specs.States.{State}
 use Rattle.ivy_program.specs.Steps.{Step, Local, Asks, Ends, step, step_at, after_reply}
@@ -46,15 +46,16 @@ asked c Ends = c
 legal_at : (n : ℕ) (s : State) (i : Option Instruction) (c : Call) → step_at n s i ≡ Asks c
     → HasWidth c
 legal_at n s None c h = cc
-legal_at n s (Some (Load width to addr)) c h = subst HasWidth (ap (asked c) h) (is_width width)
-legal_at n s (Some (Store width addr from)) c h = subst HasWidth (ap (asked c) h) (is_width width)
-legal_at n s (Some (Swap width to addr from)) c h = subst HasWidth (ap (asked c) h) (is_width width)
-legal_at n s (Some (Count to count)) c h = subst HasWidth (ap (asked c) h) tt
-legal_at n s (Some (Advance count)) c h = subst HasWidth (ap (asked c) h) tt
-legal_at n s (Some (Await to count least)) c h = subst HasWidth (ap (asked c) h) tt
-legal_at n s (Some (Alloc to size)) c h = subst HasWidth (ap (asked c) h) tt
-legal_at n s (Some (Free addr)) c h = subst HasWidth (ap (asked c) h) tt
-legal_at n s (Some _) c h = cc
+legal_at n s (Some (Set to value)) c h = cc
+legal_at n s (Some (Move to from)) c h = cc
+legal_at n s (Some (Compute operation to left right)) c h = cc
+legal_at n s (Some (Status to)) c h = cc
+legal_at n s (Some (Print from)) c h = cc
+legal_at n s (Some (Jump place)) c h = cc
+legal_at n s (Some (JumpIfZero from place)) c h = cc
+legal_at n s (Some Stop) c h = cc
+-- the others make a call
+legal_at n s (Some i) c h = subst HasWidth (ap (asked c) h) (search is_width)
 
 -- an access that a program asks for has 1, 2, 4 or 8 bytes
 pub asked_legal : (p : List Instruction) (s : State) (c : Call) → step p s ≡ Asks c → HasWidth c

@@ -6,7 +6,7 @@ use Rattle.std.specs.List.{AllZip}
 use Rattle.std.specs.Str.Parse.{digits_value}
 use Rattle.std.proofs.lemmas.Bool.Decides.{nat_tests}
 use Rattle.ivy_program.specs.declared.instruction.Instruction.{Instruction}
-use Rattle.ivy_program.specs.declared.instruction.Instruction.TheVariants.{Set, Move, Compute, Load, Store, Swap, Count, Advance, Await, Alloc, Free, Status, Print, Jump, JumpIfZero, Stop}
+use Rattle.ivy_program.specs.declared.instruction.Instruction.TheVariants.{Set, Move, Compute, Load, Store, Swap, Cas, FetchAdd, Count, Advance, Await, Alloc, Free, Status, Print, Jump, JumpIfZero, Stop}
 use Rattle.ivy_program.specs.declared.instruction.Operation.{Operation}
 use Rattle.ivy_program.specs.declared.instruction.Operation.TheVariants.{Add, Sub, Mul}
 use Rattle.ivy_program.specs.declared.instruction.Width.{Width}
@@ -63,6 +63,8 @@ abbrev key_of : Instruction → ℕ
 key_of (Load width to addr) = number (codes "load")
 key_of (Store width addr from) = number (codes "store")
 key_of (Swap width to addr from) = number (codes "swap")
+key_of (Cas width to addr expected from) = number (codes "cas")
+key_of (FetchAdd width to addr from) = number (codes "fadd")
 key_of (Count to count) = number (codes "count")
 key_of (Advance count) = number (codes "advance")
 key_of (Await to count least) = number (codes "await")
@@ -91,6 +93,8 @@ plain_key : (ws : List (List ℕ)) (i : Instruction) → SpellsPlain ws i → ke
 plain_key ws (Load width to addr) h = ap key h.2
 plain_key ws (Store width addr from) h = ap key h.2
 plain_key ws (Swap width to addr from) h = ap key h.2
+plain_key ws (Cas width to addr expected from) h = ap key h.2
+plain_key ws (FetchAdd width to addr from) h = ap key h.2
 plain_key ws (Count to count) h = ap key h
 plain_key ws (Advance count) h = ap key h
 plain_key ws (Await to count least) h = ap key h
@@ -168,6 +172,17 @@ module _ (ws : List (List ℕ)) where
       (operand_same ws 2 a b (at 2 _ h.2) (at 2 _ k.2) i)
       (operand_same ws 3 f g (at 3 _ h.2) (at 3 _ k.2) i)
   plain_same (Swap w t a f) (Swap v u b g) h k = λ i. Swap
+      (width_same w v (sym h.1.1 ∙ ap (digits_value 10) (sym (at 1 _ h.2) ∙ at 1 _ k.2) ∙ k.1.1) i)
+      (operand_same ws 2 t u (at 2 _ h.2) (at 2 _ k.2) i)
+      (operand_same ws 3 a b (at 3 _ h.2) (at 3 _ k.2) i)
+      (operand_same ws 4 f g (at 4 _ h.2) (at 4 _ k.2) i)
+  plain_same (Cas w t a e f) (Cas v u b d g) h k = λ i. Cas
+      (width_same w v (sym h.1.1 ∙ ap (digits_value 10) (sym (at 1 _ h.2) ∙ at 1 _ k.2) ∙ k.1.1) i)
+      (operand_same ws 2 t u (at 2 _ h.2) (at 2 _ k.2) i)
+      (operand_same ws 3 a b (at 3 _ h.2) (at 3 _ k.2) i)
+      (operand_same ws 4 e d (at 4 _ h.2) (at 4 _ k.2) i)
+      (operand_same ws 5 f g (at 5 _ h.2) (at 5 _ k.2) i)
+  plain_same (FetchAdd w t a f) (FetchAdd v u b g) h k = λ i. FetchAdd
       (width_same w v (sym h.1.1 ∙ ap (digits_value 10) (sym (at 1 _ h.2) ∙ at 1 _ k.2) ∙ k.1.1) i)
       (operand_same ws 2 t u (at 2 _ h.2) (at 2 _ k.2) i)
       (operand_same ws 3 a b (at 3 _ h.2) (at 3 _ k.2) i)

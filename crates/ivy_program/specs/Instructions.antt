@@ -5,7 +5,7 @@ use Rattle.ivy_program.specs.declared.instruction.Width.TheVariants.{One, Two, F
 use Rattle.ivy_program.specs.declared.instruction.Operation.{Operation}
 use Rattle.ivy_program.specs.declared.instruction.Operation.TheVariants.{Add, Sub, Mul}
 use Rattle.ivy_program.specs.declared.instruction.Instruction.{Instruction}
-use Rattle.ivy_program.specs.declared.instruction.Instruction.TheVariants.{Set, Move, Compute, Load, Store, Swap, Count, Advance, Await, Alloc, Free, Status, Print, Jump, JumpIfZero, Stop}
+use Rattle.ivy_program.specs.declared.instruction.Instruction.TheVariants.{Set, Move, Compute, Load, Store, Swap, Cas, FetchAdd, Count, Advance, Await, Alloc, Free, Status, Print, Jump, JumpIfZero, Stop}
 use Rattle.ivy_program.specs.Limits.{register_count, most_instructions}
 
 -- how many bytes a word of this width has
@@ -25,6 +25,8 @@ result_of Mul left right = (left * right) % 2 ^ 64
 abbrev pub receiver_of : Instruction → Option ℕ
 receiver_of (Load width to addr) = Some to
 receiver_of (Swap width to addr from) = Some to
+receiver_of (Cas width to addr expected from) = Some to
+receiver_of (FetchAdd width to addr from) = Some to
 receiver_of (Count to count) = Some to
 receiver_of (Await to count least) = Some to
 receiver_of (Alloc to size) = Some to
@@ -42,6 +44,9 @@ NamesRegisters (Compute operation to left right) = IsRegister to × IsRegister l
 NamesRegisters (Load width to addr) = IsRegister to × IsRegister addr
 NamesRegisters (Store width addr from) = IsRegister addr × IsRegister from
 NamesRegisters (Swap width to addr from) = IsRegister to × IsRegister addr × IsRegister from
+NamesRegisters (Cas width to addr expected from) =
+    IsRegister to × IsRegister addr × IsRegister expected × IsRegister from
+NamesRegisters (FetchAdd width to addr from) = IsRegister to × IsRegister addr × IsRegister from
 NamesRegisters (Count to count) = IsRegister to × IsRegister count
 NamesRegisters (Advance count) = IsRegister count
 NamesRegisters (Await to count least) = IsRegister to × IsRegister count × IsRegister least

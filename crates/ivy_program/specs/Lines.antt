@@ -6,7 +6,7 @@ use Rattle.ivy_program.specs.declared.line.Action.TheVariants as action
 use Rattle.ivy_program.specs.declared.line.Line.{Line}
 use Rattle.ivy_program.specs.declared.line.Line.TheVariants as line
 use Rattle.ivy_program.specs.declared.instruction.Instruction.{Instruction}
-use Rattle.ivy_program.specs.declared.instruction.Instruction.TheVariants.{Set, Move, Compute, Load, Store, Swap, Count, Advance, Await, Alloc, Free, Status, Print, Stop}
+use Rattle.ivy_program.specs.declared.instruction.Instruction.TheVariants.{Set, Move, Compute, Load, Store, Swap, Cas, FetchAdd, Count, Advance, Await, Alloc, Free, Status, Print, Stop}
 use Rattle.ivy_program.specs.Instructions.{NamesRegisters, IsRegister}
 use Rattle.ivy_program.specs.Numbers.{IsNumber}
 use Rattle.ivy_program.specs.Operands.{register_word, operation_word, IsWidthWord, IsName}
@@ -23,6 +23,11 @@ SpellsPlain words (Store width addr from) = (w : List ℕ) × IsWidthWord w widt
     × (words ≡ codes "store" ∷ w ∷ register_word addr ∷ register_word from ∷ [])
 SpellsPlain words (Swap width to addr from) = (w : List ℕ) × IsWidthWord w width
     × (words ≡ codes "swap" ∷ w ∷ register_word to ∷ register_word addr ∷ register_word from ∷ [])
+SpellsPlain words (Cas width to addr expected from) = (w : List ℕ) × IsWidthWord w width
+    × (words ≡ codes "cas" ∷ w ∷ register_word to ∷ register_word addr ∷ register_word expected
+    ∷ register_word from ∷ [])
+SpellsPlain words (FetchAdd width to addr from) = (w : List ℕ) × IsWidthWord w width
+    × (words ≡ codes "fadd" ∷ w ∷ register_word to ∷ register_word addr ∷ register_word from ∷ [])
 SpellsPlain words (Count to count) =
     words ≡ codes "count" ∷ register_word to ∷ register_word count ∷ []
 SpellsPlain words (Advance count) = words ≡ codes "advance" ∷ register_word count ∷ []

@@ -5,7 +5,7 @@ use Rattle.ivy_model.specs.declared.Call.TheVariants as call
 use Rattle.ivy_model.specs.declared.Reply.{Reply}
 use Rattle.ivy_model.specs.declared.Reply.TheVariants.{Value, Done, Refused}
 use Rattle.ivy_program.specs.declared.instruction.Instruction.{Instruction}
-use Rattle.ivy_program.specs.declared.instruction.Instruction.TheVariants.{Set, Move, Compute, Load, Store, Swap, Count, Advance, Await, Alloc, Free, Status, Print, Jump, JumpIfZero, Stop}
+use Rattle.ivy_program.specs.declared.instruction.Instruction.TheVariants.{Set, Move, Compute, Load, Store, Swap, Cas, FetchAdd, Count, Advance, Await, Alloc, Free, Status, Print, Jump, JumpIfZero, Stop}
 use Rattle.ivy_program.specs.declared.machine.Next.{Next}
 use Rattle.ivy_program.specs.declared.machine.Next.TheVariants as next
 use Rattle.ivy_program.specs.Instructions.{bytes_in, result_of, receiver_of}
@@ -25,6 +25,10 @@ call_of s (Store width addr from) =
     Some (call.Store (bytes_in width) (value_in s addr) (value_in s from))
 call_of s (Swap width to addr from) =
     Some (call.Swap (bytes_in width) (value_in s addr) (value_in s from))
+call_of s (Cas width to addr expected from) =
+    Some (call.Cas (bytes_in width) (value_in s addr) (value_in s expected) (value_in s from))
+call_of s (FetchAdd width to addr from) =
+    Some (call.FetchAdd (bytes_in width) (value_in s addr) (value_in s from))
 call_of s (Count to count) = Some (call.Count (value_in s count))
 call_of s (Advance count) = Some (call.Advance (value_in s count))
 call_of s (Await to count least) = Some (call.Await (value_in s count) (value_in s least))

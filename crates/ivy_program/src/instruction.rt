@@ -133,6 +133,23 @@ pub enum Instruction {
         addr: Register,
         from: Register,
     },
+    /// `cas W rD rA rE rV`: a compare-and-swap at the address in one register, which puts one number in the
+    /// place of another; the old value goes to a fourth.
+    Cas {
+        width: Width,
+        to: Register,
+        addr: Register,
+        expected: Register,
+        from: Register,
+    },
+    /// `fadd W rD rA rV`: a fetch-and-add at the address in one register, of another's number; the old value
+    /// goes to a third.
+    FetchAdd {
+        width: Width,
+        to: Register,
+        addr: Register,
+        from: Register,
+    },
     /// `count rD rK`: the value of the eventcount that one register names, to another.
     Count {
         to: Register,
@@ -190,6 +207,8 @@ impl Instruction {
         match self {
             Instruction::Load { to, .. } => Some(to),
             Instruction::Swap { to, .. } => Some(to),
+            Instruction::Cas { to, .. } => Some(to),
+            Instruction::FetchAdd { to, .. } => Some(to),
             Instruction::Count { to, .. } => Some(to),
             Instruction::Await { to, .. } => Some(to),
             Instruction::Alloc { to, .. } => Some(to),

@@ -259,6 +259,37 @@ fn parse_quaternary(
             addr: parse_register(third)?,
             from: parse_register(fourth)?,
         },
+        "fadd" => Instruction::FetchAdd {
+            width: parse_width(first)?,
+            to: parse_register(second)?,
+            addr: parse_register(third)?,
+            from: parse_register(fourth)?,
+        },
+        _ => return None,
+    }))
+}
+
+/// The action of a line of six words.
+fn parse_quinary(
+    keyword: &str,
+    first: &str,
+    second: &str,
+    third: &str,
+    fourth: &str,
+    fifth: &str,
+) -> Option<Action>
+    ensures found { IfSome result (λ a. SpellsAction (keyword.now ∷ first.now ∷ second.now ∷ third.now ∷ fourth.now ∷ fifth.now ∷ []) a) }
+    ensures none { IfNone result ((a : Action) → ¬ SpellsAction (keyword.now ∷ first.now ∷ second.now ∷ third.now ∷ fourth.now ∷ fifth.now ∷ []) a) }
+    ensures plain { IfSome result (λ a. has_place a ≡ false) }
+{
+    Some(Action::Plain(match keyword {
+        "cas" => Instruction::Cas {
+            width: parse_width(first)?,
+            to: parse_register(second)?,
+            addr: parse_register(third)?,
+            expected: parse_register(fourth)?,
+            from: parse_register(fifth)?,
+        },
         _ => return None,
     }))
 }
@@ -277,6 +308,9 @@ impl Action {
             [keyword, first, second, third] => parse_ternary(keyword, first, second, third),
             [keyword, first, second, third, fourth] => {
                 parse_quaternary(keyword, first, second, third, fourth)
+            }
+            [keyword, first, second, third, fourth, fifth] => {
+                parse_quinary(keyword, first, second, third, fourth, fifth)
             }
             _ => None,
         }

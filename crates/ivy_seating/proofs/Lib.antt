@@ -1,3 +1,4 @@
 pub mod Seats
 pub mod Told
 pub mod WireTurns
+pub use Rattle.ivy_moves.proofs as of_ivy_moves

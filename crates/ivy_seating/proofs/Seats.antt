@@ -14,18 +14,18 @@ use Rattle.atomic_table.specs.Seated.{TableId}
 use Rattle.ivy_model.specs.declared.Config.{Config}
 use Rattle.ivy_model.specs.Config.{IsConfig}
 use Rattle.ivy_program.specs.declared.Instruction.{Instruction}
-use Rattle.ivy_link.specs.declared.Verdict.{Verdict}
-use Rattle.ivy_link.specs.declared.Verdict.TheVariants as verdict
-use Rattle.ivy_events.specs.Marks.{Mark, Turn, Delivery}
-use Rattle.ivy_events.specs.Nodes.{Node, pulsing}
-use Rattle.ivy_events.specs.Parts.{AllHappen, AllCanBeMade, pulse_marks}
+use Rattle.ivy_moves.specs.ivy_link.declared.Verdict.{Verdict}
+use Rattle.ivy_moves.specs.ivy_link.declared.Verdict.TheVariants as verdict
+use Rattle.ivy_moves.specs.Marks.{Mark, Turn, Delivery}
+use Rattle.ivy_moves.specs.Nodes.{Node, pulsing}
+use Rattle.ivy_moves.specs.Parts.{AllHappen, AllCanBeMade, pulse_marks}
 use Rattle.ivy_wire.specs.Data.{Frame}
-use Rattle.ivy_events.proofs.Early.{early-can}
-use Rattle.ivy_events.proofs.Splitting.{can-append, can-more}
-use Rattle.ivy_host.specs.Hosts.{Host, host_rules}
-use Rattle.ivy_host.specs.Managers.{Managed, managed_ops}
-use Rattle.ivy_host.specs.Openings.{first_node, first_nodes}
-use Rattle.ivy_host.proofs.Tame.{first_length}
+use Rattle.ivy_moves.proofs.Early.{early-can}
+use Rattle.ivy_moves.proofs.Splitting.{can-append, can-more}
+use Rattle.ivy_ether.specs.ivy_host.Hosts.{Host, host_rules}
+use Rattle.ivy_ether.specs.ivy_host.Managers.{Managed, managed_ops}
+use Rattle.ivy_ether.specs.ivy_host.Openings.{first_node, first_nodes}
+use Rattle.ivy_ether.proofs.of_ivy_host.Tame.{first_length}
 use Rattle.ivy_ether.specs.Going.{IsListOf}
 use Rattle.ivy_ether.specs.Held.{Held, held}
 use Rattle.ivy_ether.specs.Programs.{beginning, MayGive, SendsFrom}
@@ -35,10 +35,10 @@ use Rattle.ivy_site.specs.declared.turn.Turn.TheVariants.{Idle, Moved, Ended}
 use Rattle.ivy_site.specs.Shown.{Shown, after_hearing, after_delivery, after_pulse_to}
 use Rattle.ivy_site.specs.Sites.{first_shown, IsMadeByEvents, IsSentBy, AfterTurn, AfterDelivery, SiteDelivers, without_ready, GoesOnOnce, FollowsDelivery}
 use Rattle.ivy_site.specs.Sites as sites
-use Rattle.ivy_host.proofs.Programs.{turned-program, posting-core, delivered-program}
+use Rattle.ivy_ether.proofs.of_ivy_host.Programs.{turned-program, posting-core, delivered-program}
 use Rattle.ivy_program.specs.Steps.{HasEnded}
 use Rattle.ivy_seating.specs.Places.{IsSeated, IsFreshSeat}
-use Rattle.ivy_seating.specs.Reports.{IsDone}
+use Rattle.ivy_seating.specs.Reports.{report_of, IsDone}
 
 abbrev program_in : Shown → List Instruction
 program_in s = s.node.core.process.program
@@ -435,7 +435,8 @@ module _ (c : Config) (programs : List (List Instruction)) where
 
   -- a site whose program has ended is done
   pub is_done : (wire : TableId) (s : Shown) (p : Held) (i : ℕ) → IsSeated wire c programs s p
-      → IsMadeByEvents s → s.me ≡ i → HasEnded s.node.core.process → IsDone c programs i s
+      → IsMadeByEvents s → s.me ≡ i → HasEnded s.node.core.process
+      → IsDone c programs i (report_of s)
   is_done wire s p i h made at ended = record {
     of = record {
       effect = made.effect;

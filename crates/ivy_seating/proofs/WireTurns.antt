@@ -12,13 +12,13 @@ use Rattle.ivy_model.specs.Wants.{IsWant}
 use Rattle.ivy_program.specs.declared.Instruction.{Instruction}
 use Rattle.ivy_wire.specs.declared.FrameKind.{FrameKind}
 use Rattle.ivy_wire.proofs.Frames.{spelled_once}
-use Rattle.ivy_link.specs.declared.Verdict.{Verdict}
-use Rattle.ivy_link.specs.declared.Verdict.TheVariants as verdict
-use Rattle.ivy_link.specs.Accepted.{offered}
-use Rattle.ivy_events.specs.Marks.{Mark}
-use Rattle.ivy_events.specs.Nodes.{Node, verdict_as, verdict_of}
-use Rattle.ivy_host.specs.Hosts.{Host}
-use Rattle.ivy_host.specs.Managers.{Managed}
+use Rattle.ivy_moves.specs.ivy_link.declared.Verdict.{Verdict}
+use Rattle.ivy_moves.specs.ivy_link.declared.Verdict.TheVariants as verdict
+use Rattle.ivy_moves.specs.ivy_link.Accepted.{offered}
+use Rattle.ivy_moves.specs.Marks.{Mark}
+use Rattle.ivy_moves.specs.Nodes.{Node, verdict_as, verdict_of}
+use Rattle.ivy_ether.specs.ivy_host.Hosts.{Host}
+use Rattle.ivy_ether.specs.ivy_host.Managers.{Managed}
 use Rattle.ivy_site.specs.Shown.{Shown}
 use Rattle.ivy_site.specs.Sites.{SiteDelivers, AfterDelivery, IsMadeByEvents}
 use Rattle.ivy_ether.specs.Data.{Item}

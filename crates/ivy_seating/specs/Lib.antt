@@ -3,3 +3,5 @@ pub mod Places
 pub mod Wire
 pub mod Reports
 pub mod Told
+pub use Rattle.ivy_ether.specs as ivy_ether
+pub use Rattle.ivy_moves.specs as ivy_moves

@@ -4,8 +4,8 @@ use Rattle.atomic_table.specs.Seated.{TableId}
 use Rattle.ivy_model.specs.declared.Config.{Config}
 use Rattle.ivy_model.specs.Config.{IsConfig}
 use Rattle.ivy_program.specs.declared.Instruction.{Instruction}
-use Rattle.ivy_events.specs.Marks.{Mark}
-use Rattle.ivy_events.specs.Parts.{AllCanBeMade}
+use Rattle.ivy_moves.specs.Marks.{Mark}
+use Rattle.ivy_moves.specs.Parts.{AllCanBeMade}
 use Rattle.ivy_site.specs.Shown.{Shown}
 use Rattle.ivy_site.specs.Sites.{first_shown, IsMadeByEvents}
 use Rattle.ivy_ether.specs.Held.{Held}

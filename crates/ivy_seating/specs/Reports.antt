@@ -7,13 +7,13 @@ use Rattle.ivy_model.specs.Legal.{Legal}
 use Rattle.ivy_program.specs.declared.Instruction.{Instruction}
 use Rattle.ivy_program.specs.Runs.{IsWholeRun}
 use Rattle.ivy_program.specs.Steps.{HasEnded}
-use Rattle.ivy_events.specs.Marks.{Mark}
-use Rattle.ivy_events.specs.Nodes.{Effect}
-use Rattle.ivy_events.specs.Parts.{AreParts}
-use Rattle.ivy_events.specs.Worlds.{World}
-use Rattle.ivy_host.specs.Holding.{IsExclusive, HasNoBreach}
-use Rattle.ivy_host.specs.Hosts.{Host, host_rules}
-use Rattle.ivy_host.specs.Managers.{Managed, managed_ops}
+use Rattle.ivy_moves.specs.Marks.{Mark}
+use Rattle.ivy_moves.specs.Nodes.{Effect}
+use Rattle.ivy_moves.specs.Parts.{AreParts}
+use Rattle.ivy_moves.specs.Worlds.{World}
+use Rattle.ivy_ether.specs.ivy_host.Holding.{IsExclusive, HasNoBreach}
+use Rattle.ivy_ether.specs.ivy_host.Hosts.{Host, host_rules}
+use Rattle.ivy_ether.specs.ivy_host.Managers.{Managed, managed_ops}
 use Rattle.ivy_site.specs.Shown.{Shown}
 use Rattle.ivy_ether.specs.Going.{IsListOf}
 use Rattle.ivy_ether.specs.Programs.{beginning}
@@ -40,9 +40,9 @@ module _ (c : Config) (programs : List (List Instruction)) where
     pub history : n.history ≡ effect.after.core.history
     pub output : n.output ≡ effect.after.core.process.state.output
 
-  -- a site of node i whose program has ended
-  pub record IsDone (i : ℕ) (s : Shown) : Type 0 where
-    pub of : IsNodeReport i (report_of s)
+  -- and node i's program has ended
+  pub record IsDone (i : ℕ) (n : NodeReport) : Type 0 where
+    pub of : IsNodeReport i n
     pub ended : HasEnded of.effect.after.core.process
 
   -- the order is legal, and each node's part of it is exactly its history

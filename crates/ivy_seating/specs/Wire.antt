@@ -1,11 +1,11 @@
 -- What the turns of a seated site leave.
 use Rattle.std.specs.Prelude.{◌≡◌, ◌≢◌, ◌<◌, ◌≤◌, ℕ, List, Option, [], ◌∷◌, All}
 use Rattle.ivy_model.specs.declared.Fault.{Fault}
-use Rattle.ivy_link.specs.declared.Verdict.{Verdict}
-use Rattle.ivy_link.specs.declared.Verdict.TheVariants as verdict
+use Rattle.ivy_moves.specs.ivy_link.declared.Verdict.{Verdict}
+use Rattle.ivy_moves.specs.ivy_link.declared.Verdict.TheVariants as verdict
 use Rattle.ivy_wire.specs.Destinations.{dest_of}
-use Rattle.ivy_events.specs.Nodes.{verdict_of}
-use Rattle.ivy_outbox.specs.Outboxes.{next_dest}
+use Rattle.ivy_moves.specs.Nodes.{verdict_of}
+use Rattle.ivy_site.specs.ivy_outbox.Outboxes.{next_dest}
 use Rattle.ivy_site.specs.Shown.{Shown}
 use Rattle.ivy_site.specs.Sites.{AfterDelivery, IsSpentDelivery}
 use Rattle.ivy_ether.specs.Data.{Item}

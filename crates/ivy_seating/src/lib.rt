@@ -11,9 +11,11 @@ mod seated;
 mod seating;
 mod wire_turn;
 
+pub use ivy_ether;
+pub use ivy_moves::ivy_link;
 pub use report::Report;
 pub use seated::Seated;
-pub use seating::{collect, seat_all};
+pub use seating::{seat_all, take_reports};
 pub use wire_turn::WireTurn;
 
 // what a turn of a seated site's program came to

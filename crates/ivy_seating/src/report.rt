@@ -1,10 +1,10 @@
 //! What a finished session gives.
 ghost use Rattle.std.specs.Prelude.{◌≡◌, ◌<◌, IfSome, length, map, slice_get};
-ghost use Rattle.ivy_events.specs.Marks.{marks};
+ghost use Rattle.ivy_moves.specs.Marks.{marks};
 ghost use Rattle.ivy_seating.specs.Reports.{report_of};
 
-use ivy_events::Event;
 use ivy_model::Record;
+use ivy_moves::Event;
 use ivy_site::Site;
 use ivy_wire::Bytes;
 use std::alloc::Allocator;

@@ -2,9 +2,9 @@
 ghost use Rattle.std.specs.Prelude.{◌≡◌, ◌≢◌, ◌↔◌, ◌<◌, ◌≤◌, [], Err, Contains, IsTrue, MatchBool, MatchOption, MatchResult, IfOk, IfErr, IfSome, IsSome, IsOkUnless, length};
 ghost use Rattle.ivy_model.specs.Wants.{IsWant};
 ghost use Rattle.ivy_wire.specs.Faults.{checked};
-ghost use Rattle.ivy_events.specs.Nodes.{pulsing, verdict_of};
+ghost use Rattle.ivy_moves.specs.Nodes.{pulsing, verdict_of};
 ghost use Rattle.ivy_program.specs.Steps.{HasEnded};
-ghost use Rattle.ivy_outbox.specs.Outboxes.{next_dest};
+ghost use Rattle.ivy_site.specs.ivy_outbox.Outboxes.{next_dest};
 ghost use Rattle.ivy_site.specs.Shown.{after_pulse_to};
 ghost use Rattle.ivy_site.specs.Sites.{AfterTurn, AfterDelivery, IsSpentTurn, IsSpentDelivery};
 ghost use Rattle.ivy_seating.specs.Places.{place, IsSeated, IsFreshSeat, KeepsSeat};
@@ -12,8 +12,8 @@ ghost use Rattle.ivy_seating.specs.Wire.{AfterWire, RefusesString, IsPutFor, IsN
 
 use crate::wire_turn::WireTurn;
 use ivy_ether::{Ether, Item, Pass, Put, Setup, Wired};
-use ivy_link::Verdict;
 use ivy_model::Fault;
+use ivy_moves::ivy_link::Verdict;
 use ivy_site::{Site, Turn};
 use ivy_wire::{Bytes, destination};
 use std::alloc::Allocator;
@@ -38,7 +38,7 @@ impl<'e, S: Setup, A: Allocator> Model for Seated<'e, S, A> {
 
     ghost use Rattle.std.specs.Coded.{codes};
     ghost use Rattle.ivy_pagetable.specs.NodeSets.{nodes_code};
-    ghost use Rattle.ivy_alloc.specs.Heap.{heap_state_code};
+    ghost use Rattle.ivy_ether.specs.ivy_alloc.Heap.{heap_state_code};
 
     ghost coded = { Prim.hlevel (codes, nodes_code, heap_state_code) };
 
@@ -87,6 +87,13 @@ impl<'e, S: Setup, A: Allocator + Copy> Seated<'e, S, A> {
         ensures { result ≡ length self.now.site.node.core.history }
     {
         self.site.history().len() as u64
+    }
+
+    /// Whether the site's program has ended.
+    pub fn has_ended(&self) -> bool
+        ensures { IsTrue result ↔ HasEnded self.now.site.node.core.process }
+    {
+        self.site.ended()
     }
 
     /// Whether a frame waits to be put.

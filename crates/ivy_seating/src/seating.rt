@@ -6,7 +6,7 @@ ghost use Rattle.ivy_ether.specs.Views.{beginner, with_issued, with_told};
 ghost use Rattle.ivy_ether.specs.Words.{IsNewcomer};
 ghost use Rattle.ivy_seating.specs.Faults.{IsStop};
 ghost use Rattle.ivy_seating.specs.Places.{IsSeated};
-ghost use Rattle.ivy_seating.specs.Reports.{IsDone, IsReport};
+ghost use Rattle.ivy_seating.specs.Reports.{report_of, IsDone};
 ghost use Rattle.ivy_seating.specs.Told.{AreTold};
 
 use crate::report::Report;
@@ -106,7 +106,7 @@ fn exchange<S: Setup, A: Allocator + Copy, R: Wait>(
     requires seated { IsSeated own.now S.config S.programs site.now pass.old }
     ensures starter { starter.new.ether ≡ starter.old.ether }
     ensures told { OnOk result (starter.new.known ≡ with_told starter.old.known node site.now.events) }
-    ensures done { OnOk result (IsDone S.config S.programs node site.now) }
+    ensures done { OnOk result (IsDone S.config S.programs node (report_of site.now)) }
     ensures stop { IfErr result IsStop }
 {
     if site.me() != node {
@@ -141,7 +141,7 @@ fn take_one<S: Setup, A: Allocator + Copy, R: Wait>(
     requires starter { starter.old.ether ≡ ether.now }
     ensures starter { starter.new.ether ≡ starter.old.ether }
     ensures told { IfOk result (λ site. starter.new.known ≡ with_told starter.old.known node site.events) }
-    ensures done { IfOk result (λ site. IsDone S.config S.programs node site) }
+    ensures done { IfOk result (λ site. IsDone S.config S.programs node (report_of site)) }
     ensures stop { IfErr result IsStop }
 {
     let (own, site, mut pass) = seated.into_parts();
@@ -151,17 +151,17 @@ fn take_one<S: Setup, A: Allocator + Copy, R: Wait>(
     }
 }
 
-/// Takes all reports [1, 21].
-fn take_all<S: Setup, A: Allocator + Copy, R: Wait>(
+/// Takes the reports of all nodes from their sites [1, 21].
+pub fn take_reports<S: Setup, A: Allocator + Copy, R: Wait>(
     rt: &R,
     alloc: A,
     ether: &Ether<S, A>,
     starter: &mut Pass<Wired<A>>,
     seats: Vec<Mutex<Seated<'_, S, A>>, A>,
-) -> Result<Vec<Site<A>, A>, Fault>
+) -> Result<Report<A>, Fault>
     requires starter { starter.old.ether ≡ ether.now }
     ensures starter { starter.new.ether ≡ starter.old.ether }
-    ensures told { IfOk result (λ sites. AreTold S.config S.programs starter.new.known sites.items) }
+    ensures told { IfOk result (λ report. AreTold S.config S.programs starter.new.known report) }
     ensures stop { IfErr result IsStop }
 {
     let mut sites = Vec::with_capacity(alloc, seats.len())?;
@@ -174,30 +174,5 @@ fn take_all<S: Setup, A: Allocator + Copy, R: Wait>(
         };
         node = next;
     }
-    Ok(sites)
-}
-
-/// Takes the reports of so many nodes from their sites, and hands out what they tell together [1, 21].
-pub fn collect<S: Setup, A: Allocator + Copy, R: Wait>(
-    rt: &R,
-    alloc: A,
-    ether: &Ether<S, A>,
-    starter: Pass<Wired<A>>,
-    seats: Vec<Mutex<Seated<'_, S, A>>, A>,
-    nodes: usize,
-) -> Result<Report<A>, Fault>
-    requires limits { IsConfig S.config }
-    requires each { length S.programs ≡ S.config.nodes }
-    requires nodes { nodes ≡ length S.programs }
-    requires starter { starter.ether ≡ ether.now }
-    ensures report { IfOk result (λ report. IsReport S.config S.programs report) }
-    ensures stop { IfErr result IsStop }
-{
-    let mut starter = starter;
-    let sites = take_all(rt, alloc, ether, &mut starter, seats)?;
-    if sites.len() != nodes {
-        return Err(Fault::TurnLimit);
-    }
-    ether.learn(&mut starter);
     Ok(Report::new(sites))
 }

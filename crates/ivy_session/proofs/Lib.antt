@@ -1,2 +1,3 @@
+pub mod Reported
 -- what callers of a session use of the seating of its nodes
 pub use Rattle.ivy_seating.proofs.Told

@@ -1,137 +1,104 @@
-//! How workers wait, and are woken.
+//! What the two workers of a node sleep on.
+use std::hint::spin_loop;
 use std::sync::Wait;
 use std::sync::atomic::{AtomicBool, AtomicU64, Ordering};
 use std::thread::Parker;
 use std::time::Duration;
 
-/// A count of what there is to do for a worker, and what the worker sleeps on.
-#[derive(Drop)]
-struct Bell {
-    rings: AtomicU64,
-    parker: Parker,
-}
+/// So often a program worker looks whether the wire worker has the lock that it wants.
+const COURTESY: u32 = 200;
 
-impl Bell {
-    fn new() -> Bell {
-        Bell {
-            rings: AtomicU64::new(0),
-            parker: Parker::new(),
-        }
-    }
-
-    /// There is one thing more to do.
-    fn ring(&self) {
-        self.rings.fetch_add(1, Ordering::SeqCst);
-        self.wake();
-    }
-
-    fn rings(&self) -> u64 {
-        self.rings.load(Ordering::SeqCst)
-    }
-
-    fn wake(&self) {
-        self.parker.unpark();
-    }
-
-    /// Sleeps until it is woken, so many microseconds at most.
-    fn sleep<R: Wait>(&self, rt: &R, most: u64) {
-        self.parker.park_timeout(rt, Duration::from_micros(most));
-    }
-}
-
-/// What there is to do for the two workers of a node.
+/// What the two workers of a node sleep on, and what the workers of other nodes know of it.
 #[derive(Drop)]
 pub(crate) struct Bells {
-    /// Frames that the node has served, which its program may have waited for.
-    served: Bell,
-    /// Frames that were put for the node.
-    put: Bell,
-    /// Whether frames of the node wait to be put.
-    waiting: AtomicBool,
-    /// Whether a frame that was put for the node was looked for in vain.
-    missing: AtomicBool,
+    program: Parker,
+    wire: Parker,
+    /// So many frames the node has served, which its program may have waited for.
+    served: AtomicU64,
+    /// 0 where no frame of the node waits to be put, else one more than the node that the first one is for.
+    waiting: AtomicU64,
+    /// Whether the wire worker is about to lock the node's site.
+    wanted: AtomicBool,
 }
 
 impl Bells {
-    /// There is nothing to do yet.
+    /// Nothing was served, and nothing waits.
     pub(crate) fn new() -> Bells {
         Bells {
-            served: Bell::new(),
-            put: Bell::new(),
-            waiting: AtomicBool::new(false),
-            missing: AtomicBool::new(false),
+            program: Parker::new(),
+            wire: Parker::new(),
+            served: AtomicU64::new(0),
+            waiting: AtomicU64::new(0),
+            wanted: AtomicBool::new(false),
         }
     }
 
     /// So many frames the node has served.
     pub(crate) fn served(&self) -> u64 {
-        self.served.rings()
-    }
-
-    /// So many frames were put for the node.
-    pub(crate) fn put(&self) -> u64 {
-        self.put.rings()
-    }
-
-    /// A frame was put for the node: its wire worker is woken.
-    pub(crate) fn ring_put(&self) {
-        self.put.ring();
+        self.served.load(Ordering::SeqCst)
     }
 
     /// The node has served a frame: its program worker is woken.
     pub(crate) fn ring_served(&self) {
-        self.served.ring();
+        self.served.fetch_add(1, Ordering::SeqCst);
+        self.program.unpark();
     }
 
-    /// Whether frames of the node wait to be put.
-    pub(crate) fn has_waiting(&self) -> bool {
-        self.waiting.load(Ordering::SeqCst)
-    }
-
-    /// Says whether frames of the node wait to be put. The node's site is locked.
-    pub(crate) fn set_waiting(&self, waiting: bool) {
-        if waiting != self.has_waiting() {
-            self.waiting.store(waiting, Ordering::SeqCst);
+    /// The node that the first frame is for that waits to be put.
+    pub(crate) fn waiting(&self) -> Option<u8> {
+        match self.waiting.load(Ordering::SeqCst) {
+            0 => None,
+            next => Some((next - 1).min(255) as u8),
         }
     }
 
-    /// Whether a frame that was put for the node was looked for in vain.
-    pub(crate) fn is_missing(&self) -> bool {
-        self.missing.load(Ordering::SeqCst)
-    }
-
-    /// Says whether a frame that was put for the node was looked for in vain.
-    pub(crate) fn set_missing(&self, missing: bool) {
-        if missing != self.is_missing() {
-            self.missing.store(missing, Ordering::SeqCst);
+    /// Says whom the first frame is for that waits to be put, if one does. The node's site is locked. It tells whether
+    /// that is news.
+    pub(crate) fn set_waiting(&self, waiting: Option<u8>) -> bool {
+        let next = match waiting {
+            None => 0,
+            Some(to) => u64::from(to) + 1,
+        };
+        if next == self.waiting.load(Ordering::SeqCst) {
+            return false;
         }
+        self.waiting.store(next, Ordering::SeqCst);
+        true
     }
 
-    /// A frame was put back, which may be the one that was looked for in vain.
-    pub(crate) fn ring_returned(&self) {
-        if self.is_missing() && self.missing.swap(false, Ordering::SeqCst) {
-            self.put.ring();
+    /// Says whether the wire worker is about to lock the node's site.
+    pub(crate) fn want(&self, wanted: bool) {
+        self.wanted.store(wanted, Ordering::SeqCst);
+    }
+
+    /// The program worker lets the wire worker lock the site first. A program in a loop of hits would hold it off else.
+    pub(crate) fn let_wire_go(&self) {
+        for _ in 0..COURTESY {
+            if !self.wanted.load(Ordering::SeqCst) {
+                return;
+            }
+            spin_loop();
         }
     }
 
     /// Wakes the wire worker.
     pub(crate) fn wake_wire(&self) {
-        self.put.wake();
+        self.wire.unpark();
     }
 
     /// Wakes both workers.
     pub(crate) fn wake(&self) {
-        self.served.wake();
-        self.put.wake();
+        self.program.unpark();
+        self.wire.unpark();
     }
 
     /// The program worker sleeps until it is woken, so many microseconds at most.
     pub(crate) fn sleep_program<R: Wait>(&self, rt: &R, most: u64) {
-        self.served.sleep(rt, most);
+        self.program.park_timeout(rt, Duration::from_micros(most));
     }
 
     /// The wire worker sleeps until it is woken, so many microseconds at most.
     pub(crate) fn sleep_wire<R: Wait>(&self, rt: &R, most: u64) {
-        self.put.sleep(rt, most);
+        self.wire.park_timeout(rt, Duration::from_micros(most));
     }
 }

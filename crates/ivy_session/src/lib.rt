@@ -9,12 +9,14 @@
 mod bells;
 mod gate;
 mod limits;
+mod line;
+mod report;
 mod session;
 mod shared;
 mod watch;
 mod workers;
 
 pub use gate::{Gate, OpenGate, Role};
-pub use ivy_seating::{Report, Seated, WireTurn};
+pub use ivy_seating::{Report, Seated, WireTurn, ivy_ether};
 pub use limits::Limits;
 pub use session::Session;

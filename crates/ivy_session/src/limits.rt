@@ -9,7 +9,8 @@ pub struct Limits {
     pub capacity: u64,
     /// How many turns each worker makes at most, at least 1.
     pub turns: u64,
-    /// Each such turn of a wire worker begins with a pulse, at least 1.
+    /// Each such turn of a wire worker makes a pulse due, at least 1. It comes with the next turn of the worker that begins
+    /// with no frame of its node to be put.
     pub pulse_every: u64,
 }
 

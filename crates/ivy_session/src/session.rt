@@ -8,11 +8,12 @@ ghost use Rattle.ivy_session.specs.Limits.{AreLimits};
 
 use crate::gate::Gate;
 use crate::limits::Limits;
+use crate::report::collect;
 use crate::workers::run_workers;
-use ivy_ether::{Ether, Setup};
 use ivy_model::{Config, Fault};
 use ivy_program::Program;
-use ivy_seating::{Report, collect, seat_all};
+use ivy_seating::ivy_ether::{Ether, Setup};
+use ivy_seating::{Report, seat_all};
 use std::alloc::Allocator;
 use std::marker::Brand;
 use std::sync::Wait;

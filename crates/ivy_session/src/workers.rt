@@ -7,13 +7,22 @@ use crate::gate::{Gate, Role};
 use crate::limits::Limits;
 use crate::shared::Shared;
 use crate::watch::{Watch, rest_program};
-use ivy_ether::Setup;
 use ivy_model::Fault;
+use ivy_seating::ivy_ether::Setup;
 use ivy_seating::{Seated, Turn, WireTurn};
 use std::alloc::Allocator;
 use std::sync::{Mutex, Wait};
 use std::thread;
 use std::thread::Threads;
+
+/// Says whom the first frame is for that waits to be put at a site. It tells whether that is news.
+fn show_waiting<S: Setup, A: Allocator + Copy>(seated: &Seated<'_, S, A>, bells: &Bells) -> bool {
+    if seated.has_frame() {
+        bells.set_waiting(Some(seated.next_destination().unwrap_or(u8::MAX)))
+    } else {
+        bells.set_waiting(None)
+    }
+}
 
 /// Makes the turns of a node's program, one turn a lock, until it has ended.
 fn run_program<S: Setup, A: Allocator + Copy, R: Wait, G: Gate>(
@@ -30,20 +39,20 @@ fn run_program<S: Setup, A: Allocator + Copy, R: Wait, G: Gate>(
             return;
         }
         let served = bells.served();
+        bells.let_wire_go();
         let mut seated = seat.lock(rt);
         gate.enter(node, Role::Program, seated.records());
         let turn = seated.program_turn();
-        let waits = seated.has_frame();
-        bells.set_waiting(waits);
+        let news = show_waiting(&seated, bells);
         drop(seated);
-        if waits {
+        if news {
             bells.wake_wire();
         }
         match turn {
             Ok(Turn::Moved) => {}
             Ok(Turn::Idle) => rest_program(rt, shared, bells, served),
             Ok(Turn::Ended) => {
-                shared.end();
+                shared.end(rt);
                 return;
             }
             Err(fault) => {
@@ -52,7 +61,11 @@ fn run_program<S: Setup, A: Allocator + Copy, R: Wait, G: Gate>(
             }
         }
     }
-    shared.stop(rt, Fault::TurnLimit);
+    if seat.lock(rt).has_ended() {
+        shared.end(rt);
+    } else {
+        shared.stop(rt, Fault::TurnLimit);
+    }
 }
 
 /// When a wire worker pulses, and to whom.
@@ -60,21 +73,24 @@ fn run_program<S: Setup, A: Allocator + Copy, R: Wait, G: Gate>(
 struct Pulses {
     every: u64,
     turns: u64,
+    is_due: bool,
     last: u8,
 }
 
 impl Pulses {
-    /// Each such turn begins with a pulse.
+    /// Each such turn makes a pulse due.
     fn new(every: u64) -> Pulses {
         Pulses {
             every,
             turns: 0,
+            is_due: false,
             last: u8::MAX,
         }
     }
 
-    /// One turn on the wire, with a pulse before it where it is time for one [1, 17]. It also says whom the frame is for
-    /// which was put, or put back.
+    /// One turn on the wire, and the pulse that is due, if one is [1, 17]. A due pulse waits for a turn that began with
+    /// nothing to be put, so the node takes between two pulses; no more than one is remembered. It also says whom the
+    /// frame is for which was put, or taken and not served.
     fn turn<S: Setup, A: Allocator + Copy, R: Wait>(
         &mut self,
         rt: &R,
@@ -85,9 +101,15 @@ impl Pulses {
         self.turns = self.turns.saturating_add(1);
         if self.turns >= self.every {
             self.turns = 0;
+            self.is_due = true;
+        }
+        let puts = seated.has_frame();
+        let done = seated.wire_turn_to(rt)?;
+        if self.is_due && !puts {
+            self.is_due = false;
             self.last = seated.pulse_next(self.last)?;
         }
-        seated.wire_turn_to(rt)
+        Ok(done)
     }
 }
 
@@ -101,22 +123,24 @@ fn run_wire<S: Setup, A: Allocator + Copy, R: Wait, G: Gate>(
     shared: &Shared<A>,
     gate: &G,
 ) {
-    let mut watch = Watch::new(shared.round(limits.pulse_every));
+    let mut watch = Watch::new(node);
     let mut pulses = Pulses::new(limits.pulse_every);
     for _ in 0..limits.turns {
         if shared.is_over() {
             return;
         }
-        let put = bells.put();
+        let changes = shared.line().changes();
+        bells.want(true);
         let mut seated = seat.lock(rt);
+        bells.want(false);
         gate.enter(node, Role::Wire, seated.records());
         let turn = pulses.turn(rt, &mut seated);
-        bells.set_waiting(seated.has_frame());
+        show_waiting(&seated, bells);
         drop(seated);
         match turn {
             Ok((turn, to)) => {
-                shared.tell(bells, turn, to);
-                watch.note(bells, turn, put);
+                shared.tell(rt, bells, node, turn, to);
+                watch.note(shared, turn, changes);
             }
             Err(fault) => {
                 shared.stop(rt, fault);
@@ -125,8 +149,14 @@ fn run_wire<S: Setup, A: Allocator + Copy, R: Wait, G: Gate>(
         }
         watch.rest(rt, shared, bells);
     }
-    if !shared.is_over() {
-        shared.stop(rt, Fault::TurnLimit);
+    shared.stop(rt, Fault::TurnLimit);
+}
+
+/// So many processors a session may use, where that is known.
+fn processors<R: Threads>(rt: &R) -> u64 {
+    match thread::available_parallelism(rt) {
+        Ok(found) => found.get() as u64,
+        Err(_) => 1,
     }
 }
 
@@ -145,7 +175,7 @@ where
     G: Gate,
     ensures { IfErr result IsStop }
 {
-    let shared = Shared::new(alloc, seats.len())?;
+    let shared = Shared::new(alloc, seats.len(), limits, processors(rt))?;
     let all = &shared;
     thread::scope(thread::scope_env(), rt, |scope| {
         let mut next = 0u8;

@@ -9,23 +9,23 @@ use Rattle.ivy_model.specs.declared.Fault.TheVariants as fault
 use Rattle.ivy_model.specs.declared.Record.{Record}
 use Rattle.ivy_model.specs.declared.Reply.{Reply}
 use Rattle.ivy_wire.specs.Data.{Parcel}
-use Rattle.ivy_link.specs.Linked.{has_numbers}
-use Rattle.ivy_coherence.specs.declared.Need.{Need}
-use Rattle.ivy_coherence.specs.declared.Need.TheVariants as need
-use Rattle.ivy_coherence.specs.Faults.{Begun, begun}
+use Rattle.ivy_moves.specs.ivy_link.Linked.{has_numbers}
+use Rattle.ivy_host.specs.ivy_coherence.declared.Need.{Need}
+use Rattle.ivy_host.specs.ivy_coherence.declared.Need.TheVariants as need
+use Rattle.ivy_host.specs.ivy_coherence.Faults.{Begun, begun}
 use Rattle.ivy_host.specs.Managers.{Managed, managed_ops}
 use Rattle.ivy_program.specs.Steps.{Process, Asks, step_of, answered_with}
-use Rattle.ivy_events.specs.Cores.{Outcome}
-use Rattle.ivy_serving.specs.Limits.{most_posted}
-use Rattle.ivy_heap.specs.declared.Answer.{Answer}
-use Rattle.ivy_heap.specs.declared.Answer.TheVariants.{Given, Awaited, Unserved}
-use Rattle.ivy_memory.specs.declared.Asked.{Asked}
-use Rattle.ivy_memory.specs.declared.Asked.TheVariants as asked
-use Rattle.ivy_memory.specs.Asking.{asked_of}
-use Rattle.ivy_heap.specs.HeapCalls.{IsGrowth}
-use Rattle.ivy_memory.proofs.Sides.{heap_unserved}
-use Rattle.ivy_memory.specs.Memories.{NodeMemory, CallBegun, reply_of, reply_at, taken_out, answered, needed, again_unless, again, begun_as, call_begun, tried_as, polled_as, polled}
-use Rattle.ivy_memory.proofs.Polling.{polled_so}
+use Rattle.ivy_moves.specs.Cores.{Outcome}
+use Rattle.ivy_host.specs.ivy_coherence.Limits.{most_posted}
+use Rattle.ivy_host.specs.ivy_heap.declared.Answer.{Answer}
+use Rattle.ivy_host.specs.ivy_heap.declared.Answer.TheVariants.{Given, Awaited, Unserved}
+use Rattle.ivy_host.specs.ivy_memory.declared.Asked.{Asked}
+use Rattle.ivy_host.specs.ivy_memory.declared.Asked.TheVariants as asked
+use Rattle.ivy_host.specs.ivy_memory.Asking.{asked_of}
+use Rattle.ivy_host.specs.ivy_heap.HeapCalls.{IsGrowth}
+use Rattle.ivy_host.proofs.of_ivy_memory.Sides.{heap_unserved}
+use Rattle.ivy_host.specs.ivy_memory.Memories.{NodeMemory, CallBegun, reply_of, reply_at, taken_out, answered, needed, again_unless, again, begun_as, call_begun, tried_as, polled_as, polled}
+use Rattle.ivy_host.proofs.of_ivy_memory.Polling.{polled_so}
 use Rattle.ivy_host.specs.Hosts.{Host, begins_as, begins_with, steps, turned_at, turn_of, number_of, recorded}
 use Rattle.ivy_outbox.specs.Outboxes.{Outbox, HasNumbers, RefusesParcels, posted_by, takes_none, after_none}
 use Rattle.ivy_site.specs.Inside.{HasTurn, AfterHostTurn, HasNoNumbers, host_of, is_served, kept_by, told_by}

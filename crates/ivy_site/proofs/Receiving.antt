@@ -13,12 +13,12 @@ use Rattle.ivy_wire.specs.Faults.{checked}
 use Rattle.ivy_wire.specs.Reading.{frame_at}
 use Rattle.ivy_wire.specs.Spelling.{Spells, frame_kind}
 use Rattle.ivy_wire.proofs.Frames.{spelled_once}
-use Rattle.ivy_link.specs.declared.Verdict.{Verdict}
-use Rattle.ivy_link.specs.declared.Verdict.TheVariants as verdict
-use Rattle.ivy_link.specs.Linked.{Linked, peer_at}
-use Rattle.ivy_link.specs.Accepted.{offered}
-use Rattle.ivy_link.specs.Windows.{with_string}
-use Rattle.ivy_link.specs.Holding.{Holding, link_of, window_at, can_hold_frame, place_in, after_hold, after_taking, ready_of}
+use Rattle.ivy_moves.specs.ivy_link.declared.Verdict.{Verdict}
+use Rattle.ivy_moves.specs.ivy_link.declared.Verdict.TheVariants as verdict
+use Rattle.ivy_moves.specs.ivy_link.Linked.{Linked, peer_at}
+use Rattle.ivy_moves.specs.ivy_link.Accepted.{offered}
+use Rattle.ivy_moves.specs.ivy_link.Windows.{with_string}
+use Rattle.ivy_moves.specs.ivy_link.Holding.{Holding, link_of, window_at, can_hold_frame, place_in, after_hold, after_taking, ready_of}
 use Rattle.ivy_outbox.specs.Outboxes.{Outbox, holding_of, with_holding}
 use Rattle.ivy_site.specs.Shown.{Shown, holding_at, after_delivery, box_of, boxed}
 use Rattle.ivy_site.specs.Sites.{early_at, IsSite, IsHeld, SiteDelivers}

@@ -8,8 +8,8 @@ use Rattle.ivy_host.specs.Managers.{Managed, managed_ops}
 use Rattle.ivy_program.specs.declared.machine.Next.{Next}
 use Rattle.ivy_program.specs.declared.machine.Next.TheVariants as next
 use Rattle.ivy_program.specs.Steps.{Process, Local, Ends, HasEnded, TellsStep, at_state}
-use Rattle.ivy_events.specs.Marks.{Mark, Turn}
-use Rattle.ivy_memory.specs.Memories.{NodeMemory}
+use Rattle.ivy_moves.specs.Marks.{Mark, Turn}
+use Rattle.ivy_host.specs.ivy_memory.Memories.{NodeMemory}
 use Rattle.ivy_host.specs.Hosts.{Host, turn_of}
 use Rattle.ivy_outbox.specs.Outboxes.{Outbox}
 use Rattle.ivy_site.specs.Shown.{Shown, box_of, shown_of}
@@ -18,9 +18,9 @@ use Rattle.ivy_site.specs.Inside.{HasTurn, AfterHostTurn, HasNoNumbers, host_of}
 use Rattle.ivy_host.proofs.Same.{turn-same}
 use Rattle.ivy_host.proofs.Tame.{IsAskingHost, turn-asking}
 use Rattle.ivy_site.specs.declared.turn.Turn.TheVariants as turn
-use Rattle.ivy_link.specs.Linked.{Linked, peer_at, after_sends}
-use Rattle.ivy_link.proofs.Sending.{sends-me}
-use Rattle.ivy_link.proofs.Holds.{sends-delivered}
+use Rattle.ivy_moves.specs.ivy_link.Linked.{Linked, peer_at, after_sends}
+use Rattle.ivy_moves.proofs.of_ivy_link.Sending.{sends-me}
+use Rattle.ivy_moves.proofs.of_ivy_link.Holds.{sends-delivered}
 use Rattle.ivy_host.proofs.Programs.{posting-link}
 use Rattle.ivy_site.proofs.HeldStrings.{IsQuiet, quiet-holds}
 use Rattle.ivy_site.proofs.Made.{turn_made, turn_early}

@@ -4,12 +4,12 @@ use Rattle.std.proofs.Common.{◌≡◌, ℕ, true, false, List, [], ◌∷◌, 
 use Rattle.ivy_model.specs.declared.Fault.{Fault}
 use Rattle.ivy_wire.specs.Data.{Parcel}
 use Rattle.ivy_wire.specs.Spelling.{spelling}
-use Rattle.ivy_link.specs.Linked.{sends, has_numbers}
+use Rattle.ivy_moves.specs.ivy_link.Linked.{sends, has_numbers}
 use Rattle.ivy_host.specs.Managers.{Managed, managed_ops}
 use Rattle.ivy_program.specs.Steps.{Step, step_of}
-use Rattle.ivy_events.specs.Marks.{Mark, Turn}
-use Rattle.ivy_events.specs.Cores.{Outcome}
-use Rattle.ivy_events.specs.Nodes.{Node, Effect, posting, turned, turned_to}
+use Rattle.ivy_moves.specs.Marks.{Mark, Turn}
+use Rattle.ivy_moves.specs.Cores.{Outcome}
+use Rattle.ivy_moves.specs.Nodes.{Node, Effect, posting, turned, turned_to}
 use Rattle.ivy_host.specs.Hosts.{Host, host_rules, turn_of, turned_at, steps, quietly}
 use Rattle.ivy_outbox.specs.Outboxes.{Outbox}
 use Rattle.ivy_site.specs.Shown.{Shown, box_of, shown_of}

@@ -5,16 +5,16 @@ use Rattle.ivy_model.specs.declared.Fault.{Fault}
 use Rattle.ivy_model.specs.declared.Fault.TheVariants.{NumbersSpent}
 use Rattle.ivy_wire.specs.Data.{Frame}
 use Rattle.ivy_wire.specs.Spelling.{Spells}
-use Rattle.ivy_link.specs.declared.Verdict.{Verdict}
-use Rattle.ivy_link.specs.declared.Verdict.TheVariants as verdict
+use Rattle.ivy_moves.specs.ivy_link.declared.Verdict.{Verdict}
+use Rattle.ivy_moves.specs.ivy_link.declared.Verdict.TheVariants as verdict
 use Rattle.ivy_program.specs.Steps.{Process, answered_with}
 use Rattle.ivy_host.specs.Managers.{Managed, managed_ops}
-use Rattle.ivy_events.specs.Cores.{Outcome}
+use Rattle.ivy_moves.specs.Cores.{Outcome}
 use Rattle.ivy_model.specs.declared.Record.{Record}
-use Rattle.ivy_link.specs.Linked.{has_numbers}
-use Rattle.ivy_heap.specs.declared.Answer.{Answer}
-use Rattle.ivy_heap.specs.declared.Answer.TheVariants.{Given, Unserved}
-use Rattle.ivy_memory.specs.Memories as memories
+use Rattle.ivy_moves.specs.ivy_link.Linked.{has_numbers}
+use Rattle.ivy_host.specs.ivy_heap.declared.Answer.{Answer}
+use Rattle.ivy_host.specs.ivy_heap.declared.Answer.TheVariants.{Given, Unserved}
+use Rattle.ivy_host.specs.ivy_memory.Memories as memories
 use Rattle.ivy_outbox.specs.Outboxes.{Outbox, HasNumbers, posted_by}
 use Rattle.ivy_host.specs.Hosts.{Host, turn_of}
 use Rattle.ivy_site.specs.Shown.{Shown}

@@ -2,14 +2,14 @@
 -- on the wire, and those that its link holds.
 use Rattle.std.specs.Prelude.{ℕ, List, [], ◌∷◌, ◌++◌}
 use Rattle.ivy_model.specs.declared.Config.{Config}
-use Rattle.ivy_link.specs.declared.Verdict.{Verdict}
-use Rattle.ivy_link.specs.declared.Verdict.TheVariants as verdict
-use Rattle.ivy_link.specs.Windows.{Window}
-use Rattle.ivy_link.specs.Holding.{Holding, holding, moved_at}
+use Rattle.ivy_moves.specs.ivy_link.declared.Verdict.{Verdict}
+use Rattle.ivy_moves.specs.ivy_link.declared.Verdict.TheVariants as verdict
+use Rattle.ivy_moves.specs.ivy_link.Windows.{Window}
+use Rattle.ivy_moves.specs.ivy_link.Holding.{Holding, holding, moved_at}
 use Rattle.ivy_host.specs.Managers.{Managed}
-use Rattle.ivy_events.specs.Marks.{Mark, Delivery}
-use Rattle.ivy_events.specs.Nodes.{Node, Effect}
-use Rattle.ivy_events.specs.Parts.{pulse_marks}
+use Rattle.ivy_moves.specs.Marks.{Mark, Delivery}
+use Rattle.ivy_moves.specs.Nodes.{Node, Effect}
+use Rattle.ivy_moves.specs.Parts.{pulse_marks}
 use Rattle.ivy_host.specs.Hosts.{Host}
 use Rattle.ivy_outbox.specs.Outboxes.{Outbox}
 

@@ -1,35 +1,32 @@
 -- What the calls of a site do.
-use Rattle.std.specs.Prelude.{◌≡◌, ℕ, ◌+◌, ◌*◌, ◌<◌, List, [], ◌∷◌, ◌++◌, length, replicate, slice_get, Option, Some, None, Contains}
+use Rattle.std.specs.Prelude.{◌≡◌, ℕ, ◌+◌, ◌*◌, ◌<◌, List, [], ◌∷◌, ◌++◌, replicate, Option, Some, None, Contains}
 use Rattle.ivy_model.specs.declared.Config.{Config}
-use Rattle.ivy_model.specs.Config.{IsConfig}
 use Rattle.ivy_model.specs.declared.Call.{Call}
 use Rattle.ivy_model.specs.declared.Call.TheVariants.{Await}
 use Rattle.ivy_model.specs.declared.Fault.{Fault}
 use Rattle.ivy_model.specs.declared.Fault.TheVariants.{NumbersSpent}
 use Rattle.ivy_wire.specs.Data.{Frame}
 use Rattle.ivy_wire.specs.Spelling.{Spells}
-use Rattle.ivy_link.specs.Accepted.{offered}
-use Rattle.ivy_link.specs.declared.Verdict.{Verdict}
-use Rattle.ivy_link.specs.declared.Verdict.TheVariants as verdict
-use Rattle.ivy_link.specs.Windows.{first_window, place_at}
-use Rattle.ivy_link.specs.Holding.{window_of, after_hold, ready_of, after_taking}
+use Rattle.ivy_moves.specs.ivy_link.Accepted.{offered}
+use Rattle.ivy_moves.specs.ivy_link.declared.Verdict.{Verdict}
+use Rattle.ivy_moves.specs.ivy_link.declared.Verdict.TheVariants as verdict
+use Rattle.ivy_moves.specs.ivy_link.Windows.{first_window, place_at}
+use Rattle.ivy_moves.specs.ivy_link.Holding.{window_of, after_hold, ready_of, after_taking}
 use Rattle.ivy_program.specs.declared.Instruction.{Instruction}
 use Rattle.ivy_program.specs.Steps.{HasEnded, Asks, step_of}
 use Rattle.ivy_host.specs.Managers.{Managed, managed_ops}
-use Rattle.ivy_events.specs.Marks.{Turn}
-use Rattle.ivy_events.specs.Cores.{Outcome}
-use Rattle.ivy_events.specs.Nodes.{Effect, posting, turned, delivered}
-use Rattle.ivy_events.specs.Parts.{AllHappen}
-use Rattle.ivy_events.specs.Early.{early_in}
+use Rattle.ivy_moves.specs.Marks.{Turn}
+use Rattle.ivy_moves.specs.Cores.{Outcome}
+use Rattle.ivy_moves.specs.Nodes.{Effect, posting, turned, delivered}
+use Rattle.ivy_moves.specs.Parts.{AllHappen}
+use Rattle.ivy_moves.specs.Early.{early_in}
 use Rattle.ivy_site.specs.declared.turn.Turn as turn
 use Rattle.ivy_site.specs.declared.turn.Turn.TheVariants.{Idle, Moved, Ended}
-use Rattle.ivy_link.specs.Linked.{peer_at}
+use Rattle.ivy_moves.specs.ivy_link.Linked.{peer_at}
 use Rattle.ivy_host.specs.Hosts.{Host, host_rules, turn_of}
 use Rattle.ivy_host.specs.Openings.{first_node}
-use Rattle.ivy_serving.specs.Limits.{most_posted}
-use Rattle.ivy_link.specs.Limits.{most_ahead}
-use Rattle.ivy_headline.specs.RunState.{Run}
-use Rattle.ivy_headline.specs.Reached.{IsReached}
+use Rattle.ivy_host.specs.ivy_coherence.Limits.{most_posted}
+use Rattle.ivy_moves.specs.ivy_link.Limits.{most_ahead}
 use Rattle.ivy_site.specs.Shown.{Shown, holding_at, after_event, after_delivery}
 
 -- how many strings one event sends at most: what is posted, and a pulse has no more frames
@@ -185,15 +182,6 @@ pub record Awaits (s : Shown) (bytes : List ℕ) : Type 0 where
   pub spelled : Spells s.config frame bytes
   pub dest : frame.dest ≡ s.me
   pub later : (peer_at s.node.link frame.source).delivered < frame.number
-
--- the node is one of a world that some moves lead to from the opening of as many programs as there
--- are nodes
-pub record IsOfRun (s : Shown) : Type 0 where
-  pub run : Run
-  pub limits : IsConfig run.config
-  pub programs : length run.programs ≡ run.config.nodes
-  pub reached : IsReached run
-  pub node : slice_get run.world.nodes s.me ≡ Some s.node
 
 -- the number of the count that a call in progress awaits, and the least value that it awaits
 abbrev pub await_in : Option Call → Option (ℕ × ℕ)

@@ -6,7 +6,7 @@
 mod site;
 mod turn;
 
-pub use ivy_link::Verdict;
+pub use ivy_moves::ivy_link::Verdict;
 pub use ivy_program::{Program, parse};
 pub use site::Site;
 pub use turn::Turn;

@@ -5,25 +5,25 @@ ghost use Rattle.ivy_model.specs.Config.{IsConfig};
 ghost use Rattle.ivy_model.specs.Wants.{IsWant};
 ghost use Rattle.ivy_wire.specs.Faults.{checked};
 ghost use Rattle.ivy_program.specs.Steps.{HasEnded, Asks, step_of};
-ghost use Rattle.ivy_events.specs.Nodes.{pulsing};
-ghost use Rattle.ivy_serving.specs.Limits.{most_posted};
-ghost use Rattle.ivy_link.specs.Limits.{most_ahead};
-ghost use Rattle.ivy_link.specs.Linked.{peer_at};
-ghost use Rattle.ivy_link.specs.Holding.{ready_of};
+ghost use Rattle.ivy_moves.specs.Nodes.{pulsing};
+ghost use Rattle.ivy_host.specs.ivy_coherence.Limits.{most_posted};
+ghost use Rattle.ivy_moves.specs.ivy_link.Limits.{most_ahead};
+ghost use Rattle.ivy_moves.specs.ivy_link.Linked.{peer_at};
+ghost use Rattle.ivy_moves.specs.ivy_link.Holding.{ready_of};
 ghost use Rattle.ivy_outbox.specs.Outboxes.{next_dest};
 ghost use Rattle.ivy_site.specs.Shown.{holding_at, after_pulse_to};
 ghost use Rattle.ivy_site.specs.Sites.{most_sent, most_delivered, first_shown, AfterTurn, AfterDelivery};
-ghost use Rattle.ivy_site.specs.Sites.{SiteWentOn, IsHeld, early_at, without_ready, IsSpentTurn, IsSpentDelivery, TakesFrame, IsSameNode, IsMadeByEvents, IsSentBy, IsOfRun, Awaits, await_in};
+ghost use Rattle.ivy_site.specs.Sites.{SiteWentOn, IsHeld, early_at, without_ready, IsSpentTurn, IsSpentDelivery, TakesFrame, IsSameNode, IsMadeByEvents, IsSentBy, Awaits, await_in};
 ghost use Rattle.ivy_site.specs.Inside.{host_of, is_served, kept_by, told_by, HasTurn, AfterHostTurn, HasNoNumbers, Hears, Receives, WentOnOnce, HoldsString};
-ghost use Rattle.ivy_events.specs.Marks.{marks};
+ghost use Rattle.ivy_moves.specs.Marks.{marks};
 ghost use Rattle.ivy_model.specs.Legal.{HasWidth};
 
 use crate::turn::Turn;
-use ivy_events::{Event, Events};
 use ivy_host::NodeManager;
-use ivy_link::{MOST_AHEAD, Verdict};
-use ivy_memory::{Answer, Memory};
+use ivy_host::ivy_memory::{Answer, Memory};
 use ivy_model::{Call, Config, Fault, Record, Reply};
+use ivy_moves::ivy_link::{MOST_AHEAD, Verdict};
+use ivy_moves::{Event, Events};
 use ivy_outbox::Outbox;
 use ivy_program::{Machine, Next, Program};
 use ivy_wire::{Bytes, Frame, read};
@@ -50,7 +50,7 @@ impl<A: Allocator> Model for Site<A> {
 
     ghost use Rattle.std.specs.Coded.{codes};
     ghost use Rattle.ivy_pagetable.specs.NodeSets.{nodes_code};
-    ghost use Rattle.ivy_alloc.specs.Heap.{heap_state_code};
+    ghost use Rattle.ivy_host.specs.ivy_alloc.Heap.{heap_state_code};
 
     ghost coded = { Prim.hlevel (codes, nodes_code, heap_state_code) };
 
@@ -228,11 +228,10 @@ impl<A: Allocator + Copy> Site<A> {
         frame.dest == self.outbox.me() && self.outbox.delivered_from(frame.source) < frame.number
     }
 
-    /// How many messages fitted no rule, up to the greatest number: none where the site is one of a world that moves
-    /// led to. It takes no memory.
+    /// How many messages fitted no rule, up to the greatest number. It takes no memory. None where the site is a node of
+    /// a world that moves led to: that is a law above, `none_is_breached` of `proof_headline`.
     pub fn breaches(&self) -> u64
-        ensures breaches { result ≡ self.now.node.core.memory.coherence.breaches }
-        ensures none { IsOfRun self.now → result ≡ 0 }
+        ensures { result ≡ self.now.node.core.memory.coherence.breaches }
     {
         self.memory.breaches()
     }

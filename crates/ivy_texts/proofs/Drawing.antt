@@ -9,7 +9,7 @@ use Rattle.ivy_model.specs.Config.{IsConfig}
 use Rattle.ivy_wire.specs.Data.{Frame}
 use Rattle.ivy_wire.specs.Spelling.{Spells, frame_kind}
 use Rattle.ivy_wire.proofs.Frames.{spelled_once, sound_checked}
-use Rattle.ivy_events.specs.declared.Move.TheVariants.{Turn}
+use Rattle.ivy_moves.specs.declared.Move.TheVariants.{Turn}
 use Rattle.ivy_texts.specs.Drawn.{drawn, drawn_by, delivery, pulse}
 
 module _ (nodes : ℕ) (sent : List (List ℕ)) (g g1 g2 : Lcg) (x y : ℕ) (first : (x, g1) ≡ pcg32 g)

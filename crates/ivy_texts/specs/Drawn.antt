@@ -4,8 +4,8 @@ use Rattle.rand_core.specs.Pcg32Seed.{pcg32_seed}
 use Rattle.rand_pcg.specs.Lcg.{Lcg}
 use Rattle.rand_pcg.specs.Pcg.{pcg32, pcg32_of_seed}
 use Rattle.ivy_wire.specs.Faults.{dest_at}
-use Rattle.ivy_events.specs.declared.Move.{Move}
-use Rattle.ivy_events.specs.declared.Move.TheVariants.{Turn, Deliver, Pulse}
+use Rattle.ivy_moves.specs.declared.Move.{Move}
+use Rattle.ivy_moves.specs.declared.Move.TheVariants.{Turn, Deliver, Pulse}
 
 -- the generator of a seed, whose sixteen bytes are made of the number as Rust's `seed_from_u64`
 -- does

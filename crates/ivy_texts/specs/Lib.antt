@@ -1,3 +1,4 @@
 pub mod Printed
 pub mod Lines
 pub mod Drawn
+pub mod Spelled

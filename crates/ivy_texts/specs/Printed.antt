@@ -1,12 +1,12 @@
 -- How calls, replies, records and moves are printed.
 use Rattle.std.specs.Prelude.{ℕ, List, ◌++◌, codes, decimal}
 use Rattle.ivy_model.specs.declared.Call.{Call}
-use Rattle.ivy_model.specs.declared.Call.TheVariants.{Load, Store, Swap, Count, Advance, Await, Alloc, Free}
+use Rattle.ivy_model.specs.declared.Call.TheVariants.{Load, Store, Swap, Cas, FetchAdd, Count, Advance, Await, Alloc, Free}
 use Rattle.ivy_model.specs.declared.Reply.{Reply}
 use Rattle.ivy_model.specs.declared.Reply.TheVariants.{Value, Done, Refused}
 use Rattle.ivy_model.specs.declared.Record.{Record}
-use Rattle.ivy_events.specs.declared.Move.{Move}
-use Rattle.ivy_events.specs.declared.Move.TheVariants.{Turn, Deliver, Pulse}
+use Rattle.ivy_moves.specs.declared.Move.{Move}
+use Rattle.ivy_moves.specs.declared.Move.TheVariants.{Turn, Deliver, Pulse}
 
 -- a blank and a number
 abbrev pub then_number : ℕ → List ℕ
@@ -18,6 +18,10 @@ call_text (Store width addr value) =
     codes "store" ++ then_number width ++ then_number addr ++ then_number value
 call_text (Swap width addr value) =
     codes "swap" ++ then_number width ++ then_number addr ++ then_number value
+call_text (Cas width addr expected value) =
+    codes "cas" ++ then_number width ++ then_number addr ++ then_number expected ++ then_number value
+call_text (FetchAdd width addr value) =
+    codes "fadd" ++ then_number width ++ then_number addr ++ then_number value
 call_text (Count k) = codes "count" ++ then_number k
 call_text (Advance k) = codes "advance" ++ then_number k
 call_text (Await k least) = codes "await" ++ then_number k ++ then_number least

@@ -2,7 +2,7 @@
 ghost use Rattle.std.specs.Prelude.{◌≡◌, ◌^◌, ◌≤◌, ◌<◌, All, length};
 ghost use Rattle.ivy_texts.specs.Drawn.{seeded, drawn, delivery, other_at};
 
-use ivy_events::Move;
+use ivy_moves::Move;
 use ivy_wire::Bytes;
 use rand_core::SeedableRng;
 use rand_core::utils::NextWord;

@@ -1,4 +1,5 @@
-//! The texts of schedules and of orders, read and written line by line, and moves that a generator draws.
+//! The texts of schedules and of orders, read and written line by line, moves that a generator draws, and the
+//! configuration that options name.
 //!
 //! A schedule has a world's moves, one a line, and an order the records of all nodes. Numbers in brackets, as
 //! `[1, 20]`, are those of the faults that a call may answer.
@@ -8,6 +9,7 @@ mod drawn;
 mod order;
 mod print;
 mod schedule;
+mod settings;
 
 pub use drawn::{draw, generator_of};
 pub use order::{Order, Sizes, parse_order};
@@ -16,3 +18,4 @@ pub use print::{
     print_verdict,
 };
 pub use schedule::parse_schedule;
+pub use settings::Settings;

@@ -1,6 +1,9 @@
 //! Orders: the records of all nodes as one list, one a line.
-ghost use Rattle.std.specs.Prelude.{IfErr};
+ghost use Rattle.std.specs.Prelude.{◌≡◌, IfOk, IfErr, IfSome, Some, codes, map, slice_get};
+ghost use Rattle.ivy_model.specs.Legal.{HasWidth, IsWidth};
+ghost use Rattle.ivy_program.specs.Lines.{IsNumberWord};
 ghost use Rattle.ivy_program.specs.Texts.{IsRefusal};
+ghost use Rattle.ivy_texts.specs.Spelled.{SpellsCall, SpellsOrder, SpellsRecord, SpellsReply, SpellsSizes};
 
 use ivy_model::{Call, Fault, Record, Reply};
 use ivy_program::{parse_number, words_of};
@@ -25,7 +28,9 @@ pub struct Order<A: Allocator> {
 }
 
 /// The sizes of a first line, where its words are one.
-fn parse_sizes(words: &[&str]) -> Option<Sizes> {
+fn parse_sizes(words: &[&str]) -> Option<Sizes>
+    ensures { IfSome result (SpellsSizes (map (λ w. w.now) words.now)) }
+{
     match *words {
         ["ivy", "order", nodes, pages, page_size] => Some(Sizes {
             nodes: parse_number(nodes)?,
@@ -37,17 +42,25 @@ fn parse_sizes(words: &[&str]) -> Option<Sizes> {
 }
 
 /// A number of one byte.
-fn parse_byte(word: &str) -> Option<u8> {
+fn parse_byte(word: &str) -> Option<u8>
+    ensures { IfSome result (IsNumberWord word.now) }
+{
     u8::try_from(parse_number(word)?).ok()
 }
 
-fn parse_width(word: &str) -> Option<u8> {
+fn parse_width(word: &str) -> Option<u8>
+    ensures number { IfSome result (IsNumberWord word.now) }
+    ensures width { IfSome result IsWidth }
+{
     let width = parse_byte(word)?;
     [1, 2, 4, 8].contains(&width).then_some(width)
 }
 
 /// The call that words name, where they are one.
-fn parse_call(words: &[&str]) -> Option<Call> {
+fn parse_call(words: &[&str]) -> Option<Call>
+    ensures spelled { IfSome result (SpellsCall (map (λ w. w.now) words.now)) }
+    ensures width { IfSome result HasWidth }
+{
     Some(match *words {
         ["load", width, addr] => Call::Load {
             width: parse_width(width)?,
@@ -59,6 +72,17 @@ fn parse_call(words: &[&str]) -> Option<Call> {
             value: parse_number(value)?,
         },
         ["swap", width, addr, value] => Call::Swap {
+            width: parse_width(width)?,
+            addr: parse_number(addr)?,
+            value: parse_number(value)?,
+        },
+        ["cas", width, addr, expected, value] => Call::Cas {
+            width: parse_width(width)?,
+            addr: parse_number(addr)?,
+            expected: parse_number(expected)?,
+            value: parse_number(value)?,
+        },
+        ["fadd", width, addr, value] => Call::FetchAdd {
             width: parse_width(width)?,
             addr: parse_number(addr)?,
             value: parse_number(value)?,
@@ -84,7 +108,9 @@ fn parse_call(words: &[&str]) -> Option<Call> {
 }
 
 /// The reply that words name, where they are one.
-fn parse_reply(words: &[&str]) -> Option<Reply> {
+fn parse_reply(words: &[&str]) -> Option<Reply>
+    ensures { IfSome result (SpellsReply (map (λ w. w.now) words.now)) }
+{
     match *words {
         ["value", value] => Some(Reply::Value(parse_number(value)?)),
         ["done"] => Some(Reply::Done),
@@ -93,10 +119,24 @@ fn parse_reply(words: &[&str]) -> Option<Reply> {
     }
 }
 
+/// Where the first equals sign stands among words.
+fn equals_in(words: &[&str]) -> Option<usize>
+    ensures { IfSome result (λ at. slice_get (map (λ w. w.now) words.now) at ≡ Some (codes "=")) }
+{
+    for at in 0..words.len() {
+        if words[at] == "=" {
+            return Some(at);
+        }
+    }
+    None
+}
+
 /// The record of a line, where its words are one: a node, its call, `=` and the reply.
-fn parse_record(words: &[&str]) -> Option<Record> {
+fn parse_record(words: &[&str]) -> Option<Record>
+    ensures { IfSome result (SpellsRecord (map (λ w. w.now) words.now)) }
+{
     let (node, said) = words.split_first()?;
-    let equals = said.iter().position(|word| *word == "=")?;
+    let equals = equals_in(said)?;
     Some(Record {
         node: parse_byte(node)?,
         call: parse_call(&said[..equals])?,
@@ -110,21 +150,28 @@ fn parse_record(words: &[&str]) -> Option<Record> {
 /// 1 where a growth was refused, and 20 with the first line that is none of these, counted from 1,
 /// or with line 1 where there is no first line.
 pub fn parse_order<A: Allocator + Copy>(alloc: A, text: &str) -> Result<Order<A>, Fault>
-    ensures { IfErr result IsRefusal }
+    ensures spelled { IfOk result (λ order. SpellsOrder text.now order.sizes order.records.items) }
+    ensures refused { IfErr result IsRefusal }
 {
     let mut sizes = None;
     let mut records = Vec::new(alloc);
-    for (before, line) in text.split_inclusive('\n').enumerate() {
+    for (before, line) in text.lines().enumerate() {
         let words = words_of(alloc, line)?;
         let fault = Fault::ProgramFault(before as u64 + 1);
         if words.is_empty() {
             continue;
         }
         if sizes.is_none() {
-            sizes = Some(parse_sizes(&words).ok_or(fault)?);
-        } else {
-            records.push(parse_record(&words).ok_or(fault)?)?;
+            let Some(first) = parse_sizes(&words) else {
+                return Err(fault);
+            };
+            sizes = Some(first);
+            continue;
         }
+        let Some(said) = parse_record(&words) else {
+            return Err(fault);
+        };
+        records.push(said)?;
     }
     match sizes {
         Some(sizes) => Ok(Order { sizes, records }),

@@ -5,8 +5,8 @@ ghost use Rattle.ivy_texts.specs.Lines.{value_line, end_line, verdict_line};
 ghost use Rattle.ivy_texts.specs.Printed.{call_text, reply_text, record_text, move_text};
 
 use itoa::Buffer;
-use ivy_events::Move;
 use ivy_model::{Call, Record, Reply};
+use ivy_moves::Move;
 use ivy_wire::FrameKind;
 use std::fmt;
 use std::io::{self, Write};
@@ -54,6 +54,24 @@ impl fmt::Display for CallText {
             Call::Swap { width, addr, value } => {
                 let width = Decimal(u64::from(width));
                 write!(f, "swap {width} {} {}", Decimal(addr), Decimal(value))
+            }
+            Call::Cas {
+                width,
+                addr,
+                expected,
+                value,
+            } => {
+                let (width, addr) = (Decimal(u64::from(width)), Decimal(addr));
+                write!(
+                    f,
+                    "cas {width} {addr} {} {}",
+                    Decimal(expected),
+                    Decimal(value)
+                )
+            }
+            Call::FetchAdd { width, addr, value } => {
+                let width = Decimal(u64::from(width));
+                write!(f, "fadd {width} {} {}", Decimal(addr), Decimal(value))
             }
             Call::Count { k } => write!(f, "count {}", Decimal(k)),
             Call::Advance { k } => write!(f, "advance {}", Decimal(k)),

@@ -1,14 +1,18 @@
 //! Schedules: the moves of a world, one a line.
-ghost use Rattle.std.specs.Prelude.{IfErr};
+ghost use Rattle.std.specs.Prelude.{IfOk, IfErr, IfSome, map};
 ghost use Rattle.ivy_program.specs.Texts.{IsRefusal};
+ghost use Rattle.ivy_moves.specs.declared.Move.{Move};
+ghost use Rattle.ivy_texts.specs.Spelled.{SpellsMove, SpellsSchedule};
 
-use ivy_events::Move;
 use ivy_model::Fault;
+use ivy_moves::Move;
 use ivy_program::{parse_number, words_of};
 use std::alloc::Allocator;
 
 /// The move of a line, where its words are one.
-fn parse_move(words: &[&str]) -> Option<Move> {
+fn parse_move(words: &[&str]) -> Option<Move>
+    ensures { IfSome result (SpellsMove (map (λ w. w.now) words.now)) }
+{
     match *words {
         ["turn", node] => Some(Move::Turn(parse_number(node)?)),
         ["deliver", index, to] => Some(Move::Deliver {
@@ -27,10 +31,11 @@ fn parse_move(words: &[&str]) -> Option<Move> {
 ///
 /// 1 where a growth was refused, and 20 with the first line that is none of these, counted from 1.
 pub fn parse_schedule<A: Allocator + Copy>(alloc: A, text: &str) -> Result<Vec<Move, A>, Fault>
-    ensures { IfErr result IsRefusal }
+    ensures moves { IfOk result (λ moves. SpellsSchedule text.now moves.items) }
+    ensures refused { IfErr result IsRefusal }
 {
     let mut moves = Vec::new(alloc);
-    for (before, line) in text.split_inclusive('\n').enumerate() {
+    for (before, line) in text.lines().enumerate() {
         let words = words_of(alloc, line)?;
         if words.is_empty() {
             continue;

@@ -1,8 +1,8 @@
 use Rattle.std.proofs.Common.{arith}
 use Rattle.ivy_program.specs.Steps.{step_of}
-use Rattle.ivy_texts.specs.Lines.{end_line}
+use Rattle.ivy_arguments.specs.ivy_texts.Lines.{end_line}
 use Rattle.ivy_commands.specs.Nodes.{has_ended}
-use Rattle.ivy_texts.proofs.Printing.{appends-more}
+use Rattle.ivy_arguments.proofs.of_ivy_texts.Printing.{appends-more}
 use Rattle.ivy_commands.proofs.Printing.{numbered-next, told-end}
 use Rattle.ivy_commands.proofs.print.print_ends.Goals as goal
 

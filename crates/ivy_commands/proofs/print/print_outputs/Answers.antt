@@ -1,5 +1,5 @@
 use Rattle.std.proofs.Common.{arith}
-use Rattle.ivy_texts.proofs.Printing.{appends-more}
+use Rattle.ivy_arguments.proofs.of_ivy_texts.Printing.{appends-more}
 use Rattle.ivy_commands.specs.Nodes.{output_text}
 use Rattle.ivy_commands.proofs.Printing.{numbered-next}
 use Rattle.ivy_commands.proofs.print.print_outputs.Goals as goal

@@ -1,9 +1,9 @@
 use Rattle.std.proofs.Common.{◌≡◌, ◌+◌, ◌≤◌, All, List, ℕ, [], ◌∷◌, length, subst, sym, ◌∙◌, refl, arith}
-use Rattle.ivy_host.specs.Holding.{AllSpell}
-use Rattle.ivy_headline.specs.Reached.{IsLedTo}
-use Rattle.ivy_texts.specs.Drawn.{seeded, drawn}
+use Rattle.ivy_world.specs.ivy_host.Holding.{AllSpell}
+use Rattle.ivy_world.specs.proof_headline.Reached.{IsLedTo}
+use Rattle.ivy_arguments.specs.ivy_texts.Drawn.{seeded, drawn}
 use Rattle.ivy_commands.specs.Simulated.{DrawnTo}
-use Rattle.ivy_texts.proofs.Drawing.{long_strings}
+use Rattle.ivy_arguments.proofs.of_ivy_texts.Drawing.{long_strings}
 use Rattle.ivy_commands.proofs.Simulating.{drawn-on}
 use Rattle.ivy_commands.proofs.simulation.run_drawn.Goals as goal
 

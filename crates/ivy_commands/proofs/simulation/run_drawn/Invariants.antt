@@ -1,6 +1,6 @@
 use Rattle.std.proofs.Common.{◌≡◌}
-use Rattle.ivy_host.specs.Holding.{AllSpell}
-use Rattle.ivy_texts.specs.Drawn.{seeded}
+use Rattle.ivy_world.specs.ivy_host.Holding.{AllSpell}
+use Rattle.ivy_arguments.specs.ivy_texts.Drawn.{seeded}
 use Rattle.ivy_commands.proofs.Simulating.{IsDrawnSince}
 use Rattle.ivy_commands.proofs.simulation.run_drawn.Given as goal
 

@@ -1,5 +1,5 @@
 use Rattle.std.proofs.Common.{◌≡◌, take}
-use Rattle.ivy_headline.specs.Reached.{IsLedTo}
+use Rattle.ivy_world.specs.proof_headline.Reached.{IsLedTo}
 use Rattle.ivy_commands.specs.Commands.{Adds}
 use Rattle.ivy_commands.proofs.trace.trace_moves.Given as goal
 

@@ -1,7 +1,7 @@
 use Rattle.std.proofs.Common.{rules, ◌≡◌, ◌≢◌, true, arith, ap, refl, ◌+◌, ◌∙◌}
-use Rattle.ivy_heap.specs.declared.Answer.{Answer}
-use Rattle.ivy_heap.specs.declared.Answer.TheVariants.{Given, Awaited, Unserved}
-use Rattle.ivy_memory.proofs.Beginning.{err_there}
+use Rattle.ivy_host.specs.ivy_heap.declared.Answer.{Answer}
+use Rattle.ivy_host.specs.ivy_heap.declared.Answer.TheVariants.{Given, Awaited, Unserved}
+use Rattle.ivy_host.proofs.of_ivy_memory.Beginning.{err_there}
 use Rattle.ivy_site.specs.Inside.{host_of, is_served}
 use Rattle.ivy_site.proofs.Calling.{begin_call, cannot_begin, called, called_few, on_err, unposted}
 use Rattle.ivy_site.proofs.Turned.{has_turned}

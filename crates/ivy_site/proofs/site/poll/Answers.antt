@@ -1,5 +1,5 @@
 use Rattle.std.proofs.Common.{rules}
-use Rattle.ivy_memory.proofs.Beginning.{err_there}
+use Rattle.ivy_host.proofs.of_ivy_memory.Beginning.{err_there}
 use Rattle.ivy_site.specs.Inside.{host_of}
 use Rattle.ivy_site.proofs.Calling.{poll_call, cannot_call, called, called_few}
 use Rattle.ivy_site.proofs.site.poll.Goals as goal

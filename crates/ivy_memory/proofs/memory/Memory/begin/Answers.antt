@@ -1,8 +1,9 @@
-use Rattle.std.proofs.Common.{rules, ◌∙◌, sym, arith}
+use Rattle.std.proofs.Common.{Some, rules, ◌∙◌, sym, ap, arith}
 use Rattle.ivy_wire.specs.Posts.{HasRefused}
 use Rattle.ivy_memory.proofs.Beginning.{IsBeginning, no_call, can, wide, words_now, words_before, had_memory}
 use Rattle.ivy_memory.proofs.Beginning.{started_memory, not_busy, call_posts}
 use Rattle.ivy_memory.proofs.Beginning.{few_posted, err_refuses, call_asks, heap_memory}
+use Rattle.ivy_memory.specs.Memories.{asked_after, number_after}
 use Rattle.ivy_memory.proofs.memory.Memory.begin.Goals as goal
 
 pub need-requires-clause-page : goal.need-requires-clause-page
@@ -201,3 +202,23 @@ invariant_of-self-in_default g c =
     c.in_ok-answer-in-Heap.answer c.begin.new.self c.self.inside.asked c.self.inside.number
     c.in_ok-answer-in-Heap.ensures.reply c.in_ok-answer-in-Heap.ensures.ok (search rules)
     (search rules)
+
+pub invariant_of-self-in-Awaited : goal.invariant_of-self-in-Awaited
+invariant_of-self-in-Awaited g c =
+    heap_memory g.met.M.Manager.laws _ _ c.config.result c.args.call c.args.number c.in-Heap.of_heap
+    c.me.result
+    (record {
+      same = c.self.view_is;
+      sound = c.self.invariant;
+      config = c.config.ensures;
+      idle = no_call _ _ c.self.view_is c.is_some.ensures c.if-is_some.false;
+      legal = c.requires.width;
+      least = c.requires.number;
+      most = omega arith;
+      asks = sym c.asked_of.ensures.is ∙ c.in-Heap.is;
+      me = c.me.ensures;
+    })
+    c.in_ok-answer-in-Heap.answer c.begin.new.self (Some c.args.call) c.args.number
+    c.in_ok-answer-in-Heap.ensures.reply c.in_ok-answer-in-Heap.ensures.ok
+    (ap (asked_after c.self.inside.asked c.args.call) c.in-Awaited.is)
+    (ap (number_after c.self.inside.number c.args.number) c.in-Awaited.is)

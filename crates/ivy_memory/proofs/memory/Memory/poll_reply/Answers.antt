@@ -9,6 +9,18 @@ pub need-requires-clause-call : goal.need-requires-clause-call
 need-requires-clause-call g c =
     let least = c.self.invariant.numbered c.in-Some.call c.in-Some.is in omega (arith, least)
 
+pub need-requires-clause-page : goal.need-requires-clause-page
+need-requires-clause-page g c =
+    (retry_can g.met.M.Manager.laws _ _ c.config.result c.in-Some.call c.in-Word.page c.in-Word.word
+    (record {
+      same = c.self.view_is;
+      sound = c.self.invariant;
+      config = c.config.ensures;
+      called = c.in-Some.is;
+      untold = sym c.reply.ensures ∙ c.in_default-reply.is;
+      asks = sym c.asked_of.ensures.is ∙ c.in-Word.is;
+    })).0
+
 pub need-requires-clause-word : goal.need-requires-clause-word
 need-requires-clause-word g c =
     (retry_can g.met.M.Manager.laws _ _ c.config.result c.in-Some.call c.in-Word.page c.in-Word.word

@@ -3,7 +3,7 @@ use Rattle.ivy_model.specs.declared.Config.{Config}
 use Rattle.ivy_wire.specs.Data.{Frame}
 use Rattle.ivy_wire.specs.Spelling.{Spells}
 use Rattle.ivy_wire.specs.Lent.{owned_frame}
-use Rattle.ivy_link.specs.Linked.{peer_at}
+use Rattle.ivy_moves.specs.ivy_link.Linked.{peer_at}
 use Rattle.ivy_site.specs.Shown.{Shown}
 use Rattle.ivy_site.specs.Sites.{Awaits}
 use Rattle.ivy_site.proofs.site.Site.awaits.Goals as goal

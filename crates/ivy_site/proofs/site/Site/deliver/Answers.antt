@@ -1,4 +1,4 @@
-use Rattle.ivy_memory.proofs.Beginning.{err_there}
+use Rattle.ivy_host.proofs.of_ivy_memory.Beginning.{err_there}
 use Rattle.ivy_site.specs.Sites.{IsSpentDelivery}
 use Rattle.ivy_site.proofs.Delivering.{spent_reading}
 use Rattle.ivy_site.proofs.site.Site.deliver.Goals as goal

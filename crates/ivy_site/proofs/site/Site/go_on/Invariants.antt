@@ -1,5 +1,5 @@
 use Rattle.std.proofs.Common.{◌≤◌, ◌+◌, ◌*◌, length}
-use Rattle.ivy_serving.specs.Limits.{most_posted}
+use Rattle.ivy_host.specs.ivy_coherence.Limits.{most_posted}
 use Rattle.ivy_site.specs.Sites.{IsSameNode, SiteWentOn}
 use Rattle.ivy_site.proofs.site.Site.go_on.Given as goal
 

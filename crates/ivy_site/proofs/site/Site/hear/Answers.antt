@@ -3,16 +3,16 @@ use Rattle.std.proofs.Common.{rules, true, ◌≡◌, ◌≢◌, ℕ, List, ◌+
 use Rattle.ivy_model.specs.Config.{IsConfig}
 use Rattle.ivy_wire.specs.Spelling.{Spells}
 use Rattle.ivy_wire.specs.Lent.{owned_message, owned_body, owned_frame}
-use Rattle.ivy_link.specs.contracts.verdict.Verdict.{the_type}
-use Rattle.ivy_link.specs.declared.Verdict.{Verdict}
-use Rattle.ivy_link.specs.declared.Verdict.TheVariants as verdict
-use Rattle.ivy_link.specs.Holding.{Holding, accepted_at}
-use Rattle.ivy_events.specs.Marks.{Mark, Delivery}
+use Rattle.ivy_moves.specs.ivy_link.contracts.verdict.Verdict.{the_type}
+use Rattle.ivy_moves.specs.ivy_link.declared.Verdict.{Verdict}
+use Rattle.ivy_moves.specs.ivy_link.declared.Verdict.TheVariants as verdict
+use Rattle.ivy_moves.specs.ivy_link.Holding.{Holding, accepted_at}
+use Rattle.ivy_moves.specs.Marks.{Mark, Delivery}
 use Rattle.ivy_outbox.specs.Outboxes.{Outbox, holding_of, with_holding}
 use Rattle.ivy_site.specs.Shown.{Shown, shown_of}
 use Rattle.ivy_site.specs.Sites.{IsSpentDelivery}
 use Rattle.ivy_site.specs.Inside.{CameEarlyAs, host_of}
-use Rattle.ivy_memory.proofs.Beginning.{err_there}
+use Rattle.ivy_host.proofs.of_ivy_memory.Beginning.{err_there}
 use Rattle.ivy_site.proofs.Delivering.{IsHeard, spent_reading, not_mine, spent_message, heard_quietly, heard_message, heard_delivers, heard_site, heard_early, heard_few}
 use Rattle.ivy_site.proofs.Receiving.{hears}
 use Rattle.ivy_site.proofs.site.Site.hear.Given.{Over}

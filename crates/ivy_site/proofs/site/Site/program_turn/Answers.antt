@@ -1,6 +1,6 @@
 use Rattle.std.proofs.Common.{rules, refl, ap, sym, ◌∷◌, [], ◌++◌, ◌∙◌}
-use Rattle.ivy_events.specs.Marks.{Turn}
-use Rattle.ivy_memory.proofs.Beginning.{err_there}
+use Rattle.ivy_moves.specs.Marks.{Turn}
+use Rattle.ivy_host.proofs.of_ivy_memory.Beginning.{err_there}
 use Rattle.ivy_site.proofs.Turned.{idle_turn, ended_turn, local_turn, local_site, makes_call, spent_turn, called_turn, called_site, has_turned, not_turned}
 use Rattle.ivy_site.proofs.site.Site.program_turn.Goals as goal
 

@@ -1,5 +1,0 @@
-use Rattle.ivy_events.proofs.GoingOn.{parts_go_on}
-use Rattle.ivy_events.proofs.laws.parts_go_on.Goals as goal
-
-pub returns : goal.returns
-returns g c = λ rules config. parts_go_on rules config

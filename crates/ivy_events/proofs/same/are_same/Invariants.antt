@@ -1,6 +1,0 @@
-use Rattle.std.proofs.Common.{◌≡◌, take, length}
-use Rattle.ivy_events.specs.Marks.{marks}
-use Rattle.ivy_events.proofs.same.are_same.Given as goal
-
-abbrev pub invariant-loop-i : goal.invariant-loop-i
-invariant-loop-i g l = (marks (take l.i l.a) ≡ marks (take l.i l.b)) × (length l.a ≡ length l.b)

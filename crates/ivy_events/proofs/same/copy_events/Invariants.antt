@@ -1,6 +1,0 @@
-use Rattle.std.proofs.Common.{◌≡◌, take}
-use Rattle.ivy_events.specs.Marks.{marks}
-use Rattle.ivy_events.proofs.same.copy_events.Given as goal
-
-abbrev pub invariant-loop-event : goal.invariant-loop-event
-invariant-loop-event g l = marks l.copy.items ≡ marks (take l.event-index l.events)

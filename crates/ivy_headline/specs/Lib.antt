@@ -1,3 +1,0 @@
-pub mod RunState
-pub mod Reached
-pub mod Keeping

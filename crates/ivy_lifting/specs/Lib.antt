@@ -1,2 +1,0 @@
-pub mod Nets
-pub mod Runs

@@ -1,9 +1,0 @@
-pub mod Moves
-pub mod Turns
-pub mod Hops
-pub mod Managed
-pub mod Sent
-pub mod Descent
-pub mod ManagedKept
-pub mod FirstManaged
-pub mod ManagedRoutes

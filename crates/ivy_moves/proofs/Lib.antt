@@ -1,0 +1,12 @@
+pub mod Noted
+pub mod Places
+mod Sent
+pub mod Following
+pub mod Opening
+pub mod Kept
+pub mod Parts
+pub mod Splitting
+pub mod Early
+pub mod GoingOn
+pub mod Leading
+pub use Rattle.ivy_link.proofs as of_ivy_link

@@ -1,0 +1,14 @@
+pub mod Events
+pub mod Marks
+pub mod Listed
+pub mod Cores
+pub mod Nodes
+pub mod Worlds
+pub mod Parts
+pub mod Early
+pub mod Explained
+pub mod Ordered
+pub mod Following
+pub use Rattle.ivy_wire.specs.Data
+pub use Rattle.ivy_link.specs.Linked
+pub use Rattle.ivy_link.specs as ivy_link

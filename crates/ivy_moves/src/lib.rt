@@ -1,0 +1,16 @@
+//! What happens to nodes: their events, the moves of a world of nodes, and what both mean.
+//!
+//! The definitions of the node event and of the world stand in `specs/`, over any core: they know of links
+//! and strings, and nothing of pages.
+#![tactic(auto)]
+
+mod event;
+mod laws;
+mod moves;
+mod note;
+mod same;
+
+pub use event::{Event, Events};
+pub use ivy_link;
+pub use laws::{parts_go_on, runs_are_their_parts};
+pub use moves::Move;

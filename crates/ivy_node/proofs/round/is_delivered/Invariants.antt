@@ -1,6 +1,0 @@
-use Rattle.std.proofs.Common.{◌<◌, ℕ}
-use Rattle.ivy_node.specs.Rounds.{IsDeliveredFrom}
-use Rattle.ivy_node.proofs.round.is_delivered.Given as goal
-
-abbrev pub invariant-loop-from : goal.invariant-loop-from
-invariant-loop-from g l = (i : ℕ) → i < l.from → IsDeliveredFrom l.sites i

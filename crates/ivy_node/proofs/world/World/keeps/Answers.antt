@@ -1,7 +1,0 @@
-use Rattle.ivy_headline.proofs.Headline.{keeps-reached}
-use Rattle.ivy_node.proofs.world.World.keeps.Goals as goal
-
-pub returns : goal.returns
-returns g c =
-    keeps-reached c.args.self.now c.reached.ensures.limits c.reached.ensures.each
-    c.reached.ensures.reached

@@ -1,4 +1,0 @@
-pub mod QuietWorlds
-pub mod EitherWorlds
-pub mod RoutedRuns
-pub mod EitherRoutes

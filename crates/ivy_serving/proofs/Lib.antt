@@ -1,4 +1,0 @@
-pub mod NextHop
-pub mod IdleServing
-pub mod Few
-pub mod Undoing

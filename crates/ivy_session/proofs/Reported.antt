@@ -1,0 +1,154 @@
+-- What the starter was told is a report.
+use Rattle.std.proofs.Common.{◌≡◌, ℕ, zero, suc, List, [], ◌∷◌, ◌++◌, length, map, slice_get}
+use Rattle.std.proofs.Common.{Contains, Option, Some, None, refl, sym, ap, subst, ◌∙◌, append-nil}
+use Rattle.std.proofs.lemmas.Option.{none-some, same_Some}
+use Rattle.ivy_model.specs.declared.Call.{Call}
+use Rattle.ivy_model.specs.declared.Config.{Config}
+use Rattle.ivy_model.specs.declared.Record.{Record}
+use Rattle.ivy_model.specs.Config.{IsConfig}
+use Rattle.ivy_model.specs.Explains.{IsOwed, part}
+use Rattle.ivy_program.specs.declared.Instruction.{Instruction}
+use Rattle.ivy_program.specs.Runs.{IsWholeRun}
+use Rattle.ivy_program.specs.Steps.{Asks, Ends, HasEnded, step_of}
+use Rattle.ivy_seating.specs.ivy_moves.declared.Move.{Move}
+use Rattle.ivy_seating.specs.ivy_moves.Explained.{IsExplainedBy, GoesOn}
+use Rattle.ivy_seating.specs.ivy_moves.Marks.{Mark}
+use Rattle.ivy_seating.specs.ivy_moves.Nodes.{Node, Effect}
+use Rattle.ivy_seating.specs.ivy_moves.Parts.{AllHappen, AreParts}
+use Rattle.ivy_seating.specs.ivy_moves.Worlds.{World, Leads}
+use Rattle.ivy_seating.proofs.of_ivy_moves.Parts.{runs_are_their_parts}
+use Rattle.ivy_seating.proofs.of_ivy_moves.Splitting.{same-effect}
+use Rattle.ivy_seating.specs.ivy_ether.ivy_host.Hosts.{Host, host_rules, answered_by}
+use Rattle.ivy_seating.specs.ivy_ether.ivy_host.Managers.{Managed, managed_ops}
+use Rattle.ivy_seating.specs.ivy_ether.Programs.{beginning, Told}
+use Rattle.ivy_seating.specs.ivy_ether.Views.{View}
+use Rattle.ivy_seating.specs.Reports.{NodeReport, IsDone, IsReport}
+use Rattle.ivy_seating.specs.Told.{AreTold}
+use Rattle.proof_headline.proofs.Headline.{exclusive-led, no_breach-led, runs-led, explained-along, sound-led}
+
+-- the order at the end of a run
+explained_end : (c : Config) (w end : World (Host Managed)) (order : List Record)
+    (moves : List Move)
+    → GoesOn (host_rules managed_ops) c answered_by w order moves
+    → Leads (host_rules managed_ops) c w moves end
+    → (whole : List Record) × IsExplainedBy (host_rules managed_ops) c answered_by end whole
+explained_end c w end order [] on lead =
+    (order, subst (λ v. IsExplainedBy (host_rules managed_ops) c answered_by v order) (sym lead) on)
+explained_end c w end order (m ∷ moves) on lead =
+    let next = on.1 lead.0 lead.1 in
+    explained_end c lead.0 end (order ++ next.0) moves next.1 lead.2
+
+-- nothing is owed where no call is in progress
+owed_none : (rest : List Record) → IsOwed None rest → rest ≡ []
+owed_none [] owed = refl
+owed_none (r ∷ []) owed = absurd (none-some r.call owed)
+owed_none (r ∷ s ∷ rest) owed = absurd owed
+
+-- an ended program has no call in progress
+asks_none : (asked : Option Call) (h : Host Managed) → h.memory.asked ≡ asked
+    → ((call : Call) → h.memory.asked ≡ Some call → step_of h.process ≡ Asks call)
+    → HasEnded h.process → asked ≡ None
+asks_none None h is asking ended = refl
+asks_none (Some call) h is asking ended =
+    let apart : Asks call ≡ Ends = sym (asking call is) ∙ ended in absurd cc
+
+map_get : {X Y : Type 0} (f : X → Y) (xs : List X) (i : ℕ) (x : X) → slice_get xs i ≡ Some x
+    → slice_get (map f xs) i ≡ Some (f x)
+map_get f [] i x is = absurd (none-some x is)
+map_get f (y ∷ ys) zero x is = ap (λ o. Some (f o)) (same_Some y x is)
+map_get f (y ∷ ys) (suc i) x is = map_get f ys i x is
+
+module _ (c : Config) (programs : List (List Instruction)) (limits : IsConfig c)
+    (each : length programs ≡ c.nodes) where
+  -- a done node is the one of its place at the end of the run
+  record IsThere (end : World (Host Managed)) (i : ℕ) (n : NodeReport) : Type 0 where
+    node : Node (Host Managed)
+    there : slice_get end.nodes i ≡ Some node
+    history : n.history ≡ node.core.history
+    output : n.output ≡ node.core.process.state.output
+    ended : HasEnded node.core.process
+
+  is_there : (end : World (Host Managed)) (parts : ℕ → List Mark) (i : ℕ) (n : NodeReport)
+      → AreParts (host_rules managed_ops) c (beginning c programs) parts end → parts i ≡ n.events
+      → IsDone c programs i n → IsThere end i n
+  is_there end parts i n run list done =
+      let first = done.of.list.node in
+      let made =
+      (runs_are_their_parts (host_rules managed_ops) c (beginning c programs) end parts
+      run).each
+      i first done.of.list.there in
+      let same : made.0 ≡ done.of.effect =
+      same-effect (host_rules managed_ops) c first n.events made.0 done.of.effect
+      (subst (λ l. AllHappen (host_rules managed_ops) c first l made.0) list made.1)
+      done.of.list.happen in
+      record {
+        node = done.of.effect.after;
+        there = made.2 ∙ ap (λ (e : Effect (Host Managed)). Some e.after) same;
+        history = done.of.history;
+        output = done.of.output;
+        ended = done.ended;
+      }
+
+  module _ (nodes : List NodeReport) (v : View) (count : length nodes ≡ length programs)
+      (told : AreTold c programs v nodes) (parts : ℕ → List Mark) (end : World (Host Managed))
+      (run : AreParts (host_rules managed_ops) c (beginning c programs) parts end)
+      (are : (i : ℕ) (events : List Mark) → Contains v.reports (i, events) → parts i ≡ events) where
+    list_of : (i : ℕ) (n : NodeReport) → slice_get nodes i ≡ Some n → parts i ≡ n.events
+    list_of i n there = are i n.events (told i n there).0
+
+    at_end : (i : ℕ) (n : NodeReport) → slice_get nodes i ≡ Some n → IsThere end i n
+    at_end i n there = is_there end parts i n run (list_of i n there) (told i n there).1
+
+    order : (whole : List Record) × IsExplainedBy (host_rules managed_ops) c answered_by end whole
+    order = explained_end c (beginning c programs) end [] run.moves
+        (explained-along c programs limits each run.moves) run.leads
+
+    whole_run : (i : ℕ) (n : NodeReport) → slice_get nodes i ≡ Some n
+        → (program : List Instruction) × (slice_get programs i ≡ Some program)
+        × IsWholeRun program n.history n.output
+    whole_run i n there =
+        let e = at_end i n there in
+        let r = runs-led c programs limits each run.moves end run.leads i e.node e.there in (
+          e.node.core.process.program,
+          r.0,
+          subst (λ h. IsWholeRun e.node.core.process.program h n.output) (sym e.history)
+              (record {
+                end = e.node.core.process.state;
+                run = r.1;
+                ended = e.ended;
+                printed = sym e.output;
+              }),
+        )
+
+    whole_part : (i : ℕ) (n : NodeReport) → slice_get nodes i ≡ Some n
+        → part i order.0 ≡ n.history
+    whole_part i n there =
+        let e = at_end i n there in
+        let sound = sound-led c programs limits each run.moves end run.leads i e.node e.there in
+        let p = order.1.parts i (answered_by e.node.core)
+        (map_get (λ (m : Node (Host Managed)). answered_by m.core) end.nodes i e.node e.there) in
+        let none : e.node.core.memory.asked ≡ None =
+        asks_none e.node.core.memory.asked e.node.core refl sound.asking e.ended in
+        let empty : p.0 ≡ [] = owed_none p.0 (subst (λ a. IsOwed a p.0) none p.2) in
+        p.1 ∙ ap (λ l. e.node.core.history ++ l) empty ∙ append-nil e.node.core.history
+        ∙ sym e.history
+
+    reported_as : IsReport c programs nodes
+    reported_as = record {
+      all = count;
+      each = λ i n there. (told i n there).1.of;
+      parts = parts;
+      lists = list_of;
+      end = end;
+      run = run;
+      whole = whole_run;
+      order = order.0;
+      explained = record { legal = order.1.legal; parts = whole_part };
+      exclusive = exclusive-led c programs limits each run.moves end run.leads;
+      no_breach = no_breach-led c programs limits each run.moves end run.leads;
+    }
+
+  -- what the starter was told is a report
+  pub reported : (nodes : List NodeReport) (v : View) → length nodes ≡ length programs
+      → AreTold c programs v nodes → Told c programs v → IsReport c programs nodes
+  reported nodes v count told t = reported_as nodes v count told t.parts t.end t.run t.told

@@ -1,3 +1,0 @@
-pub mod Settled
-pub mod Still
-pub mod Ending

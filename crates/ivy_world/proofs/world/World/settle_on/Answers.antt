@@ -1,0 +1,34 @@
+use Rattle.std.proofs.Common.{◌+◌, sym, subst, arith}
+use Rattle.ivy_world.specs.declared.rest.Rest.TheVariants.{Still}
+use Rattle.proof_headline.specs.RunState.{Run}
+use Rattle.ivy_world.proofs.Settled.{SettlesSoFar, none_made, one_made, settled_by, refused_after, first_round}
+use Rattle.ivy_world.proofs.world.World.settle_on.Goals as goal
+
+pub loop-made-init : goal.loop-made-init
+loop-made-init g c = record {
+  so_far = none_made c.args.self.now;
+  round = rw c.first-round.ensures
+      (first_round c.args.self.now (omega (arith, c.requires.limits.nodes_from)));
+}
+
+pub returns-in-Ok-true-clause-made : goal.returns-in-Ok-true-clause-made
+returns-in-Ok-true-clause-made g c =
+    settled_by c.args.moves (c.loop-made.made + 1) c.args.self.now c.settle_once.new.self Still
+    (omega (arith, c.loop-made-test.true)) (λ is. absurd cc)
+    (one_made c.args.self.now c.loop-made.self c.settle_once.new.self c.loop-made.made
+    c.loop-made.invariant.so_far c.in-Ok-true.ensures.made c.in-Ok-true.ensures.stays)
+
+pub returns-in-Err-clause-made : goal.returns-in-Err-clause-made
+returns-in-Err-clause-made g c =
+    let refused = c.in-Err.ensures.refused in
+    refused_after c.args.moves c.loop-made.made c.args.self.now c.settle_once.new.self
+    c.in-Err.fault c.loop-made-test.true
+    (subst (λ (r : Run). SettlesSoFar c.args.self.now r c.loop-made.made) (sym refused.1)
+    c.loop-made.invariant.so_far) refused.2
+
+pub loop-made-preserved : goal.loop-made-preserved
+loop-made-preserved g c = record {
+  so_far = one_made c.args.self.now c.loop-made.self c.settle_once.new.self c.loop-made.made
+      c.loop-made.invariant.so_far c.in-Ok-false.ensures.made c.in-Ok-false.ensures.stays;
+  round = c.in-Ok-false.ensures.round;
+}

@@ -1,0 +1,98 @@
+-- How a world comes to rest: in rounds, in which what is under way is delivered, and then each node
+-- has a turn.
+use Rattle.std.specs.Prelude.{◌≡◌, ◌≢◌, ◌<◌, ◌≤◌, ◌+◌, ◌||◌, ℕ, Bool, false, List, length, slice_get, Some, None}
+use Rattle.ivy_model.specs.declared.Fault.{Fault}
+use Rattle.ivy_wire.specs.Destinations.{dest_of}
+use Rattle.ivy_moves.specs.ivy_link.Linked.{peer_at}
+use Rattle.ivy_moves.specs.declared.Move.{Move}
+use Rattle.ivy_moves.specs.declared.Move.TheVariants.{Turn, Deliver, Pulse}
+use Rattle.ivy_moves.specs.Nodes.{Node}
+use Rattle.ivy_moves.specs.Worlds.{World, Moves}
+use Rattle.ivy_site.specs.ivy_host.Hosts.{Host, host_rules, turn_of}
+use Rattle.ivy_site.specs.ivy_host.Managers.{Managed, managed_ops}
+use Rattle.ivy_world.specs.declared.round.Round.{Round}
+use Rattle.proof_headline.specs.RunState.{Run}
+use Rattle.ivy_world.specs.Runs.{IsRefusedBy, CannotBeNamed}
+use Rattle.ivy_world.specs.Settling.{HasStopped}
+use Rattle.ivy_site.specs.Shown.{Shown}
+use Rattle.ivy_site.specs.Sites.{Awaits}
+
+-- a turn of the node does nothing, and it has stopped
+abbrev pub HasIdleTurn : World (Host Managed) → ℕ → Type 0
+HasIdleTurn w i = (n : Node (Host Managed)) → slice_get w.nodes i ≡ Some n
+    → (turn_of managed_ops n.core ≡ None) × HasStopped n.core
+
+-- the move is a turn that does nothing
+abbrev pub DoesNothing : World (Host Managed) → Move → Type 0
+DoesNothing w (Turn i) = HasIdleTurn w i
+DoesNothing w (Deliver index to) = ⊥
+DoesNothing w (Pulse from to) = ⊥
+
+-- the string is under way to the site in this place: it is for that one, which awaits it
+pub record IsUnderWayTo (sites : List Shown) (string : List ℕ) (to : ℕ) : Type 0 where
+  pub dest : dest_of string ≡ Some to
+  pub site : Shown
+  pub there : slice_get sites to ≡ Some site
+  pub awaited : Awaits site string
+
+-- the string in this place is
+pub record IsUnderWay (sites : List Shown) (sent : List (List ℕ)) (index to : ℕ) : Type 0 where
+  pub string : List ℕ
+  pub there : slice_get sent index ≡ Some string
+  pub way : IsUnderWayTo sites string to
+
+-- none is from the one place on, up to the other one
+abbrev pub HasNoneUnderWay : List Shown → List (List ℕ) → ℕ → ℕ → Type 0
+HasNoneUnderWay sites sent from end =
+    (index to : ℕ) → from ≤ index → index < end → IsUnderWay sites sent index to → ⊥
+
+-- the next move of a round in which so many nodes had a turn: the first string under way is
+-- delivered, or where none is, or one had a turn, the next one has its turn
+abbrev pub IsNextMove : List Shown → List (List ℕ) → ℕ → ℕ → Move → Type 0
+IsNextMove sites sent from turn (Turn i) =
+    (i ≡ turn) × (turn ≡ 0 → HasNoneUnderWay sites sent from (length sent))
+IsNextMove sites sent from turn (Deliver index to) =
+    (turn ≡ 0) × IsUnderWay sites sent index to × HasNoneUnderWay sites sent from index
+IsNextMove sites sent from turn (Pulse i j) = ⊥
+
+-- it is a turn of the next node, or before the first turn a delivery
+abbrev pub IsOfRound : ℕ → Move → Type 0
+IsOfRound turn (Turn i) = i ≡ turn
+IsOfRound turn (Deliver index to) = turn ≡ 0
+IsOfRound turn (Pulse from to) = ⊥
+
+-- all that the site sent to the others was delivered there
+abbrev pub IsDeliveredFrom : List Shown → ℕ → Type 0
+IsDeliveredFrom sites i = (j : ℕ) (s t : Shown) → i ≢ j → slice_get sites i ≡ Some s
+    → slice_get sites j ≡ Some t → (peer_at t.node.link i).delivered ≡ (peer_at s.node.link j).sent
+
+-- all that nodes sent to each other was delivered
+abbrev pub IsDelivered : World (Host Managed) → Type 0
+IsDelivered w = (i j : ℕ) (n m : Node (Host Managed)) → i ≢ j → slice_get w.nodes i ≡ Some n
+    → slice_get w.nodes j ≡ Some m → (peer_at m.link i).delivered ≡ (peer_at n.link j).sent
+
+-- a turn is counted, and that it did anything is remembered
+abbrev pub round_after : Round → Move → Bool → Round
+round_after round (Turn i) stirred =
+    record { turn = round.turn + 1; stirred = round.stirred || stirred }
+round_after round (Deliver index to) stirred = round
+round_after round (Pulse from to) stirred = round
+
+-- where none of the round's turns did anything, none of them would now
+abbrev pub HadTurns : Run → Round → Type 0
+HadTurns r round = round.stirred ≡ false → (i : ℕ) → i < round.turn → HasIdleTurn r.world i
+
+-- there is a node that had no turn in this round yet
+pub record IsInRound (r : Run) (round : Round) : Type 0 where
+  pub within : round.turn < r.config.nodes
+  pub idle : HadTurns r round
+
+-- one move was made
+abbrev pub HasMadeOne : Run → Run → Type 0
+HasMadeOne old new =
+    (step : Move) × Moves (host_rules managed_ops) old.config old.world step new.world
+
+-- one move is refused, of what is there
+abbrev pub HasRefusedOne : Run → Fault → Type 0
+HasRefusedOne r fault = (step : Move) × IsRefusedBy r.config r.world fault (Some step)
+    × (CannotBeNamed r.world (Some step) → ⊥)

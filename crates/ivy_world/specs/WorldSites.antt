@@ -1,0 +1,63 @@
+-- What holds of the sites of a world.
+use Rattle.std.specs.Prelude.{◌≡◌, ◌⊎◌, ℕ, ◌+◌, List, [], ◌∷◌, length, map, slice_get, Some}
+use Rattle.ivy_model.specs.declared.Fault.{Fault}
+use Rattle.ivy_model.specs.declared.Fault.TheVariants.{Memory, BadConfig}
+use Rattle.ivy_site.specs.Sites.{first_shown, early_at, IsMadeByEvents}
+use Rattle.ivy_model.specs.declared.Config.{Config}
+use Rattle.ivy_model.specs.Config.{IsConfig}
+use Rattle.ivy_site.specs.ivy_host.Managers.{Managed}
+use Rattle.ivy_program.specs.declared.Instruction.{Instruction}
+use Rattle.ivy_moves.specs.Worlds as worlds
+use Rattle.ivy_site.specs.ivy_host.Hosts.{Host}
+use Rattle.ivy_site.specs.Shown.{Shown}
+use Rattle.proof_headline.specs.RunState.{Run}
+use Rattle.proof_headline.specs.Reached.{IsReached}
+
+-- the programs of the sites, in order
+abbrev pub programs_of : List Shown → List (List Instruction)
+programs_of sites = map (λ (s : Shown). s.node.core.process.program) sites
+
+-- the world that these sites are, in which these strings were sent
+abbrev pub world_of : List Shown → List (List ℕ) → worlds.World (Host Managed)
+world_of sites sent = record {
+  nodes = map (λ (s : Shown). s.node) sites;
+  sent = sent;
+  early = map early_at sites;
+}
+
+-- each site is the node of its place, under this configuration, made by its events, and no string
+-- waits at it
+pub record AreSites (c : Config) (sites : List Shown) : Type 0 where
+  pub config : (i : ℕ) (s : Shown) → slice_get sites i ≡ Some s → s.config ≡ c
+  pub me : (i : ℕ) (s : Shown) → slice_get sites i ≡ Some s → s.me ≡ i
+  pub none_waits : (i : ℕ) (s : Shown) → slice_get sites i ≡ Some s → s.waiting ≡ []
+  pub made : (i : ℕ) (s : Shown) → slice_get sites i ≡ Some s → IsMadeByEvents s
+
+-- the sites of the programs as they begin, from this number on
+abbrev pub first_sites_from : Config → ℕ → List (List Instruction) → List Shown
+first_sites_from c me [] = []
+first_sites_from c me (p ∷ ps) = first_shown c me p ∷ first_sites_from c (me + 1) ps
+
+-- that world, under this configuration, with its programs
+abbrev pub run_of : Config → List Shown → List (List ℕ) → Run
+run_of c sites sent =
+    record { config = c; programs = programs_of sites; world = world_of sites sent }
+
+-- the sites are those of a world that some moves led to from its opening
+pub record IsRunning (c : Config) (sites : List Shown) (sent : List (List ℕ)) : Type 0 where
+  pub limits : IsConfig c
+  pub count : length sites ≡ c.nodes
+  pub nodes : AreSites c sites
+  pub reached : IsReached (run_of c sites sent)
+
+-- the sites of the programs as they begin, and no string waits
+abbrev pub AreFirst : Config → List (List Instruction) → List Shown → Type 0
+AreFirst c programs sites = sites ≡ first_sites_from c 0 programs
+
+-- no other fault than want of memory
+abbrev pub IsMemory : Fault → Type 0
+IsMemory fault = fault ≡ Memory
+
+-- only memory, or that the configuration does not suit
+abbrev pub IsWorldWant : Fault → Type 0
+IsWorldWant fault = (fault ≡ Memory) ⊎ (fault ≡ BadConfig)

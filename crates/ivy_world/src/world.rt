@@ -1,0 +1,389 @@
+//! All nodes, and every string ever sent between them.
+ghost use Rattle.std.specs.Prelude.{◌≡◌, ◌+◌, ◌<◌, ◌≤◌, ◌↔◌, ◌++◌, [], true, false, Some, Ok, length, slice_get, vec_len, vec_capacity, IsTrue, IfOk, IfErr, IfSome, OnOk, OnErr, IsErrOf};
+ghost use Rattle.ivy_model.specs.Config.{IsConfig};
+ghost use Rattle.ivy_program.specs.Steps.{HasEnded};
+ghost use Rattle.ivy_site.specs.ivy_host.Managers.{managed_ops};
+ghost use Rattle.ivy_moves.specs.declared.Move.{Move};
+ghost use Rattle.ivy_moves.specs.Worlds.{Moves, is_named};
+ghost use Rattle.ivy_site.specs.ivy_host.Hosts.{host_rules};
+ghost use Rattle.ivy_site.specs.ivy_host.Holding.{AllSpell};
+ghost use Rattle.proof_headline.specs.Keeping.{Keeps};
+ghost use Rattle.ivy_site.specs.ivy_host.Openings.{opening};
+ghost use Rattle.ivy_world.specs.Runs.{made_of, IsRefusedBy, IsNamedUnless, IsSameRun, IsRefusedAt, IsNamedAt, IsExplainedOn};
+ghost use Rattle.proof_headline.specs.Reached.{IsLedTo, IsReached};
+ghost use Rattle.ivy_site.specs.Sites.{await_in};
+ghost use Rattle.ivy_world.specs.Settling.{StandsStill, HasSettledBy, Settles, HasSettled};
+ghost use Rattle.ivy_world.specs.Rounds.{DoesNothing, IsDelivered, IsOfRound, IsInRound, HasMadeOne, HasRefusedOne};
+ghost use Rattle.ivy_model.specs.Wants.{IsWant};
+ghost use Rattle.ivy_world.specs.WorldSites.{programs_of, world_of, AreSites, IsMemory, IsWorldWant, AreFirst};
+
+use crate::rest::Rest;
+use crate::round::{Round, is_delivered, next_move};
+use ivy_model::{Config, Fault, MOST_NODES, Record};
+use ivy_moves::Move;
+use ivy_moves::ivy_link::MOST_AHEAD;
+use ivy_program::Program;
+use ivy_site::{Site, Turn};
+use ivy_wire::Bytes;
+use std::alloc::Allocator;
+use std::marker::Model;
+
+/// How many strings a turn or a pulse sends at most: one to each node, or as many messages again.
+const MOST_SENT: usize = MOST_NODES as usize;
+
+/// How many strings a delivery sends at most, with all that the node goes on with.
+const MOST_DELIVERED: usize = MOST_SENT + MOST_SENT * MOST_AHEAD;
+
+/// A world of nodes that run programs over one shared memory, on a wire that may lose, repeat and reorder.
+///
+/// Whatever moves are made, the replies that the nodes received are those of one flat memory that serves one
+/// call at a time, in an order that keeps each node's own (Lamport 1979), and no page is ever writable at one
+/// node and readable at another.
+#[derive(Drop)]
+pub struct World<A: Allocator> {
+    config: Config,
+    sites: Vec<Site<A>, A>,
+    sent: Vec<Bytes<A>, A>,
+    /// No string before this place is under way any more.
+    passed: usize,
+}
+
+impl<A: Allocator> Model for World<A> {
+    ghost use Rattle.proof_headline.specs.RunState.{Run};
+    ghost use Rattle.ivy_world.specs.WorldSites.{run_of, IsRunning};
+
+    ghost Value = { Run };
+
+    ghost use Rattle.std.specs.Coded.{codes};
+    ghost use Rattle.ivy_pagetable.specs.NodeSets.{nodes_code};
+    ghost use Rattle.ivy_site.specs.ivy_alloc.Heap.{heap_state_code};
+
+    ghost coded = { Prim.hlevel (codes, nodes_code, heap_state_code) };
+
+    ghost view = { λ w. run_of w.config w.sites.items w.sent.items };
+
+    ghost invariant = { λ w. IsRunning w.config w.sites.items w.sent.items };
+}
+
+/// Moves the strings that wait at a site behind all that were sent.
+fn collect<A: Allocator + Copy>(site: &mut Site<A>, sent: &mut Vec<Bytes<A>, A>)
+    requires room { vec_len sent.old + length site.old.waiting ≤ vec_capacity sent.old }
+    ensures sent { sent.new.items ≡ sent.old.items ++ site.old.waiting }
+    ensures site { site.new ≡ record site.old { waiting = [] } }
+{
+    while let Some(bytes) = site.take_frame() {
+        sent.push_reserved(bytes);
+    }
+}
+
+/// Makes one move over the sites and the strings, or changes nothing [1, 17, 19]. It says whether it did anything,
+/// which a turn alone may not.
+fn make<A: Allocator + Copy>(
+    sites: &mut Vec<Site<A>, A>,
+    sent: &mut Vec<Bytes<A>, A>,
+    config: &Config,
+    step: Move,
+) -> Result<bool, Fault>
+    requires sites { AreSites config.now sites.old.items }
+    requires each { length sites.old.items ≡ config.now.nodes }
+    requires limits { IsConfig config.now }
+    requires spelled { AllSpell config.now (world_of sites.old.items sent.old.items) }
+    ensures ok { OnOk result (Moves (host_rules managed_ops) config.now (world_of sites.old.items sent.old.items) step (world_of sites.new.items sent.new.items)) }
+    ensures sites { AreSites config.now sites.new.items }
+    ensures each { length sites.new.items ≡ config.now.nodes }
+    ensures programs { programs_of sites.new.items ≡ programs_of sites.old.items }
+    ensures idle { result ≡ Ok false → DoesNothing (world_of sites.old.items sent.old.items) step × (sites.new.items ≡ sites.old.items) × (sent.new.items ≡ sent.old.items) }
+    ensures err { OnErr result ((sites.new.items ≡ sites.old.items) × (sent.new.items ≡ sent.old.items)) }
+    ensures cause { IfErr result (λ fault. IsRefusedBy config.now (world_of sites.old.items sent.old.items) fault (Some step)) }
+    ensures named { IsNamedUnless (world_of sites.old.items sent.old.items) result step }
+{
+    let nodes = sites.len() as u64;
+    match step {
+        Move::Turn(node) => {
+            if node >= nodes {
+                return Err(Fault::NoSuchFrame);
+            }
+            sent.reserve(MOST_SENT)?;
+            let site = &mut sites[node as usize];
+            let turn = site.program_turn()?;
+            collect(site, sent);
+            Ok(turn == Turn::Moved)
+        }
+        Move::Deliver { index, to } => {
+            if to >= nodes || index >= sent.len() as u64 {
+                return Err(Fault::NoSuchFrame);
+            }
+            sent.reserve(MOST_DELIVERED)?;
+            let site = &mut sites[to as usize];
+            let _ = site.deliver_shared(&sent[index as usize])?;
+            collect(site, sent);
+            Ok(true)
+        }
+        Move::Pulse { from, to } => {
+            if from >= nodes || to >= nodes || from == to {
+                return Err(Fault::NoSuchFrame);
+            }
+            sent.reserve(MOST_SENT)?;
+            let site = &mut sites[from as usize];
+            site.pulse(to as u8)?;
+            collect(site, sent);
+            Ok(true)
+        }
+    }
+}
+
+/// The sites of the programs, in order.
+fn first_sites<A: Allocator + Copy>(
+    alloc: A,
+    config: &Config,
+    programs: Vec<Program<A>, A>,
+) -> Result<Vec<Site<A>, A>, Fault>
+    requires limits { IsConfig config.now }
+    requires each { length programs.items ≡ config.now.nodes }
+    ensures first { IfOk result (λ sites. AreFirst config.now programs.items sites.items) }
+    ensures memory { IfErr result IsMemory }
+{
+    let mut sites = Vec::with_capacity(alloc, programs.len())?;
+    let mut me = 0u8;
+    for program in programs {
+        sites.push(Site::new(alloc, config, me, program)?)?;
+        me += 1;
+    }
+    Ok(sites)
+}
+
+impl<A: Allocator + Copy> World<A> {
+    /// The opening world of these programs, one for each node [1, 2].
+    ///
+    /// It is 2 exactly where the configuration is out of its limits, or there are not as many programs as nodes.
+    pub fn new(alloc: A, config: Config, programs: Vec<Program<A>, A>) -> Result<World<A>, Fault>
+        ensures opens { IfOk result (λ world. world ≡ record { config = config; programs = programs.items; world = opening managed_ops config programs.items }) }
+        ensures bad { IsErrOf result Fault.BadConfig ↔ ¬ (IsConfig config × (length programs.items ≡ config.nodes)) }
+        ensures want { IfErr result IsWorldWant }
+    {
+        config.check()?;
+        if programs.len() != usize::from(config.nodes) {
+            return Err(Fault::BadConfig);
+        }
+        let sites = first_sites(alloc, &config, programs)?;
+        Ok(World {
+            config,
+            sites,
+            sent: Vec::new(alloc),
+            passed: 0,
+        })
+    }
+
+    /// Every string ever sent, in the order sent. It takes no memory.
+    pub fn sent(&self) -> &[Bytes<A>]
+        ensures { result.now ≡ self.now.world.sent }
+    {
+        &self.sent
+    }
+
+    /// How many nodes there are. It takes no memory.
+    pub fn nodes(&self) -> u64
+        ensures { result ≡ self.now.config.nodes }
+    {
+        self.sites.len() as u64
+    }
+
+    /// What a node was answered so far, in order; the node is one of the world's. It takes no memory.
+    pub fn history(&self, node: u64) -> &[Record]
+        requires { node < self.now.config.nodes }
+        ensures { IfSome (slice_get self.now.world.nodes node) (λ n. result.now ≡ n.core.history) }
+    {
+        self.sites[node as usize].history()
+    }
+
+    /// What a node's program printed so far; the node is one of the world's. It takes no memory.
+    pub fn output(&self, node: u64) -> &[u64]
+        requires { node < self.now.config.nodes }
+        ensures { IfSome (slice_get self.now.world.nodes node) (λ n. result.now ≡ n.core.process.state.output) }
+    {
+        self.sites[node as usize].output()
+    }
+
+    /// Whether a node's program has ended; the node is one of the world's. It takes no memory.
+    pub fn ended(&self, node: u64) -> bool
+        requires { node < self.now.config.nodes }
+        ensures { IfSome (slice_get self.now.world.nodes node) (λ n. IsTrue result ↔ HasEnded n.core.process) }
+    {
+        self.sites[node as usize].ended()
+    }
+
+    /// The count and the least value of the await that a node has in progress, where its call in progress is one; the
+    /// node is one of the world's. It takes no memory.
+    pub fn waits(&self, node: u64) -> Option<(u64, u64)>
+        requires { node < self.now.config.nodes }
+        ensures { IfSome (slice_get self.now.world.nodes node) (λ n. result ≡ await_in n.core.memory.asked) }
+    {
+        self.sites[node as usize].waits()
+    }
+
+    /// Makes one move, or changes nothing. It says whether it did anything.
+    fn make(&mut self, step: Move) -> Result<bool, Fault>
+        ensures stays { IsSameRun self.old self.new }
+        ensures ok { OnOk result (Moves (host_rules managed_ops) self.old.config self.old.world step self.new.world) }
+        ensures idle { result ≡ Ok false → DoesNothing self.old.world step × (self.new ≡ self.old) }
+        ensures err { OnErr result (self.new ≡ self.old) }
+        ensures cause { IfErr result (λ fault. IsRefusedBy self.old.config self.old.world fault (Some step)) }
+        ensures named { IsNamedUnless self.old.world result step }
+    {
+        let did = make(&mut self.sites, &mut self.sent, &self.config, step)?;
+        Ok(did)
+    }
+
+    /// What holds of a world that was reached.
+    fn reached(&self)
+        ensures limits { IsConfig self.now.config }
+        ensures each { length self.now.programs ≡ self.now.config.nodes }
+        ensures nodes { length self.now.world.nodes ≡ self.now.config.nodes }
+        ensures reached { IsReached self.now }
+    {
+        let _ = &self.config;
+    }
+
+    /// Makes the moves in order, up to the first that is refused, whose place is given with its fault. The moves
+    /// before it were made, and it changed nothing.
+    fn make_each(&mut self, moves: &[Move]) -> Result<(), (usize, Fault)>
+        ensures stays { IsSameRun self.old self.new }
+        ensures made { IsLedTo self.old.config self.old.world (made_of result moves.now) self.new.world }
+        ensures refused { IsRefusedAt result moves.now self.new }
+        ensures named { IsNamedAt result moves.now self.new }
+    {
+        for (place, step) in moves.iter().enumerate() {
+            if let Err(fault) = self.make(*step) {
+                return Err((place, fault));
+            }
+        }
+        Ok(())
+    }
+
+    /// What holds of a world at every moment. It takes no memory.
+    ///
+    /// No page is writable at one node and readable at another; each history is a run of its program, and each
+    /// output what that run printed; no node has met a message that fits no rule; each string sent spells a
+    /// frame; the world follows one in which each message is delivered once and in order, whoever waits there has
+    /// its message, and routes lead to each page; and whatever moves led here from the opening, at each of them one
+    /// order of records explains what the nodes were answered, growing from move to move. And where nothing is under
+    /// way, no page, owner, hint or lock blocks a node, whatever the others do.
+    pub fn keeps(&self)
+        ensures { Keeps self.now }
+    {
+        self.reached();
+    }
+
+    /// Makes the moves in order, up to the first that is refused, whose place is given with its fault
+    /// [1, 17, 19]. The moves before it were made, and it changed nothing. It is 19 exactly where the move names
+    /// a node or a string that is not there, or a pulse to its own node.
+    pub fn run(&mut self, moves: &[Move]) -> Result<(), (usize, Fault)>
+        // The world is the same one, and exactly the moves before the refused one were made.
+        ensures stays { IsSameRun self.old self.new }
+        ensures made { IsLedTo self.old.config self.old.world (made_of result moves.now) self.new.world }
+        ensures refused { IsRefusedAt result moves.now self.new }
+        ensures named { IsNamedAt result moves.now self.new }
+
+        // Some moves led from the opening to the world before the call.
+        ensures began { IsReached self.old }
+
+        // Whatever moves led from the opening to the world before the call, those made lead on, and at each
+        // moment of all of them one order of records explains what the nodes were answered, growing from move to
+        // move.
+        ensures explained { IsExplainedOn self.old (made_of result moves.now) self.new }
+
+        // And what is promised at every moment holds: `reached`, `exclusive`, `runs`, `no_breach`, `spelled`,
+        // `ordered`, `waits`, `routes`, `explained`, `quiet` and `still`.
+        ensures keeps { Keeps self.new }
+    {
+        self.reached();
+        let result = self.make_each(moves);
+        self.keeps();
+        result
+    }
+
+    /// Whether all that nodes sent to each other was delivered.
+    fn is_delivered(&self) -> bool
+        ensures { IsTrue result → IsDelivered self.now.world }
+    {
+        is_delivered(&self.sites, &self.config)
+    }
+
+    /// The next move of a round. It is of what is there.
+    fn next_move(&mut self, round: Round) -> Move
+        requires { round.turn < self.old.config.nodes }
+        ensures same { self.new ≡ self.old }
+        ensures named { is_named self.old.world result ≡ true }
+        ensures next { IsOfRound round.turn result }
+    {
+        next_move(&self.sites, &self.sent, &mut self.passed, round)
+    }
+
+    /// Makes the next move of a round, or changes nothing. It says whether the world stands still.
+    fn settle_once(&mut self, round: &mut Round) -> Result<bool, Fault>
+        requires limits { IsConfig self.old.config }
+        requires round { IsInRound self.old round.old }
+        ensures stays { IsSameRun self.old self.new }
+        ensures made { OnOk result (HasMadeOne self.old self.new) }
+        ensures round { OnOk result (IsInRound self.new round.new) }
+        ensures still { result ≡ Ok true → StandsStill self.new }
+        ensures refused { IfErr result (λ fault. IsWant fault × (self.new ≡ self.old) × HasRefusedOne self.new fault) }
+    {
+        let step = self.next_move(*round);
+        let stirred = self.make(step)?;
+        self.reached();
+        *round = round.after(step, stirred);
+        if round.turn < self.nodes() {
+            return Ok(false);
+        }
+        let is_still = !round.stirred && self.is_delivered();
+        *round = Round::first();
+        Ok(is_still)
+    }
+
+    /// Goes through rounds for so many moves, or until the world stands still.
+    fn settle_on(&mut self, moves: u64) -> Result<Rest, (u64, Fault)>
+        requires limits { IsConfig self.old.config }
+        ensures stays { IsSameRun self.old self.new }
+        ensures made { HasSettledBy moves result self.old self.new }
+        ensures still { result ≡ Ok Rest.Still → StandsStill self.new }
+        ensures want { IfErr result (λ e. IsWant e.1) }
+    {
+        let mut round = Round::first();
+        for made in 0..moves {
+            match self.settle_once(&mut round) {
+                Ok(false) => {}
+                Ok(true) => return Ok(Rest::Still),
+                Err(fault) => return Err((made, fault)),
+            }
+        }
+        Ok(Rest::Going)
+    }
+
+    /// Lets the world come to rest, with at most so many moves: it delivers what is under way, in the order sent, until
+    /// nothing is, gives each node a turn, and begins again, until nothing is under way and none of the turns
+    /// changed anything. A move that is refused changes nothing, and its fault is given with the number of moves
+    /// made before it [1, 17].
+    ///
+    /// A turn that changes nothing is a move as well, so a world of n nodes that stands still is found so after
+    /// n moves.
+    pub fn settle(&mut self, moves: u64) -> Result<Rest, (u64, Fault)>
+        // It is the same world. There are moves, at most so many, of which all holds that `run` says of its moves;
+        // and as many where the world is still going.
+        ensures stays { IsSameRun self.old self.new }
+        ensures began { IsReached self.old }
+        ensures made { Settles moves result self.old self.new }
+        ensures want { IfErr result (λ e. IsWant e.1) }
+        ensures keeps { Keeps self.new }
+
+        // At `Rest::Still` nothing is under way, and no node's turn does anything: its program has ended, or its call in
+        // progress waits. And some legal order has exactly each node's history as its part, in whose last memory each
+        // call in progress is an await of a count that is below its least value.
+        ensures still { result ≡ Ok Rest.Still → HasSettled self.new }
+    {
+        self.reached();
+        let result = self.settle_on(moves);
+        self.keeps();
+        result
+    }
+}

@@ -1,0 +1,605 @@
+-- What each event of a node adds to the order of all records, but for a message of the heap. For
+-- every manager.
+use Rattle.std.proofs.Common.{◌≡◌, ◌<◌, ℕ, ◌+◌, List, [], ◌++◌, length, Option, Some, None, refl, ap, sym, ◌∙◌, subst, inl, inr, if◌then◌else◌, ◌==◌, true}
+use Rattle.std.proofs.lemmas.Bool.{cases_eq}
+use Rattle.std.proofs.lemmas.List.{append-nil}
+use Rattle.std.proofs.lemmas.Option.{same_Some, none-some}
+use Rattle.ivy_model.specs.declared.Config.{Config}
+use Rattle.ivy_model.specs.declared.Call.{Call}
+use Rattle.ivy_model.specs.declared.Record.{Record}
+use Rattle.ivy_model.specs.declared.Reply.{Reply}
+use Rattle.ivy_model.specs.declared.Reply.TheVariants as reply
+use Rattle.ivy_model.specs.Config.{IsConfig}
+use Rattle.ivy_model.specs.Memory.{IsSized, flat_page}
+use Rattle.ivy_model.specs.Memory as model
+use Rattle.ivy_model.specs.Serves.{Serves}
+use Rattle.ivy_model.specs.Legal.{HasWidth}
+use Rattle.ivy_wire.specs.Data.{Message}
+use Rattle.ivy_pagetable.specs.declared.Entry.{Entry}
+use Rattle.ivy_pagetable.specs.declared.Entry.TheVariants as entry
+use Rattle.ivy_pagetable.specs.declared.Out.{Out}
+use Rattle.ivy_pagetable.specs.declared.Word.{Word}
+use Rattle.ivy_pagetable.specs.Tables.{entry_at}
+use Rattle.ivy_pagetable.specs.Words.{Carried, carried_out}
+use Rattle.ivy_pagetable.specs.Manager.{Ops}
+use Rattle.proof_refinement.specs.ivy_coherence.Coherent.{Coherent}
+use Rattle.proof_refinement.specs.ivy_coherence.Steps.{handled}
+use Rattle.proof_refinement.specs.ivy_coherence.Faults.{Begun}
+use Rattle.proof_refinement.proofs.of_ivy_coherence.Same.{handled-same}
+use Rattle.ivy_program.specs.States.{State, first_state}
+use Rattle.ivy_program.specs.Steps.{Local, Asks, step_of, at_state}
+use Rattle.ivy_program.proofs.Running.{runs_on, runs_answered, asked_legal}
+use Rattle.ivy_moves.specs.Cores.{Outcome}
+use Rattle.proof_refinement.specs.ivy_memory.declared.Asked.TheVariants as kinds
+use Rattle.proof_refinement.specs.ivy_memory.Asking.{asked_of}
+use Rattle.proof_refinement.specs.ivy_alloc.Heap.{HeapState}
+use Rattle.proof_refinement.specs.ivy_heap.declared.HeapCall.{HeapCall}
+use Rattle.proof_refinement.specs.ivy_heap.declared.Errand.{Errand}
+use Rattle.proof_refinement.specs.ivy_heap.declared.Errand.TheVariants as errand
+use Rattle.proof_refinement.specs.ivy_heap.HeapCalls.{kept, told_of, reply_told}
+use Rattle.proof_refinement.specs.ivy_memory.Memories.{NodeMemory, first_reply, reply_of, reply_there, reply_at, taken_out, answered, needed}
+use Rattle.proof_refinement.proofs.of_ivy_memory.Tame.{without-sound}
+use Rattle.proof_refinement.specs.ivy_host.Hosts.{Host, number_of, recorded, begins_as, serving}
+use Rattle.proof_refinement.proofs.of_ivy_memory.Pages.{is_of_pages, no_errand_of}
+use Rattle.proof_refinement.proofs.of_ivy_host.Pages.{page_serving}
+use Rattle.proof_refinement.specs.ivy_host.Sound.{IsSoundHost}
+use Rattle.proof_refinement.specs.proof_transitions.Letters.{Net}
+use Rattle.proof_refinement.specs.proof_transitions.Orderly.{IsOrderly}
+use Rattle.proof_refinement.specs.proof_transitions.Rows.{with_flat_page}
+use Rattle.proof_refinement.proofs.LiftedEvents.{WaitsAt, Carries, Tells, quiet, answers as is_answered, Starts, busy, hits, waits}
+use Rattle.proof_refinement.proofs.HostTurns.{asks as access, HostTurn, answers, tries_again, goes_on, refuses, asks_for, serves_heap, asks_heap, without_call}
+use Rattle.proof_refinement.proofs.LiftedHosts.{TurnTells}
+use Rattle.proof_consistency.specs.Copied.{IsCopied}
+use Rattle.proof_consistency.proofs.CopiedWords.{with_page-here, with_page-other, bytes_there}
+use Rattle.proof_refinement.specs.ivy_memory.Flat.{Answers, IsServed}
+use Rattle.proof_refinement.proofs.of_ivy_memory.CallsServed.{word_served, refusal_served}
+use Rattle.proof_consistency.proofs.HeapServed.{memory_told, heap_served}
+use Rattle.proof_consistency.proofs.Owing.{owed, reply_owed, pending, told-owed, owed-unasked}
+use Rattle.proof_consistency.proofs.Owing.{owed-untold, owed-leads, owed-own, owed-other, told_history}
+use Rattle.proof_consistency.proofs.Owing.{served_history, owing_history, IsWordOf, IsRunning, GoOn}
+use Rattle.proof_consistency.proofs.Owing.{blocks_stay, blocks_change, Adds}
+
+-- an orderly net whose copies are those of the flat memory
+abbrev pub Copies : {S : Type 0} → Config → (ℕ → S) → Net → (ℕ → List ℕ) → Type 0
+Copies c m n f = IsOrderly c n × IsCopied c n f
+
+-- a program's calls are legal
+asked_width : {S : Type 0} (n : Host S) (called : Call) → step_of n.process ≡ Asks called
+    → HasWidth called
+asked_width n called step = asked_legal n.process.program n.process.state called step
+
+-- one word waits at an entry
+one_word : (e : Entry) (w v : Word) (j k : ℕ) → WaitsAt e w j → WaitsAt e v k → w ≡ v
+one_word (entry.Idle s) w v j k a b = absurd a
+one_word (entry.AwaitRead s) w v j k a b = sym a.0 ∙ b.0
+one_word (entry.AwaitWrite s) w v j k a b = sym a.0 ∙ b.0
+one_word (entry.AwaitAcks s) w v j k a b = sym a.0 ∙ b.0
+
+with_page-same : (f g : ℕ → List ℕ) (p q : ℕ) (b d : List ℕ) → b ≡ d → f q ≡ g q
+    → with_flat_page f p b q ≡ with_flat_page g p d q
+with_page-same f g p q b d e h =
+    ap (λ z. if q == p then z else f q) e ∙ ap (λ z. if q == p then d else z) h
+
+-- the pages after a call that one page's bytes came to
+served_pages : (c : Config) (old : model.Memory) (called : Call) (page : ℕ) (came : Carried)
+    (s : IsServed c old called page came) (q : ℕ) → q < c.pages
+    → flat_page c s.new q ≡ with_flat_page (flat_page c old) page came.bytes q
+served_pages c old called page came s q inside = elim (cases_eq q page) [
+  | inl same ↦
+      ap (flat_page c s.new) same ∙ s.here
+      ∙ sym (with_page-here (flat_page c old) page came.bytes q same)
+  | inr ne ↦ s.others q inside ne ∙ sym (with_page-other (flat_page c old) page came.bytes q ne)
+]
+
+-- what a word that was carried out came to
+record Came (c : Config) (mem : model.Memory) (called : Call) (out : Out)
+    (pages : ℕ → List ℕ) : Type 0 where
+  new : model.Memory
+  gives : Answers c mem called (reply_of out) new
+  shows : (p : ℕ) → p < c.pages → pages p ≡ flat_page c new p
+  blocks : new.blocks ≡ mem.blocks
+
+module _ {S : Type 0} (ops : Ops S) (c : Config) (config : IsConfig c) (x : ℕ) (mem : model.Memory)
+    (sized : IsSized c mem) (f : ℕ → List ℕ)
+    (shows : (p : ℕ) → p < c.pages → f p ≡ flat_page c mem p)
+    (n : Host S) (good : IsSoundHost ops c x n) (running : IsRunning c n) (ms : List Message) where
+  here : number_of n < c.nodes
+  here = subst (λ k. number_of n < k.nodes) good.config good.memory.coherent.here
+
+  same_pages : (flat : ℕ → List ℕ) → flat ≡ f → (p : ℕ) → p < c.pages → flat p ≡ flat_page c mem p
+  same_pages flat same p inside = ap (λ g. g p) same ∙ shows p inside
+
+  -- node 0 was asked for nothing where no call is in progress, where that is one of a word, and
+  -- where a word waits
+  no_errand : ((called : Call) → n.memory.asked ≡ Some called → (k : HeapCall)
+      → asked_of n.memory.coherence.config called ≡ kinds.Heap k → ⊥) → n.memory.side.errand ≡ None
+  no_errand words =
+      no_errand_of n.memory.coherence.config n.memory.asked n.memory.side.errand words
+      good.memory.side.errand
+
+  pub idle_errand : n.memory.asked ≡ None → n.memory.side.errand ≡ None
+  idle_errand idle = no_errand (λ called is. absurd (none-some called (sym idle ∙ is)))
+
+  pub word_errand : (called : Call) (page : ℕ) (word : Word) → n.memory.asked ≡ Some called
+      → asked_of n.memory.coherence.config called ≡ kinds.Word page word
+      → n.memory.side.errand ≡ None
+  word_errand called page word asked of =
+      no_errand
+      (λ other is k heap.
+      (let e : kinds.Word page word ≡ kinds.Heap k =
+      sym of ∙ ap (asked_of n.memory.coherence.config) (same_Some called other (sym asked ∙ is))
+      ∙ heap in absurd cc))
+
+  locked_errand : (page : ℕ) → n.memory.coherence.locked ≡ Some page → n.memory.side.errand ≡ None
+  locked_errand page lock = at n.memory.side.errand refl
+    where
+      at : (e : Option Errand) → n.memory.side.errand ≡ e → n.memory.side.errand ≡ None
+      at None is = is
+      at (Some y) is = absurd (none-some page (sym (good.memory.apart y is).0 ∙ lock))
+
+  -- then a reply is that of a word
+  word_owed : (d : Option Out) → n.memory.side.errand ≡ None
+      → reply_owed n.memory.side.errand ms d ≡ reply_there d
+  word_owed d none = ap (λ e. reply_owed e ms d) none
+
+  -- nothing is added
+  silent : (n' : Host S) (flat : ℕ → List ℕ) → flat ≡ f
+      → n'.history ++ pending n' ms ≡ n.history ++ pending n ms → IsRunning c n'
+      → n'.process.program ≡ n.process.program → n'.memory.side.heap ≡ n.memory.side.heap
+      → Adds c mem x n n' ms flat
+  silent n' flat same history now program heap = record {
+    more = [];
+    new = mem;
+    legal = refl;
+    shows = same_pages flat same;
+    own = refl;
+    other = λ j ne. refl;
+    history = history ∙ sym (append-nil (n.history ++ pending n ms));
+    running = now;
+    program = program;
+    blocks = blocks_stay refl heap;
+  }
+
+  -- a call is answered, or waits on
+  owing : (n' : Host S) (flat : ℕ → List ℕ) (called : Call) (o : Option Reply) (new : model.Memory)
+      → HasWidth called → Answers c mem called o new
+      → ((p : ℕ) → p < c.pages → flat p ≡ flat_page c new p)
+      → n'.history ++ pending n' ms
+      ≡ (n.history ++ pending n ms) ++ owed (number_of n) (Some called) o → IsRunning c n'
+      → n'.process.program ≡ n.process.program
+      → GoOn mem.blocks n.memory.side.heap n'.memory.side.heap new.blocks
+      → Adds c mem x n n' ms flat
+  owing n' flat called o new legal given pages history now program blocks = record {
+    more = owed (number_of n) (Some called) o;
+    new = new;
+    legal = owed-leads c mem new (number_of n) called o here legal given;
+    shows = pages;
+    own = owed-own (number_of n) x called o good.me;
+    other = λ j ne. owed-other (number_of n) x j called o good.me ne;
+    history = history;
+    running = now;
+    program = program;
+    blocks = blocks;
+  }
+
+  -- a word is carried out on the flat memory's page
+  came : (page : ℕ) (word : Word) (out : Out) (flat : ℕ → List ℕ) (called : Call) → HasWidth called
+      → IsWordOf c called page word → Carries (Copies {S = S} c) c x f page word out flat
+      → Came c mem called out flat
+  came page word out flat called legal of k =
+      let same : k.net.page x page ≡ flat_page c mem page =
+      bytes_there c k.net f x page k.state word k.idle k.enough k.holds.1
+      ∙ shows page k.inside in
+      let served : IsServed c mem called page (carried_out word (flat_page c mem page)) =
+      word_served c mem sized config called page word legal of in
+      record {
+        new = served.new;
+        gives = subst (λ o. Answers c mem called (reply_of o) served.new)
+            (sym (k.gives ∙ ap (λ b. (carried_out word b).out) same)) served.answers;
+        shows = λ p inside.
+            ap (λ g. g p) k.after
+            ∙ with_page-same f (flat_page c mem) page p (carried_out word (f page)).bytes
+            (carried_out word (flat_page c mem page)).bytes
+            (ap (λ b. (carried_out word b).bytes) (shows page k.inside)) (shows p inside)
+            ∙ sym (served_pages c mem called page (carried_out word (flat_page c mem page)) served p
+            inside);
+        blocks = served.blocks;
+      }
+
+  -- the reply of the call in progress is recorded
+  records_reply : (called : Call) (r : Reply) → n.memory.asked ≡ Some called
+      → reply_at n.memory ≡ Some r → (flat : ℕ → List ℕ) → flat ≡ f
+      → Adds c mem x n (recorded n (taken_out n.memory) called r) ms flat
+  records_reply called r asked there flat same =
+      let given : Record = record { node = number_of n; call = called; reply = r } in
+      silent (recorded n (taken_out n.memory) called r) flat same
+      (told_history n.history (pending n ms) given
+      (ap (λ a. owed (number_of n) a (reply_owed n.memory.side.errand ms n.memory.coherence.done))
+      asked
+      ∙ ap (owed (number_of n) (Some called))
+      (told-owed n.memory.side.errand ms n.memory.coherence.done r
+      (λ y is. (good.memory.apart y is).1) there)))
+      (record {
+        run = runs_answered n.process.program n.history first_state n.process.state given
+            running.run (running.makes called asked);
+        makes = λ other is. absurd (none-some other is);
+        waits = λ other page word number is. absurd (none-some other is);
+      })
+      refl
+      refl
+
+  -- the program goes on by itself
+  goes_alone : (s : State) → n.memory.asked ≡ None → step_of n.process ≡ Local s
+      → (flat : ℕ → List ℕ) → flat ≡ f
+      → Adds c mem x n (record n { process = at_state n.process s }) ms flat
+  goes_alone s idle step flat same =
+      silent (record n { process = at_state n.process s }) flat same refl
+      (record {
+        run = runs_on n.process.program n.history first_state n.process.state s running.run step;
+        makes = λ other is. absurd (none-some other (sym idle ∙ is));
+        waits = λ other page word number is. absurd (none-some other (sym idle ∙ is));
+      })
+      refl
+      refl
+
+  -- a call is answered at once: its record is the node's, and stands in the order
+  records_call : (m : NodeMemory S) (called : Call) (r : Reply) (new : model.Memory)
+      → n.memory.asked ≡ None → step_of n.process ≡ Asks called → m.asked ≡ None
+      → Serves c mem called r new → (flat : ℕ → List ℕ)
+      → ((p : ℕ) → p < c.pages → flat p ≡ flat_page c new p)
+      → GoOn mem.blocks n.memory.side.heap m.side.heap new.blocks
+      → Adds c mem x n (recorded n m called r) ms flat
+  records_call m called r new idle step free serves flat pages blocks =
+      let given : Record = record { node = number_of n; call = called; reply = r } in
+      owing (recorded n m called r) flat called (Some r) new (asked_width n called step) serves
+      pages
+      (served_history n.history (pending n ms) (pending (recorded n m called r) ms) given
+      (owed-unasked (number_of n) n.memory.asked
+      (reply_owed n.memory.side.errand ms n.memory.coherence.done) idle)
+      (owed-unasked m.coherence.me m.asked (reply_owed m.side.errand ms m.coherence.done) free))
+      (record {
+        run = runs_answered n.process.program n.history first_state n.process.state given
+            running.run step;
+        makes = λ other is. absurd (none-some other (sym free ∙ is));
+        waits = λ other page word number is. absurd (none-some other (sym free ∙ is));
+      })
+      refl
+      blocks
+
+  -- a call is in progress from now on, and has no reply yet
+  call_waits : (k : Coherent S) (called : Call) (flat : ℕ → List ℕ) → n.memory.asked ≡ None
+      → step_of n.process ≡ Asks called → k.done ≡ n.memory.coherence.done
+      → ((p : ℕ) → p < c.pages → flat p ≡ flat_page c mem p)
+      → ((page : ℕ) (word : Word) (number : ℕ) → k.locked ≡ Some page
+      → WaitsAt (entry_at k.table page) word number → IsWordOf c called page word)
+      → Adds c mem x n
+      (record n {
+        memory =
+            record n.memory { coherence = k; asked = Some called; number = length n.history + 1 };
+      })
+      ms flat
+  call_waits k called flat idle step done pages waiting =
+      let untold : reply_owed n.memory.side.errand ms k.done ≡ None =
+      word_owed k.done (idle_errand idle) ∙ ap reply_there (done ∙ good.memory.done idle) in
+      owing (record n {
+        memory =
+            record n.memory { coherence = k; asked = Some called; number = length n.history + 1 };
+      })
+      flat called None mem (asked_width n called step) refl pages
+      (ap (λ xs. n.history ++ xs)
+      (owed-untold k.me (Some called) (reply_owed n.memory.side.errand ms k.done) untold)
+      ∙ owing_history n.history (pending n ms) []
+      (owed-unasked (number_of n) n.memory.asked
+      (reply_owed n.memory.side.errand ms n.memory.coherence.done) idle))
+      (record {
+        run = running.run;
+        makes = λ other is. step ∙ ap Asks (same_Some called other is);
+        waits = λ other page word number is lock there. subst (λ d. IsWordOf c d page word)
+            (same_Some called other is) (waiting page word number lock there);
+      })
+      refl
+      (blocks_stay refl refl)
+
+  -- node 0 is asked for a call of the heap
+  errand_waits : (called : Call) (k : HeapCall) (number : ℕ) (flat : ℕ → List ℕ) → flat ≡ f
+      → n.memory.asked ≡ None → step_of n.process ≡ Asks called → ms ≡ []
+      → Adds c mem x n
+      (record n {
+        memory =
+            record n.memory {
+              asked = Some called;
+              number = number;
+              side = record n.memory.side { errand = Some (errand.Asked k number) };
+            };
+      }) ms flat
+  errand_waits called k number flat same idle step none =
+      let untold : reply_owed (Some (errand.Asked k number)) ms n.memory.coherence.done ≡ None
+      = ap (λ (l : List Message). reply_owed (Some (errand.Asked k number)) l
+      n.memory.coherence.done) none ∙ ap reply_there (good.memory.done idle) in
+      owing (record n {
+        memory =
+            record n.memory {
+              asked = Some called;
+              number = number;
+              side = record n.memory.side { errand = Some (errand.Asked k number) };
+            };
+      }) flat called
+      None mem (asked_width n called step) refl (same_pages flat same)
+      (ap (λ xs. n.history ++ xs)
+      (owed-untold (number_of n) (Some called)
+      (reply_owed (Some (errand.Asked k number)) ms n.memory.coherence.done) untold)
+      ∙ owing_history n.history (pending n ms) []
+      (owed-unasked (number_of n) n.memory.asked
+      (reply_owed n.memory.side.errand ms n.memory.coherence.done) idle))
+      (record {
+        run = running.run;
+        makes = λ other is. step ∙ ap Asks (same_Some called other is);
+        waits = λ other page word j is lock there. absurd
+            (none-some page (sym (good.memory.locked idle) ∙ lock));
+      })
+      refl
+      (blocks_stay refl refl)
+
+  module _ (called : Call) (page : ℕ) (word : Word) (idle : n.memory.asked ≡ None)
+      (step : step_of n.process ≡ Asks called) (of : IsWordOf c called page word) where
+    abbrev begun_now : Begun S
+    begun_now = access ops n page word
+
+    -- a word that is carried out at once gives the call's reply, or none yet
+    hit_adds : (e : Outcome (Host S)) (flat : ℕ → List ℕ) (o : Option Reply) (new : model.Memory)
+        → begun_now.after.done ≡ n.memory.coherence.done
+        → begun_now.after.locked ≡ n.memory.coherence.locked
+        → Answers c mem called o new → ((p : ℕ) → p < c.pages → flat p ≡ flat_page c new p)
+        → new.blocks ≡ mem.blocks
+        → begins_as n called (answered n.memory called (length n.history + 1) begun_now o) ≡ Some e
+        → Adds c mem x n e.after ms flat
+    hit_adds e flat None new done locked given pages blocks is =
+        subst (λ (z : Outcome (Host S)). Adds c mem x n z.after ms flat)
+        (same_Some
+        (record {
+          after =
+              record n {
+                memory =
+                    record n.memory
+                    { coherence = begun_now.after; asked = Some called; number = length n.history + 1 };
+              };
+          posted = begun_now.posted;
+        }) e is)
+        (call_waits begun_now.after called flat idle step done
+        (λ p inside. pages p inside ∙ ap (λ m. flat_page c m p) given)
+        (λ q w number lock there. absurd
+        (none-some q (sym (good.memory.locked idle) ∙ sym locked ∙ lock))))
+    hit_adds e flat (Some r) new done locked given pages blocks is =
+        subst (λ (z : Outcome (Host S)). Adds c mem x n z.after ms flat)
+        (same_Some
+        (record {
+          after =
+              recorded n (record n.memory { coherence = begun_now.after; asked = None }) called r;
+          posted = begun_now.posted;
+        }) e is)
+        (records_call (record n.memory { coherence = begun_now.after; asked = None }) called r new
+        idle step refl given flat pages (blocks_stay blocks refl))
+
+    starts_adds : (e : Outcome (Host S)) (flat : ℕ → List ℕ) (number : ℕ)
+        → begins_as n called
+        (needed n.memory called (length n.history + 1) begun_now begun_now.need) ≡ Some e
+        → Starts (Copies {S = S} c) c x f page word number n.memory.coherence begun_now.need
+        begun_now.after flat → Adds c mem x n e.after ms flat
+    starts_adds e flat number is (busy q lock needs after same) =
+        absurd (none-some q (sym (good.memory.locked idle) ∙ lock))
+    starts_adds e flat number is (hits out needs done locked carries) =
+        let k : Came c mem called out flat =
+        came page word out flat called (asked_width n called step) of carries in
+        hit_adds e flat (reply_of out) k.new done locked k.gives k.shows k.blocks
+        (sym (ap
+        (λ d. begins_as n called (needed n.memory called (length n.history + 1) begun_now d))
+        needs) ∙ is)
+    starts_adds e flat number is (waits needs same done locked there) =
+        subst (λ (z : Outcome (Host S)). Adds c mem x n z.after ms flat)
+        (same_Some
+        (record {
+          after =
+              record n {
+                memory =
+                    record n.memory
+                    { coherence = begun_now.after; asked = Some called; number = length n.history + 1 };
+              };
+          posted = begun_now.posted;
+        }) e
+        (sym (ap
+        (λ d. begins_as n called (needed n.memory called (length n.history + 1) begun_now d))
+        needs) ∙ is))
+        (call_waits begun_now.after called flat idle step done (same_pages flat same)
+        (λ q w j lock waiting. (
+        let at : page ≡ q = same_Some page q (sym locked ∙ lock) in
+        let one : word ≡ w =
+        one_word (entry_at begun_now.after.table page) word w number j there
+        (subst (λ r. WaitsAt (entry_at begun_now.after.table r) w j) (sym at) waiting) in
+        subst (λ r. IsWordOf c called r w) at (subst (IsWordOf c called page) one of)
+        )))
+
+  -- a message
+  module _ (source : ℕ) (m : Message) where
+    abbrev told : Coherent S
+    told = (handled ops n.memory.coherence source m).after
+
+    abbrev told_host : Host S
+    told_host = record n { memory = record n.memory { coherence = told } }
+
+    same_me : told.me ≡ number_of n
+    same_me = (handled-same ops n.memory.coherence source m).me
+
+    quiet_adds : (flat : ℕ → List ℕ) → flat ≡ f → told.done ≡ n.memory.coherence.done
+        → told.locked ≡ n.memory.coherence.locked
+        → ((q : ℕ) (word : Word) (number : ℕ) → WaitsAt (entry_at told.table q) word number
+        → WaitsAt (entry_at n.memory.coherence.table q) word number)
+        → Adds c mem x n told_host ms flat
+    quiet_adds flat same done locked waiting = silent told_host flat same
+        (ap (λ me. n.history ++ owed me n.memory.asked
+        (reply_owed n.memory.side.errand ms told.done)) same_me
+        ∙ ap (λ d. n.history ++ owed (number_of n) n.memory.asked
+        (reply_owed n.memory.side.errand ms d)) done)
+        (record {
+          run = running.run;
+          makes = running.makes;
+          waits = λ called page word number asked lock there. running.waits called page word number
+              asked (sym locked ∙ lock) (waiting page word number there);
+        })
+        refl
+        refl
+
+    -- the word that waited is carried out
+    answer_adds : (flat : ℕ → List ℕ) (page : ℕ) (word : Word) (number : ℕ) (out : Out)
+        (a : Option Call) → n.memory.asked ≡ a → n.memory.coherence.locked ≡ Some page
+        → WaitsAt (entry_at n.memory.coherence.table page) word number → told.locked ≡ None
+        → told.done ≡ Some out → Carries (Copies {S = S} c) c x f page word out flat
+        → Adds c mem x n told_host ms flat
+    answer_adds flat page word number out None idle lock there free done carries =
+        absurd (none-some page (sym (good.memory.locked idle) ∙ lock))
+    answer_adds flat page word number out (Some called) asked lock there free done carries =
+        let k : Came c mem called out flat =
+        came page word out flat called (asked_width n called (running.makes called asked))
+        (running.waits called page word number asked lock there) carries in
+        let none : n.memory.side.errand ≡ None = locked_errand page lock in
+        let before : pending n ms ≡ [] =
+        owed-untold (number_of n) n.memory.asked
+        (reply_owed n.memory.side.errand ms n.memory.coherence.done)
+        (word_owed n.memory.coherence.done none
+        ∙ ap reply_there (untold n.memory.coherence.done refl)) in
+        let now : pending told_host ms ≡ owed (number_of n) (Some called) (reply_of out)
+        = ap (λ me. owed me n.memory.asked (reply_owed n.memory.side.errand ms told.done)) same_me
+        ∙ ap (λ b. owed (number_of n) b (reply_owed n.memory.side.errand ms told.done)) asked
+        ∙ ap (λ e. owed (number_of n) (Some called) (reply_owed e ms told.done)) none
+        ∙ ap (λ d. owed (number_of n) (Some called) (reply_there d)) done in
+        owing told_host flat called (reply_of out) k.new
+        (asked_width n called (running.makes called asked)) k.gives k.shows
+        (ap (λ xs. n.history ++ xs) now
+        ∙ owing_history n.history (pending n ms)
+        (owed (number_of n) (Some called) (reply_of out)) before)
+        (record {
+          run = running.run;
+          makes = running.makes;
+          waits = λ other q w j is locked. absurd (none-some q (sym free ∙ locked));
+        })
+        refl
+        (blocks_stay k.blocks refl)
+      where
+        untold : (d : Option Out) → n.memory.coherence.done ≡ d → n.memory.coherence.done ≡ None
+        untold None is = is
+        untold (Some o) is = absurd (none-some page (sym (good.memory.answered o is) ∙ lock))
+
+    told_adds : (flat : ℕ → List ℕ) → Tells (Copies {S = S} c) c x f n.memory.coherence told flat
+        → Adds c mem x n told_host ms flat
+    told_adds flat (quiet same done locked waiting) = quiet_adds flat same done locked waiting
+    told_adds flat (is_answered page word number out lock there free done carries) =
+        answer_adds flat page word number out n.memory.asked refl lock there free done carries
+
+    pub message_adds : is_of_pages m.content ≡ true → (flat : ℕ → List ℕ)
+        → Tells (Copies {S = S} c) c x f n.memory.coherence told flat
+        → Adds c mem x n (serving ops n source m).after ms flat
+    message_adds about flat tells =
+        subst (λ (z : Outcome (Host S)). Adds c mem x n z.after ms flat)
+        (sym (page_serving ops n source m about)) (told_adds flat tells)
+
+-- the call in progress begins anew, as its word was not carried out or gave no reply
+again_adds : {S : Type 0} (c : Config) (mem : model.Memory) (x : ℕ) (n n' : Host S)
+    (ms : List Message) (flat : ℕ → List ℕ)
+    → reply_owed n.memory.side.errand ms n.memory.coherence.done ≡ None
+    → Adds c mem x (without_call n) n' ms flat → Adds c mem x n n' ms flat
+again_adds c mem x n n' ms flat untold a = record {
+  more = a.more;
+  new = a.new;
+  legal = a.legal;
+  shows = a.shows;
+  own = a.own;
+  other = a.other;
+  history =
+      a.history
+      ∙ ap (λ xs. (n.history ++ xs) ++ a.more)
+      (sym (owed-untold (number_of n) n.memory.asked
+      (reply_owed n.memory.side.errand ms n.memory.coherence.done) untold));
+  running = a.running;
+  program = a.program;
+  blocks = a.blocks;
+}
+
+module _ {S : Type 0} (ops : Ops S) (c : Config) (config : IsConfig c) (x : ℕ) (mem : model.Memory)
+    (sized : IsSized c mem) (f : ℕ → List ℕ)
+    (shows : (p : ℕ) → p < c.pages → f p ≡ flat_page c mem p)
+    (n : Host S) (good : IsSoundHost ops c x n) (running : IsRunning c n) (ms : List Message)
+    (blocks : (h : HeapState) → n.memory.side.heap ≡ Some h → h.blocks ≡ mem.blocks)
+    (way : n.memory.side.heap ≡ None → n.memory.side.errand ≡ None → ms ≡ []) where
+  -- without its call in progress, where no word waits, the node is sound, and its program runs
+  good_without : n.memory.coherence.locked ≡ None → IsSoundHost ops c x (without_call n)
+  good_without free = record {
+    memory = without-sound n.memory good.memory free;
+    config = good.config;
+    me = good.me;
+    asking = λ called is. absurd (none-some called is);
+    numbered = λ called is. absurd (none-some called is);
+  }
+
+  running_without : IsRunning c (without_call n)
+  running_without = record {
+    run = running.run;
+    makes = λ called is. absurd (none-some called is);
+    waits = λ called page word number is. absurd (none-some called is);
+  }
+
+  -- where no reply is there, and the call in progress is one of a word, none is owed
+  none_owed : (called : Call) (page : ℕ) (word : Word) → n.memory.asked ≡ Some called
+      → asked_of n.memory.coherence.config called ≡ kinds.Word page word → reply_at n.memory ≡ None
+      → reply_owed n.memory.side.errand ms n.memory.coherence.done ≡ None
+  none_owed called page word asked of untold =
+      let none : n.memory.side.errand ≡ None =
+      word_errand ops c config x mem sized f shows n good running ms called page word asked
+      of in
+      ap (λ e. reply_owed e ms n.memory.coherence.done) none
+      ∙ sym (ap (λ e. first_reply (reply_told e) (reply_there n.memory.coherence.done)) none)
+      ∙ untold
+
+  same_flat : (flat : ℕ → List ℕ) → flat ≡ f → (p : ℕ) → p < c.pages → flat p ≡ flat_page c mem p
+  same_flat = same_pages ops c config x mem sized f shows n good running ms
+
+  -- a turn
+  pub turn_adds : (e : Outcome (Host S)) (turn : HostTurn ops c n e) (flat : ℕ → List ℕ)
+      → TurnTells (Copies {S = S} c) c x f n e turn flat → Adds c mem x n e.after ms flat
+  turn_adds e (answers called r asked there is) flat tells =
+      subst (λ (z : Outcome (Host S)). Adds c mem x n z.after ms flat) (sym is)
+      (records_reply ops c config x mem sized f shows n good running ms called r asked there
+      flat tells)
+  turn_adds e (tries_again called page word asked untold free of inside lies is) flat tells =
+      again_adds c mem x n e.after ms flat (none_owed called page word asked of untold)
+      (starts_adds ops c config x mem sized f shows (without_call n) (good_without free)
+      running_without ms called page word refl (running.makes called asked)
+      (subst (λ k. IsWordOf k called page word) good.config of) e flat (length n.history + 1) is
+      tells)
+  turn_adds e (goes_on s idle step is) flat tells =
+      subst (λ (z : Outcome (Host S)). Adds c mem x n z.after ms flat) (sym is)
+      (goes_alone ops c config x mem sized f shows n good running ms s idle step flat tells)
+  turn_adds e (refuses called code idle step refusal is) flat tells =
+      subst (λ (z : Outcome (Host S)). Adds c mem x n z.after ms flat) (sym is)
+      (records_call ops c config x mem sized f shows n good running ms n.memory called
+      (reply.Refused code) mem idle step idle
+      (refusal_served c mem sized called code
+      (subst (λ k. asked_of k called ≡ kinds.Refused code) good.config refusal)) flat
+      (same_flat flat tells) (blocks_stay refl refl))
+  turn_adds e (asks_for called page word idle step of inside lies few is) flat tells =
+      starts_adds ops c config x mem sized f shows n good running ms called page word idle step
+      (subst (λ k. IsWordOf k called page word) good.config of) e flat (length n.history + 1) is
+      tells
+  turn_adds e (serves_heap called k heap idle step of there is) flat tells =
+      subst (λ (z : Outcome (Host S)). Adds c mem x n z.after ms flat) (sym is)
+      (records_call ops c config x mem sized f shows n good running ms
+      (record n.memory { side = kept n.memory.side heap (told_of heap k) }) called
+      (told_of heap k).reply (memory_told mem heap k) idle step idle
+      (heap_served c mem heap ((good.memory.side.home heap there).0 ∙ good.config)
+      (blocks heap there) called k
+      (subst (λ d. asked_of d called ≡ kinds.Heap k) good.config of)) flat
+      (same_flat flat tells)
+      (blocks_change heap (told_of heap k) there refl refl))
+  turn_adds e (asks_heap called k idle step of away is) flat tells =
+      subst (λ (z : Outcome (Host S)). Adds c mem x n z.after ms flat) (sym is)
+      (errand_waits ops c config x mem sized f shows n good running ms called k
+      (length n.history + 1) flat tells idle step
+      (way away (idle_errand ops c config x mem sized f shows n good running ms idle)))

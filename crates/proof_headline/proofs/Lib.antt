@@ -1,0 +1,2 @@
+pub mod Headline
+pub use Rattle.proof_progress.proofs.of_proof_transitions as of_proof_transitions

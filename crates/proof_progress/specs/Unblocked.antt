@@ -1,0 +1,64 @@
+-- What is promised of each node where nothing is under way, whatever the turns of the others do: no
+-- page, owner, hint or lock blocks its program.
+use Rattle.std.specs.Prelude.{◌≡◌, ◌≤◌, ◌⊎◌, ℕ, false, List, [], ◌∷◌, ◌++◌, slice_get, Some, None}
+use Rattle.ivy_model.specs.declared.Config.{Config}
+use Rattle.ivy_model.specs.declared.Call.{Call}
+use Rattle.ivy_model.specs.declared.Call.TheVariants.{Await}
+use Rattle.ivy_model.specs.declared.Record.{Record}
+use Rattle.ivy_model.specs.declared.Reply.{Reply}
+use Rattle.ivy_model.specs.declared.Reply.TheVariants.{Value}
+use Rattle.ivy_model.specs.Memory.{Memory, first}
+use Rattle.ivy_model.specs.Legal.{ServesAll}
+use Rattle.ivy_model.specs.Explains.{part}
+use Rattle.ivy_wire.specs.declared.Content.TheVariants.{ReadReq}
+use Rattle.ivy_wire.specs.Data.{Parcel}
+use Rattle.ivy_pagetable.specs.Entries.{readable}
+use Rattle.ivy_pagetable.specs.Manager.{Ops}
+use Rattle.ivy_pagetable.specs.Tables.{entry_at}
+use Rattle.ivy_moves.specs.Cores.{Outcome}
+use Rattle.proof_consistency.specs.ivy_host.Hosts.{Host, turn_of}
+use Rattle.proof_progress.specs.Settled.{HasNoAnswer}
+
+module _ {S : Type 0} (ops : Ops S) (i : ℕ) (n : Host S) where
+  -- node i's record of this reply to the call
+  abbrev pub record_of : Call → Reply → Record
+  record_of called reply = record { node = i; call = called; reply = reply }
+
+  -- the next turn records this reply to the call, posts nothing, and leaves no call in progress
+  pub record IsAnsweredNext (called : Call) (reply : Reply) : Type 0 where
+    pub after : Host S
+    pub turned : turn_of ops n ≡ Some (record { after = after; posted = [] })
+    pub history : after.history ≡ n.history ++ record_of called reply ∷ []
+    pub idle : after.memory.asked ≡ None
+
+  -- the node has no copy of page 0, in which the counts lie, and its next turn asks for one
+  pub record AsksForCountsNext : Type 0 where
+    pub without : readable (entry_at n.memory.coherence.table 0) ≡ false
+    pub outcome : Outcome (Host S)
+    pub turned : turn_of ops n ≡ Some outcome
+    pub parcel : Parcel
+    pub posted : outcome.posted ≡ parcel ∷ []
+    pub asks : parcel.message.content ≡ ReadReq 0
+
+  -- How the node stands by an order of records and the flat memory that it leads to.
+  pub data Stands (order : List Record) (last : Memory) : Type 0 where
+    -- no call is in progress, or a count is awaited that is below the least value
+    waits : HasNoAnswer last n.memory.asked → part i order ≡ n.history → Stands order last
+    -- the reply is there, so its record stands in the order already, and the next turn records it
+    replied : (called : Call) (reply : Reply) → n.memory.asked ≡ Some called
+        → IsAnsweredNext called reply → part i order ≡ n.history ++ record_of called reply ∷ []
+        → Stands order last
+    -- a count is awaited that has come to the least value: the next turn answers it with the count,
+    -- or has to ask for a copy first
+    reached : (k least count : ℕ) → n.memory.asked ≡ Some (Await k least)
+        → slice_get last.counts k ≡ Some count → least ≤ count
+        → IsAnsweredNext (Await k least) (Value count) ⊎ AsksForCountsNext
+        → part i order ≡ n.history → Stands order last
+
+-- By some legal order, and the flat memory that it leads to, each node stands so.
+pub record AreUnblocked {S : Type 0} (ops : Ops S) (c : Config) (nodes : List (Host S)) : Type 0
+  where
+    pub order : List Record
+    pub last : Memory
+    pub legal : ServesAll c (first c) order last
+    pub each : (i : ℕ) (n : Host S) → slice_get nodes i ≡ Some n → Stands ops i n order last

@@ -1,0 +1,30 @@
+//! The laws of deliveries.
+ghost use Rattle.proof_consistency.specs.ivy_host.Managers.{managed_ops};
+ghost use Rattle.proof_progress.specs.Answering.{DeliveriesAnswer};
+ghost use Rattle.proof_progress.specs.Ending.{DeliveriesEnd};
+ghost use Rattle.proof_progress.specs.Strings.{StringsEnd};
+
+/// Deliveries alone come to an end. This is a fact, and the call does nothing.
+///
+/// From each ordered world that moves lead to from the opening of some programs, under either
+/// manager: whatever is delivered, in whatever order, while no node takes a turn and each message is
+/// delivered once, there are no more deliveries than `most_deliveries` of the nodes and of the work
+/// that the messages under way and put off make. And so in each world of strings that follows such an
+/// ordered one: whatever strings are delivered, in whatever order and however often, and whatever is
+/// sent again, no more of them than that are the next one for their node. It says nothing of time, nor
+/// of nodes that take turns meanwhile.
+pub fn deliveries_end()
+    ensures ordered { DeliveriesEnd managed_ops }
+    ensures strings { StringsEnd managed_ops }
+{}
+
+/// Deliveries answer the calls. This is a fact, and the call does nothing.
+///
+/// From each ordered world that moves lead to from the opening of some programs, under either
+/// manager, and whatever is delivered: a message can be delivered next, or nothing is under way.
+/// Then each node has no call in progress, or a call that its next turn answers, or an await of a
+/// count that is below its least value; or an await of a count that has come to it, and its next turn
+/// asks for a copy of page 0, in which the counts lie, where the node has none.
+pub fn deliveries_answer()
+    ensures { DeliveriesAnswer managed_ops }
+{}

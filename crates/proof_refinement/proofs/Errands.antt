@@ -1,0 +1,46 @@
+-- In a sound world each call of the heap in progress has its errand.
+use Rattle.std.proofs.Common.{◌≡◌, ℕ, Option, Some, None, refl, sym, ap, ◌∙◌, length, ◌+◌}
+use Rattle.std.proofs.lemmas.Option.{same_Some, none-some}
+use Rattle.ivy_model.specs.declared.Config.{Config}
+use Rattle.ivy_model.specs.declared.Call.{Call}
+use Rattle.ivy_pagetable.specs.Manager.{Ops}
+use Rattle.ivy_moves.specs.Ordered.{Ordered}
+use Rattle.ivy_host.specs.ivy_memory.declared.Asked.TheVariants as kinds
+use Rattle.ivy_host.specs.ivy_heap.declared.HeapCall.{HeapCall}
+use Rattle.ivy_host.specs.ivy_heap.declared.Errand.{Errand}
+use Rattle.ivy_host.specs.ivy_heap.declared.Errand.TheVariants as errand
+use Rattle.ivy_host.specs.ivy_memory.Asking.{asked_of}
+use Rattle.ivy_host.specs.ivy_memory.Sound.{IsErrandOf, IsInProgress}
+use Rattle.ivy_host.specs.Hosts.{Host}
+use Rattle.ivy_host.specs.Sound.{IsSoundHost}
+use Rattle.proof_refinement.specs.Errands.{IsErrandFor, HaveErrands}
+use Rattle.proof_refinement.proofs.LiftedWorlds.{IsSoundWorld}
+
+-- one call is in progress
+one_call : (c : Config) (a : Option Call) (j k : HeapCall) → IsInProgress c a j → IsInProgress c a k
+    → j ≡ k
+one_call c a j k x y =
+    let same : x.call ≡ y.call = same_Some x.call y.call (sym x.asked ∙ y.asked) in
+    let e : kinds.Heap j ≡ kinds.Heap k = sym x.of ∙ ap (asked_of c) same ∙ y.of in
+    let i : j ≡ k = cc in i
+
+module _ {S : Type 0} {ops : Ops S} {c : Config} {x : ℕ} (h : Host S) (good : IsSoundHost ops c x h)
+    (k : HeapCall) (in_progress : IsInProgress h.memory.coherence.config h.memory.asked k) where
+  errand_for : (e : Option Errand) → h.memory.side.errand ≡ e
+      → IsErrandOf h.memory.coherence.config h.memory.asked e
+      → IsErrandFor k (length h.history + 1) e
+  errand_for None is of =
+      let some = good.memory.side.owed k in_progress in none-some some.0 (sym is ∙ some.1)
+  errand_for (Some (errand.Asked j number)) is of = (
+    one_call h.memory.coherence.config h.memory.asked j k of in_progress,
+    good.memory.under j number is ∙ good.numbered in_progress.call in_progress.asked,
+  )
+  errand_for (Some (errand.Told r)) is of = tt
+
+pub have_errands : {S : Type 0} {ops : Ops S} {c : Config} (o : Ordered (Host S))
+    → IsSoundWorld ops c o → HaveErrands o
+have_errands o w = record {
+  each = λ i h k there in_progress. errand_for h (w.sound i h there) k in_progress
+      h.memory.side.errand refl (w.sound i h there).memory.side.errand;
+  none = λ h there. (w.sound 0 h there).memory.side.none (w.sound 0 h there).me;
+}

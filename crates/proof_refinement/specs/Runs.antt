@@ -1,0 +1,32 @@
+-- Runs of ordered worlds from the opening of some programs, and the worlds that follow them.
+use Rattle.std.specs.Prelude.{◌≡◌, ℕ, List, [], ◌∷◌}
+use Rattle.ivy_model.specs.declared.Config.{Config}
+use Rattle.ivy_wire.specs.Data.{Message}
+use Rattle.ivy_pagetable.specs.Manager.{Ops}
+use Rattle.ivy_program.specs.declared.Instruction.{Instruction}
+use Rattle.ivy_moves.specs.Ordered.{Ordered, Steps}
+use Rattle.ivy_moves.specs.Worlds.{World}
+use Rattle.ivy_moves.specs.Following.{Follows, ordered_of}
+use Rattle.ivy_host.specs.Hosts.{Host, host_rules}
+use Rattle.ivy_host.specs.Openings.{opening}
+use Rattle.ivy_host.specs.Sound.{IsSoundHost}
+
+module _ {S : Type 0} (ops : Ops S) (c : Config) (programs : List (List Instruction)) where
+  -- the ordered world of the opening, in which nothing was posted
+  abbrev pub first_ordered : Ordered (Host S)
+  first_ordered = ordered_of (opening ops c programs) (λ i j. [])
+
+  -- moves of the ordered world lead to it from the opening, by these worlds, the latest first
+  abbrev pub IsOrderedRun : List (Ordered (Host S)) → Ordered (Host S) → Type 0
+  IsOrderedRun [] end = end ≡ first_ordered
+  IsOrderedRun (last ∷ before) end = IsOrderedRun before last × Steps (host_rules ops) last end
+
+  -- some moves of the ordered world lead to it from the opening
+  abbrev pub IsReachedInOrder : Ordered (Host S) → Type 0
+  IsReachedInOrder o = (before : List (Ordered (Host S))) × IsOrderedRun before o
+
+  -- the world follows an ordered one that is reached, in which these messages were posted
+  pub record FollowsInOrder (w : World (Host S)) : Type 0 where
+    pub posted : ℕ → ℕ → List Message
+    pub follows : Follows c (IsSoundHost ops c) w posted
+    pub reached : IsReachedInOrder (ordered_of w posted)

@@ -1,0 +1,30 @@
+pub mod Asked
+pub mod Old
+pub mod NoBreach
+pub mod Quiet
+pub mod Claims
+pub mod Managers
+pub mod FirstLetters
+pub mod Remaining
+pub mod Owed
+pub mod OwedKept
+pub mod Awaited
+pub mod Found
+pub mod Moves
+pub mod Turns
+pub mod Hops
+pub mod Managed
+pub mod Sent
+pub mod Descent
+pub mod ManagedKept
+pub mod FirstManaged
+pub mod ManagedRoutes
+pub mod HintedManagers
+pub mod HintedSteps
+pub mod HintedSunk
+pub mod HintedRows
+pub mod HintedKept
+pub mod FirstHinted
+pub mod HintedRoutes
+pub use Rattle.proof_transitions.proofs.of_ivy_coherence as of_ivy_coherence
+pub use Rattle.proof_transitions.proofs as of_proof_transitions

@@ -1,0 +1,23 @@
+pub mod Places
+pub mod Needs
+pub mod Members
+pub mod Steps
+pub mod Owners
+pub mod Sole
+pub mod Parcels
+pub mod Replies
+pub mod RowsAsked
+pub mod RowsGiven
+pub mod Relabelled
+pub mod Quiet
+pub mod RowsBegun
+pub mod RowsCome
+pub mod OrderlyKept
+pub mod Alike
+pub mod Both
+pub mod Embedded
+pub mod Opening
+pub mod Exclusive
+pub mod Few
+pub mod Fitting
+pub use Rattle.ivy_coherence.proofs as of_ivy_coherence

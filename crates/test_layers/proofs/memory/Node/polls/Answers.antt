@@ -1,0 +1,23 @@
+use Rattle.std.proofs.Common.{ap, sym, ◌∙◌}
+use Rattle.ivy_host.specs.ivy_fixed.Fixed.{fixed_ops}
+use Rattle.ivy_host.proofs.of_ivy_memory.Polling.{polled-same}
+use Rattle.test_layers.proofs.memory.Node.polls.Goals as goal
+use Rattle.test_layers.proofs.memory.Node.polls.Goals.{in-Ok, in-Err}
+
+pub invariant_of-self : goal.invariant_of-self
+invariant_of-self g c =
+    let same = polled-same fixed_ops c.self.inside.memory in
+    elim c.match-poll_reply.branch [
+      | in-Ok w ↦ (
+        ap (λ x. x.coherence.config) w.in-Ok.ensures.ok ∙ same.config ∙ c.self.invariant.0,
+        ap (λ p. p.0) w.in-Ok.ensures.posted ∙ c.self.invariant.1,
+        ap (λ p. p.1) w.in-Ok.ensures.posted ∙ c.self.invariant.2 ∙ sym same.me
+            ∙ sym (ap (λ x. x.coherence.me) w.in-Ok.ensures.ok),
+      )
+      | in-Err w ↦ (
+        ap (λ x. x.coherence.config) w.in-Err.ensures.err ∙ c.self.invariant.0,
+        ap (λ p. p.0) w.in-Err.ensures.fault.1 ∙ c.self.invariant.1,
+        ap (λ p. p.1) w.in-Err.ensures.fault.1 ∙ c.self.invariant.2
+            ∙ sym (ap (λ x. x.coherence.me) w.in-Err.ensures.err),
+      )
+    ]

@@ -1,0 +1,300 @@
+//! Calls at one of two nodes, under managing nodes.
+ghost use Rattle.ivy_model.specs.Legal.{HasWidth};
+
+use crate::letters::{Bytes, Letter, Said, message, received};
+use crate::posted::Posted;
+use ivy_host::ivy_fixed::FixedManager;
+use ivy_host::ivy_memory::{Answer, Memory};
+use ivy_model::{Call, Config, Fault, Kind, Reply};
+use ivy_wire::Message;
+use std::alloc::{Allocator, Global};
+use std::marker::Model;
+use std::process::Abort;
+use std::test::Fail;
+
+/// Two nodes, and two pages of 64 bytes. Node 0 keeps the owner of page 0, where the counts are.
+const PAIR: Config = Config {
+    nodes: 2,
+    pages: 2,
+    page_size: 64,
+    manager: Kind::Fixed,
+};
+
+/// One of the two nodes, and what it posts.
+#[derive(Drop)]
+pub(crate) struct Node<A: Allocator> {
+    memory: Memory<FixedManager<A>, A>,
+    posted: Posted,
+}
+
+impl<A: Allocator> Model for Node<A> {
+    ghost use Rattle.std.specs.Prelude.{◌≡◌, ℕ, List};
+    ghost use Rattle.ivy_model.specs.declared.Config as declared;
+    ghost use Rattle.ivy_wire.specs.Data as wire;
+    ghost use Rattle.ivy_host.specs.ivy_fixed.Fixed.{Owners};
+    ghost use Rattle.ivy_host.specs.ivy_memory.Memories as memories;
+    ghost use Rattle.test_layers.specs.declared.memory.TheConstants.{PAIR};
+    ghost use Rattle.std.specs.Coded.{codes};
+    ghost use Rattle.ivy_pagetable.specs.NodeSets.{nodes_code};
+    ghost use Rattle.ivy_host.specs.ivy_alloc.Heap.{heap_state_code};
+
+    ghost Value = { memories.NodeMemory Owners × (declared.Config × ℕ × List wire.Parcel) };
+
+    ghost coded = { Prim.hlevel (codes, nodes_code, heap_state_code) };
+
+    ghost view = { λ n. (n.memory, n.posted) };
+
+    ghost invariant = { λ n. (n.memory.coherence.config ≡ PAIR) × (n.posted.0 ≡ PAIR) × (n.posted.1 ≡ n.memory.coherence.me) };
+}
+
+/// What a call comes to.
+pub(crate) type Outcome = Result<Answer, Fault>;
+
+/// What happens to a node, or what it shows.
+#[derive(Clone, Copy)]
+pub(crate) enum Step {
+    /// Its program makes a call, the one of this number: awaits that count 0 is at least this, reads or advances a
+    /// count, wants a block of so many bytes, or ends the block at an address. What that comes to.
+    Awaits(u64, u64, Outcome),
+    Reads(u64, u64, Outcome),
+    Advances(u64, u64, Outcome),
+    Allocates(u64, u64, Outcome),
+    Frees(u64, u64, Outcome),
+    /// The call in progress is asked for its reply.
+    Polls(Outcome),
+    /// A message about page 0 or of the heap comes from the other node, and is taken, or is refused with 1.
+    Comes(u8, Letter),
+    Refuses(u8, Letter),
+    /// Whether its messages are refused from now on.
+    IsFull(bool),
+    /// So many messages were posted.
+    Posted(usize),
+    /// The call in progress.
+    Asked(Option<Call>),
+    /// So many messages that came fitted no rule.
+    Breaches(u64),
+}
+
+impl<A: Allocator + Copy> Node<A> {
+    /// Node `me`, with this memory. Its messages are kept in memory that refuses nothing.
+    pub(crate) fn new(alloc: A, kept: Global, me: u8) -> Result<Node<A>, Fail> {
+        PAIR.check()?;
+        if me >= PAIR.nodes {
+            return Err("no such node".into());
+        }
+        let manager = FixedManager::new(alloc, &PAIR, me)?;
+        Ok(Node {
+            memory: Memory::new(alloc, &PAIR, me, manager)?,
+            posted: Posted::new(kept, PAIR, me),
+        })
+    }
+
+    /// Whether a call comes to this.
+    fn begins(&mut self, call: Call, number: u64, outcome: Outcome) -> Result<bool, Fail>
+        requires { HasWidth call }
+    {
+        if number == 0 {
+            return Err("calls are numbered from 1".into());
+        }
+        match self.memory.begin(call, number, &mut self.posted) {
+            Ok(answer) => Ok(outcome == Ok(answer)),
+            Err(fault) => Ok(outcome == Err(fault)),
+        }
+    }
+
+    /// Whether the reply of the call comes to this.
+    fn polls(&mut self, outcome: Outcome) -> Result<bool, Fail> {
+        match self.memory.poll_reply(&mut self.posted) {
+            Ok(answer) => Ok(outcome == Ok(answer)),
+            Err(fault) => Ok(outcome == Err(fault)),
+        }
+    }
+
+    /// Whether a message of the other node comes to this.
+    fn takes(
+        &mut self,
+        from: u8,
+        message: Message<&[u8]>,
+        outcome: Result<(), Fault>,
+    ) -> Result<bool, Fail> {
+        let message = received(&PAIR, from, self.posted.node(), message)?;
+        match self.memory.handle(from, message, &mut self.posted) {
+            Ok(()) => Ok(outcome == Ok(())),
+            Err(fault) => Ok(outcome == Err(fault)),
+        }
+    }
+
+    /// Whether the message that another node posted last is this letter to this node, and is taken.
+    pub(crate) fn takes_last(&mut self, other: &Posted, letter: Letter) -> Result<bool, Fail> {
+        match other.last_to(self.posted.node(), letter) {
+            Some(parcel) => self.takes(parcel.source, parcel.message.lent(), Ok(())),
+            None => Ok(false),
+        }
+    }
+
+    /// All messages that it posted.
+    pub(crate) fn posts(&self) -> &Posted {
+        &self.posted
+    }
+
+    /// Whether the step goes as it says.
+    pub(crate) fn goes(&mut self, step: &Step) -> Result<bool, Fail> {
+        match step {
+            Step::Awaits(least, number, outcome) => {
+                let call = Call::Await {
+                    k: 0,
+                    least: *least,
+                };
+                self.begins(call, *number, *outcome)
+            }
+            Step::Reads(k, number, outcome) => self.begins(
+                Call::Count { k: *k },
+                *number,
+                *outcome,
+            ),
+            Step::Advances(k, number, outcome) => {
+                self.begins(Call::Advance { k: *k }, *number, *outcome)
+            }
+            Step::Allocates(size, number, outcome) => {
+                self.begins(Call::Alloc { size: *size }, *number, *outcome)
+            }
+            Step::Frees(addr, number, outcome) => {
+                self.begins(Call::Free { addr: *addr }, *number, *outcome)
+            }
+            Step::Polls(outcome) => self.polls(*outcome),
+            Step::Comes(from, letter) => self.takes(*from, message(0, *letter), Ok(())),
+            Step::Refuses(from, letter) => {
+                self.takes(*from, message(0, *letter), Err(Fault::Memory))
+            }
+            Step::IsFull(is_full) => {
+                self.posted.refuse(*is_full);
+                Ok(true)
+            }
+            Step::Posted(number) => Ok(self.posted.parcels().len() == *number),
+            Step::Asked(call) => Ok(self.memory.asked() == *call),
+            Step::Breaches(number) => Ok(self.memory.breaches() == *number),
+        }
+    }
+}
+
+/// The steps of a node, and all that it posts: each message with the node that it goes to.
+pub(crate) struct Scene<'a> {
+    pub(crate) me: u8,
+    pub(crate) steps: &'a [Step],
+    pub(crate) posted: &'a [(u8, Letter)],
+}
+
+pub(crate) fn check_node<A: Allocator + Copy>(
+    rt: &impl Abort,
+    node: &mut Node<A>,
+    scene: &Scene,
+) -> Result<(), Fail> {
+    for (index, step) in scene.steps.iter().enumerate() {
+        assert!(rt; node.goes(step)?, "step {index}");
+    }
+    assert!(rt; node.posted.are(0, scene.posted));
+    Ok(())
+}
+
+pub(crate) fn check<R: Abort + AllocGlobal>(rt: &R, scene: &Scene) -> Result<(), Fail> {
+    let mut node = Node::new(rt.alloc(), rt.alloc(), scene.me)?;
+    check_node(rt, &mut node, scene)
+}
+
+/// The reply of a count at 0, and of one at its greatest value.
+const ZERO: Outcome = Ok(Answer::Given(Reply::Value(0)));
+
+const MOST: Outcome = Ok(Answer::Given(Reply::Value(u64::MAX)));
+
+/// An awaited count comes too low. The word is tried again without an answer, and nothing is posted; once the
+/// copy is given up it faults again, under the same number; and the next copy has the count.
+#[test]
+fn an_await_without_a_copy(rt: HostRuntime) -> Result<(), Fail> {
+    check(&rt, &WITHOUT_A_COPY)
+}
+
+static WITHOUT_A_COPY: Scene<'static> = Scene {
+    me: 1,
+    steps: &[
+        Step::Awaits(1, 3, Ok(Answer::Awaited)),
+        Step::Polls(Ok(Answer::Unserved)),
+        Step::Posted(1),
+        Step::Comes(0, (Said::Copy(Bytes::Zeros), 1, 3)),
+        Step::Polls(Ok(Answer::Unserved)),
+        Step::Polls(Ok(Answer::Unserved)),
+        Step::Posted(1),
+        Step::Asked(Some(Call::Await { k: 0, least: 1 })),
+        Step::Comes(0, (Said::Order, 0, 9)),
+        Step::IsFull(true),
+        Step::Polls(Err(Fault::Memory)),
+        Step::IsFull(false),
+        Step::Polls(Ok(Answer::Awaited)),
+        Step::Polls(Ok(Answer::Unserved)),
+        Step::Posted(3),
+        Step::Comes(0, (Said::Copy(Bytes::Ones), 1, 3)),
+        Step::Polls(MOST),
+        Step::Asked(None),
+        Step::Polls(Ok(Answer::Unserved)),
+        Step::Awaits(u64::MAX, 4, MOST),
+    ],
+    posted: &[
+        (0, (Said::Request, 1, 3)),
+        (0, (Said::Acknowledgement, 0, 9)),
+        (0, (Said::Request, 1, 3)),
+    ],
+};
+
+/// The owner awaits a count that is too low yet, and asks nobody until it has given the page away.
+#[test]
+fn an_await_of_the_owner(rt: HostRuntime) -> Result<(), Fail> {
+    check(&rt, &OWNER_AWAITS)
+}
+
+static OWNER_AWAITS: Scene<'static> = Scene {
+    me: 0,
+    steps: &[
+        Step::Awaits(0, 1, ZERO),
+        Step::Awaits(5, 2, Ok(Answer::Awaited)),
+        Step::Polls(Ok(Answer::Unserved)),
+        Step::Posted(0),
+        Step::Comes(1, (Said::WriteRequest, 1, 7)),
+        Step::Polls(Ok(Answer::Awaited)),
+        Step::Posted(2),
+        Step::Comes(1, (Said::Copy(Bytes::Ones), 0, 2)),
+        Step::Polls(MOST),
+    ],
+    posted: &[
+        (1, (Said::Whole(0, Bytes::Zeros), 1, 7)),
+        (1, (Said::Request, 0, 2)),
+    ],
+};
+
+/// A call beside one in progress is refused with 18, be it one that hits, is refused or wants to post, and the one
+/// in progress goes on.
+#[test]
+fn a_call_beside_another(rt: HostRuntime) -> Result<(), Fail> {
+    check(&rt, &BESIDE_ANOTHER)
+}
+
+static BESIDE_ANOTHER: Scene<'static> = Scene {
+    me: 0,
+    steps: &[
+        Step::Awaits(1, 1, Ok(Answer::Awaited)),
+        Step::Reads(0, 1, Err(Fault::Busy)),
+        Step::Reads(8, 2, Err(Fault::Busy)),
+        Step::Allocates(8, 2, Err(Fault::Busy)),
+        Step::Comes(1, (Said::WriteRequest, 1, 7)),
+        Step::Advances(0, 2, Err(Fault::Busy)),
+        Step::Posted(1),
+        Step::Asked(Some(Call::Await { k: 0, least: 1 })),
+        Step::Polls(Ok(Answer::Awaited)),
+        Step::Reads(0, 2, Err(Fault::Busy)),
+        Step::Comes(1, (Said::Copy(Bytes::Ones), 0, 1)),
+        Step::Polls(MOST),
+        Step::Reads(8, 2, Ok(Answer::Given(Reply::Refused(6)))),
+    ],
+    posted: &[
+        (1, (Said::Whole(0, Bytes::Zeros), 1, 7)),
+        (1, (Said::Request, 0, 1)),
+    ],
+};

@@ -1,0 +1,10 @@
+//! Tests of nodes: of one (`sites`), and of several that strings go between (`worlds`).
+//!
+//! That every run is coherent is proved, so these tests hold no property of all runs. They hold what no contract says:
+//! the bytes of the worked examples, and that a call can succeed, and go on after a refusal.
+#![tactic(auto)]
+
+#[cfg(test)]
+mod sites;
+#[cfg(test)]
+mod worlds;

@@ -1,0 +1,478 @@
+//! Each growth refused in turn in a turn of a node, in the delivery of a string and in a pulse: where it loads,
+//! advances a count or asks for a block, at once or by asking another node, where it tries an await again, and where
+//! what comes is served or answers it. A refused call changes nothing: the node goes on as a twin does that was never refused,
+//! to the same strings and replies.
+use crate::sites::common::{
+    ALLOC_ASKS, ALLOC_GETS, COUNT_ASKS, COUNT_GETS, LOADS, MANY, REPLY, REQUEST, RETRY_ASKS,
+    RETRY_GETS, Written, expect_next, expect_same_at, is_met, node_of, pulse, receive, string,
+    take_turn, take_turns,
+};
+use crate::sites::steps::{Step, expect_silent, make_all};
+use failing_alloc::Refusing;
+use ivy_model::{Call, Fault, Record, Reply};
+use ivy_world::ivy_site::{Site, Verdict};
+use std::alloc::{Allocator, Global};
+use std::process::Abort;
+
+const EMPTY: &str = "node 0\n";
+
+const ADVANCES: &str = "node 0\nadvance r0\n";
+
+const AWAITS: &str = "node 0\nset r1 1\nawait r2 r0 r1\n";
+
+const ALLOCS: &str = "node 0\nset r1 8\nalloc r2 r1\n";
+
+/// A turn of a node, or a delivery to it, in which growths are refused.
+#[derive(Clone, Copy)]
+struct Growing<'a> {
+    me: u8,
+    /// Its program.
+    text: &'a str,
+    before: &'a [Step<'a>],
+    /// The string that comes. Where there is none, the node makes a turn.
+    comes: Option<Written<'a>>,
+    /// The string that it sends for it.
+    sends: Option<Written<'a>>,
+    /// What its program was answered after one more turn.
+    answers: &'a [Record],
+}
+
+/// The node before growths are refused.
+fn begun<A: Allocator + Copy>(rt: &impl Abort, alloc: A, growing: &Growing) -> Site<A> {
+    let mut site = node_of(rt, alloc, growing.me, growing.text);
+    make_all(rt, alloc, &mut site, growing.before);
+    site
+}
+
+/// Whether the nodes show the same, strings aside.
+fn same_sites<A: Allocator + Copy>(one: &Site<A>, other: &Site<A>) -> bool {
+    one.history() == other.history()
+        && one.output() == other.output()
+        && one.ended() == other.ended()
+        && one.events().len() == other.events().len()
+}
+
+/// A string comes to a node, or else it makes a turn.
+fn go_on<A: Allocator + Copy>(site: &mut Site<A>, comes: Option<&[u8]>) -> Result<(), Fault> {
+    match comes {
+        Some(bytes) => {
+            receive(site, bytes)?;
+        }
+        None => {
+            take_turn(site)?;
+        }
+    }
+    Ok(())
+}
+
+/// Both go on, the first with the n-th growth refused, and once more where it was asked for. Whether it was.
+fn go_on_at<A: Allocator + Copy>(
+    rt: &impl Abort,
+    memory: &Refusing<Global>,
+    n: u64,
+    comes: Option<&[u8]>,
+    site: &mut Site<A>,
+    twin: &mut Site<A>,
+) -> bool {
+    memory.refuse(n);
+    let fault = go_on(site, comes).err();
+    let met = is_met(rt, memory, n, fault);
+    if met {
+        assert!(rt; same_sites(site, twin), "growth {n}");
+        if comes.is_some() {
+            assert!(rt; take_turn(site) == take_turn(twin), "growth {n}");
+        }
+        expect_same_at(rt, n, go_on(site, comes), Ok(()));
+    }
+    expect_same_at(rt, n, go_on(twin, comes), Ok(()));
+    met
+}
+
+/// Asserts what the node sent, and what its program was answered after one more turn.
+fn check_site<A: Allocator + Copy>(
+    rt: &impl Abort,
+    alloc: A,
+    site: &mut Site<A>,
+    growing: &Growing,
+) {
+    if let Some(sends) = growing.sends {
+        expect_next(rt, alloc, site, sends);
+    }
+    take_turns(rt, site, 1);
+    expect_silent(rt, site);
+    assert!(rt; site.history() == growing.answers);
+}
+
+/// Both nodes sent and were answered what they have to, and show the same.
+fn check_both<A: Allocator + Copy>(
+    rt: &impl Abort,
+    alloc: A,
+    growing: &Growing,
+    site: &mut Site<A>,
+    twin: &mut Site<A>,
+) {
+    check_site(rt, alloc, site, growing);
+    check_site(rt, alloc, twin, growing);
+    assert!(rt; same_sites(site, twin));
+}
+
+/// The n-th growth of a memory is refused. Whether it was asked for. Sites take that memory as any allocator, by which
+/// they cost less proof.
+fn refused_at<A: Allocator + Copy>(
+    rt: &impl Abort,
+    (memory, alloc): (&Refusing<Global>, A),
+    n: u64,
+    growing: &Growing,
+    comes: Option<&[u8]>,
+) -> bool {
+    let mut site = begun(rt, alloc, growing);
+    refused_beside_twin(rt, (memory, alloc), n, growing, comes, &mut site)
+}
+
+/// The same of a node that has begun. It and its twin are held by two functions, which costs less
+/// proof than one.
+fn refused_beside_twin<A: Allocator + Copy>(
+    rt: &impl Abort,
+    (memory, alloc): (&Refusing<Global>, A),
+    n: u64,
+    growing: &Growing,
+    comes: Option<&[u8]>,
+    site: &mut Site<A>,
+) -> bool {
+    let mut twin = begun(rt, alloc, growing);
+    refused_in_one(rt, (memory, alloc), n, growing, comes, site, &mut twin)
+}
+
+/// The same of two nodes that have begun.
+fn refused_in_one<A: Allocator + Copy>(
+    rt: &impl Abort,
+    (memory, alloc): (&Refusing<Global>, A),
+    n: u64,
+    growing: &Growing,
+    comes: Option<&[u8]>,
+    site: &mut Site<A>,
+    twin: &mut Site<A>,
+) -> bool {
+    let met = go_on_at(rt, memory, n, comes, site, twin);
+    check_both(rt, alloc, growing, site, twin);
+    met
+}
+
+/// Refuses each growth in turn, until one is not asked for.
+fn refuse_each(
+    rt: &impl Abort,
+    memory: &Refusing<Global>,
+    growing: &Growing,
+    comes: Option<&[u8]>,
+) {
+    for n in 1..MANY {
+        if !refused_at(rt, (memory, memory), n, growing, comes) {
+            assert!(rt; n > 1);
+            return;
+        }
+    }
+    panic!(rt; "no end of growths");
+}
+
+fn growths_of(rt: &impl Abort, alloc: Global, growing: &Growing) {
+    let memory = Refusing::new(alloc);
+    let given = growing.comes.map(|written| string(rt, alloc, written));
+    refuse_each(rt, &memory, growing, given.as_deref());
+}
+
+/// A load faults: the request waits to be put on the wire.
+const TURN: Growing = Growing {
+    me: 1,
+    text: LOADS,
+    before: &[Step::Turns(1)],
+    comes: None,
+    sends: Some((REQUEST, None)),
+    answers: &[],
+};
+
+#[test]
+fn growths_of_a_turn(rt: HostRuntime) {
+    growths_of(&rt, rt.alloc(), &TURN);
+}
+
+/// The request comes to the owner.
+const REQUEST_COMES: Growing = Growing {
+    me: 0,
+    text: EMPTY,
+    before: &[],
+    comes: Some((REQUEST, None)),
+    sends: Some((REPLY, Some(0))),
+    answers: &[],
+};
+
+#[test]
+fn growths_of_a_request_that_comes(rt: HostRuntime) {
+    growths_of(&rt, rt.alloc(), &REQUEST_COMES);
+}
+
+const LOADED: [Record; 1] = [Record {
+    node: 1,
+    call: Call::Load { width: 8, addr: 64 },
+    reply: Reply::Value(0),
+}];
+
+const ADVANCED: [Record; 1] = [Record {
+    node: 0,
+    call: Call::Advance { k: 0 },
+    reply: Reply::Done,
+}];
+
+const ALLOCATED: Record = Record {
+    node: 0,
+    call: Call::Alloc { size: 8 },
+    reply: Reply::Value(64),
+};
+
+const AWAITED: [Record; 1] = [Record {
+    node: 0,
+    call: Call::Await { k: 0, least: 1 },
+    reply: Reply::Value(1),
+}];
+
+/// Node 1 at its load, and once it asked for the page.
+const LOADING: [Step; 3] = [Step::Turns(1), Step::Turns(1), Step::Sends((REQUEST, None))];
+
+/// The reply comes to the node that asked.
+const REPLY_COMES: Growing = Growing {
+    me: 1,
+    text: LOADS,
+    before: &LOADING,
+    comes: Some((REPLY, Some(0))),
+    sends: None,
+    answers: &LOADED,
+};
+
+#[test]
+fn growths_of_a_reply_that_comes(rt: HostRuntime) {
+    growths_of(&rt, rt.alloc(), &REPLY_COMES);
+}
+
+/// Node 0 advances a count of its own page.
+const ADVANCE: Growing = Growing {
+    me: 0,
+    text: ADVANCES,
+    before: &[],
+    comes: None,
+    sends: None,
+    answers: &ADVANCED,
+};
+
+#[test]
+fn growths_of_an_advance(rt: HostRuntime) {
+    growths_of(&rt, rt.alloc(), &ADVANCE);
+}
+
+/// Node 1 asks for the page to advance its count.
+const ADVANCE_ASKS: Growing = Growing {
+    me: 1,
+    text: ADVANCES,
+    before: &[],
+    comes: None,
+    sends: Some((COUNT_ASKS, None)),
+    answers: &[],
+};
+
+#[test]
+fn growths_of_an_advance_that_asks(rt: HostRuntime) {
+    growths_of(&rt, rt.alloc(), &ADVANCE_ASKS);
+}
+
+/// Node 0 is at an await that waits, and gives its page to node 1.
+const GIVING: [Step; 4] = [
+    Step::Turns(1),
+    Step::Turns(1),
+    Step::Comes((COUNT_ASKS, None), Ok(Verdict::Next)),
+    Step::Sends((COUNT_GETS, Some(0))),
+];
+
+/// Then it tries the await again, and asks for a copy.
+const WAITING: [Step; 6] = [
+    Step::Turns(1),
+    Step::Turns(1),
+    Step::Comes((COUNT_ASKS, None), Ok(Verdict::Next)),
+    Step::Sends((COUNT_GETS, Some(0))),
+    Step::Turns(1),
+    Step::Sends((RETRY_ASKS, None)),
+];
+
+/// The await is tried again, and asks for a copy.
+const AWAIT_TRIED: Growing = Growing {
+    me: 0,
+    text: AWAITS,
+    before: &GIVING,
+    comes: None,
+    sends: Some((RETRY_ASKS, None)),
+    answers: &[],
+};
+
+#[test]
+fn growths_of_an_await_tried_again(rt: HostRuntime) {
+    growths_of(&rt, rt.alloc(), &AWAIT_TRIED);
+}
+
+/// The copy comes, and the count is high enough.
+const ANSWER_COMES: Growing = Growing {
+    me: 0,
+    text: AWAITS,
+    before: &WAITING,
+    comes: Some((RETRY_GETS, Some(1))),
+    sends: None,
+    answers: &AWAITED,
+};
+
+#[test]
+fn growths_of_an_answer_to_an_await(rt: HostRuntime) {
+    growths_of(&rt, rt.alloc(), &ANSWER_COMES);
+}
+
+/// Node 0 gives itself a block.
+const ALLOC: Growing = Growing {
+    me: 0,
+    text: ALLOCS,
+    before: &[Step::Turns(1)],
+    comes: None,
+    sends: None,
+    answers: &[ALLOCATED],
+};
+
+#[test]
+fn growths_of_an_alloc(rt: HostRuntime) {
+    growths_of(&rt, rt.alloc(), &ALLOC);
+}
+
+/// Node 1 asks for a block.
+const ALLOC_OF_NODE_1: Growing = Growing {
+    me: 1,
+    text: ALLOCS,
+    before: &[Step::Turns(1)],
+    comes: None,
+    sends: Some((ALLOC_ASKS, None)),
+    answers: &[],
+};
+
+#[test]
+fn growths_of_an_alloc_that_asks(rt: HostRuntime) {
+    growths_of(&rt, rt.alloc(), &ALLOC_OF_NODE_1);
+}
+
+/// Node 0 is asked for it. Where it is refused, the block has its place again when it is asked once more.
+const ALLOC_COMES: Growing = Growing {
+    me: 0,
+    text: EMPTY,
+    before: &[],
+    comes: Some((ALLOC_ASKS, None)),
+    sends: Some((ALLOC_GETS, None)),
+    answers: &[],
+};
+
+#[test]
+fn growths_of_an_alloc_that_comes(rt: HostRuntime) {
+    growths_of(&rt, rt.alloc(), &ALLOC_COMES);
+}
+
+/// Node 0 is asked to end that block. Where it is refused, the block is still there to be ended.
+const FREE_COMES: Growing = Growing {
+    me: 0,
+    text: EMPTY,
+    before: &[
+        Step::Comes((ALLOC_ASKS, None), Ok(Verdict::Next)),
+        Step::Sends((ALLOC_GETS, None)),
+    ],
+    comes: Some((
+        "4956020901000011 0000000000000002 0000000000000001 01 0000000000000002 0000000000000040",
+        None,
+    )),
+    sends: Some((
+        "4956020a0001000a 0000000000000002 0000000000000001 01 0000000000000002 00",
+        None,
+    )),
+    answers: &[],
+};
+
+#[test]
+fn growths_of_a_free_that_comes(rt: HostRuntime) {
+    growths_of(&rt, rt.alloc(), &FREE_COMES);
+}
+
+/// The block comes to node 1.
+const BLOCK_COMES: Growing = Growing {
+    me: 1,
+    text: ALLOCS,
+    before: &[
+        Step::Turns(1),
+        Step::Turns(1),
+        Step::Sends((ALLOC_ASKS, None)),
+    ],
+    comes: Some((ALLOC_GETS, None)),
+    sends: None,
+    answers: &[Record {
+        node: 1,
+        ..ALLOCATED
+    }],
+};
+
+#[test]
+fn growths_of_a_block_that_comes(rt: HostRuntime) {
+    growths_of(&rt, rt.alloc(), &BLOCK_COMES);
+}
+
+/// Node 1, whose request is on the wire.
+fn asking<A: Allocator + Copy>(rt: &impl Abort, alloc: A) -> Site<A> {
+    let mut site = node_of(rt, alloc, 1, LOADS);
+    make_all(rt, alloc, &mut site, &LOADING);
+    site
+}
+
+/// How many calls of its program a node answered, and how many events it had.
+fn shown<A: Allocator + Copy>(site: &Site<A>) -> (usize, usize) {
+    (site.history().len(), site.events().len())
+}
+
+/// The request goes to the owner once more, and nothing else does.
+fn pulse_of<A: Allocator + Copy>(
+    rt: &impl Abort,
+    memory: &Refusing<Global>,
+    alloc: A,
+    n: u64,
+    site: &mut Site<A>,
+) -> bool {
+    let before = shown(site);
+    memory.refuse(n);
+    let fault = pulse(rt, site, 0).err();
+    let met = is_met(rt, memory, n, fault);
+    if met {
+        expect_same_at(rt, n, shown(site), before);
+        expect_same_at(rt, n, pulse(rt, site, 0), Ok(()));
+    }
+    expect_next(rt, alloc, site, (REQUEST, None));
+    expect_silent(rt, site);
+    met
+}
+
+/// The same where node 1 pulses, which sends its request again.
+fn pulse_at<A: Allocator + Copy>(
+    rt: &impl Abort,
+    memory: &Refusing<Global>,
+    alloc: A,
+    n: u64,
+) -> bool {
+    let mut site = asking(rt, alloc);
+    pulse_of(rt, memory, alloc, n, &mut site)
+}
+
+#[test]
+fn growths_of_a_pulse(rt: HostRuntime) {
+    let memory = Refusing::new(rt.alloc());
+    for n in 1..MANY {
+        if !pulse_at(&rt, &memory, &memory, n) {
+            assert!(&rt; n > 1);
+            return;
+        }
+    }
+    panic!(&rt; "no end of growths");
+}

@@ -1,0 +1,176 @@
+//! Each growth refused in turn where frames are written, read, sent and sent again, in the order checker
+//! and in a page table.
+use crate::sites::common::{MANY, PAIR, REPLY, is_met, string};
+use failing_alloc::Refusing;
+use ivy_model::{Call, Fault, Record, Reply, check_order};
+use ivy_pagetable::PageTable;
+use ivy_wire::{Content, Frame, Message, Parcel, decode, encode};
+use ivy_world::ivy_link::Link;
+use std::alloc::Global;
+use std::process::Abort;
+
+const PAGE: [u8; 64] = [7; 64];
+
+/// A call whose growths are refused.
+#[derive(Clone, Copy)]
+enum Growing {
+    Encode,
+    Decode,
+    Send,
+    Pulse,
+    CheckOrder,
+    PageTable,
+}
+
+/// A page for node 1.
+fn message() -> Message<&'static [u8]> {
+    Message {
+        origin: 1,
+        call: 1,
+        content: Content::ReadRep {
+            page: 1,
+            bytes: &PAGE,
+        },
+    }
+}
+
+/// Whether the frames are the same, in order.
+fn same_frames(one: &[Frame<&[u8]>], other: &[Frame<&[u8]>]) -> bool {
+    one == other
+}
+
+fn encode_at(rt: &impl Abort, memory: &Refusing<Global>, n: u64) -> bool {
+    let frame = Frame {
+        source: 0,
+        dest: 1,
+        number: 1,
+        ack: 0,
+        body: Some(message()),
+    };
+    PAIR.check().expect(rt, "a configuration");
+    assert!(rt; frame.fits(&PAIR));
+    memory.refuse(n);
+    let fault = encode(memory, &PAIR, &frame).err();
+    is_met(rt, memory, n, fault)
+}
+
+fn decode_at(rt: &impl Abort, memory: &Refusing<Global>, n: u64) -> bool {
+    let string = string(rt, memory, (REPLY, Some(0)));
+    PAIR.check().expect(rt, "a configuration");
+    memory.refuse(n);
+    let fault = decode(memory, &PAIR, &string).err();
+    is_met(rt, memory, n, fault)
+}
+
+/// A refused message is sent later, under the number that it would have had.
+fn send_at(rt: &impl Abort, memory: &Refusing<Global>, n: u64) -> bool {
+    let parcels = [Parcel {
+        source: 0,
+        dest: 1,
+        message: message(),
+    }];
+    let mut link = Link::new(memory, 0, 2).expect(rt, "memory");
+    let mut twin = Link::new(memory, 0, 2).expect(rt, "memory");
+    memory.refuse(n);
+    let fault = link.send(&parcels).err();
+    let met = is_met(rt, memory, n, fault);
+    if fault.is_some() {
+        let again = link.send(&parcels).expect(rt, "memory");
+        let sent = twin.send(&parcels).expect(rt, "memory");
+        assert!(rt; same_frames(&again, &sent), "growth {n}");
+    }
+    met
+}
+
+/// A refused pulse leaves all that is kept.
+fn pulse_at(rt: &impl Abort, memory: &Refusing<Global>, n: u64) -> bool {
+    let mut link = Link::new(memory, 0, 2).expect(rt, "memory");
+    let parcels = [Parcel {
+        source: 0,
+        dest: 1,
+        message: message(),
+    }];
+    let _ = link.send(&parcels).expect(rt, "memory");
+    memory.refuse(n);
+    let fault = link.pulse(1).err();
+    let met = is_met(rt, memory, n, fault);
+    let frames = link.pulse_frames(1).expect(rt, "memory");
+    assert!(rt; frames.len() == 1, "growth {n}");
+    met
+}
+
+const BLOCK: Record = Record {
+    node: 1,
+    call: Call::Alloc { size: 8 },
+    reply: Reply::Value(64),
+};
+
+fn check_order_at(rt: &impl Abort, memory: &Refusing<Global>, n: u64) -> bool {
+    PAIR.check().expect(rt, "a configuration");
+    memory.refuse(n);
+    let answer = check_order(memory, &PAIR, &[BLOCK]);
+    let met = is_met(rt, memory, n, answer.err());
+    assert!(rt; met || answer == Ok(true));
+    met
+}
+
+fn page_table_at(rt: &impl Abort, memory: &Refusing<Global>, n: u64) -> bool {
+    PAIR.check().expect(rt, "a configuration");
+    memory.refuse(n);
+    let fault = PageTable::new(memory, &PAIR, 0).err();
+    is_met(rt, memory, n, fault)
+}
+
+/// The call with the n-th growth refused. Whether that growth was asked for.
+fn refused_at(rt: &impl Abort, memory: &Refusing<Global>, n: u64, growing: Growing) -> bool {
+    match growing {
+        Growing::Encode => encode_at(rt, memory, n),
+        Growing::Decode => decode_at(rt, memory, n),
+        Growing::Send => send_at(rt, memory, n),
+        Growing::Pulse => pulse_at(rt, memory, n),
+        Growing::CheckOrder => check_order_at(rt, memory, n),
+        Growing::PageTable => page_table_at(rt, memory, n),
+    }
+}
+
+/// Refuses each growth in turn, until one is not asked for.
+fn growths_of(rt: &impl Abort, alloc: Global, growing: Growing) {
+    let memory = Refusing::new(alloc);
+    for n in 1..MANY {
+        if !refused_at(rt, &memory, n, growing) {
+            assert!(rt; n > 1);
+            return;
+        }
+    }
+    panic!(rt; "no end of growths");
+}
+
+#[test]
+fn growths_of_encode(rt: HostRuntime) {
+    growths_of(&rt, rt.alloc(), Growing::Encode);
+}
+
+#[test]
+fn growths_of_decode(rt: HostRuntime) {
+    growths_of(&rt, rt.alloc(), Growing::Decode);
+}
+
+#[test]
+fn growths_of_send(rt: HostRuntime) {
+    growths_of(&rt, rt.alloc(), Growing::Send);
+}
+
+#[test]
+fn growths_of_pulse(rt: HostRuntime) {
+    growths_of(&rt, rt.alloc(), Growing::Pulse);
+}
+
+#[test]
+fn growths_of_check_order(rt: HostRuntime) {
+    growths_of(&rt, rt.alloc(), Growing::CheckOrder);
+}
+
+#[test]
+fn growths_of_a_page_table(rt: HostRuntime) {
+    growths_of(&rt, rt.alloc(), Growing::PageTable);
+}

@@ -1,0 +1,164 @@
+//! One node that is handed strings, well spelled, forged and broken.
+ghost use Rattle.std.specs.Prelude.{◌<◌};
+
+use crate::sites::common::{LOADS, PAIR, REPLY, REQUEST, TRIO, string};
+use crate::sites::steps::{Step, play, play_owner};
+use ivy_model::Fault;
+use ivy_wire::FrameKind;
+use ivy_world::ivy_site::{Turn, Verdict};
+use std::alloc::Allocator;
+use std::process::Abort;
+
+/// Strings that come to node 0, and what it sends for them.
+const REFUSED: [Step; 14] = [
+    Step::Comes(
+        (
+            "495602010100000d 0000000000000001 0000000000000000 01 0000000000000001 000000",
+            None,
+        ),
+        Err(Fault::ShortFrame),
+    ),
+    Step::Comes(
+        (
+            "495602010100000d 0000000000000001 0000000000000000 01 0000000000000001 0000000100",
+            None,
+        ),
+        Err(Fault::BadBody),
+    ),
+    Step::Comes(("", None), Err(Fault::ShortFrame)),
+    Step::Comes(
+        (
+            "485602010100000d 0000000000000001 0000000000000000 01 0000000000000001 00000001",
+            None,
+        ),
+        Err(Fault::BadMagic),
+    ),
+    Step::Comes(
+        (
+            "495601010100000d 0000000000000001 0000000000000000 01 0000000000000001 00000001",
+            None,
+        ),
+        Err(Fault::BadVersion),
+    ),
+    Step::Comes(
+        (
+            "4956020b0100000d 0000000000000001 0000000000000000 01 0000000000000001 00000001",
+            None,
+        ),
+        Err(Fault::BadKind),
+    ),
+    Step::Comes(
+        (
+            "495602010200000d 0000000000000001 0000000000000000 01 0000000000000001 00000001",
+            None,
+        ),
+        Err(Fault::BadNode),
+    ),
+    Step::Comes(
+        (
+            "495602010000000d 0000000000000001 0000000000000000 01 0000000000000001 00000001",
+            None,
+        ),
+        Err(Fault::BadNode),
+    ),
+    Step::Comes(
+        (
+            "495602010100000d 0000000000000001 0000000000000000 01 0000000000000001 00000002",
+            None,
+        ),
+        Err(Fault::BadBody),
+    ),
+    Step::Comes(
+        (
+            "495602010100000d 0000000000000001 0000000000000000 02 0000000000000001 00000001",
+            None,
+        ),
+        Err(Fault::BadBody),
+    ),
+    Step::Comes((REQUEST, None), Ok(Verdict::Next)),
+    Step::Comes((REQUEST, None), Ok(Verdict::Repeat)),
+    Step::SendsKind(FrameKind::ReadRep, 0, 1),
+    Step::Silent,
+];
+
+#[test]
+fn refused_strings(rt: HostRuntime) {
+    play_owner(&rt, rt.alloc(), &PAIR, &REFUSED);
+}
+
+const LATER_REQUEST: &str =
+    "495602010200000d 0000000000000001 0000000000000000 02 0000000000000001 00000001";
+
+const REQUESTS: [Step; 5] = [
+    Step::Comes((LATER_REQUEST, None), Ok(Verdict::Next)),
+    Step::Comes((REQUEST, None), Ok(Verdict::Next)),
+    Step::SendsKind(FrameKind::ReadRep, 0, 2),
+    Step::SendsKind(FrameKind::ReadRep, 0, 1),
+    Step::Silent,
+];
+
+/// The strings of a site are taken out in the order in which they were made.
+#[test]
+fn order_of_strings(rt: HostRuntime) {
+    play_owner(&rt, rt.alloc(), &TRIO, &REQUESTS);
+}
+
+/// The request, with an acknowledgement of what was never sent.
+const FORGED_REQUEST: &str =
+    "495602010100000d 0000000000000001 0000000000000009 01 0000000000000001 00000001";
+
+const FORGED: [Step; 2] = [
+    Step::Comes((FORGED_REQUEST, None), Ok(Verdict::Next)),
+    Step::Sends((REPLY, Some(0))),
+];
+
+/// The reply answers it as it answers the request.
+#[test]
+fn forged_acknowledgement(rt: HostRuntime) {
+    play_owner(&rt, rt.alloc(), &PAIR, &FORGED);
+}
+
+/// What happens at node 1, which goes on to its end once the reply comes.
+const BEGINNINGS: [Step; 7] = [
+    Step::Turns(2),
+    Step::Beginnings((REPLY, Some(0))),
+    Step::Comes((REPLY, Some(0)), Ok(Verdict::Next)),
+    Step::Turn(Turn::Moved),
+    Step::Turn(Turn::Moved),
+    Step::Turn(Turn::Ended),
+    Step::Printed(&[0]),
+];
+
+/// Each beginning of the reply is too short, and the reply itself carries out the load.
+#[test]
+fn beginnings_of_a_string(rt: HostRuntime) {
+    play(&rt, rt.alloc(), 1, LOADS, &BEGINNINGS);
+}
+
+/// Turns one bit of the byte at this place.
+fn turn_bit(bytes: &mut [u8], place: usize, bit: u32)
+    requires { bit < 8 }
+{
+    if let Some(byte) = bytes.get_mut(place) {
+        *byte ^= 1 << bit;
+    }
+}
+
+/// A new node 0 takes each string that differs from this one in a bit of this byte, or refuses it
+/// as one that spells no frame.
+fn check_bits<A: Allocator + Copy>(rt: &impl Abort, alloc: A, bytes: &mut [u8], place: usize) {
+    for bit in 0..8 {
+        turn_bit(bytes, place, bit);
+        play_owner(rt, alloc, &PAIR, &[Step::Judged(bytes)]);
+        turn_bit(bytes, place, bit);
+    }
+}
+
+/// Each string that differs from the request in one bit is refused or taken, and the node goes on.
+#[test]
+fn altered_bits(rt: HostRuntime) {
+    let mut request = string(&rt, rt.alloc(), (REQUEST, None));
+    for place in 0..request.len() {
+        check_bits(&rt, rt.alloc(), &mut request, place);
+    }
+}

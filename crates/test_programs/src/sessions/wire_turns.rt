@@ -1,0 +1,136 @@
+//! Turns on the wire of two sites, one after the other, at an ether that holds one item.
+ghost use Rattle.std.specs.Prelude.{◌≡◌, ◌<◌, length, slice_get, Some, true};
+ghost use Rattle.ivy_model.specs.Config.{IsConfig};
+ghost use Rattle.ivy_commands.specs.ivy_ether.Rule.{times};
+ghost use Rattle.ivy_commands.specs.ivy_ether.Views.{with_issued};
+ghost use Rattle.ivy_commands.specs.ivy_ether.Words.{IsNewcomer};
+
+use crate::sessions::common::{TRIO, expect_same};
+use ivy_commands::ivy_ether::{Ether, Pass, Setup, Wired};
+use ivy_commands::ivy_session::{Seated, WireTurn};
+use ivy_commands::ivy_site::{Site, Turn};
+use ivy_model::{Config, Kind};
+use ivy_moves::ivy_link::Verdict;
+use ivy_program::{Program, parse};
+use std::alloc::Global;
+use std::marker::Brand;
+use std::process::Abort;
+use std::sync::Wait;
+use std::test::Fail;
+
+/// Three nodes under managing nodes.
+const FIXED_TRIO: Config = Config {
+    manager: Kind::Fixed,
+    ..TRIO
+};
+
+/// Node 1 asks node 0 for a block. Node 2 loads from page 1, whose managing node is node 1.
+const ASKS: &str = "\
+node 0
+node 1
+set r1 8
+alloc r2 r1
+node 2
+set r1 64
+load 8 r2 r1
+";
+
+/// Issues a node's seat, takes it, and seats the node's site.
+fn seat<'e, S: Setup, R: Wait + Abort>(
+    rt: &R,
+    alloc: Global,
+    ether: &'e Ether<S, Global>,
+    config: &Config,
+    starter: &mut Pass<Wired<Global>>,
+    pass: Pass<Wired<Global>>,
+    node: u8,
+    program: Program<Global>,
+) -> Seated<'e, S, Global>
+    requires config { config.now ≡ S.config }
+    requires limits { IsConfig config.now }
+    requires each { length S.programs ≡ config.now.nodes }
+    requires there { slice_get S.programs node ≡ Some program }
+    requires starter { (starter.old.ether ≡ ether.now) × (starter.old.known.starts ≡ true) }
+    requires pass { IsNewcomer ether.now pass }
+    requires node { node < length S.programs }
+    requires new { times node starter.old.known.issued ≡ 0 }
+    ensures starter { starter.new.ether ≡ starter.old.ether }
+    ensures issued { starter.new.known ≡ with_issued starter.old.known node }
+{
+    let mut pass = pass;
+    assert!(rt; ether.issue_seat(rt, starter, node));
+    assert!(rt; ether.take_seat(rt, &mut pass) == Some(node));
+    let site = Site::new(alloc, config, node, program).expect(rt, "memory");
+    Seated::new(ether, site, pass)
+}
+
+/// Two turns of a site's program: a register is set, and a call begins.
+fn begin<S: Setup>(rt: &impl Abort, site: &mut Seated<'_, S, Global>) {
+    for _ in 0..2 {
+        expect_same(rt, site.program_turn(), Ok(Turn::Moved));
+    }
+}
+
+/// One turn on the wire of a site, which is this one.
+fn expect_turn<S: Setup, R: Wait + Abort>(
+    rt: &R,
+    site: &mut Seated<'_, S, Global>,
+    wanted: WireTurn,
+) {
+    expect_same(rt, site.wire_turn(rt), Ok(wanted));
+}
+
+/// One turn on the wire after the other, of node 2 and then of node 1.
+fn turn_by_turn<S: Setup, R: Wait + Abort>(
+    rt: &R,
+    one: &mut Seated<'_, S, Global>,
+    two: &mut Seated<'_, S, Global>,
+) {
+    begin(rt, two);
+    begin(rt, one);
+    expect_same(rt, two.next_destination(), Some(1));
+    expect_turn(rt, two, WireTurn::Sent);
+    expect_same(rt, one.next_destination(), Some(0));
+    expect_turn(rt, one, WireTurn::Lost);
+    expect_turn(rt, two, WireTurn::Returned);
+    expect_turn(rt, one, WireTurn::Served(Verdict::Next));
+    expect_same(rt, one.next_destination(), Some(0));
+    expect_turn(rt, two, WireTurn::Empty);
+    expect_turn(rt, one, WireTurn::Sent);
+}
+
+/// Seats nodes 1 and 2, and makes the turns.
+fn play<S: Setup, R: Wait + Abort>(
+    rt: &R,
+    alloc: Global,
+    config: &Config,
+    programs: Vec<Program<Global>, Global>,
+) -> Result<(), Fail>
+    requires config { config.now ≡ S.config }
+    requires limits { IsConfig config.now }
+    requires programs { programs.items ≡ S.programs }
+    requires each { length programs.items ≡ config.now.nodes }
+    requires trio { length programs.items ≡ 3 }
+{
+    let mut programs = programs;
+    let (ether, mut passes) = Ether::<S, Global>::new(alloc, config, &programs, 1, 3)?;
+    let (Some(mut starter), Some(first), Some(second)) = (passes.pop(), passes.pop(), passes.pop())
+    else {
+        return Err("there are three passes".into());
+    };
+    let (Some(loads), Some(asks)) = (programs.pop(), programs.pop()) else {
+        return Err("there are three programs".into());
+    };
+    let mut one = seat(rt, alloc, &ether, config, &mut starter, first, 1, asks);
+    let mut two = seat(rt, alloc, &ether, config, &mut starter, second, 2, loads);
+    turn_by_turn(rt, &mut one, &mut two);
+    Ok(())
+}
+
+#[test]
+fn wire_turns_at_capacity_one(rt: HostRuntime) -> Result<(), Fail> {
+    let programs = parse(rt.alloc(), ASKS)?;
+    FIXED_TRIO.check()?;
+    assert!(&rt; programs.len() == 3);
+    play::<Brand, HostRuntime>(&rt, rt.alloc(), &FIXED_TRIO, programs)
+}

@@ -1,0 +1,97 @@
+//! `ivy_node`: a site, and a world.
+use crate::common::{LOADS, PAIR, expect_same};
+use ivy_model::Fault;
+use ivy_node::{Move, Rest, Site, Turn, Verdict, World, parse};
+use std::alloc::Global;
+use std::process::Abort;
+
+/// Whether a turn changed anything.
+fn is_event(turn: Turn) -> bool {
+    match turn {
+        Turn::Moved => true,
+        Turn::Idle | Turn::Ended => false,
+    }
+}
+
+/// The node that a move is made at.
+fn node_of(step: Move) -> u64 {
+    match step {
+        Move::Turn(node) => node,
+        Move::Deliver { index: _, to } => to,
+        Move::Pulse { from, to: _ } => from,
+    }
+}
+
+/// Node 1, which loads.
+fn site_of_node_1(rt: &(impl Abort + AllocGlobal)) -> Site<Global> {
+    let mut programs = parse(rt.alloc(), LOADS).expect(rt, "programs");
+    let program = programs.pop().expect(rt, "a program");
+    Site::new(rt.alloc(), &PAIR, 1, program).expect(rt, "memory")
+}
+
+/// A turn of its program. Of all that is promised of it, callers need nothing.
+fn take_turn(site: &mut Site<Global>) -> Result<Turn, Fault> {
+    site.program_turn()
+}
+
+/// Its own string comes back to it, and it pulses to the other node.
+fn hear_and_pulse(rt: &impl Abort, site: &mut Site<Global>) {
+    let string = site.take_frame().expect(rt, "a string");
+    expect_same(rt, site.deliver(string.bytes()), Ok(Verdict::NotMine));
+    assert!(rt; 0 < site.config().nodes && 0 != site.me());
+    expect_same(rt, site.pulse(0), Ok(()));
+    expect_same(rt, site.breaches(), 0);
+}
+
+#[test]
+fn a_site(rt: HostRuntime) {
+    let mut site = site_of_node_1(&rt);
+    for _ in 0..2 {
+        assert!(rt; is_event(take_turn(&mut site).expect(&rt, "memory")));
+    }
+    hear_and_pulse(&rt, &mut site);
+}
+
+/// Node 1 asks, is answered, and has loaded. Its pulse asks once more, which is no message more.
+const MOVES: [Move; 7] = [
+    Move::Turn(1),
+    Move::Turn(1),
+    Move::Deliver { index: 0, to: 0 },
+    Move::Deliver { index: 1, to: 1 },
+    Move::Turn(1),
+    Move::Turn(1),
+    Move::Pulse { from: 1, to: 0 },
+];
+
+/// Makes the moves of a world. Of all that is promised of it, callers need nothing.
+fn play(world: &mut World<Global>, moves: &[Move]) -> Result<(), (usize, Fault)> {
+    world.run(moves)
+}
+
+/// Lets a world settle, with as few moves.
+fn settle(world: &mut World<Global>) -> Result<Rest, (u64, Fault)> {
+    world.settle(100)
+}
+
+/// That a node has ended, was answered once, and printed 0.
+fn expect_loaded(rt: &impl Abort, world: &World<Global>, node: u64) {
+    assert!(rt; node < world.nodes());
+    expect_same(rt, world.output(node), [0].as_slice());
+    expect_same(rt, world.history(node).len(), 1);
+    assert!(rt; world.ended(node));
+}
+
+#[test]
+fn a_world(rt: HostRuntime) {
+    let programs = parse(rt.alloc(), LOADS).expect(&rt, "programs");
+    let mut world = World::new(rt.alloc(), PAIR, programs).expect(&rt, "a world");
+    expect_same(&rt, play(&mut world, &MOVES), Ok(()));
+    expect_same(
+        &rt,
+        play(&mut world, &[Move::Turn(2)]),
+        Err((0, Fault::NoSuchFrame)),
+    );
+    expect_same(&rt, settle(&mut world), Ok(Rest::Still));
+    expect_same(&rt, world.sent().len(), 3);
+    expect_loaded(&rt, &world, node_of(MOVES[0]));
+}

@@ -1,0 +1,272 @@
+# shellcheck shell=bash
+# Functions of the script `ivy`, which prove the crates that its program needs, several side by side.
+#
+# `rt` locks a crate and all below it, so of two checks over one library the second would wait. Here
+# each check has a room instead: a root of its own, with the crate and the libraries below it. What it
+# made goes back to the crate's folder, where `rt` finds it. The script sets `root`.
+
+crates=$root/crates
+# How many crates are to be proved, and how many are.
+all=0
+proved=0
+
+say() {
+    echo "ivy: $*" >&2
+}
+
+fail() {
+    say "$@"
+    exit 4
+}
+
+tell_proved() {
+    proved=$((proved + 1))
+    say "$1 ($proved of $all, $((SECONDS / 60)) min)"
+}
+
+# `rt ci` stops at a second crates.txt, but does not look below .git.
+rooms=$crates/ivy/out/rooms
+[[ ! -d $root/.git ]] || rooms=$root/.git/ivy-rooms
+
+# Of each crate: its line in crates.txt, the crates of the repository that this names, and all below
+# it, each after those that it names.
+declare -A line=() uses=() below=()
+
+read_list() {
+    local text name word
+    while read -r text || [[ -n $text ]]; do
+        text=${text%%#*}
+        [[ -z $text ]] || line[${text%%[ :]*}]=$text
+    done <"$root/crates.txt"
+    for name in "${!line[@]}"; do
+        uses[$name]=
+        for word in ${line[$name]#*:}; do
+            [[ -z ${line[$word]-} ]] || uses[$name]+=" $word"
+        done
+    done
+}
+
+find_below() {
+    local used it found=" "
+    [[ -z ${below[$1]-} ]] || return 0
+    for used in ${uses[$1]}; do
+        find_below "$used"
+        for it in ${below[$used]} "$used"; do
+            [[ $found == *" $it "* ]] || found+="$it "
+        done
+    done
+    below[$1]=$found
+}
+
+# Whether a file is newer than all sources of a crate and of those below it.
+is_newest() {
+    local it folders=()
+    [[ -f $1 && ! $root/crates.txt -nt $1 ]] || return 1
+    for it in ${below[$2]} "$2"; do
+        folders+=("$crates/$it")
+    done
+    [[ -z $(find "${folders[@]}" -name out -prune -o -type f -newer "$1" -print -quit) ]]
+}
+
+# The sum of all that a check of a crate reads: the kit, and below a root the sources of the crate and
+# of those below it. It is kept beside what was built, which `rt` removes with all that lies there
+# before it builds anew.
+sum_of() {
+    local it part folders=()
+    {
+        echo "$kit"
+        for it in ${below[$2]} "$2"; do
+            echo "${line[$it]}"
+            for part in src specs proofs; do
+                [[ ! -d $1/crates/$it/$part ]] || folders+=("crates/$it/$part")
+            done
+        done
+        cd "$1"
+        find "${folders[@]}" -type f -print0 | LC_ALL=C sort -z | xargs -0 sha256sum
+    } | sha256sum
+}
+
+is_built() {
+    local kept=$crates/$1/out/rlib/sum
+    [[ -f $kept && $(<"$kept") == "$(sum_of "$root" "$1")" ]]
+}
+
+# The processors that this process may use, or fewer by the quota of its group.
+processors() {
+    local found quota=max period=1
+    found=$(nproc)
+    [[ ! -r /sys/fs/cgroup/cpu.max ]] || read -r quota period </sys/fs/cgroup/cpu.max
+    [[ $quota == max ]] || ((quota / period >= found)) || found=$((quota / period))
+    echo $((found > 0 ? found : 1))
+}
+
+# The gigabytes of memory that are free, on the machine and for the process's group.
+free_memory() {
+    local found most=max used
+    found=$(awk '/^MemAvailable:/ { print int($2 / 1000000) }' /proc/meminfo)
+    [[ ! -r /sys/fs/cgroup/memory.max ]] || read -r most </sys/fs/cgroup/memory.max
+    if [[ $most != max ]]; then
+        used=$(awk '$1 == "anon" { print $2 }' /sys/fs/cgroup/memory.stat)
+        most=$(((most - used) / 1000000000))
+        ((most >= found)) || found=$most
+    fi
+    echo "$found"
+}
+
+# The lines of code of a crate.
+lines_of() {
+    find "$crates/$1/src" -type f -exec cat {} + | wc -l
+}
+
+# A crate with fewer is lemmas alone, or little else.
+few_lines=120
+
+# How many jobs the check of a crate may have. Each job begins with all that lies below, so where there
+# is little code four jobs take twice the processor time of one, and no less by the clock.
+jobs_of() {
+    if (($(lines_of "$1") < few_lines)); then
+        echo 1
+    else
+        echo "$jobs"
+    fi
+}
+
+# The length of the longest way from a crate up to the program, in lines of code, of the crates that
+# are to be proved. The lines of proofs say little of how long a check takes.
+declare -A way=()
+
+# Takes those crates, each after those below it.
+find_ways() {
+    local list=("$@") at crate used lines
+    for ((at = ${#list[@]} - 1; at >= 0; at--)); do
+        crate=${list[at]}
+        lines=$(lines_of "$crate")
+        # A check also has to begin, which takes as long as about a hundred lines.
+        way[$crate]=$((${way[$crate]-0} + lines + 100))
+        for used in ${below[$crate]}; do
+            ((${way[$used]-0} >= way[$crate])) || way[$used]=${way[$crate]}
+        done
+    done
+}
+
+# A room has the sources as they are now, the libraries below as links, and what an earlier check of
+# the crate kept.
+make_room() {
+    local room=$rooms/$1 it part
+    mkdir -p "$room"
+    for it in ${below[$1]} "$1"; do
+        echo "${line[$it]}"
+        mkdir -p "$room/crates/$it"
+        for part in src specs proofs; do
+            [[ ! -d $crates/$it/$part ]] || cp -a "$crates/$it/$part" "$room/crates/$it/"
+        done
+        if [[ $it != "$1" ]]; then
+            mkdir "$room/crates/$it/out"
+            cp -al "$crates/$it/out/rlib" "$room/crates/$it/out/"
+        fi
+    done >"$room/crates.txt"
+    [[ ! -d $crates/$1/out ]] || mv "$crates/$1/out" "$room/crates/$1/out"
+}
+
+# Gives a crate back what its room holds of it.
+clear_room() {
+    local room=$rooms/$1
+    if [[ -d $room/crates/$1/out && ! -e $crates/$1/out ]]; then
+        mv "$room/crates/$1/out" "$crates/$1/out"
+    fi
+    rm -rf "$room"
+}
+
+# Also clears what an earlier call left that was killed.
+clear_rooms() {
+    local room
+    for room in "$rooms"/*/; do
+        [[ ! -d $room ]] || clear_room "$(basename "$room")"
+    done
+    rm -rf "$rooms"
+}
+
+# The process of each crate that is being proved.
+declare -A running=()
+
+# Starts the check of a crate with so many jobs. The higher the third word, the more it leaves to others.
+start() {
+    make_room "$1"
+    (
+        cd "$rooms/$1/crates/$1"
+        exec nice -n "$3" rt lib --jobs "$2"
+    ) </dev/null >"$rooms/$1/log" 2>&1 &
+    running[$1]=$!
+}
+
+stop_running() {
+    local crate
+    for crate in "${!running[@]}"; do
+        kill "${running[$crate]}" 2>/dev/null || true
+    done
+    wait
+}
+
+# How many checks run side by side, and how many jobs each may have: a check takes 1 to 4 GB.
+plan() {
+    local memory
+    memory=$(free_memory)
+    jobs=$(processors)
+    places=$((memory / 4 < jobs ? memory / 4 : jobs))
+    ((places > 0)) || places=1 jobs=1
+    ((jobs <= 4)) || jobs=4
+}
+
+# Proves crates, given each after those below it.
+prove() {
+    local crate left=()
+    local -A open=()
+    find_ways "$@"
+    for crate; do
+        open[$crate]=yes
+    done
+    mapfile -t left < <(for crate; do echo "${way[$crate]} $crate"; done | sort -rn | cut -d ' ' -f 2)
+    while ((${#open[@]})); do
+        start_ready
+        sleep 0.2
+        end_ended
+    done
+}
+
+# Starts what can begin, the longest way first. A crate near the longest way of those that are not proved
+# may have many jobs, and there is always a place for it. One far from it has one job, and takes what time
+# the others leave.
+start_ready() {
+    local crate it first=
+    for crate in "${left[@]}"; do
+        [[ ${open[$crate]-} ]] || continue
+        first=${first:-$crate}
+        [[ -z ${running[$crate]-} ]] || continue
+        for it in ${below[$crate]}; do
+            [[ -z ${open[$it]-} ]] || continue 2
+        done
+        if ((way[$crate] * 10 >= way[$first] * 9)); then
+            ((${#running[@]} >= places)) || start "$crate" "$(jobs_of "$crate")" 0
+        else
+            ((${#running[@]} > 0 && ${#running[@]} >= places - 1)) || start "$crate" 1 5
+        fi
+    done
+}
+
+# Takes what has ended. A crate that is refused ends all, with its log.
+end_ended() {
+    local crate status
+    for crate in "${!running[@]}"; do
+        ! kill -0 "${running[$crate]}" 2>/dev/null || continue
+        status=0
+        wait "${running[$crate]}" || status=$?
+        unset "running[$crate]" "open[$crate]"
+        if ((status != 0)); then
+            cat "$rooms/$crate/log" >&2
+            fail "$crate is not proved, so the program could not be built"
+        fi
+        sum_of "$rooms/$crate" "$crate" >"$rooms/$crate/crates/$crate/out/rlib/sum"
+        clear_room "$crate"
+        tell_proved "$crate is proved"
+    done
+}
