@@ -245,7 +245,7 @@ start_ready() {
         for it in ${below[$crate]}; do
             [[ -z ${open[$it]-} ]] || continue 2
         done
-        if ((way[$crate] * 10 >= way[$first] * 9)); then
+        if ((way[$crate] * 4 >= way[$first] * 3)); then
             ((${#running[@]} >= places)) || start "$crate" "$(jobs_of "$crate")" 0
         else
             ((${#running[@]} > 0 && ${#running[@]} >= places - 1)) || start "$crate" 1 5

@@ -12,39 +12,15 @@ use Rattle.ivy_model.specs.declared.Record.{Record}
 use Rattle.ivy_model.specs.Legal.{Legal}
 use Rattle.ivy_program.specs.declared.Instruction.{Instruction}
 use Rattle.ivy_program.specs.Texts.{SpellsText}
-use Rattle.ivy_moves.specs.declared.Move.{Move}
-use Rattle.ivy_moves.specs.Worlds.{World}
-use Rattle.ivy_world.specs.ivy_host.Hosts.{Host}
-use Rattle.ivy_world.specs.ivy_host.Managers.{Managed, managed_ops}
-use Rattle.ivy_world.specs.ivy_host.Openings.{opening}
-use Rattle.ivy_world.specs.proof_headline.Reached.{IsLedTo}
 use Rattle.ivy_session.specs.Faults.{IsSessionFault}
 use Rattle.ivy_session.specs.Reports.{NodeReport, IsReport}
-use Rattle.ivy_arguments.specs.ivy_texts.Drawn.{seeded}
 use Rattle.ivy_arguments.specs.ivy_texts.Lines.{verdict_line}
-use Rattle.ivy_arguments.specs.ivy_texts.Spelled.{SpellsOrder, SpellsSchedule}
+use Rattle.ivy_arguments.specs.ivy_texts.Spelled.{SpellsOrder}
 use Rattle.ivy_arguments.specs.ivy_texts.declared.order.Sizes.{Sizes}
+use Rattle.ivy_simulation.specs.Nodes.{outputs_text}
+use Rattle.ivy_simulation.specs.Played.{PrintsDrawn, PrintsSchedule, config_of}
 use Rattle.ivy_commands.specs.declared.failure.Failure.{Failure}
 use Rattle.ivy_commands.specs.declared.failure.Failure.TheVariants.{BadCommandLine, CannotRead, Refused, Unwritten}
-use Rattle.ivy_commands.specs.Nodes.{outputs_text, outputs_of, ends_text}
-use Rattle.ivy_commands.specs.Simulated.{DrawnTo}
-
--- the configuration of the settings, for so many nodes
-abbrev pub config_of : Settings → ℕ → Config
-config_of s nodes =
-    record { nodes = nodes; pages = s.pages; page_size = s.page_size; manager = s.manager }
-
--- what the programs of a world printed, and which of them have ended
-abbrev pub world_text : World (Host Managed) → List ℕ
-world_text w = outputs_text (outputs_of w.nodes) ++ ends_text w.nodes
-
--- something was printed
-abbrev pub Adds : Option (List ℕ) → Option (List ℕ) → Type 0
-Adds old new = (text : List ℕ) × Appends old new text
-
--- something and then this text was printed
-abbrev pub AddsLast : Option (List ℕ) → Option (List ℕ) → List ℕ → Type 0
-AddsLast old new last = (text : List ℕ) × Appends old new (text ++ last)
 
 module _ (c : Config) (programs : List (List Instruction)) (old new : Option (List ℕ)) where
   -- a session of these programs has ended, and what its report says that they printed was printed
@@ -52,28 +28,6 @@ module _ (c : Config) (programs : List (List Instruction)) (old new : Option (Li
     pub report : List NodeReport
     pub is : IsReport c programs report
     pub printed : Appends old new (outputs_text (map (λ (n : NodeReport). n.output) report))
-
-  -- the moves led from the opening of these programs to a world, and after some trace its text was
-  -- printed
-  pub record PrintsMoves (moves : List Move) : Type 0 where
-    pub end : World (Host Managed)
-    pub led : IsLedTo c (opening managed_ops c programs) moves end
-    pub printed : AddsLast old new (world_text end)
-
-  -- so many moves that the seed draws led from the opening of these programs to a world, and its
-  -- text was printed
-  pub record PrintsDrawn (seed moves : ℕ) : Type 0 where
-    pub end : World (Host Managed)
-    pub drawn : DrawnTo c (seeded seed) moves (opening managed_ops c programs) end
-    pub printed : Appends old new (world_text end)
-
--- the moves that the text says led from the opening of these programs to a world, and after some
--- trace its text was printed
-pub record PrintsSchedule (c : Config) (programs : List (List Instruction)) (text : List ℕ)
-    (old new : Option (List ℕ)) : Type 0 where
-  pub moves : List Move
-  pub said : SpellsSchedule text moves
-  pub made : PrintsMoves c programs old new moves
 
 -- the configuration of the sizes of an order; whether it is legal does not depend on the manager
 abbrev pub config_of_sizes : Sizes → Config

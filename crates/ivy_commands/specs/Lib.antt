@@ -1,4 +1,2 @@
 pub mod Commands
-pub mod Nodes
-pub mod Simulated
 pub use Rattle.ivy_session.specs.ivy_ether as ivy_ether

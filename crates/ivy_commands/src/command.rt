@@ -4,18 +4,17 @@ ghost use Rattle.std.specs.Io.KnownBytes.{Appends};
 ghost use Rattle.ivy_model.specs.Config.{IsConfig};
 ghost use Rattle.ivy_model.specs.Legal.{Legal};
 ghost use Rattle.ivy_arguments.specs.ivy_texts.Lines.{verdict_line};
-ghost use Rattle.ivy_commands.specs.Commands.{config_of, final_status, AreSpelled, IsCarriedOut, IsRequestDone, IsSessionFailure, PrintsDrawn, PrintsMoves, PrintsSchedule, PrintsSession, PrintsVerdict};
+ghost use Rattle.ivy_commands.specs.Commands.{config_of, final_status, AreSpelled, IsCarriedOut, IsRequestDone, IsSessionFailure, PrintsSession, PrintsVerdict};
 
 use crate::failure::Failure;
-use crate::print::{print_outputs, print_world};
-use crate::simulation::run_drawn;
+use crate::print::Reported;
 use crate::texts::Texts;
-use crate::trace::trace_moves;
 use ivy_arguments::Request;
-use ivy_arguments::ivy_texts::{Settings, parse_order, parse_schedule, print_verdict};
+use ivy_arguments::ivy_texts::{Settings, parse_order, print_verdict};
 use ivy_model::{Config, Kind, Record, check_order};
+use ivy_program::{Program, parse};
 use ivy_session::{Limits, OpenGate, Session};
-use ivy_world::{Move, Program, World, parse};
+use ivy_simulation::{print_outputs, sim, step};
 use std::alloc::Global;
 use std::io::{self, Write};
 use std::sync::Wait;
@@ -56,56 +55,7 @@ fn run<'a, R: Threads + Wait + Sync, W: Write>(
 {
     let config = settings.config(programs.len())?;
     let report = Session::run(rt, alloc, config, programs, limits, &OpenGate)?;
-    print_outputs(&report, out)?;
-    Ok(())
-}
-
-/// Runs programs by moves, and prints each move and what they printed.
-fn trace<'a, W: Write>(
-    alloc: Global,
-    programs: Vec<Program<Global>>,
-    moves: &[Move],
-    settings: Settings,
-    out: &mut W,
-) -> Result<(), Failure<'a>>
-    ensures { OnOk result (PrintsMoves (config_of settings (length programs.items)) programs.items (W.contents out.old) (W.contents out.new) moves.now) }
-{
-    let config = settings.config(programs.len())?;
-    let mut world = World::new(alloc, config, programs)?;
-    trace_moves(&config, &mut world, moves, out)?;
-    print_world(&world, out)?;
-    Ok(())
-}
-
-/// Runs programs by the schedule of a text, and prints each move and what they printed.
-fn step<'a, W: Write>(
-    alloc: Global,
-    programs: Vec<Program<Global>>,
-    schedule: &str,
-    settings: Settings,
-    out: &mut W,
-) -> Result<(), Failure<'a>>
-    ensures { OnOk result (PrintsSchedule (config_of settings (length programs.items)) programs.items schedule.now (W.contents out.old) (W.contents out.new)) }
-{
-    let moves = parse_schedule(alloc, schedule)?;
-    trace(alloc, programs, &moves, settings, out)
-}
-
-/// Runs programs by moves that the generator of a seed draws, and prints what they printed.
-fn sim<'a, W: Write>(
-    alloc: Global,
-    programs: Vec<Program<Global>>,
-    seed: u64,
-    moves: u64,
-    settings: Settings,
-    out: &mut W,
-) -> Result<(), Failure<'a>>
-    ensures { OnOk result (PrintsDrawn (config_of settings (length programs.items)) programs.items (W.contents out.old) (W.contents out.new) seed moves) }
-{
-    let config = settings.config(programs.len())?;
-    let mut world = World::new(alloc, config, programs)?;
-    run_drawn(&config, &mut world, seed, moves)?;
-    print_world(&world, out)?;
+    print_outputs(&Reported(&report), out)?;
     Ok(())
 }
 

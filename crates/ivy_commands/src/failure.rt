@@ -4,6 +4,7 @@ ghost use Rattle.ivy_commands.specs.Commands.{failure_status};
 
 use ivy_arguments::CommandLineError;
 use ivy_model::Fault;
+use ivy_simulation::Halt;
 use std::alloc::AllocError;
 use std::fmt;
 use std::io::{self, Write};
@@ -81,6 +82,15 @@ impl From<io::Error> for Failure<'_> {
 
     fn from(_error: io::Error) -> Self {
         Failure::Unwritten
+    }
+}
+
+impl From<Halt> for Failure<'_> {
+    fn from(halt: Halt) -> Self {
+        match halt {
+            Halt::Refused(fault) => Failure::Refused(fault),
+            Halt::Unwritten => Failure::Unwritten,
+        }
     }
 }
 

@@ -9,17 +9,14 @@
 
 mod command;
 mod failure;
-mod moves;
 mod print;
-mod simulation;
 mod texts;
-mod trace;
 
 pub use command::perform;
 pub use failure::Failure;
 pub use ivy_arguments::ivy_texts;
 pub use ivy_session;
 pub use ivy_session::ivy_ether;
-pub use ivy_world;
-pub use ivy_world::ivy_site;
+pub use ivy_simulation;
+pub use ivy_simulation::{ivy_site, ivy_world};
 pub use texts::{FilesOf, Texts};

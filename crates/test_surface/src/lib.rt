@@ -10,9 +10,9 @@
 #![tactic(auto)]
 
 #[cfg(test)]
-mod commands;
-#[cfg(test)]
 mod common;
+#[cfg(test)]
+mod draws;
 #[cfg(test)]
 mod ether;
 #[cfg(test)]

@@ -1,5 +1,0 @@
-use Rattle.ivy_commands.specs.Commands.{Adds}
-use Rattle.ivy_commands.proofs.trace.trace_sent.Given as goal
-
-abbrev pub invariant-loop-index : goal.invariant-loop-index
-invariant-loop-index g l = Adds (g.W.Write.contents l.initial.out) (g.W.Write.contents l.out)

@@ -1,0 +1,17 @@
+-- Worlds that go on by drawn moves.
+use Rattle.std.specs.Prelude.{◌≡◌, ℕ, zero, suc, [], ◌∷◌}
+use Rattle.rand_pcg.specs.Lcg.{Lcg}
+use Rattle.ivy_model.specs.declared.Config.{Config}
+use Rattle.ivy_moves.specs.Worlds.{World}
+use Rattle.ivy_world.specs.ivy_host.Hosts.{Host}
+use Rattle.ivy_world.specs.ivy_host.Managers.{Managed}
+use Rattle.ivy_world.specs.proof_headline.Reached.{IsLedTo}
+use Rattle.ivy_texts.specs.Drawn.{drawn}
+
+-- so many moves lead from one world to another, each drawn over the strings that were sent before
+-- it
+abbrev pub DrawnTo : Config → Lcg → ℕ → World (Host Managed) → World (Host Managed) → Type 0
+DrawnTo c g zero w end = end ≡ w
+DrawnTo c g (suc more) w end =
+    (mid : World (Host Managed)) × IsLedTo c w ((drawn c.nodes w.sent g).0 ∷ []) mid
+    × DrawnTo c (drawn c.nodes w.sent g).1 more mid end
