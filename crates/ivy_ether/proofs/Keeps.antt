@@ -19,10 +19,10 @@ use Rattle.ivy_moves.specs.Worlds.{World}
 use Rattle.ivy_moves.proofs.Splitting.{none-in, can-more}
 use Rattle.ivy_ether.specs.Data.{Item}
 use Rattle.ivy_ether.specs.declared.item.Item.TheVariants.{Seat, Frame, Report}
-use Rattle.ivy_ether.specs.Views.{View, newcomer, beginner, with_put, with_taken, with_report, with_issued, with_seat, with_told}
-use Rattle.ivy_ether.specs.Items.{strings_in, after_seat, view_after_told}
+use Rattle.ivy_ether.specs.Views.{View, newcomer, beginner, with_put, with_taken, with_report, with_issued, with_seat, with_told, after_seat, view_after_told}
+use Rattle.ivy_ether.specs.Items.{strings_in}
 use Rattle.ivy_ether.specs.Going.{ListGoesOn, Sends, AreFurther}
-use Rattle.ivy_ether.specs.Rule.{total, one_if, is_number, sits, seat_in, times, Reported, FitsRun, FitsItem, RuleHolds, RuleKept, RuleAllows, ListSends, RuleTold}
+use Rattle.ivy_ether.specs.Rule.{total, one_if, is_number, sits, seat_in, times, Reported, FitsRun, FitsItem, RuleHolds, RuleKept, RuleAllows, ListSends, RuleRuns, RuleTold}
 use Rattle.ivy_ether.proofs.Further.{lists_go_on}
 use Rattle.ivy_ether.proofs.Totals.{total_set, total-append, total_one, total_two, in_list}
 
@@ -84,17 +84,18 @@ off : false ≡ true → ⊥
 off e = true≢false (sym e)
 
 -- what a pass knows after a step with a list
-abbrev gave : View → List Mark → List (List ℕ) → List (List ℕ) → Bool → View
-gave v es took put rep = record v { events = es; took = took; put = put; reported = rep }
+abbrev gave : View → List Mark → List (List ℕ) → List (List ℕ) → List Item → Bool → View
+gave v es took put items rep =
+    record v { events = es; took = took; put = put; items = items; reported = rep }
 
 -- the lists with this one for node i
-abbrev with_list : (ℕ → List Mark) → ℕ → List Mark → ℕ → List Mark
+abbrev pub with_list : (ℕ → List Mark) → ℕ → List Mark → ℕ → List Mark
 with_list parts i es j = if i == j then es else parts j
 
-list_here : (parts : ℕ → List Mark) (i j : ℕ) (es : List Mark) → i ≡ j → with_list parts i es j ≡ es
+pub list_here : (parts : ℕ → List Mark) (i j : ℕ) (es : List Mark) → i ≡ j → with_list parts i es j ≡ es
 list_here parts i j es same = ap (λ b. if b then es else parts j) (eq-eqb i j same)
 
-list_else : (parts : ℕ → List Mark) (i j : ℕ) (es : List Mark) → i ≢ j
+pub list_else : (parts : ℕ → List Mark) (i j : ℕ) (es : List Mark) → i ≢ j
     → with_list parts i es j ≡ parts j
 list_else parts i j es apart = ap (λ b. if b then es else parts j) (ne_eqb i j apart)
 
@@ -123,47 +124,48 @@ module _ {C : Type 0} (rules : Core C) (c : Config) (opening : World C) where
 
   advance : (items : List Item) (views : List View) (starter : ℕ) (issued : List ℕ)
       (parts : ℕ → List Mark) (end : World C) (p : ℕ) (v : View) (es : List Mark)
-      (took put : List (List ℕ)) (rep : Bool)
+      (took put : List (List ℕ)) (given : List Item) (rep : Bool)
       (k : RuleHolds rules c opening items views starter issued parts end)
       (at : get_elem? views p ≡ some v) (may : RuleAllows rules c opening v es)
       → ((s : List ℕ) → Contains took s → Contains end.sent s)
-      → Advanced views starter issued end p (gave v es took put rep) may.node es
-  advance items views starter issued parts end p v es took put rep k at may took_sent = record {
-    parts = parts_;
-    end = law.0;
-    run = law.1.run;
-    more = law.1.before;
-    own = λ s sends. law.1.sent i s
-        (subst (λ l. Sends rules c opening i l s) (sym (list_here parts i i es refl)) sends);
-    seats = seats_;
-    fresh = λ j none. list_else parts i j es (apart_from j none)
-        ∙ k.fresh j (sym (seats_ j) ∙ none);
-    stays = stays_;
-    fits = fits_set (λ q u. FitsRun rules c opening starter issued parts_ law.0 views' q u) views p w
-        (λ q u n e. let f = k.fits q u e in record {
-          starts = f.starts;
-          sitting = λ j node. (
-            (f.sitting j node).0,
-            list_else parts i j es (others q u j n e node) ∙ (f.sitting j node).1,
-          );
-          took = λ s contained. law.1.before s (f.took s contained);
-          reports = λ j l contained. stays_ j l (f.reports j l contained);
-        })
-        record {
-          starts = mine.starts;
-          sitting = λ j node.
-              let same : i ≡ j = same_Some i j (sym may.sits ∙ node) in
-              (subst (λ x. x < length opening.nodes) same sit.0, list_here parts i j es same);
-          took = λ s contained. law.1.before s (took_sent s contained);
-          reports = λ j l contained. stays_ j l (mine.reports j l contained);
-        };
-  }
+      → Advanced views starter issued end p (gave v es took put given rep) may.node es
+  advance items views starter issued parts end p v es took put given rep k at may took_sent =
+      record {
+        parts = parts_;
+        end = law.0;
+        run = law.1.run;
+        more = law.1.before;
+        own = λ s sends. law.1.sent i s
+            (subst (λ l. Sends rules c opening i l s) (sym (list_here parts i i es refl)) sends);
+        seats = seats_;
+        fresh = λ j none. list_else parts i j es (apart_from j none)
+            ∙ k.fresh j (sym (seats_ j) ∙ none);
+        stays = stays_;
+        fits = fits_set (λ q u. FitsRun rules c opening starter issued parts_ law.0 views' q u) views p w
+            (λ q u n e. let f = k.fits q u e in record {
+              starts = f.starts;
+              sitting = λ j node. (
+                (f.sitting j node).0,
+                list_else parts i j es (others q u j n e node) ∙ (f.sitting j node).1,
+              );
+              took = λ s contained. law.1.before s (f.took s contained);
+              reports = λ j l contained. stays_ j l (f.reports j l contained);
+            })
+            record {
+              starts = mine.starts;
+              sitting = λ j node.
+                  let same : i ≡ j = same_Some i j (sym may.sits ∙ node) in
+                  (subst (λ x. x < length opening.nodes) same sit.0, list_here parts i j es same);
+              took = λ s contained. law.1.before s (took_sent s contained);
+              reports = λ j l contained. stays_ j l (mine.reports j l contained);
+            };
+      }
     where
       i : ℕ
       i = may.node
 
       w : View
-      w = gave v es took put rep
+      w = gave v es took put given rep
 
       views' : List View
       views' = set views p w
@@ -232,8 +234,8 @@ module _ {C : Type 0} (rules : Core C) (c : Config) (opening : World C) where
   puts n p v b es may from items views room k at =
       let kept = k.4 in
       let mine = kept.fits p v at in
-      let a = advance items views k.0 k.1 k.2 k.3 p v es v.took (v.put ++ b ∷ []) v.reported kept at may
-      mine.took in
+      let a = advance items views k.0 k.1 k.2 k.3 p v es v.took (v.put ++ b ∷ []) v.items v.reported
+      kept at may mine.took in
       let w = with_put v es (b ∷ []) in
       let there : Contains a.end.sent b = elim from [
         | inl sends ↦ a.own b (subst (λ i. Sends rules c opening i es b)
@@ -275,18 +277,18 @@ module _ {C : Type 0} (rules : Core C) (c : Config) (opening : World C) where
 
   -- an item leaves
   pub takes : (p : ℕ) (v : View) (es : List Mark) → RuleAllows rules c opening v es
-      → Pops (RuleKept rules c opening) p v (λ x w. w ≡ with_taken v es (strings_in x))
+      → Pops (RuleKept rules c opening) p v (λ x w. w ≡ with_taken v es x)
   takes p v es may x items views k at =
       let kept = k.4 in
       let mine = kept.fits p v at in
       let first = kept.holds x (contains_first x items) in
-      let a = advance (x ∷ items) views k.0 k.1 k.2 k.3 p v es (v.took ++ strings_in x) v.put v.reported
-      kept at may
+      let a = advance (x ∷ items) views k.0 k.1 k.2 k.3 p v es (v.took ++ strings_in x) v.put
+      (v.items ++ x ∷ []) v.reported kept at may
       (λ s contained. elim (Contains-append_cases v.took (strings_in x) s contained) [
         | inl was ↦ mine.took s was
         | inr new ↦ string_sent k.3 views x first s new
       ]) in
-      let w = with_taken v es (strings_in x) in (
+      let w = with_taken v es x in (
         w,
         (
           k.0,
@@ -314,7 +316,7 @@ module _ {C : Type 0} (rules : Core C) (c : Config) (opening : World C) where
   reports n p v i es may is items views room k at =
       let kept = k.4 in
       let mine = kept.fits p v at in
-      let a = advance items views k.0 k.1 k.2 k.3 p v es.marks v.took v.put true kept at may
+      let a = advance items views k.0 k.1 k.2 k.3 p v es.marks v.took v.put v.items true kept at may
       mine.took in
       let w = with_report v es.marks in
       let told : Reported (set views p w) i es.marks = record {
@@ -530,6 +532,60 @@ module _ {C : Type 0} (rules : Core C) (c : Config) (opening : World C) where
         refl,
       )
 
+  -- a pass notes what came of a step
+  noted : (p : ℕ) (v : View) (refused : List (List ℕ)) (empty : ℕ) (items : List Item)
+      (views : List View) → RuleKept rules c opening items views → get_elem? views p ≡ some v
+      → RuleKept rules c opening items
+      (set views p (record v { refused = refused; empty = empty }))
+  noted p v refused empty items views k at =
+      let kept = k.4 in
+      let mine = kept.fits p v at in
+      let w : View = record v { refused = refused; empty = empty } in
+      let views' = set views p w in
+      let stays : (j : ℕ) (l : List Mark) → Reported views j l → Reported views' j l =
+      (λ j l. reported_set views p v w j l at (λ a b d. (a, b, d))) in
+      let same : (j : ℕ) → total (sits j) views' ≡ total (sits j) views =
+      (λ j. let t = total_set (sits j) views p v w at in omega arith) in (
+        k.0,
+        k.1,
+        k.2,
+        k.3,
+        record {
+          run = kept.run;
+          seats = λ j. let x = same j in let y = kept.seats j in omega arith;
+          once = kept.once;
+          fresh = λ j z. kept.fresh j (sym (same j) ∙ z);
+          fits = fits_set (λ q u. FitsRun rules c opening k.0 k.1 k.2 k.3 views' q u) views p w
+              (λ q u n e. let f = kept.fits q u e in record {
+                starts = f.starts;
+                sitting = f.sitting;
+                took = f.took;
+                reports = λ j l contained. stays j l (f.reports j l contained);
+              })
+              record {
+                starts = mine.starts;
+                sitting = mine.sitting;
+                took = mine.took;
+                reports = λ j l contained. stays j l (mine.reports j l contained);
+              };
+          holds = λ y contained. item_stays k.3 k.3 views views' (λ s h. h) stays y
+              (kept.holds y contained);
+        },
+      )
+
+  -- what the run so far is to a pass
+  pub learns_run : (p : ℕ) (v : View)
+      → Learns (RuleKept rules c opening) p v (λ items. RuleRuns rules c opening v)
+  learns_run p v items views k at =
+      let kept = k.4 in
+      let mine = kept.fits p v at in record {
+        parts = k.2;
+        end = k.3;
+        run = kept.run;
+        own = mine.sitting;
+        took = mine.took;
+      }
+
   -- what the starter's reports tell
   pub learns : (p : ℕ) (v : View)
       → Learns (RuleKept rules c opening) p v (λ items. RuleTold rules c opening v)
@@ -596,6 +652,18 @@ module _ {C : Type 0} (rules : Core C) (c : Config) (opening : World C) where
               (kept.holds x contained);
         },
       )
+
+  -- and one beside a pass that notes what came of a step
+  pub notes : (p : ℕ) (v : View) (refused : List (List ℕ)) (empty : ℕ)
+      → Forks (RuleKept rules c opening) p v (record v { refused = refused; empty = empty })
+      newcomer
+  notes p v refused empty items views k at =
+      let w : View = record v { refused = refused; empty = empty } in
+      let now : List View = set views p w in
+      let here : get_elem? now p ≡ some w = set_here views p w (in_list views p v at) in
+      subst (λ (l : List View). RuleKept rules c opening items (l ++ newcomer ∷ []))
+      (set_again now p w here)
+      (forks p w items now (noted p v refused empty items views k at) here)
 
   first_view : (q : ℕ) (u : View) → get_elem? (beginner ∷ []) q ≡ some u
       → FitsRun rules c opening 0 [] (λ i. []) opening (beginner ∷ []) q u

@@ -1,9 +1,8 @@
--- Items of the ether, and what a pass that takes one knows then.
+-- Items of the ether.
 use Rattle.std.specs.Prelude.{ℕ, List, [], ◌∷◌}
 use Rattle.ivy_moves.specs.Marks.{Mark}
 use Rattle.ivy_ether.specs.Data.{Item}
 use Rattle.ivy_ether.specs.declared.item.Item.TheVariants.{Seat, Frame, Report}
-use Rattle.ivy_ether.specs.Views.{View, with_seat, with_told}
 
 -- what an item is
 abbrev pub strings_in : Item → List (List ℕ)
@@ -22,14 +21,3 @@ abbrev pub events_in : Item → List Mark
 events_in (Seat i) = []
 events_in (Frame b) = []
 events_in (Report i es) = es.marks
-
--- the pass takes an item, where it hopes for a seat, or for a report
-abbrev pub after_seat : View → Item → View
-after_seat v (Seat i) = with_seat v i
-after_seat v (Frame b) = v
-after_seat v (Report i es) = v
-
-abbrev pub view_after_told : View → Item → View
-view_after_told v (Seat i) = v
-view_after_told v (Frame b) = v
-view_after_told v (Report i es) = with_told v i es.marks

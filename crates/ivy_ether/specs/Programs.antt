@@ -36,3 +36,7 @@ module _ (c : Config) (programs : List (List Instruction)) where
   -- the event lists that the starter was told are the parts of one run
   abbrev pub Told : View → Type 0
   Told = rule.RuleTold (host_rules managed_ops) c beginning
+
+  -- the pass's event list is its node's part of some run, by which each string that it took was sent
+  abbrev pub Runs : View → Type 0
+  Runs = rule.RuleRuns (host_rules managed_ops) c beginning

@@ -98,6 +98,14 @@ module _ {C : Type 0} (rules : Core C) (c : Config) (opening : World C) where
     pub sits : v.node ≡ Some node
     pub sends : Sends rules c opening node es bytes
 
+  -- some run has the pass's list as its node's part, and each string that the pass took was sent
+  pub record RuleRuns (v : View) : Type 0 where
+    pub parts : ℕ → List Mark
+    pub end : World C
+    pub run : AreParts rules c opening parts end
+    pub own : (i : ℕ) → v.node ≡ Some i → (i < length opening.nodes) × (parts i ≡ v.events)
+    pub took : (bytes : List ℕ) → Contains v.took bytes → Contains end.sent bytes
+
   -- the reports that the starter took are of parts of one run
   pub record RuleTold (v : View) : Type 0 where
     pub parts : ℕ → List Mark

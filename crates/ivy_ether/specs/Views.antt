@@ -1,6 +1,9 @@
 -- What a pass knows, and how the steps of the ether change it.
-use Rattle.std.specs.Prelude.{ℕ, Bool, true, false, Option, Some, None, List, [], ◌∷◌, ◌++◌}
+use Rattle.std.specs.Prelude.{ℕ, ◌+◌, Bool, true, false, Option, Some, None, List, [], ◌∷◌, ◌++◌}
 use Rattle.ivy_moves.specs.Marks.{Mark}
+use Rattle.ivy_ether.specs.Data.{Item}
+use Rattle.ivy_ether.specs.declared.item.Item.TheVariants.{Seat, Frame, Report}
+use Rattle.ivy_ether.specs.Items.{strings_in}
 
 -- what a pass knows
 pub record View : Type 0 where
@@ -15,6 +18,11 @@ pub record View : Type 0 where
   pub took : List (List ℕ)
   pub put : List (List ℕ)
   pub reported : Bool
+  -- and what came of its steps: the items that it took, the strings that found the ether full, and
+  -- how often it found the ether empty
+  pub items : List Item
+  pub refused : List (List ℕ)
+  pub empty : ℕ
 
 -- a pass that is not the starter's, and has taken no seat
 abbrev pub newcomer : View
@@ -27,6 +35,9 @@ newcomer = record {
   took = [];
   put = [];
   reported = false;
+  items = [];
+  refused = [];
+  empty = 0;
 }
 
 -- the starter's pass, which has issued no seat yet
@@ -45,9 +56,18 @@ with_seat v i = record v { node = Some i; events = []; took = []; put = []; repo
 abbrev pub with_put : View → List Mark → List (List ℕ) → View
 with_put v es strings = record v { events = es; put = v.put ++ strings }
 
--- it gave the list, and took these strings
-abbrev pub with_taken : View → List Mark → List (List ℕ) → View
-with_taken v es strings = record v { events = es; took = v.took ++ strings }
+-- it gave the list, and took this item
+abbrev pub with_taken : View → List Mark → Item → View
+with_taken v es x =
+    record v { events = es; took = v.took ++ strings_in x; items = v.items ++ x ∷ [] }
+
+-- it would have put this string, but the ether was full
+abbrev pub with_refused : View → List ℕ → View
+with_refused v bytes = record v { refused = v.refused ++ bytes ∷ [] }
+
+-- it would have taken an item, but the ether was empty
+abbrev pub with_empty : View → View
+with_empty v = record v { empty = v.empty + 1 }
 
 -- it gave the list, as its report
 abbrev pub with_report : View → List Mark → View
@@ -56,3 +76,14 @@ with_report v es = record v { events = es; reported = true }
 -- a report is taken
 abbrev pub with_told : View → ℕ → List Mark → View
 with_told v i es = record v { reports = v.reports ++ (i, es) ∷ [] }
+
+-- it takes an item, where it hopes for a seat, or for a report
+abbrev pub after_seat : View → Item → View
+after_seat v (Seat i) = with_seat v i
+after_seat v (Frame b) = v
+after_seat v (Report i es) = v
+
+abbrev pub view_after_told : View → Item → View
+view_after_told v (Seat i) = v
+view_after_told v (Frame b) = v
+view_after_told v (Report i es) = with_told v i es.marks

@@ -10,6 +10,10 @@ use Rattle.ivy_ether.specs.Views.{newcomer, beginner}
 abbrev pub AnyItems : List Item → Type 0
 AnyItems items = Unit {0}
 
+-- how many items an ether holds, which is known of its name
+abbrev pub room_of : TableId → ℕ
+room_of t = t.slots
+
 -- the two answers of a put
 abbrev pub MatchPut : Put → Type 0 → (List ℕ → Type 0) → Type 0
 MatchPut Sent P Q = P

@@ -1,16 +1,17 @@
 //! The ether: a queue of seats, frames and reports, under the rule.
 ghost use Rattle.std.specs.Prelude.{◌≡◌, ◌⊎◌, ◌<◌, ℕ, List, Some, None, ◌∷◌, [], false, true, Contains, MatchOption, MatchResult, MatchBool, IfOk, IsOkUnless, length, vec_len};
 ghost use Rattle.crossbeam_queue.specs.Passes.{view, IsPassOf};
-ghost use Rattle.ivy_ether.specs.Programs.{MayGive, SendsFrom, Told};
+ghost use Rattle.ivy_ether.specs.Programs.{MayGive, SendsFrom, Runs, Told};
 ghost use Rattle.ivy_ether.specs.Rule.{times};
-ghost use Rattle.ivy_ether.specs.Views.{with_put, with_taken, with_report, with_issued, with_seat, with_told};
-ghost use Rattle.ivy_ether.specs.Items.{strings_in};
-ghost use Rattle.ivy_ether.specs.Words.{MatchPut, AreFresh};
+ghost use Rattle.ivy_ether.specs.Views.{with_put, with_refused, with_taken, with_empty, with_report, with_issued, with_seat, with_told};
+ghost use Rattle.ivy_ether.specs.Words.{MatchPut, AreFresh, room_of};
 
 use crate::item::{Item, View, Wired};
 use crate::law::{Law, Setup};
 use crate::pass::{Pass, unseated};
-use crate::steps::{Beside, Given, Issues, Parts, Puts, Reports, Sits, Takes, Tells};
+use crate::steps::{
+    Beside, FindsNone, Given, Issues, Own, Parts, Puts, Refuses, Reports, Sits, Takes, Tells,
+};
 use crossbeam_queue::RuledArrayQueue;
 use ivy_model::{Config, Fault};
 use ivy_moves::Events;
@@ -24,7 +25,7 @@ use std::sync::Wait;
 ///
 /// Each step is one push or one pop, and changes what the pass that makes it knows and nothing else. A list that is lent
 /// to a step is read by its contract alone, so the step costs the same however long it is. Contracts see an ether as its
-/// name.
+/// name, which tells how many items it holds.
 #[derive(Drop)]
 pub struct Ether<S: Setup, A: Allocator> {
     queue: RuledArrayQueue<Wired<A>, View, Law<S>, A>,
@@ -62,6 +63,7 @@ impl<S: Setup, A: Allocator + Copy> Ether<S, A> {
         requires passes { 0 < passes }
         ensures fresh { IfOk result (λ r. AreFresh r.0 r.1.items) }
         ensures each { IfOk result (λ r. vec_len r.1 ≡ passes) }
+        ensures room { IfOk result (λ r. room_of r.0 ≡ capacity) }
         ensures memory { IsOkUnless result Fault.Memory }
     {
         let _ = config;
@@ -92,13 +94,17 @@ impl<S: Setup, A: Allocator + Copy> Ether<S, A> {
         requires given { E.events ≡ events.now.marks }
         requires events { MayGive S.config S.programs pass.old.known E.events }
         ensures pass { pass.new.ether ≡ pass.old.ether }
-        ensures known { MatchOption result (pass.new.known ≡ pass.old.known) (λ x. pass.new.known ≡ with_taken pass.old.known E.events (strings_in x)) }
+        ensures known { MatchOption result (pass.new.known ≡ with_empty pass.old.known) (λ x. pass.new.known ≡ with_taken pass.old.known E.events x) }
     {
         let _ = events;
-        self.queue.pop_as::<Takes<E>, R>(rt, &mut pass.token)
+        let item = self.queue.pop_as::<Takes<E>, R>(rt, &mut pass.token);
+        if item.is_none() {
+            self.queue.another::<FindsNone>(&mut pass.token);
+        }
+        item
     }
 
-    /// Takes the first item. None only where the ether was empty at some moment.
+    /// Takes the first item. None only where the ether was empty at some moment, which the pass knows then.
     ///
     /// `events` is the whole event list of the pass's site. A string that is taken is known to have been sent.
     pub fn take<R: Wait>(
@@ -110,7 +116,7 @@ impl<S: Setup, A: Allocator + Copy> Ether<S, A> {
         requires pass { pass.old.ether ≡ self.now }
         requires events { MayGive S.config S.programs pass.old.known events.now.marks }
         ensures pass { pass.new.ether ≡ pass.old.ether }
-        ensures known { MatchOption result (pass.new.known ≡ pass.old.known) (λ x. pass.new.known ≡ with_taken pass.old.known events.now.marks (strings_in x)) }
+        ensures known { MatchOption result (pass.new.known ≡ with_empty pass.old.known) (λ x. pass.new.known ≡ with_taken pass.old.known events.now.marks x) }
     {
         self.take_given::<Brand, R>(rt, pass, events)
     }
@@ -123,11 +129,11 @@ impl<S: Setup, A: Allocator + Copy> Ether<S, A> {
         frame: Bytes<A>,
     ) -> Put<Bytes<A>>
         requires pass { pass.old.ether ≡ self.now }
-        requires given { E.events ≡ events.now.marks }
+        requires given { (E.events ≡ events.now.marks) × (E.frame ≡ frame) }
         requires events { MayGive S.config S.programs pass.old.known E.events }
         requires frame { SendsFrom S.config S.programs pass.old.known E.events frame ⊎ Contains pass.old.known.took frame }
         ensures pass { pass.new.ether ≡ pass.old.ether }
-        ensures known { MatchPut result (pass.new.known ≡ with_put pass.old.known E.events (frame ∷ [])) (λ back. (back ≡ frame) × (pass.new.known ≡ pass.old.known)) }
+        ensures known { MatchPut result (pass.new.known ≡ with_put pass.old.known E.events (frame ∷ [])) (λ back. (back ≡ frame) × (pass.new.known ≡ with_refused pass.old.known frame)) }
     {
         let _ = events;
         match self
@@ -135,12 +141,16 @@ impl<S: Setup, A: Allocator + Copy> Ether<S, A> {
             .push_as::<Puts<E>, R>(rt, &mut pass.token, Item::Frame(frame))
         {
             Ok(()) => Put::Sent,
-            Err(Item::Frame(back)) => Put::Lost(back),
+            Err(Item::Frame(back)) => {
+                self.queue.another::<Refuses<E>>(&mut pass.token);
+                Put::Lost(back)
+            }
             Err(_) => unreachable!(),
         }
     }
 
-    /// Puts a frame that the events of the pass's site send. Lost only where the ether was full at some moment.
+    /// Puts a frame that the events of the pass's site send. Lost only where the ether was full at some moment, which the
+    /// pass knows then.
     pub fn put<R: Wait>(
         &self,
         rt: &R,
@@ -152,12 +162,12 @@ impl<S: Setup, A: Allocator + Copy> Ether<S, A> {
         requires events { MayGive S.config S.programs pass.old.known events.now.marks }
         requires frame { SendsFrom S.config S.programs pass.old.known events.now.marks frame }
         ensures pass { pass.new.ether ≡ pass.old.ether }
-        ensures known { MatchPut result (pass.new.known ≡ with_put pass.old.known events.now.marks (frame ∷ [])) (λ back. (back ≡ frame) × (pass.new.known ≡ pass.old.known)) }
+        ensures known { MatchPut result (pass.new.known ≡ with_put pass.old.known events.now.marks (frame ∷ [])) (λ back. (back ≡ frame) × (pass.new.known ≡ with_refused pass.old.known frame)) }
     {
         self.put_given::<Brand, R>(rt, pass, events, frame)
     }
 
-    /// Puts back a frame that this pass took. Lost only where the ether was full at some moment.
+    /// Puts back a frame that this pass took. Lost only where the ether was full at some moment, which the pass knows then.
     pub fn put_back<R: Wait>(
         &self,
         rt: &R,
@@ -169,7 +179,7 @@ impl<S: Setup, A: Allocator + Copy> Ether<S, A> {
         requires events { MayGive S.config S.programs pass.old.known events.now.marks }
         requires frame { Contains pass.old.known.took frame }
         ensures pass { pass.new.ether ≡ pass.old.ether }
-        ensures known { MatchPut result (pass.new.known ≡ with_put pass.old.known events.now.marks (frame ∷ [])) (λ back. (back ≡ frame) × (pass.new.known ≡ pass.old.known)) }
+        ensures known { MatchPut result (pass.new.known ≡ with_put pass.old.known events.now.marks (frame ∷ [])) (λ back. (back ≡ frame) × (pass.new.known ≡ with_refused pass.old.known frame)) }
     {
         self.put_given::<Brand, R>(rt, pass, events, frame)
     }
@@ -233,6 +243,7 @@ impl<S: Setup, A: Allocator + Copy> Ether<S, A> {
     /// Takes a report, with the starter's pass. None only where the ether was empty, or gave another item.
     pub fn take_report<R: Wait>(&self, rt: &R, pass: &mut Pass<Wired<A>>) -> Option<(u8, Events<A>)>
         requires pass { pass.old.ether ≡ self.now }
+        requires starter { pass.old.known.starts ≡ true }
         ensures pass { pass.new.ether ≡ pass.old.ether }
         ensures known { MatchOption result (pass.new.known ≡ pass.old.known) (λ r. pass.new.known ≡ with_told pass.old.known r.0 r.1.marks) }
     {
@@ -240,6 +251,16 @@ impl<S: Setup, A: Allocator + Copy> Ether<S, A> {
             Some(Item::Report(node, events)) => Some((node, events)),
             _ => None,
         }
+    }
+
+    /// What the pass of a site tells at any moment: the list that it gave last is its node's part of some run, in which
+    /// each string that it took was sent. It makes no step.
+    pub fn learn_run(&self, pass: &mut Pass<Wired<A>>)
+        requires pass { pass.old.ether ≡ self.now }
+        ensures same { pass.new ≡ pass.old }
+        ensures run { Runs S.config S.programs pass.new.known }
+    {
+        self.queue.learn_as::<Own<S>>(&mut pass.token);
     }
 
     /// What the reports that the pass took tell: they are of the parts of one run. It makes no step.

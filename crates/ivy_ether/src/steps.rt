@@ -5,18 +5,22 @@ use crossbeam_queue::protocol::{Lesson, Outcome, Split};
 use std::alloc::Allocator;
 use std::marker::{Brand, PhantomData};
 
-/// The event list that a step is given. Each step picks it.
+/// The event list that a step is given, and the frame, where it puts one. Each step picks them.
 pub trait Given {
-    ghost use Rattle.std.specs.Prelude.{List};
+    ghost use Rattle.std.specs.Prelude.{ℕ, List};
     ghost use Rattle.ivy_moves.specs.Marks.{Mark};
 
     ghost events: { List Mark };
+
+    ghost frame: { List ℕ };
 }
 
 impl Given for Brand {
     ghost use Rattle.std.specs.Prelude.{[]};
 
     ghost events = { [] };
+
+    ghost frame = { [] };
 }
 
 /// A frame is put.
@@ -42,9 +46,8 @@ pub struct Takes<E: Given>(PhantomData<E>);
 impl<E: Given, A: Allocator> Outcome<Wired<A>, View> for Takes<E> {
     ghost use Rattle.std.specs.Prelude.{◌≡◌};
     ghost use Rattle.ivy_ether.specs.Views.{with_taken};
-    ghost use Rattle.ivy_ether.specs.Items.{strings_in};
 
-    ghost then = { λ v x w. w ≡ with_taken v E.events (strings_in x) };
+    ghost then = { λ v x w. w ≡ with_taken v E.events x };
 }
 
 impl<E: Given, A: Allocator> Lesson<Wired<A>, View> for Takes<E> {
@@ -92,7 +95,7 @@ pub struct Sits;
 
 impl<A: Allocator> Outcome<Wired<A>, View> for Sits {
     ghost use Rattle.std.specs.Prelude.{◌≡◌};
-    ghost use Rattle.ivy_ether.specs.Items.{after_seat};
+    ghost use Rattle.ivy_ether.specs.Views.{after_seat};
 
     ghost then = { λ v x w. w ≡ after_seat v x };
 }
@@ -108,7 +111,7 @@ pub struct Tells;
 
 impl<A: Allocator> Outcome<Wired<A>, View> for Tells {
     ghost use Rattle.std.specs.Prelude.{◌≡◌};
-    ghost use Rattle.ivy_ether.specs.Items.{view_after_told};
+    ghost use Rattle.ivy_ether.specs.Views.{view_after_told};
 
     ghost then = { λ v x w. w ≡ view_after_told v x };
 }
@@ -126,6 +129,37 @@ impl<S: Setup, A: Allocator> Lesson<Wired<A>, View> for Parts<S> {
     ghost use Rattle.ivy_ether.specs.Programs.{Told};
 
     ghost fact = { λ v items. Told S.config S.programs v };
+}
+
+/// What the run so far is to a pass.
+pub struct Own<S: Setup>(PhantomData<S>);
+
+impl<S: Setup, A: Allocator> Lesson<Wired<A>, View> for Own<S> {
+    ghost use Rattle.ivy_ether.specs.Programs.{Runs};
+
+    ghost fact = { λ v items. Runs S.config S.programs v };
+}
+
+/// A frame that found the ether full. What a pass notes makes a newcomer beside it, which nobody uses.
+pub struct Refuses<E: Given>(PhantomData<E>);
+
+impl<E: Given> Split<View> for Refuses<E> {
+    ghost use Rattle.ivy_ether.specs.Views.{newcomer, with_refused};
+
+    ghost left = { λ v. with_refused v E.frame };
+
+    ghost right = { λ v. newcomer };
+}
+
+/// An ether that was found empty.
+pub struct FindsNone;
+
+impl Split<View> for FindsNone {
+    ghost use Rattle.ivy_ether.specs.Views.{newcomer, with_empty};
+
+    ghost left = { λ v. with_empty v };
+
+    ghost right = { λ v. newcomer };
 }
 
 /// A newcomer beside a pass.

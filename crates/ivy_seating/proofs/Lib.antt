@@ -1,4 +1,5 @@
 pub mod Seats
 pub mod Told
 pub mod WireTurns
+pub mod Living
 pub use Rattle.ivy_moves.proofs as of_ivy_moves

@@ -29,7 +29,7 @@ use Rattle.ivy_ether.proofs.of_ivy_host.Tame.{first_length}
 use Rattle.ivy_ether.specs.Going.{IsListOf}
 use Rattle.ivy_ether.specs.Held.{Held, held}
 use Rattle.ivy_ether.specs.Programs.{beginning, MayGive, SendsFrom}
-use Rattle.ivy_ether.specs.Views.{View, with_put, with_taken}
+use Rattle.ivy_ether.specs.Views.{View, with_put, with_refused, with_taken, with_empty}
 use Rattle.ivy_site.specs.declared.turn.Turn as turn
 use Rattle.ivy_site.specs.declared.turn.Turn.TheVariants.{Idle, Moved, Ended}
 use Rattle.ivy_site.specs.Shown.{Shown, after_hearing, after_delivery, after_pulse_to}
@@ -337,23 +337,35 @@ module _ (c : Config) (programs : List (List Instruction)) where
     took = λ b there. subst (λ (v : View). Contains v.took b) (sym known) there;
   })
 
-  pub taken_seated : (wire : TableId) (s : Shown) (p p' : Held) (es : List Mark)
-      (strings : List (List ℕ)) → es ≡ s.events → p'.ether ≡ p.ether
-      → p'.known ≡ with_taken p.known es strings → IsSeated wire c programs s p
-      → IsSeated wire c programs s p'
-  taken_seated wire s p p' es strings is ether known h = gave_seated wire s p p' h (record {
+  pub taken_seated : (wire : TableId) (s : Shown) (p p' : Held) (es : List Mark) (x : Item)
+      → es ≡ s.events → p'.ether ≡ p.ether → p'.known ≡ with_taken p.known es x
+      → IsSeated wire c programs s p → IsSeated wire c programs s p'
+  taken_seated wire s p p' es x is ether known h = gave_seated wire s p p' h (record {
     ether = ether;
     node = ap (λ (v : View). v.node) known;
     reported = ap (λ (v : View). v.reported) known;
     events = ap (λ (v : View). v.events) known ∙ is;
     took = λ b there. subst (λ (v : View). Contains v.took b) (sym known)
-        (Contains-append_left p.known.took strings b there);
+        (Contains-append_left p.known.took (strings_in x) b there);
   })
 
-  pub same_seated : (wire : TableId) (s : Shown) (p p' : Held) → p'.ether ≡ p.ether
-      → p'.known ≡ p.known → IsSeated wire c programs s p → IsSeated wire c programs s p'
-  same_seated wire s p p' ether known h =
-      subst (IsSeated wire c programs s) (λ k. held (sym ether k) (sym known k)) h
+  -- after one that came to nothing, which the pass notes
+  pub noted_seated : (wire : TableId) (s : Shown) (p p' : Held) (refused : List (List ℕ))
+      (empty : ℕ) → p'.ether ≡ p.ether
+      → p'.known ≡ record p.known { refused = refused; empty = empty }
+      → IsSeated wire c programs s p → IsSeated wire c programs s p'
+  noted_seated wire s p p' refused empty ether known h =
+      subst (IsSeated wire c programs s) (λ k. held (sym ether k) (sym known k)) (record {
+        limits = h.limits;
+        each = h.each;
+        ether = h.ether;
+        node = h.node;
+        unreported = h.unreported;
+        config = h.config;
+        program = h.program;
+        given = record { more = h.given.more; is = h.given.is; can = h.given.can };
+        took = h.took;
+      })
 
   -- a string less waits
   pub less_seated : (wire : TableId) (s s' : Shown) (p : Held)
@@ -418,20 +430,21 @@ module _ (c : Config) (programs : List (List Instruction)) where
   pub put_seated : (wire : TableId) (r : Put) (s : Shown) (p p' : Held) (es : List Mark)
       (frame : List ℕ) → es ≡ s.events → p'.ether ≡ p.ether
       → MatchPut r (p'.known ≡ with_put p.known es (frame ∷ []))
-      (λ back. (back ≡ frame) × (p'.known ≡ p.known))
+      (λ back. (back ≡ frame) × (p'.known ≡ with_refused p.known frame))
       → IsSeated wire c programs s p → IsSeated wire c programs s p'
   put_seated wire Sent s p p' es frame is ether known h =
       given_seated wire s p p' es (frame ∷ []) is ether known h
   put_seated wire (Lost back) s p p' es frame is ether known h =
-      same_seated wire s p p' ether known.1 h
+      noted_seated wire s p p' (p.known.refused ++ frame ∷ []) p.known.empty ether known.1 h
 
   pub take_seated : (wire : TableId) (r : Option Item) (s : Shown) (p p' : Held) (es : List Mark)
       → es ≡ s.events → p'.ether ≡ p.ether
-      → MatchOption r (p'.known ≡ p.known) (λ x. p'.known ≡ with_taken p.known es (strings_in x))
+      → MatchOption r (p'.known ≡ with_empty p.known) (λ x. p'.known ≡ with_taken p.known es x)
       → IsSeated wire c programs s p → IsSeated wire c programs s p'
-  take_seated wire None s p p' es is ether known h = same_seated wire s p p' ether known h
+  take_seated wire None s p p' es is ether known h =
+      noted_seated wire s p p' p.known.refused (p.known.empty + 1) ether known h
   take_seated wire (Some x) s p p' es is ether known h =
-      taken_seated wire s p p' es (strings_in x) is ether known h
+      taken_seated wire s p p' es x is ether known h
 
   -- a site whose program has ended is done
   pub is_done : (wire : TableId) (s : Shown) (p : Held) (i : ℕ) → IsSeated wire c programs s p

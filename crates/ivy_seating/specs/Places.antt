@@ -1,17 +1,22 @@
--- What contracts see of a seated site: the site and its pass; and what holds of the two.
-use Rattle.std.specs.Prelude.{◌≡◌, ℕ, false, List, ◌++◌, length, slice_get, Some}
+-- What contracts see of a seated site: its ether, the site and its pass; and what holds of them.
+use Rattle.std.specs.Prelude.{◌≡◌, ℕ, false, List, ◌++◌, length, slice_get, Some, Contains}
 use Rattle.atomic_table.specs.Seated.{TableId}
 use Rattle.ivy_model.specs.declared.Config.{Config}
 use Rattle.ivy_model.specs.Config.{IsConfig}
 use Rattle.ivy_program.specs.declared.Instruction.{Instruction}
 use Rattle.ivy_moves.specs.Marks.{Mark}
-use Rattle.ivy_moves.specs.Parts.{AllCanBeMade}
+use Rattle.ivy_moves.specs.Parts.{AllCanBeMade, AreParts}
+use Rattle.ivy_moves.specs.Worlds.{World}
+use Rattle.ivy_ether.specs.ivy_host.Hosts.{Host, host_rules}
+use Rattle.ivy_ether.specs.ivy_host.Managers.{Managed, managed_ops}
+use Rattle.ivy_ether.specs.Programs.{beginning}
 use Rattle.ivy_site.specs.Shown.{Shown}
 use Rattle.ivy_site.specs.Sites.{first_shown, IsMadeByEvents}
 use Rattle.ivy_ether.specs.Held.{Held}
 use Rattle.ivy_ether.specs.Views.{newcomer, with_seat}
 
 pub record SeatedState : Type 0 where
+  pub ether : TableId
   pub site : Shown
   pub pass : Held
 
@@ -39,12 +44,25 @@ pub record IsSeated (wire : TableId) (c : Config) (programs : List (List Instruc
 -- the first one of its program, and that they sent the strings that wait
 pub record KeepsSeat (c : Config) (programs : List (List Instruction)) (s : SeatedState) : Type 0
   where
-    pub seated : IsSeated s.pass.ether c programs s.site s.pass
+    pub seated : IsSeated s.ether c programs s.site s.pass
     pub made : IsMadeByEvents s.site
 
--- this site, with this pass
-abbrev pub place : Shown → Held → SeatedState
-place s p = record { site = s; pass = p }
+-- what holds of it among all nodes: some run of the programs has exactly the site's events as its
+-- part, and ends with this very node; in it each string that the pass took was sent, and each that
+-- waits to be put
+pub record IsInRun (c : Config) (programs : List (List Instruction)) (s : SeatedState) : Type 0
+  where
+    pub parts : ℕ → List Mark
+    pub end : World (Host Managed)
+    pub run : AreParts (host_rules managed_ops) c (beginning c programs) parts end
+    pub own : parts s.site.me ≡ s.site.events
+    pub node : slice_get end.nodes s.site.me ≡ Some s.site.node
+    pub took : (bytes : List ℕ) → Contains s.pass.known.took bytes → Contains end.sent bytes
+    pub waits : (bytes : List ℕ) → Contains s.site.waiting bytes → Contains end.sent bytes
+
+-- this site, with this pass, at this ether
+abbrev pub place : TableId → Shown → Held → SeatedState
+place e s p = record { ether = e; site = s; pass = p }
 
 -- a site of the node's program as it begins, and a pass of this ether that took the node's seat
 pub record IsFreshSeat (wire : TableId) (c : Config) (programs : List (List Instruction))

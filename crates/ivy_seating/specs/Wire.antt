@@ -1,18 +1,20 @@
 -- What the turns of a seated site leave.
-use Rattle.std.specs.Prelude.{◌≡◌, ◌≢◌, ◌<◌, ◌≤◌, ℕ, List, Option, [], ◌∷◌, All}
+use Rattle.std.specs.Prelude.{◌≡◌, ◌≢◌, ◌⊎◌, ◌+◌, ◌<◌, ◌≤◌, ℕ, List, Option, None, Err, [], ◌∷◌, ◌++◌, All, length}
 use Rattle.ivy_model.specs.declared.Fault.{Fault}
 use Rattle.ivy_moves.specs.ivy_link.declared.Verdict.{Verdict}
 use Rattle.ivy_moves.specs.ivy_link.declared.Verdict.TheVariants as verdict
+use Rattle.ivy_wire.specs.Data.{Frame}
 use Rattle.ivy_wire.specs.Destinations.{dest_of}
-use Rattle.ivy_moves.specs.Nodes.{verdict_of}
+use Rattle.ivy_wire.specs.Faults.{checked}
+use Rattle.ivy_wire.specs.Spelling.{Spells}
 use Rattle.ivy_site.specs.ivy_outbox.Outboxes.{next_dest}
 use Rattle.ivy_site.specs.Shown.{Shown}
 use Rattle.ivy_site.specs.Sites.{AfterDelivery, IsSpentDelivery}
 use Rattle.ivy_ether.specs.Data.{Item}
-use Rattle.ivy_ether.specs.declared.item.Item.TheVariants.{Frame}
+use Rattle.ivy_ether.specs.declared.item.Item.TheVariants as item
 use Rattle.ivy_ether.specs.Held.{Held, held}
 use Rattle.ivy_ether.specs.Items.{strings_in}
-use Rattle.ivy_ether.specs.Views.{with_put, with_taken}
+use Rattle.ivy_ether.specs.Views.{with_put, with_refused, with_taken, with_empty}
 use Rattle.ivy_seating.specs.Places.{SeatedState, place}
 use Rattle.ivy_seating.specs.declared.wire_turn.WireTurn.{WireTurn}
 use Rattle.ivy_seating.specs.declared.wire_turn.WireTurn.TheVariants.{Sent, Lost, Empty, Served, Returned, Dropped}
@@ -22,14 +24,28 @@ abbrev pub pass_after_putting : SeatedState → List ℕ → Held
 pass_after_putting s bytes =
     held s.pass.ether (with_put s.pass.known s.site.events (bytes ∷ []))
 
--- and once it has given the list, and taken this item
+-- once it would have put this string, and the ether was full
+abbrev pub pass_after_refusing : SeatedState → List ℕ → Held
+pass_after_refusing s bytes = held s.pass.ether (with_refused s.pass.known bytes)
+
+-- once it has given the list, and taken this item
 abbrev pub pass_after_taking : SeatedState → Item → Held
 pass_after_taking s item =
-    held s.pass.ether (with_taken s.pass.known s.site.events (strings_in item))
+    held s.pass.ether (with_taken s.pass.known s.site.events item)
 
--- the string is not for the site's node, or spells no frame
-abbrev pub IsForeign : Shown → List ℕ → Type 0
-IsForeign s bytes = verdict_of s.config s.node bytes ≡ verdict.NotMine
+-- and once it would have taken an item, and the ether was empty
+abbrev pub pass_after_looking : SeatedState → Held
+pass_after_looking s = held s.pass.ether (with_empty s.pass.known)
+
+-- the string spells a frame for another node than the site's
+pub record IsForAnother (s : Shown) (bytes : List ℕ) : Type 0 where
+  pub frame : Frame
+  pub spelled : Spells s.config frame bytes
+  pub other : frame.dest ≢ s.node.link.me
+
+-- the string spells no frame
+abbrev pub IsNoFrame : Shown → List ℕ → Type 0
+IsNoFrame s bytes = (fault : Fault) × (checked s.config bytes ≡ Err fault)
 
 -- the first string that waited waits no more, and else the site is as it was
 pub record Leaves (old new : Shown) : Type 0 where
@@ -42,6 +58,11 @@ pub record PutsFirst (old new : SeatedState) : Type 0 where
   pub first : Leaves old.site new.site
   pub put : new.pass ≡ pass_after_putting old first.bytes
 
+-- the ether was full for it
+pub record LosesFirst (old new : SeatedState) : Type 0 where
+  pub first : Leaves old.site new.site
+  pub refused : new.pass ≡ pass_after_refusing old first.bytes
+
 -- nothing waited, and the site is as it was
 abbrev pub Rests : SeatedState → SeatedState → Type 0
 Rests old new = (old.site.waiting ≡ []) × (new.site ≡ old.site)
@@ -50,47 +71,68 @@ Rests old new = (old.site.waiting ≡ []) × (new.site ≡ old.site)
 pub record ServesString (v : Verdict) (old new : SeatedState) : Type 0 where
   pub none : old.site.waiting ≡ []
   pub bytes : List ℕ
-  pub took : new.pass ≡ pass_after_taking old (Frame bytes)
+  pub took : new.pass ≡ pass_after_taking old (item.Frame bytes)
   pub mine : v ≢ verdict.NotMine
   pub delivered : AfterDelivery bytes v old.site new.site
 
--- a string that is foreign is taken, and then put
+-- once a string was taken
+abbrev pub having_taken : SeatedState → List ℕ → SeatedState
+having_taken old bytes =
+    place old.ether old.site (pass_after_taking old (item.Frame bytes))
+
+-- the frame of another node is taken, and then put
 pub record ReturnsString (old new : SeatedState) : Type 0 where
   pub rests : Rests old new
   pub bytes : List ℕ
-  pub foreign : IsForeign old.site bytes
-  pub put : new.pass
-      ≡ pass_after_putting (place old.site (pass_after_taking old (Frame bytes))) bytes
+  pub other : IsForAnother old.site bytes
+  pub put : new.pass ≡ pass_after_putting (having_taken old bytes) bytes
 
--- an item is taken in which no string is for the site's node
+-- it is taken, and then the ether was full for it
+pub record LosesString (old new : SeatedState) : Type 0 where
+  pub rests : Rests old new
+  pub bytes : List ℕ
+  pub other : IsForAnother old.site bytes
+  pub refused : new.pass ≡ pass_after_refusing (having_taken old bytes) bytes
+
+-- an item is taken in which there is no frame at all
 pub record DropsItem (old new : SeatedState) : Type 0 where
   pub rests : Rests old new
   pub item : Item
-  pub foreign : All (IsForeign old.site) (strings_in item)
+  pub none : All (IsNoFrame old.site) (strings_in item)
   pub took : new.pass ≡ pass_after_taking old item
 
 -- a string is taken, and refused
 pub record RefusesString (fault : Fault) (old new : SeatedState) : Type 0 where
   pub rests : Rests old new
   pub bytes : List ℕ
-  pub took : new.pass ≡ pass_after_taking old (Frame bytes)
+  pub took : new.pass ≡ pass_after_taking old (item.Frame bytes)
   pub spent : IsSpentDelivery old.site bytes fault
 
 -- what a turn on the wire changes that came to this
 abbrev pub AfterWire : WireTurn → SeatedState → SeatedState → Type 0
 AfterWire Sent old new = PutsFirst old new
-AfterWire Lost old new = Leaves old.site new.site × (new.pass ≡ old.pass)
-AfterWire Empty old new = Rests old new × (new.pass ≡ old.pass)
+AfterWire Lost old new = LosesFirst old new
+AfterWire Empty old new = Rests old new × (new.pass ≡ pass_after_looking old)
 AfterWire (Served v) old new = ServesString v old new
 AfterWire Returned old new = ReturnsString old new
-AfterWire Dropped old new = DropsItem old new
+AfterWire Dropped old new = LosesString old new ⊎ DropsItem old new
 
--- whom the string is for that the turn put, or put back
+-- whom the string is for that the turn put, put back, or lost
 abbrev pub IsPutFor : WireTurn → Option ℕ → SeatedState → SeatedState → Type 0
 IsPutFor Sent to old new = to ≡ next_dest old.site.waiting
+IsPutFor Lost to old new = to ≡ next_dest old.site.waiting
 IsPutFor Returned to old new =
     (returned : ReturnsString old new) × (to ≡ dest_of returned.bytes)
-IsPutFor turn to old new = Unit {0}
+IsPutFor Dropped to old new =
+    ((lost : LosesString old new) × (to ≡ dest_of lost.bytes)) ⊎ (DropsItem old new × (to ≡ None))
+IsPutFor turn to old new = to ≡ None
+
+-- items were taken, so many at most, and fewer only where the ether was empty then
+pub record Drains (most : ℕ) (old new : SeatedState) : Type 0 where
+  pub items : List Item
+  pub took : new.pass.known.items ≡ old.pass.known.items ++ items
+  pub few : length items ≤ most
+  pub all : (length items ≡ most) ⊎ (new.pass.known.empty ≡ old.pass.known.empty + 1)
 
 -- the other node that follows the last one; where none does, the first other one
 pub record IsNextOther (nodes me last to : ℕ) : Type 0 where

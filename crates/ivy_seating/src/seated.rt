@@ -1,5 +1,5 @@
 //! A site that is seated at an ether.
-ghost use Rattle.std.specs.Prelude.{◌≡◌, ◌≢◌, ◌↔◌, ◌<◌, ◌≤◌, [], Err, Contains, IsTrue, MatchBool, MatchOption, MatchResult, IfOk, IfErr, IfSome, IsSome, IsOkUnless, length};
+ghost use Rattle.std.specs.Prelude.{◌≡◌, ◌≢◌, ◌↔◌, ◌<◌, ◌≤◌, [], ◌++◌, Err, Contains, IsTrue, MatchBool, MatchOption, MatchResult, IfOk, IfErr, IfSome, IsSome, IsOkUnless, length};
 ghost use Rattle.ivy_model.specs.Wants.{IsWant};
 ghost use Rattle.ivy_wire.specs.Faults.{checked};
 ghost use Rattle.ivy_moves.specs.Nodes.{pulsing, verdict_of};
@@ -7,8 +7,8 @@ ghost use Rattle.ivy_program.specs.Steps.{HasEnded};
 ghost use Rattle.ivy_site.specs.ivy_outbox.Outboxes.{next_dest};
 ghost use Rattle.ivy_site.specs.Shown.{after_pulse_to};
 ghost use Rattle.ivy_site.specs.Sites.{AfterTurn, AfterDelivery, IsSpentTurn, IsSpentDelivery};
-ghost use Rattle.ivy_seating.specs.Places.{place, IsSeated, IsFreshSeat, KeepsSeat};
-ghost use Rattle.ivy_seating.specs.Wire.{AfterWire, RefusesString, IsPutFor, IsNextOther, pass_after_putting, pass_after_taking};
+ghost use Rattle.ivy_seating.specs.Places.{place, IsSeated, IsFreshSeat, KeepsSeat, IsInRun};
+ghost use Rattle.ivy_seating.specs.Wire.{AfterWire, Drains, RefusesString, IsPutFor, IsNextOther, pass_after_putting, pass_after_refusing, pass_after_taking, pass_after_looking};
 
 use crate::wire_turn::WireTurn;
 use ivy_ether::{Ether, Item, Pass, Put, Setup, Wired};
@@ -42,7 +42,7 @@ impl<'e, S: Setup, A: Allocator> Model for Seated<'e, S, A> {
 
     ghost coded = { Prim.hlevel (codes, nodes_code, heap_state_code) };
 
-    ghost view = { λ s. place s.site s.pass };
+    ghost view = { λ s. place s.ether.now s.site s.pass };
 
     ghost invariant = { λ s. IsSeated s.ether.now S.config S.programs s.site s.pass };
 }
@@ -66,7 +66,7 @@ impl<'e, S: Setup, A: Allocator + Copy> Seated<'e, S, A> {
     /// Seats a site that has made no event yet, with a pass that took the seat of its node.
     pub fn new(ether: &'e Ether<S, A>, site: Site<A>, pass: Pass<Wired<A>>) -> Self
         requires fresh { IsFreshSeat ether.now S.config S.programs site pass }
-        ensures { result ≡ place site pass }
+        ensures { result ≡ place ether.now site pass }
     {
         Seated { ether, site, pass }
     }
@@ -74,12 +74,22 @@ impl<'e, S: Setup, A: Allocator + Copy> Seated<'e, S, A> {
     /// What holds of a seated site at every moment. It takes no memory.
     ///
     /// The node is what the site's events make of the first one of its program, and the strings that wait were sent by
-    /// them. The list that the pass gave last is a beginning of the site's, and each string that was delivered to the
-    /// site was taken by the pass.
+    /// them. The pass is one of its ether; the list that it gave last is a beginning of the site's, and each string that
+    /// was delivered to the site was taken by the pass.
     pub fn keeps(&self)
         ensures { KeepsSeat S.config S.programs self.now }
     {
         let _ = self.site.event_list();
+    }
+
+    /// What holds of it among all nodes, at every moment: some run of the programs has the site's events as its part. It
+    /// takes no memory, and puts and takes nothing.
+    pub fn learn_run(&mut self)
+        ensures same { self.new ≡ self.old }
+        ensures run { IsInRun S.config S.programs self.new }
+    {
+        let _ = self.site.event_list();
+        self.ether.learn_run(&mut self.pass);
     }
 
     /// How many records the site's history has.
@@ -112,6 +122,7 @@ impl<'e, S: Setup, A: Allocator + Copy> Seated<'e, S, A> {
 
     /// One turn of the site's program [1, 17]. A refused turn changes nothing.
     pub fn program_turn(&mut self) -> Result<Turn, Fault>
+        ensures ether { self.new.ether ≡ self.old.ether }
         ensures pass { self.new.pass ≡ self.old.pass }
         ensures done { MatchResult result (λ turn. AfterTurn turn self.old.site self.new.site) (λ _. self.new ≡ self.old) }
         ensures ended { IfOk result (λ turn. (turn ≡ Turn.Ended) ↔ HasEnded self.old.site.node.core.process) }
@@ -126,6 +137,7 @@ impl<'e, S: Setup, A: Allocator + Copy> Seated<'e, S, A> {
     pub fn pulse(&mut self, to: u8) -> Result<(), Fault>
         requires to { to < self.old.site.config.nodes }
         requires other { to ≢ self.old.site.me }
+        ensures ether { self.new.ether ≡ self.old.ether }
         ensures pass { self.new.pass ≡ self.old.pass }
         ensures done { MatchResult result (λ _. self.new.site ≡ after_pulse_to self.old.site to (pulsing self.old.site.node to)) (λ _. self.new ≡ self.old) }
         ensures memory { IsOkUnless result Fault.Memory }
@@ -135,6 +147,7 @@ impl<'e, S: Setup, A: Allocator + Copy> Seated<'e, S, A> {
 
     /// A pulse to the other node that follows this one, in ascending order and round, which is the answer [1].
     pub fn pulse_next(&mut self, last: u8) -> Result<u8, Fault>
+        ensures ether { self.new.ether ≡ self.old.ether }
         ensures pass { self.new.pass ≡ self.old.pass }
         ensures done { MatchResult result (λ to. self.new.site ≡ after_pulse_to self.old.site to (pulsing self.old.site.node to)) (λ _. self.new ≡ self.old) }
         ensures to { IfOk result (λ to. IsNextOther self.old.site.config.nodes self.old.site.me last to) }
@@ -148,6 +161,7 @@ impl<'e, S: Setup, A: Allocator + Copy> Seated<'e, S, A> {
     /// A string that the pass took is delivered to the site [1, 11 to 17]. A refused delivery changes nothing.
     pub fn deliver(&mut self, string: &Bytes<A>) -> Result<Verdict, Fault>
         requires took { Contains self.old.pass.known.took string.now }
+        ensures ether { self.new.ether ≡ self.old.ether }
         ensures pass { self.new.pass ≡ self.old.pass }
         ensures done { MatchResult result (λ verdict. AfterDelivery string.now verdict self.old.site self.new.site) (λ _. self.new ≡ self.old) }
         ensures verdict { IfOk result (λ verdict. verdict ≡ verdict_of self.old.site.config self.old.site.node string.now) }
@@ -159,6 +173,7 @@ impl<'e, S: Setup, A: Allocator + Copy> Seated<'e, S, A> {
 
     /// Puts the first frame that waits, if there is one. It says whom the frame is for.
     fn send_first<R: Wait>(&mut self, rt: &R) -> Option<(WireTurn, Option<u8>)>
+        ensures ether { self.new.ether ≡ self.old.ether }
         ensures done { MatchOption result ((self.new ≡ self.old) × (self.old.site.waiting ≡ [])) (λ sent. AfterWire sent.0 self.old self.new) }
         ensures to { IfSome result (λ sent. IsPutFor sent.0 sent.1 self.old self.new) }
     {
@@ -175,8 +190,9 @@ impl<'e, S: Setup, A: Allocator + Copy> Seated<'e, S, A> {
 
     /// Takes an item.
     fn take_item<R: Wait>(&mut self, rt: &R) -> Option<Wired<A>>
+        ensures ether { self.new.ether ≡ self.old.ether }
         ensures site { self.new.site ≡ self.old.site }
-        ensures pass { MatchOption result (self.new.pass ≡ self.old.pass) (λ item. self.new.pass ≡ pass_after_taking self.old item) }
+        ensures pass { MatchOption result (self.new.pass ≡ pass_after_looking self.old) (λ item. self.new.pass ≡ pass_after_taking self.old item) }
     {
         self.ether.take(rt, &mut self.pass, self.site.event_list())
     }
@@ -184,8 +200,9 @@ impl<'e, S: Setup, A: Allocator + Copy> Seated<'e, S, A> {
     /// Puts back a frame that was taken. It says whether the ether had a place for it.
     fn give_back<R: Wait>(&mut self, rt: &R, frame: Bytes<A>) -> bool
         requires took { Contains self.old.pass.known.took frame }
+        ensures ether { self.new.ether ≡ self.old.ether }
         ensures site { self.new.site ≡ self.old.site }
-        ensures pass { MatchBool result (self.new.pass ≡ pass_after_putting self.old frame) (self.new.pass ≡ self.old.pass) }
+        ensures pass { MatchBool result (self.new.pass ≡ pass_after_putting self.old frame) (self.new.pass ≡ pass_after_refusing self.old frame) }
     {
         match self
             .ether
@@ -199,6 +216,7 @@ impl<'e, S: Setup, A: Allocator + Copy> Seated<'e, S, A> {
     /// One turn on the wire: the first frame that waits is put, else an item is taken, and a frame is served, or put
     /// back where it is for another node [1, 17]. Where it is refused the site is as it was, and the frame is lost.
     pub fn wire_turn<R: Wait>(&mut self, rt: &R) -> Result<WireTurn, Fault>
+        ensures ether { self.new.ether ≡ self.old.ether }
         ensures done { MatchResult result (λ turn. AfterWire turn self.old self.new) (λ fault. RefusesString fault self.old self.new) }
         ensures want { IfErr result IsWant }
     {
@@ -206,8 +224,9 @@ impl<'e, S: Setup, A: Allocator + Copy> Seated<'e, S, A> {
         Ok(turn)
     }
 
-    /// The same. Where a frame was put, or put back, it also says whom that is for.
+    /// The same. Where a frame was put, put back or lost, it also says whom that is for.
     pub fn wire_turn_to<R: Wait>(&mut self, rt: &R) -> Result<(WireTurn, Option<u8>), Fault>
+        ensures ether { self.new.ether ≡ self.old.ether }
         ensures done { MatchResult result (λ done. AfterWire done.0 self.old self.new) (λ fault. RefusesString fault self.old self.new) }
         ensures to { IfOk result (λ done. IsPutFor done.0 done.1 self.old self.new) }
         ensures want { IfErr result IsWant }
@@ -238,12 +257,14 @@ impl<'e, S: Setup, A: Allocator + Copy> Seated<'e, S, A> {
 
     /// Takes what is left in the ether, so many items at most.
     pub fn drain<R: Wait>(&mut self, rt: &R, most: u64)
+        ensures ether { self.new.ether ≡ self.old.ether }
         ensures site { self.new.site ≡ self.old.site }
+        ensures done { Drains most self.old self.new }
     {
         for _ in 0..most {
-            if self.take_item(rt).is_none() {
-                break;
-            }
+            let Some(_) = self.take_item(rt) else {
+                return;
+            };
         }
     }
 

@@ -74,6 +74,7 @@ pub fn seat_all<'e, S: Setup, A: Allocator + Copy, R: Wait>(
     requires enough { vec_len passes ≡ length programs.items }
     ensures seats { IfOk result (λ seats. vec_len seats ≡ length programs.items) }
     ensures starter { starter.new.ether ≡ starter.old.ether }
+    ensures starts { IfOk result (λ _. starter.new.known.starts ≡ true) }
     ensures stop { IfErr result IsStop }
 {
     let mut passes = passes;
@@ -102,7 +103,7 @@ fn exchange<S: Setup, A: Allocator + Copy, R: Wait>(
     pass: &mut Pass<Wired<A>>,
     node: u8,
 ) -> Result<(), Fault>
-    requires starter { starter.old.ether ≡ ether.now }
+    requires starter { (starter.old.ether ≡ ether.now) × (starter.old.known.starts ≡ true) }
     requires seated { IsSeated own.now S.config S.programs site.now pass.old }
     ensures starter { starter.new.ether ≡ starter.old.ether }
     ensures told { OnOk result (starter.new.known ≡ with_told starter.old.known node site.now.events) }
@@ -138,7 +139,7 @@ fn take_one<S: Setup, A: Allocator + Copy, R: Wait>(
     seated: Seated<'_, S, A>,
     node: u8,
 ) -> Result<Site<A>, Fault>
-    requires starter { starter.old.ether ≡ ether.now }
+    requires starter { (starter.old.ether ≡ ether.now) × (starter.old.known.starts ≡ true) }
     ensures starter { starter.new.ether ≡ starter.old.ether }
     ensures told { IfOk result (λ site. starter.new.known ≡ with_told starter.old.known node site.events) }
     ensures done { IfOk result (λ site. IsDone S.config S.programs node (report_of site)) }
@@ -159,7 +160,7 @@ pub fn take_reports<S: Setup, A: Allocator + Copy, R: Wait>(
     starter: &mut Pass<Wired<A>>,
     seats: Vec<Mutex<Seated<'_, S, A>>, A>,
 ) -> Result<Report<A>, Fault>
-    requires starter { starter.old.ether ≡ ether.now }
+    requires starter { (starter.old.ether ≡ ether.now) × (starter.old.known.starts ≡ true) }
     ensures starter { starter.new.ether ≡ starter.old.ether }
     ensures told { IfOk result (λ report. AreTold S.config S.programs starter.new.known report) }
     ensures stop { IfErr result IsStop }

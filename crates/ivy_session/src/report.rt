@@ -1,5 +1,5 @@
 //! The report of a session, of what its sites told.
-ghost use Rattle.std.specs.Prelude.{◌≡◌, IfOk, IfErr, length};
+ghost use Rattle.std.specs.Prelude.{◌≡◌, true, IfOk, IfErr, length};
 ghost use Rattle.ivy_model.specs.Config.{IsConfig};
 ghost use Rattle.ivy_seating.specs.Faults.{IsStop};
 ghost use Rattle.ivy_seating.specs.Reports.{IsReport};
@@ -22,7 +22,7 @@ pub(crate) fn collect<S: Setup, A: Allocator + Copy, R: Wait>(
     requires limits { IsConfig S.config }
     requires each { length S.programs ≡ S.config.nodes }
     requires nodes { nodes ≡ length S.programs }
-    requires starter { starter.ether ≡ ether.now }
+    requires starter { (starter.ether ≡ ether.now) × (starter.known.starts ≡ true) }
     ensures report { IfOk result (λ report. IsReport S.config S.programs report) }
     ensures stop { IfErr result IsStop }
 {

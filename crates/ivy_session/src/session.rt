@@ -1,6 +1,7 @@
 //! Sessions.
-ghost use Rattle.std.specs.Prelude.{◌≡◌, ◌↔◌, ◌<◌, IsErrOf, IfOk, IfErr, length};
+ghost use Rattle.std.specs.Prelude.{◌≡◌, ◌↔◌, ◌<◌, ◌+◌, IsErrOf, IfOk, IfErr, length, vec_len};
 ghost use Rattle.ivy_model.specs.Config.{IsConfig};
+ghost use Rattle.ivy_seating.specs.ivy_ether.Words.{AreFresh, room_of};
 ghost use Rattle.ivy_seating.specs.Faults.{IsStop};
 ghost use Rattle.ivy_seating.specs.Reports.{IsReport};
 ghost use Rattle.ivy_session.specs.Faults.{IsSessionFault};
@@ -12,7 +13,7 @@ use crate::report::collect;
 use crate::workers::run_workers;
 use ivy_model::{Config, Fault};
 use ivy_program::Program;
-use ivy_seating::ivy_ether::{Ether, Setup};
+use ivy_seating::ivy_ether::{Ether, Pass, Setup, Wired};
 use ivy_seating::{Report, seat_all};
 use std::alloc::Allocator;
 use std::marker::Brand;
@@ -21,6 +22,26 @@ use std::thread::Threads;
 
 /// Runs the programs of all nodes in threads.
 pub struct Session;
+
+/// The ether of a session, which holds as many items as its limits say, with a pass for each node, and one for the
+/// starter [1].
+fn lay<S: Setup, A: Allocator + Copy>(
+    alloc: A,
+    config: &Config,
+    programs: &[Program<A>],
+    limits: Limits,
+) -> Result<(Ether<S, A>, Vec<Pass<Wired<A>>, A>), Fault>
+    requires config { config.now ≡ S.config }
+    requires programs { programs.now ≡ S.programs }
+    requires capacity { 0 < limits.capacity }
+    ensures fresh { IfOk result (λ r. AreFresh r.0 r.1.items) }
+    ensures each { IfOk result (λ r. vec_len r.1 ≡ length programs.now + 1) }
+    ensures room { IfOk result (λ r. room_of r.0 ≡ limits.capacity) }
+    ensures stop { IfErr result IsStop }
+{
+    let capacity = limits.capacity as usize;
+    Ether::<S, A>::new(alloc, config, programs, capacity, programs.len() + 1)
+}
 
 /// Seats the nodes, runs their workers, and takes their reports [1, 17, 21].
 fn play<S, A, R, G>(
@@ -45,13 +66,7 @@ where
     ensures stop { IfErr result IsStop }
 {
     let nodes = programs.len();
-    let (ether, mut passes) = Ether::<S, A>::new(
-        alloc,
-        config,
-        &programs,
-        limits.capacity as usize,
-        nodes + 1,
-    )?;
+    let (ether, mut passes) = lay::<S, A>(alloc, config, &programs, limits)?;
     let Some(mut starter) = passes.pop() else {
         unreachable!()
     };

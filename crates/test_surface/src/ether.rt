@@ -104,7 +104,7 @@ fn take_report<S: Setup, R: Wait>(
     ether: &Ether<S, Global>,
     starter: &mut Pass<Wired<Global>>,
 ) -> Option<u8>
-    requires starter { starter.old.ether ≡ ether.now }
+    requires starter { (starter.old.ether ≡ ether.now) × (starter.old.known.starts ≡ true) }
 {
     let (node, _events) = ether.take_report(rt, starter)?;
     Some(node)

@@ -1,6 +1,7 @@
 use Rattle.std.proofs.Common.{rules, ◌≡◌, ◌∷◌, [], length, map, sym, ap, subst, ◌∙◌, arith}
 use Rattle.std.proofs.lemmas.List.{length-map, map-append}
 use Rattle.std.specs.Vec.Iter.{into_iter_items}
+use Rattle.ivy_ether.specs.Views.{View}
 use Rattle.ivy_seating.specs.Reports.{report_of}
 use Rattle.ivy_seating.specs.Told.{AreTold}
 use Rattle.ivy_seating.proofs.Told.{told_more, told_none}
@@ -15,7 +16,8 @@ loop-seat-init g c =
       finite = search rules;
       left = search rules;
       room = search rules;
-      ether = c.requires.starter;
+      ether = c.requires.starter.0;
+      starts = c.requires.starter.1;
       count = ap length (sym none);
       told = told_none g.S.Setup.config g.S.Setup.programs c.args.starter.now.known
           (map report_of c.in_ok-sites.sites.items) (ap (map report_of) none);
@@ -36,6 +38,7 @@ loop-seat-preserved g c =
       left = omega arith;
       room = search rules;
       ether = c.in_ok-site.ensures.starter ∙ at.invariant.ether;
+      starts = ap (λ (v : View). v.starts) c.in_ok-site.ensures.told ∙ at.invariant.starts;
       count = search rules;
       told = told_more g.S.Setup.config g.S.Setup.programs _ _ (map report_of at.sites.items) _
           (report_of c.in_ok-site.site) at.node
@@ -47,11 +50,11 @@ loop-seat-preserved g c =
 
 pub returns-in_err-site-clause-starter : goal.returns-in_err-site-clause-starter
 returns-in_err-site-clause-starter g c =
-    c.in_err-site.ensures.starter ∙ (c.loop-seat.invariant.ether ∙ sym c.requires.starter)
+    c.in_err-site.ensures.starter ∙ (c.loop-seat.invariant.ether ∙ sym c.requires.starter.0)
 
 pub returns-in_default-clause-starter : goal.returns-in_default-clause-starter
 returns-in_default-clause-starter g c =
-    c.in_ok-site.ensures.starter ∙ (c.loop-seat.invariant.ether ∙ sym c.requires.starter)
+    c.in_ok-site.ensures.starter ∙ (c.loop-seat.invariant.ether ∙ sym c.requires.starter.0)
 
 pub returns-clause-told : goal.returns-clause-told
 returns-clause-told g c =

@@ -1,4 +1,4 @@
-use Rattle.std.proofs.Common.{◌≡◌, ◌+◌, ◌≤◌, length, map, vec_len, vec_capacity}
+use Rattle.std.proofs.Common.{◌≡◌, ◌+◌, ◌≤◌, true, length, map, vec_len, vec_capacity}
 use Rattle.std.specs.Vec.Iter.{into_iter_items, into_iter_len}
 use Rattle.ivy_seating.specs.Reports.{report_of}
 use Rattle.ivy_seating.specs.Told.{AreTold}
@@ -12,6 +12,7 @@ invariant-loop-seat g l = record {
   left : into_iter_len l.seat-iterator ≡ length (into_iter_items l.seat-iterator);
   room : vec_len l.sites + length (into_iter_items l.seat-iterator) ≤ vec_capacity l.sites;
   ether : l.starter.ether ≡ l.ether;
+  starts : l.starter.known.starts ≡ true;
   count : l.node ≡ length l.sites.items;
   told : AreTold g.S.Setup.config g.S.Setup.programs l.starter.known
       (map report_of l.sites.items);

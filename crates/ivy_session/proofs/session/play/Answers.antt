@@ -27,4 +27,4 @@ pub collect-requires-clause-starter : goal.collect-requires-clause-starter
 collect-requires-clause-starter g c =
     let p = (fresh_pop _ _ c.pop.new.self.items c.in-Some.starter c.in_ok-ether.ensures.fresh
     c.in-Some.ensures.items).1 in
-    c.in_ok-seats.ensures.starter ∙ ap (λ (h : Held). h.ether) p
+    (c.in_ok-seats.ensures.starter ∙ ap (λ (h : Held). h.ether) p, c.in_ok-seats.ensures.starts)

@@ -5,7 +5,7 @@ use Rattle.ivy_host.specs.Managers.{managed_ops}
 use Rattle.ivy_ether.specs.Held.{Held}
 use Rattle.ivy_ether.specs.Programs.{beginning, MayGive, SendsFrom}
 use Rattle.std.proofs.Common.{Contains, ◌⊎◌}
-use Rattle.ivy_ether.proofs.Keeps.{puts}
+use Rattle.ivy_ether.proofs.Keeps.{puts, notes}
 use Rattle.ivy_ether.proofs.ether.Ether.put_given.Goals as goal
 
 pub push_as-requires-clause-rule : goal.push_as-requires-clause-rule
@@ -23,3 +23,10 @@ push_as-requires-clause-rule g c =
           (view c.pass.inside.token) c.args.frame events may from,
       λ _ _ _ _. tt,
     )
+
+pub another-requires-clause-rule : goal.another-requires-clause-rule
+another-requires-clause-rule g c =
+    let config = g.S.Setup.config in
+    let programs = g.S.Setup.programs in
+    notes (host_rules managed_ops) config (beginning config programs) _ (view c.push_as.new.pass)
+    _ _

@@ -4,11 +4,11 @@ use Rattle.ivy_host.specs.Hosts.{host_rules}
 use Rattle.ivy_host.specs.Managers.{managed_ops}
 use Rattle.ivy_ether.specs.Held.{Held}
 use Rattle.ivy_ether.specs.Programs.{beginning, MayGive}
-use Rattle.ivy_ether.proofs.Keeps.{takes}
+use Rattle.ivy_ether.proofs.Keeps.{takes, notes}
 use Rattle.ivy_ether.proofs.ether.Ether.take_given.Goals as goal
 
-pub pop_as-requires-clause-rule : goal.pop_as-requires-clause-rule
-pop_as-requires-clause-rule g c =
+pub pop_as-item-requires-clause-rule : goal.pop_as-item-requires-clause-rule
+pop_as-item-requires-clause-rule g c =
     let config = g.S.Setup.config in
     let programs = g.S.Setup.programs in
     let may = subst (λ (h : Held). MayGive config programs h.known g.E.Given.events)
@@ -17,3 +17,10 @@ pop_as-requires-clause-rule g c =
           g.E.Given.events may,
       λ _ _ _ _. tt,
     )
+
+pub another-requires-clause-rule : goal.another-requires-clause-rule
+another-requires-clause-rule g c =
+    let config = g.S.Setup.config in
+    let programs = g.S.Setup.programs in
+    notes (host_rules managed_ops) config (beginning config programs) _ (view c.pop_as-item.new.pass)
+    _ _

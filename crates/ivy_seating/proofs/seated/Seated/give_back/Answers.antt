@@ -13,12 +13,12 @@ returns-clause-pass g c =
     elim c.match-put_back.branch [
       | in-Sent w ↦
           rw (w.result-is, ← c.self.view_is)
-          (put_other c.self.inside.site c.self.inside.pass c.put_back.new.pass _ c.args.frame
+          (put_other c.self.inside.ether.now c.self.inside.site c.self.inside.pass c.put_back.new.pass _ c.args.frame
           c.event_list.ensures.is c.put_back.ensures.pass w.in-Sent.ensures.known)
       | in-Lost w ↦
           rw (w.result-is, ← c.self.view_is)
-          (lost_other c.self.inside.pass c.put_back.new.pass c.put_back.ensures.pass
-          w.in-Lost.ensures.known.1)
+          (lost_other c.self.inside.ether.now c.self.inside.site c.self.inside.pass c.put_back.new.pass c.args.frame
+          c.put_back.ensures.pass w.in-Lost.ensures.known.1)
     ]
 
 pub invariant_of-self : goal.invariant_of-self

@@ -1,3 +1,4 @@
+use Rattle.std.proofs.Common.{refl}
 use Rattle.ivy_seating.proofs.Seats.{may_give, less_seated, sends_from, put_seated}
 use Rattle.ivy_seating.proofs.WireTurns.{put_own, lost_own}
 use Rattle.ivy_seating.proofs.seated.Seated.send_first.Goals as goal
@@ -31,7 +32,8 @@ returns g c =
       | in-Sent w ↦
           rw (w.result-is, ← c.self.view_is)
           (record {
-            done = put_own c.self.inside.site c.take_frame.new.self c.self.inside.pass
+            ether = refl;
+            done = put_own c.self.inside.ether.now c.self.inside.site c.take_frame.new.self c.self.inside.pass
                 c.put.new.pass _ c.in_ok-frame.frame c.in_ok-frame.ensures.taken.0
                 c.in_ok-frame.ensures.taken.1 c.event_list.ensures.is c.put.ensures.pass
                 w.in-Sent.ensures.known;
@@ -40,9 +42,10 @@ returns g c =
       | in-Lost w ↦
           rw (w.result-is, ← c.self.view_is)
           (record {
-            done = lost_own c.self.inside.site c.take_frame.new.self c.self.inside.pass
+            ether = refl;
+            done = lost_own c.self.inside.ether.now c.self.inside.site c.take_frame.new.self c.self.inside.pass
                 c.put.new.pass c.in_ok-frame.frame c.in_ok-frame.ensures.taken.0
                 c.in_ok-frame.ensures.taken.1 c.put.ensures.pass w.in-Lost.ensures.known.1;
-            to = tt;
+            to = c.next_destination-to.ensures;
           })
     ]

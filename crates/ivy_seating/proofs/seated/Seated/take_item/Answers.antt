@@ -10,7 +10,7 @@ take-requires-clause-events g c =
 pub returns-clause-pass : goal.returns-clause-pass
 returns-clause-pass g c =
     rw (← c.self.view_is)
-    (took_item c.take.result c.self.inside.site c.self.inside.pass c.take.new.pass _
+    (took_item c.take.result c.self.inside.ether.now c.self.inside.site c.self.inside.pass c.take.new.pass _
     c.event_list.ensures.is c.take.ensures.pass c.take.ensures.known)
 
 pub invariant_of-self : goal.invariant_of-self

@@ -1,0 +1,13 @@
+use Rattle.crossbeam_queue.specs.Passes.{view}
+use Rattle.ivy_host.specs.Hosts.{host_rules}
+use Rattle.ivy_host.specs.Managers.{managed_ops}
+use Rattle.ivy_ether.specs.Programs.{beginning}
+use Rattle.ivy_ether.proofs.Keeps.{learns_run}
+use Rattle.ivy_ether.proofs.ether.Ether.learn_run.Goals as goal
+
+pub learn_as-requires-clause-rule : goal.learn_as-requires-clause-rule
+learn_as-requires-clause-rule g c =
+    let config = g.S.Setup.config in
+    let programs = g.S.Setup.programs in
+    learns_run (host_rules managed_ops) config (beginning config programs) _
+    (view c.pass.inside.token)
