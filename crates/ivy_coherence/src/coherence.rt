@@ -113,6 +113,13 @@ impl<M: Manager, A: Allocator> Coherence<M, A> {
         self.done
     }
 
+    /// The page whose entry a word waits at, if one does. It takes no memory.
+    pub fn locked(&self) -> Option<u32>
+        ensures { result ≡ self.now.locked }
+    {
+        self.locked
+    }
+
     /// What holds of each node's coherence holds of this one.
     pub(crate) fn sound(&self)
         ensures { IsSound M.ops self.now }

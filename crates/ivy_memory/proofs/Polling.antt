@@ -1,5 +1,5 @@
 -- A call that is asked for its reply: what it keeps, and how the code has it.
-use Rattle.std.proofs.Common.{◌≡◌, ℕ, ◌<◌, ◌≤◌, Bool, true, false, [], length, Option, Some, None, Result, Ok, Err, OnErr, refl, sym, ap, ◌∙◌, subst, arith, if◌then◌else◌}
+use Rattle.std.proofs.Common.{◌≡◌, ℕ, ◌<◌, ◌≤◌, is_some, Bool, true, false, [], length, Option, Some, None, Result, Ok, Err, OnErr, refl, sym, ap, ◌∙◌, subst, arith, if◌then◌else◌}
 use Rattle.std.specs.Prelude.{All}
 use Rattle.ivy_model.specs.declared.Config.{Config}
 use Rattle.ivy_model.specs.declared.Call.{Call}
@@ -38,6 +38,30 @@ pub polled_so : {S : Type 0} (ops : Ops S) (m : NodeMemory S) (k : Call) → m.a
     → polled ops m ≡ polled_as ops m k (reply_at m)
 unfolding polled
 polled_so ops m k is = ap (polled_at ops m) is
+
+-- while a word waits at a locked entry, no call in progress is answered by its word
+module _ {S : Type 0} (ops : Ops S) (m : NodeMemory S) (k : Call) (page : ℕ)
+    (locked : m.coherence.locked ≡ Some page) where
+  tried-locked : (x : Asked) → tried_as ops m k x ≡ unserved m
+  unfolding begun
+  tried-locked (asked.Refused code) = refl
+  tried-locked (asked.Word p w) =
+      ap (λ b. again m (needed (taken_out m) k m.number b b.need) b.need)
+      (ap (begun_at ops (taken_out m).coherence p w m.number) locked)
+  tried-locked (asked.Heap h) = refl
+
+  polled-locked : m.asked ≡ Some k → reply_at m ≡ None → polled ops m ≡ unserved m
+  polled-locked called untold =
+      polled_so ops m k called ∙ ap (polled_as ops m k) untold
+      ∙ tried-locked (asked_of m.coherence.config k)
+
+pub polled-waits : {S : Type 0} (ops : Ops S) (n v : NodeMemory S) → v ≡ n → (k : Call)
+    → v.asked ≡ Some k → reply_at n ≡ None → (o : Option ℕ) → o ≡ v.coherence.locked
+    → is_some o ≡ true → polled ops n ≡ unserved n
+polled-waits ops n v same k called untold None is some = absurd cc
+polled-waits ops n v same k called untold (Some page) is some =
+    polled-locked ops n k page (ap (λ (x : NodeMemory _). x.coherence.locked) (sym same) ∙ sym is)
+    (ap (λ (x : NodeMemory _). x.asked) (sym same) ∙ called) untold
 
 module _ {S : Type 0} where
   unless-posted : (m : NodeMemory S) (k : Call) (number : ℕ) (b : Begun S) (r : Option Reply)

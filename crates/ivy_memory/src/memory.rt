@@ -195,6 +195,9 @@ impl<M: Manager, A: Allocator + Copy> Memory<M, A> {
             self.asked = None;
             return Ok(Answer::Given(reply));
         }
+        if self.coherence.locked().is_some() {
+            return Ok(Answer::Unserved);
+        }
         let Asked::Word { page, word } = asked_of(&self.coherence.config(), call) else {
             return Ok(Answer::Unserved);
         };

@@ -14,7 +14,7 @@ ghost use Rattle.ivy_outbox.specs.Outboxes.{holding_of, with_holding, with_waiti
 
 use ivy_link::{Counts, Link, Verdict};
 use ivy_model::{Config, Fault};
-use ivy_wire::{Bytes, Frame, Parcel, Post, destination, encode};
+use ivy_wire::{Bytes, Frame, Parcel, Post, destination, string_of};
 use std::alloc::Allocator;
 use std::collections::VecDeque;
 use std::marker::Model;
@@ -57,7 +57,7 @@ fn spell_again<A: Allocator + Copy>(
 {
     strings.reserve(frames.len())?;
     for frame in frames {
-        strings.push_back(Bytes::from_vec(alloc, encode(alloc, config, frame)?)?)?;
+        strings.push_back(string_of(alloc, config, frame)?)?;
     }
     Ok(())
 }
@@ -82,7 +82,7 @@ fn spell<A: Allocator + Copy>(
     let mut counts = Counts::none();
     for index in 0..parcels.len() {
         let frame = link.frame(parcels, index, &mut counts);
-        strings.push_back(Bytes::from_vec(alloc, encode(alloc, config, &frame)?)?)?;
+        strings.push_back(string_of(alloc, config, &frame)?)?;
     }
     Ok(())
 }

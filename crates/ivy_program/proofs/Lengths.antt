@@ -4,7 +4,9 @@ use Rattle.ivy_program.specs.declared.instruction.Instruction.{Instruction}
 use Rattle.ivy_program.specs.declared.instruction.Instruction.TheVariants.{Move, Compute, Count, Advance, Await, Alloc, Free, Status, Print, Jump, JumpIfZero, Stop}
 use Rattle.ivy_program.specs.declared.line.Action.{Action}
 use Rattle.ivy_program.specs.declared.line.Action.TheVariants as action
-use Rattle.ivy_program.specs.Lines.{SpellsAction, SpellsPlain}
+use Rattle.ivy_program.specs.declared.line.Line.{Line}
+use Rattle.ivy_program.specs.declared.line.Line.TheVariants as line
+use Rattle.ivy_program.specs.Lines.{SpellsAction, SpellsPlain, SpellsLine}
 
 abbrev HasOneToSix : List (List ℕ) → Type 0
 HasOneToSix ws = (1 ≤ length ws) × (length ws ≤ 6)
@@ -34,6 +36,13 @@ pub action_counted : (ws : List (List ℕ)) (a : Action) → SpellsAction ws a
 action_counted ws (action.Plain i) h = plain_counted ws i h.1
 action_counted ws (action.Jump n) h = counted ws _ h.1 (omega arith, omega arith)
 action_counted ws (action.JumpIfZero f n) h = counted ws _ h.2 (omega arith, omega arith)
+
+-- no line that says anything has more
+pub line_counted : (ws : List (List ℕ)) (said : Line) → SpellsLine ws said → length ws ≤ 6
+line_counted ws line.Blank h = omega (arith, ap length h)
+line_counted ws (line.Node number) h = omega (arith, ap length h.2)
+line_counted ws (line.Label name) h = omega (arith, ap length h.1)
+line_counted ws (line.Does action) h = (action_counted ws action h).1
 
 -- a list of five, mapped
 pub five_mapped : {X Y : Type 0} (xs : List X) (f : X → Y) (d : X) → length xs ≡ 5

@@ -15,3 +15,4 @@ pub mod Reading
 pub mod Settled
 pub mod Whole
 pub mod Lengths
+pub mod Wording

@@ -14,4 +14,4 @@ pub use instruction::{Instruction, Operation, Register, Width};
 pub use machine::{Machine, Next};
 pub use parser::parse;
 pub use program::Program;
-pub use words::{parse_number, words_of};
+pub use words::{few_words, parse_number, words_of};

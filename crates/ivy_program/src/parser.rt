@@ -11,7 +11,7 @@ ghost use Rattle.ivy_program.specs.Texts.{ArePrograms, IsFaultOf, IsFaultOfText,
 use crate::instruction::Instruction;
 use crate::line::{Action, Line, Name};
 use crate::program::{MOST_INSTRUCTIONS, Program};
-use crate::words::words_of;
+use crate::words::few_words;
 use indexmap::IndexMap;
 use ivy_model::Fault;
 use std::alloc::Allocator;
@@ -20,6 +20,9 @@ use std::marker::Model;
 
 /// The most programs that a text can have.
 const MOST_PROGRAMS: usize = 32;
+
+/// The most words that a line can have that says anything.
+const MOST_WORDS: usize = 6;
 
 /// The number of a line, counted from 1.
 #[derive(Clone, Copy, PartialEq, Eq)]
@@ -274,8 +277,11 @@ impl<A: Allocator + Copy> Parser<A> {
         ensures read { IfOk result (λ ok. TakesIn ok self.old number line.now self.new) }
         ensures want { IsOkUnless result Memory }
     {
-        let words = words_of(self.alloc, line)?;
-        match Line::read(&words) {
+        let mut words = [""; MOST_WORDS];
+        let Some(count) = few_words(line, &mut words) else {
+            return Ok(false);
+        };
+        match Line::read(&words[..count]) {
             Some(line) => self.take(number, line),
             None => Ok(false),
         }

@@ -508,3 +508,47 @@ spelled_once c f bytes limits s =
       ap (checked c) s.text ∙ checked_again c (frame_kind f.body) (spelling f) p.0,
       ap (frame_at (frame_kind f.body)) s.text ∙ p.1,
     )
+
+-- what stands in the head of a string that spells a frame
+pub spelled_long : (c : Config) (f : Frame) (bytes : List ℕ) → Spells c f bytes → 24 ≤ length bytes
+spelled_long c f bytes s = let long = ap length s.text in omega (arith, long)
+
+number_spelled : (c : Config) (f : Frame) → Fits c f → frame_number_at (spelling f) ≡ f.number
+unfolding frame_number_at
+number_spelled c f fits =
+    big_number-reads_back 8 f.number (big_bytes 8 f.ack ++ message_text f.body) fits.number
+
+ack_spelled : (c : Config) (f : Frame) → Fits c f → ack_at (spelling f) ≡ f.ack
+unfolding ack_at
+ack_spelled c f fits = big_number-reads_back 8 f.ack (message_text f.body) fits.ack
+
+pub head_spelled : (c : Config) (f : Frame) (bytes : List ℕ) (number ack : ℕ) → Spells c f bytes
+    → number ≡ frame_number_at bytes → ack ≡ ack_at bytes
+    → (source_at bytes ≡ f.source) × (dest_at bytes ≡ f.dest) × (number ≡ f.number) × (ack ≡ f.ack)
+head_spelled c f bytes number ack s is owed = (
+  ap source_at s.text,
+  ap dest_at s.text,
+  is ∙ ap frame_number_at s.text ∙ number_spelled c f s.fits,
+  owed ∙ ap ack_at s.text ∙ ack_spelled c f s.fits,
+)
+
+-- and its message
+pub spelled_sound : (c : Config) (f : Frame) (bytes : List ℕ) → IsConfig c → Spells c f bytes
+    → IsSound c (frame_kind f.body) bytes
+spelled_sound c f bytes limits s =
+    sound_checked c (frame_kind f.body) bytes (spelled_once c f bytes limits s).0
+
+same_kind : (x y : FrameKind) → (let o : Option FrameKind = Some x in o) ≡ Some y → x ≡ y
+same_kind x y e = cc
+
+pub kind_spelled : (c : Config) (f : Frame) (bytes : List ℕ) → IsConfig c → Spells c f bytes
+    → (o : Option FrameKind) (kind : FrameKind) → o ≡ Some kind → o ≡ kind_at (kind_byte bytes)
+    → kind ≡ frame_kind f.body
+kind_spelled c f bytes limits s o kind is at =
+    same_kind kind (frame_kind f.body) (sym is ∙ at ∙ (spelled_sound c f bytes limits s).known)
+
+pub message_spelled_in : (c : Config) (f : Frame) (bytes : List ℕ) → IsConfig c
+    → (s : Spells c f bytes) → message_at (frame_kind f.body) (text_at bytes) ≡ f.body
+unfolding frame_at
+message_spelled_in c f bytes limits s =
+    ap (λ (x : Frame). x.body) (spelled_once c f bytes limits s).1

@@ -1,5 +1,5 @@
 -- A message whose page is lent, as the message that it is.
-use Rattle.std.specs.Prelude.{ℕ, List, Option, option_map}
+use Rattle.std.specs.Prelude.{ℕ, List, Option, None, option_map}
 use Rattle.std.specs.Borrow.{Bor}
 use Rattle.ivy_wire.specs.declared.frame.Content as content
 use Rattle.ivy_wire.specs.declared.frame.Content.TheVariants.{ReadReq, WriteReq, ReadRep, WriteRep, Inval, InvalAck, AllocReq, AllocRep, FreeReq, FreeRep}
@@ -34,6 +34,11 @@ owned_frame f = record {
   ack = f.ack;
   body = owned_body f.body;
 }
+
+-- the frame without its message
+abbrev pub head_of : Frame → frame.Frame (Unit {0})
+head_of f =
+    record { source = f.source; dest = f.dest; number = f.number; ack = f.ack; body = None }
 
 abbrev pub owned_parcel : parcel.Parcel (Bor (List ℕ)) → Parcel
 owned_parcel p = record { source = p.source; dest = p.dest; message = owned_message p.message }

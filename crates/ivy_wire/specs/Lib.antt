@@ -1,6 +1,7 @@
 pub mod Data
 pub mod Lengths
 pub mod Spelling
+pub mod Heads
 pub mod Faults
 pub mod Reading
 pub mod Destinations

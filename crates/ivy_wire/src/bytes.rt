@@ -8,7 +8,7 @@ use std::marker::Model;
 use std::sync::Arc;
 
 /// Strings of at most so many bytes lie beside the count of their owners. No frame without a page is longer.
-const SHORT: usize = 42;
+pub(crate) const SHORT: usize = 42;
 
 /// Where the bytes of a string lie.
 #[derive(Drop)]
@@ -76,6 +76,17 @@ impl<A: Allocator> Bytes<A> {
 }
 
 impl<A: Allocator + Copy> Bytes<A> {
+    /// The first bytes, so many, of these. Err only where the allocator has no memory.
+    pub(crate) fn in_place(alloc: A, cells: [u8; SHORT], len: usize) -> Result<Self, AllocError>
+        requires { len ≤ 42 }
+        ensures { IfOk result (λ kept. kept ≡ take len cells) }
+    {
+        let text = Text::Short(len as u8, cells);
+        Ok(Bytes {
+            text: Arc::new(alloc, text)?,
+        })
+    }
+
     /// A copy of the bytes. Err only where the allocator has no memory.
     pub fn new(alloc: A, bytes: &[u8]) -> Result<Self, AllocError>
         ensures { IfOk result (λ kept. kept ≡ bytes.now) }

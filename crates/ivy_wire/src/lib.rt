@@ -21,5 +21,5 @@ pub use frame::{Content, Frame, FrameKind, Message};
 pub use grammar::grammar_is_prefix_free;
 pub use page::Page;
 pub use parcel::{Parcel, Post, parcel_to, post_one};
-pub use reading::{decode, destination, read};
-pub use writing::encode;
+pub use reading::{decode, destination, head_of, message_of, read};
+pub use writing::{encode, string_of};

@@ -6,7 +6,8 @@ ghost use Rattle.ivy_wire.specs.Spelling.{text_len, Spells};
 ghost use Rattle.ivy_wire.specs.Data.{Frame as SeenFrame};
 ghost use Rattle.ivy_wire.specs.Reading.{content_at, message_at, frame_at};
 ghost use Rattle.ivy_wire.specs.Destinations.{dest_of, IsDestination};
-ghost use Rattle.ivy_wire.specs.Lent.{owned_content, owned_body, owned_frame};
+ghost use Rattle.ivy_wire.specs.Lent.{head_of, owned_content, owned_body, owned_frame};
+ghost use Rattle.ivy_model.specs.declared.Config.{Config};
 ghost use Rattle.ivy_wire.specs.Faults.{kind_at, is_sound_content, is_sound_text, checked_in, checked, len_at, frame_number_at, ack_at, text_at};
 
 use crate::frame::{CALL_LEN, Content, Frame, FrameKind, HEADER_LEN, KINDS, Message, VERSION};
@@ -234,6 +235,30 @@ fn frame_at<'a>(config: &Config, kind: FrameKind, bytes: &'a [u8]) -> Frame<&'a 
         ack: ack_at(bytes),
         body,
     }
+}
+
+/// The frame that a string spells, without its message. It takes no memory.
+pub fn head_of(bytes: &[u8]) -> Frame<()>
+    requires { (c : Config) × (f : SeenFrame) × Spells c f bytes.now }
+    ensures { (c : Config) (f : SeenFrame) → Spells c f bytes.now → result ≡ head_of f }
+{
+    Frame {
+        source: bytes[4],
+        dest: bytes[5],
+        number: frame_number_at(bytes),
+        ack: ack_at(bytes),
+        body: None,
+    }
+}
+
+/// The message of the frame that a string spells, with its page lent from the string. It takes no memory.
+pub fn message_of<'a>(config: &Config, bytes: &'a [u8]) -> Option<Message<&'a [u8]>>
+    requires limits { IsConfig config.now }
+    requires spelled { (f : SeenFrame) × Spells config.now f bytes.now }
+    ensures { (f : SeenFrame) → Spells config.now f bytes.now → owned_body result ≡ f.body }
+{
+    let kind = kind_at(bytes[3])?;
+    message_at(config, kind, text_at(bytes))
 }
 
 /// The frame that the whole string spells, with its page lent from the string [11 to 16]. It takes no

@@ -8,8 +8,8 @@ use Rattle.ivy_link.specs.Holding.{link_of}
 use Rattle.ivy_outbox.proofs.Boxes.{fits_read, spelled_one, front-stays}
 use Rattle.ivy_outbox.proofs.outbox.spell.Goals as goal
 
-pub encode-requires-clause-fits : goal.encode-requires-clause-fits
-encode-requires-clause-fits g c =
+pub string_of-requires-clause-fits : goal.string_of-requires-clause-fits
+string_of-requires-clause-fits g c =
     fits_read c.args.config.now
     (frames_of (link_of c.args.link.now) (map owned_parcel c.args.parcels.now)) c.loop-index.index
     (owned_frame c.frame-frame.result) c.frame-frame.ensures.frame c.requires.fit
@@ -21,9 +21,9 @@ loop-index-preserved g c =
           ∙ spelled_one
           (frames_of (link_of c.args.link.now) (map owned_parcel c.args.parcels.now))
           c.loop-index.index (owned_frame c.frame-frame.result) c.args.strings.now.items
-          c.loop-index.strings.items c.in_ok-from_vec.field-0 c.frame-frame.ensures.frame
+          c.loop-index.strings.items c.in_ok-string_of.field-0 c.frame-frame.ensures.frame
           c.loop-index.invariant.strings
-          (c.in_ok-from_vec.ensures ∙ c.in_ok-encode.ensures.spelled.text);
+          c.in_ok-string_of.ensures.spelled.text;
       counts = c.frame-frame.ensures.after;
     }
 
@@ -44,8 +44,8 @@ pub returns-clause-front : goal.returns-clause-front
 returns-clause-front g c =
     front-stays c.args.strings.now.items _ c.loop-index.strings.items c.loop-index.invariant.strings
 
-pub returns-in_err-encode-clause-front : goal.returns-in_err-encode-clause-front
-returns-in_err-encode-clause-front g c =
+pub returns-in_err-string_of-clause-front : goal.returns-in_err-string_of-clause-front
+returns-in_err-string_of-clause-front g c =
     front-stays c.args.strings.now.items _ c.loop-index.strings.items c.loop-index.invariant.strings
 
 pub returns-in_err-push_back-clause-front : goal.returns-in_err-push_back-clause-front

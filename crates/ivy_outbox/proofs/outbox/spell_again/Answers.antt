@@ -2,8 +2,8 @@ use Rattle.std.proofs.Common.{◌∙◌}
 use Rattle.ivy_outbox.proofs.Boxes.{fits_at, spelled_more, front-stays}
 use Rattle.ivy_outbox.proofs.outbox.spell_again.Goals as goal
 
-pub encode-requires-clause-fits : goal.encode-requires-clause-fits
-encode-requires-clause-fits g c =
+pub string_of-requires-clause-fits : goal.string_of-requires-clause-fits
+string_of-requires-clause-fits g c =
     fits_at c.args.config.now c.args.frames.now c.loop-frame.frame-index _ c.loop-frame-test.true
     c.requires.fit
 
@@ -11,19 +11,15 @@ pub loop-frame-preserved : goal.loop-frame-preserved
 loop-frame-preserved g c =
     c.in_ok-push_back.ensures.items
     ∙ spelled_more c.args.frames.now c.loop-frame.frame-index _ c.args.strings.now.items
-    c.loop-frame.strings.items c.in_ok-from_vec.field-0 c.loop-frame-test.true
-    c.loop-frame.invariant (c.in_ok-from_vec.ensures ∙ c.in_ok-encode.ensures.spelled.text)
+    c.loop-frame.strings.items c.in_ok-string_of.field-0 c.loop-frame-test.true
+    c.loop-frame.invariant c.in_ok-string_of.ensures.spelled.text
 
 pub returns-clause-front : goal.returns-clause-front
 returns-clause-front g c =
     front-stays c.args.strings.now.items _ c.loop-frame.strings.items c.loop-frame.invariant
 
-pub returns-in_err-encode-clause-front : goal.returns-in_err-encode-clause-front
-returns-in_err-encode-clause-front g c =
-    front-stays c.args.strings.now.items _ c.loop-frame.strings.items c.loop-frame.invariant
-
-pub returns-in_err-from_vec-clause-front : goal.returns-in_err-from_vec-clause-front
-returns-in_err-from_vec-clause-front g c =
+pub returns-in_err-string_of-clause-front : goal.returns-in_err-string_of-clause-front
+returns-in_err-string_of-clause-front g c =
     front-stays c.args.strings.now.items _ c.loop-frame.strings.items c.loop-frame.invariant
 
 pub returns-in_err-push_back-clause-front : goal.returns-in_err-push_back-clause-front

@@ -2,8 +2,30 @@ use Rattle.std.proofs.Common.{IfErr, ◌∙◌, sym, ap, subst, arith, rules}
 use Rattle.ivy_wire.specs.Posts.{HasRefused}
 use Rattle.ivy_memory.specs.Memories.{CallBegun}
 use Rattle.ivy_memory.proofs.Beginning.{err_there}
-use Rattle.ivy_memory.proofs.Polling.{IsRetry, retry_can, given_is, quiet_is, starts_is, waits_is, poll_memory, poll_posts, retry_asks, polled-few}
+use Rattle.ivy_memory.proofs.Polling.{polled-waits, IsRetry, retry_can, given_is, quiet_is, starts_is, waits_is, poll_memory, poll_posts, retry_asks, polled-few}
 use Rattle.ivy_memory.proofs.memory.Memory.poll_reply.Goals as goal
+
+pub returns-then-is_some : goal.returns-then-is_some
+returns-then-is_some g c =
+    let is =
+    polled-waits g.M.Manager.ops _ _ c.self.view_is c.in-Some.call c.in-Some.is
+    (sym c.reply.ensures ∙ c.in_default-reply.is) c.locked.result c.locked.ensures
+    (search rules) in
+    record {
+      few = polled-few _ _ _ c.self.view_is c.self.invariant;
+      reply = sym (ap (λ (x : CallBegun _). x.answer) is);
+      ok = sym (ap (λ (x : CallBegun _). x.after) is);
+      posted = sym (g.met.P.Post.laws.after_none c.args.post.now)
+          ∙ ap (g.P.Post.ops.after c.args.post.now)
+          (sym (ap (λ (x : CallBegun _). x.posted) is));
+      took = subst (g.P.Post.ops.takes c.args.post.now)
+          (sym (ap (λ (x : CallBegun _). x.posted) is))
+          (g.met.P.Post.laws.takes_none c.args.post.now);
+      err = search rules;
+      fault = search rules;
+      sure = search rules;
+      want = search rules;
+    }
 
 pub need-requires-clause-call : goal.need-requires-clause-call
 need-requires-clause-call g c =

@@ -1,4 +1,4 @@
-use Rattle.std.proofs.Common.{rules, ◌≡◌, ℕ, length, map, IfNone, arith, subst}
+use Rattle.std.proofs.Common.{rules, ◌≡◌, length, map, IfNone, arith, subst}
 use Rattle.std.proofs.lemmas.List.{length-map}
 use Rattle.ivy_program.specs.declared.line.Action.{Action}
 use Rattle.ivy_program.specs.Lines.{SpellsAction}
