@@ -1,0 +1,4 @@
+pub mod LinkEvents
+pub mod Events
+pub mod Told
+pub mod Pulsed

@@ -1,0 +1,287 @@
+-- What the strings of a pulse deliver where they come in order.
+use Rattle.std.proofs.Common.{◌≡◌, ◌≢◌, ℕ, zero, suc, ◌+◌, ◌-◌, ◌^◌, ◌<◌, ◌≤◌, List, [], ◌∷◌, ◌++◌, length, take, map, slice_get, All, Some, refl, sym, ap, subst, ◌∙◌, arith, inl, inr}
+use Rattle.std.proofs.lemmas.List.{length-map, length-take}
+use Rattle.std.proofs.lemmas.List.Elements.{All-head, All-tail}
+use Rattle.std.proofs.lemmas.Option.{same_Some, slice_get_within}
+use Rattle.ivy_model.specs.declared.Config.{Config}
+use Rattle.ivy_model.specs.Config.{IsConfig}
+use Rattle.ivy_wire.specs.Data.{Message, Frame}
+use Rattle.ivy_wire.specs.Spelling.{FitsMessage, Spells, spelling}
+use Rattle.ivy_program.specs.declared.Instruction.{Instruction}
+use Rattle.ivy_moves.specs.ivy_link.Limits.{most_again}
+use Rattle.ivy_moves.specs.ivy_link.Linked.{Peer, peer_at}
+use Rattle.ivy_moves.specs.ivy_link.Pulsed.{numbered, frames_of_pulse}
+use Rattle.ivy_moves.specs.declared.Move.{Move}
+use Rattle.ivy_moves.specs.Cores.{Core}
+use Rattle.ivy_moves.specs.Following.{IsTame}
+use Rattle.ivy_moves.specs.Nodes.{Node, pulsing}
+use Rattle.ivy_moves.specs.Worlds.{World, gone_on, Moves, Leads}
+use Rattle.proof_progress.specs.ivy_host.Hosts.{Host, host_rules}
+use Rattle.proof_progress.specs.ivy_host.Managers.{Managed, managed_ops}
+use Rattle.proof_progress.specs.ivy_host.ManagedLaws.{managed_laws}
+use Rattle.proof_progress.specs.ivy_host.Openings.{opening}
+use Rattle.proof_progress.specs.ivy_host.Sound.{IsSoundHost}
+use Rattle.proof_progress.proofs.of_ivy_host.Tame.{tame, opening_is}
+use Rattle.proof_answers.specs.Undropped.{NothingIsDropped, IsOfMoves}
+use Rattle.proof_answers.specs.Pulses.{StandAmong, deliveries, last_again, PulsesDeliver}
+use Rattle.proof_answers.proofs.Told.{come, Stands, IsAfter, kept_few, kept_fits, link_inside, link_here, many_links, node_at, pulse_is, delivery_is, move_after, all_after, none_dropped, opening_stands}
+use Rattle.proof_answers.proofs.LinkEvents.{all_taken}
+
+-- the string spells a frame from one node to another, of this number
+record IsNumber (c : Config) (i to is : ℕ) (s : List ℕ) : Type 0 where
+  frame : Frame
+  spells : Spells c frame s
+  source : frame.source ≡ i
+  dest : frame.dest ≡ to
+  number : frame.number ≡ is
+
+-- a string of this place does
+record IsNumberAt (c : Config) (i to number : ℕ) (strings : List (List ℕ)) (place : ℕ) : Type 0 where
+  string : List ℕ
+  there : slice_get strings place ≡ Some string
+  is : IsNumber c i to number string
+
+module _ (c : Config) (i to : ℕ) where
+  -- from a place on so many strings have the numbers that follow this one
+  abbrev AreNumbered : List (List ℕ) → ℕ → ℕ → ℕ → Type 0
+  AreNumbered strings place base count =
+      (k : ℕ) → k < count → IsNumberAt c i to (base + k + 1) strings (place + k)
+
+  module _ (ack : ℕ) (here : i < c.nodes) (there : to < c.nodes) (apart : i ≢ to)
+      (small : ack < 2 ^ 64) where
+    numbered_are : (base : ℕ) (ms : List Message) → base + length ms < 2 ^ 64
+        → All (FitsMessage c) ms
+        → AreNumbered (map spelling (numbered i to ack (base + 1) ms)) 0 base (length ms)
+    numbered_are base [] few fit k lt = absurd (omega (arith, lt))
+    numbered_are base (m ∷ ms) few fit zero lt = record {
+      string = spelling (record {
+        source = i;
+        dest = to;
+        number = base + 1;
+        ack = ack;
+        body = Some m;
+      });
+      there = refl;
+      is = record {
+        frame = record { source = i; dest = to; number = base + 1; ack = ack; body = Some m };
+        spells = record {
+          fits = record {
+            source = here;
+            dest = there;
+            apart = apart;
+            number = omega (arith, few);
+            ack = small;
+            body = (omega arith, All-head (FitsMessage c) m ms fit);
+          };
+          text = refl;
+        };
+        source = refl;
+        dest = refl;
+        number = omega arith;
+      };
+    }
+    numbered_are base (m ∷ ms) few fit (suc k) lt =
+        let rest : IsNumberAt c i to (base + 1 + k + 1)
+        (map spelling (numbered i to ack (base + 1 + 1) ms)) (0 + k) =
+        numbered_are (base + 1) ms (omega (arith, few)) (All-tail (FitsMessage c) m ms fit) k
+        (omega (arith, lt)) in
+        record {
+          string = rest.string;
+          there =
+              subst (λ x. slice_get (map spelling (numbered i to ack (base + 1) (m ∷ ms))) x
+              ≡ Some rest.string)
+              (let e : suc (0 + k) ≡ 0 + suc k = omega arith in e) rest.there;
+          is = subst (λ x. IsNumber c i to x rest.string) (omega arith) rest.is;
+        }
+
+  numbered_many : (ack first : ℕ) (ms : List Message)
+      → length (numbered i to ack first ms) ≡ length ms
+  numbered_many ack first [] = refl
+  numbered_many ack first (m ∷ ms) = ap suc (numbered_many ack (first + 1) ms)
+
+  after_others : (xs ys : List (List ℕ)) (base count : ℕ) → AreNumbered ys 0 base count
+      → AreNumbered (xs ++ ys) (length xs) base count
+  after_others [] ys base count are k lt = are k lt
+  after_others (x ∷ xs) ys base count are k lt =
+      let rest : IsNumberAt c i to (base + k + 1) (xs ++ ys) (length xs + k) =
+      after_others xs ys base count are k lt in
+      record {
+        string = rest.string;
+        there = subst (λ z. slice_get (x ∷ (xs ++ ys)) z ≡ Some rest.string)
+            (let e : suc (length xs + k) ≡ length (x ∷ xs) + k = omega arith in e) rest.there;
+        is = rest.is;
+      }
+
+module _ {C : Type 0} (rules : Core C) (c : Config) (Sound : ℕ → C → Type 0) (config : IsConfig c)
+    (tame : IsTame rules c Sound) (i j : ℕ) where
+  abbrev Good : World C → Type 0
+  Good w = Stands rules c Sound config tame w
+
+  all_reached : (moves : List Move) (w v : World C) (s : Good w) (place base count : ℕ)
+      → AreNumbered c i j w.sent place base count → base ≤ come w i j
+      → StandAmong (deliveries j place count) moves → Leads rules c w moves v
+      → base + count ≤ come v i j
+  all_reached moves w v s place base zero are le among led =
+      let a = (all_after rules c Sound config tame moves w v s led).more i j in
+      omega (arith, a, le)
+  all_reached [] w v s place base (suc n) are le among led = absurd among
+  all_reached (move ∷ moves) w v s place base (suc n) are le among led =
+      elim among [
+        | inr rest ↦
+            all_reached moves led.0 v after.stands place base (suc n) (λ k lt. kept k (are k lt))
+            (let a = after.more i j in omega (arith, a, le)) rest led.2
+        | inl both ↦
+            (let d =
+            delivery_is rules c Sound config tame w led.0 s place j
+            (subst (λ m. Moves rules c w m led.0) both.0 led.1) in
+            let first : IsNumberAt c i j (base + 0 + 1) w.sent (place + 0) = are 0 (omega arith) in
+            let there : slice_get w.sent place ≡ Some first.string =
+            subst (λ x. slice_get w.sent x ≡ Some first.string) (omega arith) first.there in
+            let number : first.is.frame.number ≡ base + 1 =
+            first.is.number ∙ (let z : base + 0 + 1 ≡ base + 1 = omega arith in z) in
+            let here : come w first.is.frame.source j ≡ come w i j =
+            ap (λ x. come w x j) first.is.source in
+            let now : come led.0 first.is.frame.source j ≡ come led.0 i j =
+            ap (λ x. come led.0 x j) first.is.source in
+            let near : first.is.frame.number ≤ come w first.is.frame.source j + 1 =
+            omega (arith, number, here, le) in
+            let reached : first.is.frame.number ≤ come led.0 first.is.frame.source j =
+            d.1 first.is.frame first.string there first.is.spells first.is.dest near in
+            let more : base + 1 ≤ come led.0 i j = omega (arith, reached, number, now) in
+            let rest : base + 1 + n ≤ come v i j =
+            all_reached moves led.0 v d.0.stands (suc place) (base + 1) n
+            (λ k lt. moved_on k (are (suc k) (omega (arith, lt)))) more both.1 led.2 in
+            omega (arith, rest))
+      ]
+    where
+      after : IsAfter rules c Sound config tame w led.0
+      after = move_after rules c Sound config tame w led.0 s move led.1
+
+      kept : (k : ℕ) → IsNumberAt c i j (base + k + 1) w.sent (place + k)
+          → IsNumberAt c i j (base + k + 1) led.0.sent (place + k)
+      kept k at = record {
+        string = at.string;
+        there = after.strings (place + k) at.string at.there;
+        is = at.is;
+      }
+
+      moved_on : (k : ℕ) → IsNumberAt c i j (base + suc k + 1) w.sent (place + suc k)
+          → IsNumberAt c i j (base + 1 + k + 1) led.0.sent (suc place + k)
+      moved_on k at = record {
+        string = at.string;
+        there =
+            subst (λ x. slice_get led.0.sent x ≡ Some at.string) (omega arith)
+            (after.strings (place + suc k) at.string at.there);
+        is = subst (λ x. IsNumber c i j x at.string) (omega arith) at.is;
+      }
+
+  module _ (w v end : World C) (s : Good w) (n m : Node C) (apart : i ≢ j)
+      (here : slice_get w.nodes i ≡ Some n) (inside_j : j < c.nodes)
+      (pulse : gone_on w i (pulsing n j) ≡ v)
+      (after : IsAfter rules c Sound config tame w v) (moves : List Move)
+      (led : Leads rules c v moves end) (there : slice_get end.nodes j ≡ Some m)
+      (among : StandAmong (deliveries j (length w.sent) (length (pulsing n j).sent)) moves) where
+    abbrev p : Peer
+    p = peer_at n.link j
+
+    least : p.sent ≤ come w i j + length p.kept
+    least =
+        let a = s.told.kept i j apart (link_inside rules c Sound config tame w s i n here)
+        (let l = many_links rules c Sound config tame w s i n here in omega (arith, inside_j, l)) in
+        subst (λ l. (peer_at l j).sent ≤ come w i j + length (peer_at l j).kept)
+        (link_here rules c Sound config tame w s i n here) a
+
+    last : IsAfter rules c Sound config tame v end
+    last = all_after rules c Sound config tame moves v end after.stands led
+
+    strings : (pulsing n j).sent ≡ map spelling (frames_of_pulse p.kept i j p)
+    unfolding pulsing
+    strings =
+        ap (λ k. map spelling (frames_of_pulse p.kept k j p))
+        (node_at rules c Sound config tame w s i n here).me
+
+    reached : (ks : List Message) → p.kept ≡ ks → last_again p ≤ come end i j
+    reached [] none =
+        let a : length p.kept ≡ 0 = ap length none in
+        let b : length (take most_again p.kept) ≡ 0 = ap (λ l. length (take most_again l)) none in
+        let d = least in
+        let e = after.more i j in
+        let f = last.more i j in
+        omega (arith, a, b, d, e, f)
+    reached (x ∷ ks) some =
+        let base : ℕ = p.sent - length p.kept in
+        let again : List Message = take most_again p.kept in
+        let at = node_at rules c Sound config tame w s i n here in
+        let within : length p.kept ≤ p.sent =
+        kept_few rules c Sound config tame w s i n here j inside_j in
+        let short : length again ≤ length p.kept =
+        (let a = length-take most_again p.kept in omega (arith, a)) in
+        let few : p.sent < 2 ^ 64 =
+        subst (λ l. (peer_at l j).sent < 2 ^ 64) (link_here rules c Sound config tame w s i n here)
+        (s.follows.numbers i j) in
+        let same : (pulsing n j).sent
+        ≡ map spelling (numbered i j p.delivered (p.sent - length p.kept + 1) again) =
+        strings ∙ ap (λ l. map spelling (frames_of_pulse l i j p)) some in
+        let count : length (pulsing n j).sent ≡ length again =
+        ap length same ∙ length-map (numbered i j p.delivered (base + 1) again) spelling
+        ∙ numbered_many c i j p.delivered (base + 1) again in
+        let are : AreNumbered c i j (map spelling (numbered i j p.delivered (base + 1) again)) 0 base
+        (length again) =
+        numbered_are c i j p.delivered at.inside inside_j apart (at.small j inside_j) base again
+        (omega (arith, within, short, few))
+        (all_taken c i most_again p.kept
+        (kept_fits rules c Sound config tame w s i n here j inside_j)) in
+        let sent : v.sent ≡ w.sent ++ map spelling (numbered i j p.delivered (base + 1) again) =
+        ap (λ (x : World C). x.sent) (sym pulse) ∙ ap (λ ss. w.sent ++ ss) same in
+        let low = least in
+        let more = after.more i j in
+        all_reached moves v end after.stands (length w.sent) base (length again)
+        (subst (λ ss. AreNumbered c i j ss (length w.sent) base (length again)) (sym sent)
+        (after_others c i j w.sent (map spelling (numbered i j p.delivered (base + 1) again)) base
+        (length again) are)) (omega (arith, low, more))
+        (subst (λ x. StandAmong (deliveries j (length w.sent) x) moves) count among) led
+
+    pub pulse_reaches : last_again p ≤ (peer_at m.link i).delivered
+    pulse_reaches =
+        subst (λ l. last_again p ≤ (peer_at l i).delivered)
+        (link_here rules c Sound config tame end last.stands j m there) (reached p.kept refl)
+
+-- under the manager of the configuration
+module _ (c : Config) (programs : List (List Instruction)) (w : World (Host Managed))
+    (of : IsOfMoves c programs w) where
+  tamed : IsTame (host_rules managed_ops) c (IsSoundHost managed_ops c)
+  tamed = tame managed_laws c
+
+  abbrev IsGood : World (Host Managed) → Type 0
+  IsGood v = Stands (host_rules managed_ops) c (IsSoundHost managed_ops c) of.limits tamed v
+
+  led_stands : IsGood w
+  led_stands =
+      (all_after (host_rules managed_ops) c (IsSoundHost managed_ops c) of.limits tamed of.moves
+      (opening managed_ops c programs) w
+      (opening_stands (host_rules managed_ops) c (IsSoundHost managed_ops c) of.limits tamed
+      (opening managed_ops c programs) (opening_is managed_laws c programs of.limits of.many))
+      of.led).stands
+
+pub nothing_is_dropped : NothingIsDropped
+nothing_is_dropped c programs w of =
+    none_dropped (host_rules managed_ops) c (IsSoundHost managed_ops c) of.limits
+    (tamed c programs w of) w (led_stands c programs w of)
+
+pub pulses_deliver : PulsesDeliver
+pulses_deliver c programs w end of i j m moves heard there =
+    let good = led_stands c programs w of in
+    let t = tamed c programs w of in
+    let is =
+    pulse_is (host_rules managed_ops) c (IsSoundHost managed_ops c) of.limits t w heard.led.0 good i j
+    heard.led.1 in
+    let same : is.0 ≡ heard.node = same_Some is.0 heard.node (sym is.1 ∙ heard.there) in
+    let last =
+    all_after (host_rules managed_ops) c (IsSoundHost managed_ops c) of.limits t moves heard.led.0
+    end is.4.stands heard.led.2 in
+    let below : j < length end.nodes = slice_get_within end.nodes j m there in
+    let count = last.stands.follows.nodes in
+    pulse_reaches (host_rules managed_ops) c (IsSoundHost managed_ops c) of.limits t i j w heard.led.0
+    end good heard.node m is.3 heard.there (omega (arith, below, count))
+    (subst (λ x. gone_on w i (pulsing x j) ≡ heard.led.0) same is.2) is.4 moves heard.led.2
+    there heard.heard

@@ -1,0 +1,5 @@
+use Rattle.proof_answers.proofs.Pulsed.{pulses_deliver}
+use Rattle.proof_answers.proofs.law.pulses_deliver.Goals as goal
+
+pub returns : goal.returns
+returns c = pulses_deliver

@@ -1,0 +1,2 @@
+pub mod Undropped
+pub mod Pulses
