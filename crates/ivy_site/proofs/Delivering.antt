@@ -305,7 +305,7 @@ heard_delivers n v same k f bytes w r ne h box new events x is listed =
     })
 
 -- a frame that is not for another node is for this one
-offered_mine : (v : Shown) (f : Frame) → offered v.node.link f ≢ verdict.NotMine
+pub offered_mine : (v : Shown) (f : Frame) → offered v.node.link f ≢ verdict.NotMine
     → f.dest ≡ v.node.link.me
 offered_mine v f ne =
     elim (cases_eq f.dest v.node.link.me) [

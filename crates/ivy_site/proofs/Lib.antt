@@ -1,5 +1,6 @@
 pub mod Turning
 pub mod Delivering
+pub mod Heads
 pub mod Calling
 pub mod Pulsing
 pub mod Turned

@@ -188,7 +188,7 @@ received_none bytes w from early old mid none h =
       holds = nothing_held w h.first.frame bytes mid ne;
     }
 
-told_early : (bytes string : List ℕ) (w : Verdict) (from : ℕ) (early : Option (List ℕ))
+pub told_early : (bytes string : List ℕ) (w : Verdict) (from : ℕ) (early : Option (List ℕ))
     (old mid : Shown) → early ≡ Some string → Hears bytes w from early old mid
     → (string ≡ bytes) × Contains (early_at mid) string × (w ≡ verdict.Ahead)
 told_early bytes string w from early old mid some h =

@@ -72,6 +72,10 @@ AfterTurn Moved old new = SiteTurns old new
 AfterTurn Ended old new =
     HasEnded old.node.core.process × (turn_of managed_ops old.node.core ≡ None) × (new ≡ old)
 
+-- the string spells a frame
+abbrev pub SpellsFrame : Config → List ℕ → Type 0
+SpellsFrame c bytes = (frame : Frame) × Spells c frame bytes
+
 -- the string spells a frame, which is what the verdict says, and the delivery is that of the
 -- definitions
 pub record SiteDelivers (bytes : List ℕ) (verdict : Verdict) (old new : Shown) : Type 0 where

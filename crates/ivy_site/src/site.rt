@@ -13,7 +13,7 @@ ghost use Rattle.ivy_moves.specs.ivy_link.Holding.{ready_of};
 ghost use Rattle.ivy_outbox.specs.Outboxes.{next_dest};
 ghost use Rattle.ivy_site.specs.Shown.{holding_at, after_pulse_to};
 ghost use Rattle.ivy_site.specs.Sites.{most_sent, most_delivered, first_shown, AfterTurn, AfterDelivery};
-ghost use Rattle.ivy_site.specs.Sites.{SiteWentOn, IsHeld, early_at, without_ready, IsSpentTurn, IsSpentDelivery, TakesFrame, IsSameNode, IsMadeByEvents, IsSentBy, Awaits, await_in};
+ghost use Rattle.ivy_site.specs.Sites.{SpellsFrame, SiteWentOn, IsHeld, early_at, without_ready, IsSpentTurn, IsSpentDelivery, TakesFrame, IsSameNode, IsMadeByEvents, IsSentBy, Awaits, await_in};
 ghost use Rattle.ivy_site.specs.Inside.{host_of, is_served, kept_by, told_by, HasTurn, AfterHostTurn, HasNoNumbers, Hears, Receives, WentOnOnce, HoldsString};
 ghost use Rattle.ivy_moves.specs.Marks.{marks};
 ghost use Rattle.ivy_model.specs.Legal.{HasWidth};
@@ -26,7 +26,7 @@ use ivy_moves::ivy_link::{MOST_AHEAD, Verdict};
 use ivy_moves::{Event, Events};
 use ivy_outbox::Outbox;
 use ivy_program::{Machine, Next, Program};
-use ivy_wire::{Bytes, Frame, read};
+use ivy_wire::{Bytes, head_of, message_of, read};
 use std::alloc::{AllocError, Allocator};
 use std::marker::Model;
 
@@ -306,20 +306,23 @@ impl<A: Allocator + Copy> Site<A> {
         }
     }
 
-    /// A string comes, and neither is it held nor does the site go on. The answer is the verdict, the node that the
-    /// frame comes from, and, of a frame that came before its turn, the string once more, to be held.
+    /// A string that spells a frame comes, and neither is it held nor does the site go on. The answer is the verdict,
+    /// the node that the frame comes from, and, of a frame that came before its turn, the string once more, to be
+    /// held. Of a frame that is not the next one no more than the head is read.
     fn hear(&mut self, string: &Bytes<A>) -> Result<(Verdict, u8, Option<Bytes<A>>), Fault>
+        requires spelled { SpellsFrame self.old.config string.now }
         ensures same { IsSameNode self.old self.new }
         ensures done { MatchResult result (λ h. Hears string.now h.0 h.1 h.2 self.old self.new) (λ _. self.new ≡ self.old) }
         ensures from { IfOk result (λ h. h.1 < self.old.config.nodes) }
-        ensures refused { MatchResult (checked self.old.config string.now) (λ _. IfErr result IsWant) (λ fault. result ≡ Err fault) }
+        ensures want { IfErr result IsWant }
         ensures few { length self.new.waiting ≤ length self.old.waiting + most_posted }
         ensures spent { IfErr result (IsSpentDelivery self.old string.now) }
     {
         let config = self.outbox.config();
-        let mut frame = read(&config, string.bytes())?;
-        let from = frame.source;
-        let verdict = self.outbox.offer(&frame);
+        let bytes = string.bytes();
+        let head = head_of(bytes);
+        let from = head.source;
+        let verdict = self.outbox.offer(&head);
         if verdict == Verdict::NotMine {
             return Ok((verdict, from, None));
         }
@@ -327,11 +330,11 @@ impl<A: Allocator + Copy> Site<A> {
         let held = if_ahead(verdict, string)?;
         let listed = string.share()?;
         if verdict == Verdict::Next {
-            if let Some(message) = frame.body.take() {
+            if let Some(message) = message_of(&config, bytes) {
                 self.memory.handle(from, message, &mut self.outbox)?;
             }
         }
-        self.outbox.accept(&frame);
+        self.outbox.accept(&head);
         self.events.push_delivery(listed);
         Ok((verdict, from, held))
     }
@@ -339,29 +342,21 @@ impl<A: Allocator + Copy> Site<A> {
     /// Holds a string that came too early.
     fn hold(&mut self, string: Bytes<A>)
         requires early { Contains (early_at self.old) string }
+        requires spelled { SpellsFrame self.old.config string }
         ensures same { IsSameNode self.old self.new }
         ensures after { HoldsString string self.old self.new }
     {
-        let config = self.outbox.config();
-        let Ok(frame) = read(&config, string.bytes()) else {
-            return;
-        };
-        let head = Frame::<()> {
-            source: frame.source,
-            dest: frame.dest,
-            number: frame.number,
-            ack: 0,
-            body: None,
-        };
+        let head = head_of(string.bytes());
         self.outbox.hold(&head, string);
     }
 
     /// What [`Site::deliver`] does before the site goes on, with the node that the frame comes from.
     fn receive(&mut self, string: &Bytes<A>) -> Result<(Verdict, u8), Fault>
+        requires spelled { SpellsFrame self.old.config string.now }
         ensures same { IsSameNode self.old self.new }
         ensures done { MatchResult result (λ r. Receives string.now r.0 r.1 self.old self.new) (λ _. self.new ≡ self.old) }
         ensures from { IfOk result (λ r. r.1 < self.old.config.nodes) }
-        ensures refused { MatchResult (checked self.old.config string.now) (λ _. IfErr result IsWant) (λ fault. result ≡ Err fault) }
+        ensures want { IfErr result IsWant }
         ensures few { length self.new.waiting ≤ length self.old.waiting + most_posted }
         ensures spent { IfErr result (IsSpentDelivery self.old string.now) }
     {
@@ -436,7 +431,7 @@ impl<A: Allocator + Copy> Site<A> {
         let config = self.outbox.config();
         read(&config, bytes)?;
         let string = Bytes::new(self.alloc, bytes)?;
-        self.deliver_shared(&string)
+        self.deliver_spelled(&string)
     }
 
     /// A string comes, as [`Site::deliver`] says. The event list and the link share it, so its bytes are not
@@ -445,6 +440,20 @@ impl<A: Allocator + Copy> Site<A> {
         ensures same { IsSameNode self.old self.new }
         ensures done { MatchResult result (λ verdict. AfterDelivery string.now verdict self.old self.new) (λ _. self.new ≡ self.old) }
         ensures refused { MatchResult (checked self.old.config string.now) (λ _. IfErr result IsWant) (λ fault. result ≡ Err fault) }
+        ensures few { length self.new.waiting ≤ length self.old.waiting + most_delivered }
+        ensures spent { IfErr result (IsSpentDelivery self.old string.now) }
+    {
+        let config = self.outbox.config();
+        read(&config, string.bytes())?;
+        self.deliver_spelled(string)
+    }
+
+    /// A string comes that spells a frame, as [`Site::deliver_shared`] says [1, 17]. It is not tested again.
+    pub fn deliver_spelled(&mut self, string: &Bytes<A>) -> Result<Verdict, Fault>
+        requires spelled { SpellsFrame self.old.config string.now }
+        ensures same { IsSameNode self.old self.new }
+        ensures done { MatchResult result (λ verdict. AfterDelivery string.now verdict self.old self.new) (λ _. self.new ≡ self.old) }
+        ensures want { IfErr result IsWant }
         ensures few { length self.new.waiting ≤ length self.old.waiting + most_delivered }
         ensures spent { IfErr result (IsSpentDelivery self.old string.now) }
     {

@@ -6,8 +6,11 @@ ghost use Rattle.ivy_program.specs.Texts.{IsRefusal};
 ghost use Rattle.ivy_texts.specs.Spelled.{SpellsCall, SpellsOrder, SpellsRecord, SpellsReply, SpellsSizes};
 
 use ivy_model::{Call, Fault, Record, Reply};
-use ivy_program::{parse_number, words_of};
+use ivy_program::{few_words, parse_number};
 use std::alloc::Allocator;
+
+/// The most words that a line of an order can have.
+const MOST_WORDS: usize = 9;
 
 /// The sizes that the first line of an order names.
 #[derive(Clone, Copy, Debug, PartialEq, Eq)]
@@ -156,19 +159,23 @@ pub fn parse_order<A: Allocator + Copy>(alloc: A, text: &str) -> Result<Order<A>
     let mut sizes = None;
     let mut records = Vec::new(alloc);
     for (before, line) in text.lines().enumerate() {
-        let words = words_of(alloc, line)?;
         let fault = Fault::ProgramFault(before as u64 + 1);
+        let mut places = [""; MOST_WORDS];
+        let Some(count) = few_words(line, &mut places) else {
+            return Err(fault);
+        };
+        let words = &places[..count];
         if words.is_empty() {
             continue;
         }
         if sizes.is_none() {
-            let Some(first) = parse_sizes(&words) else {
+            let Some(first) = parse_sizes(words) else {
                 return Err(fault);
             };
             sizes = Some(first);
             continue;
         }
-        let Some(said) = parse_record(&words) else {
+        let Some(said) = parse_record(words) else {
             return Err(fault);
         };
         records.push(said)?;

@@ -6,8 +6,11 @@ ghost use Rattle.ivy_texts.specs.Spelled.{SpellsMove, SpellsSchedule};
 
 use ivy_model::Fault;
 use ivy_moves::Move;
-use ivy_program::{parse_number, words_of};
+use ivy_program::{few_words, parse_number};
 use std::alloc::Allocator;
+
+/// The most words that a line of a schedule can have.
+const MOST_WORDS: usize = 3;
 
 /// The move of a line, where its words are one.
 fn parse_move(words: &[&str]) -> Option<Move>
@@ -36,12 +39,17 @@ pub fn parse_schedule<A: Allocator + Copy>(alloc: A, text: &str) -> Result<Vec<M
 {
     let mut moves = Vec::new(alloc);
     for (before, line) in text.lines().enumerate() {
-        let words = words_of(alloc, line)?;
+        let fault = Fault::ProgramFault(before as u64 + 1);
+        let mut places = [""; MOST_WORDS];
+        let Some(count) = few_words(line, &mut places) else {
+            return Err(fault);
+        };
+        let words = &places[..count];
         if words.is_empty() {
             continue;
         }
-        let Some(step) = parse_move(&words) else {
-            return Err(Fault::ProgramFault(before as u64 + 1));
+        let Some(step) = parse_move(words) else {
+            return Err(fault);
         };
         moves.push(step)?;
     }

@@ -1,6 +1,6 @@
 -- One move over the sites of a world changes one site.
 use Rattle.std.proofs.Common.{◌≡◌, ℕ, zero, suc, ◌<◌, List, [], ◌∷◌, ◌++◌, length, map, set}
-use Rattle.std.proofs.Common.{slice_get, Some, None, Ok, MatchResult, Contains, option_map, true}
+use Rattle.std.proofs.Common.{slice_get, Some, None, Contains, option_map, true}
 use Rattle.std.proofs.Common.{nat_lt, if◌then◌else◌, ◌&&◌, ◌==◌, ◌≢◌, not, refl, sym, ap, subst}
 use Rattle.std.proofs.Common.{◌∙◌, append-nil, ⊎_elim}
 use Rattle.std.proofs.lemmas.Bool.{lt-ltb, ne_eqb}
@@ -11,13 +11,9 @@ use Rattle.ivy_model.specs.declared.Fault.{Fault}
 use Rattle.ivy_model.specs.Wants.{IsWant}
 use Rattle.ivy_site.specs.ivy_host.Managers.{Managed, managed_ops}
 use Rattle.ivy_wire.specs.Data.{Frame}
-use Rattle.ivy_wire.specs.Faults.{checked}
-use Rattle.ivy_wire.specs.declared.FrameKind.{FrameKind}
-use Rattle.ivy_wire.proofs.Frames.{spelled_once}
 use Rattle.ivy_moves.specs.ivy_link.declared.Verdict.{Verdict}
 use Rattle.ivy_moves.specs.ivy_link.declared.Verdict.TheVariants as verdict
 use Rattle.ivy_model.specs.Config.{IsConfig}
-use Rattle.ivy_wire.specs.Spelling.{frame_kind}
 use Rattle.ivy_moves.specs.declared.Move.{Move}
 use Rattle.ivy_moves.specs.declared.Move.TheVariants as move
 use Rattle.ivy_moves.specs.Nodes.{Node, Effect, stays, turned, turned_to, pulsing, received_as, verdict_of, delivered}
@@ -28,7 +24,7 @@ use Rattle.ivy_site.specs.ivy_host.Hosts.{Host, host_rules}
 use Rattle.ivy_site.specs.ivy_host.Holding.{AllSpell}
 use Rattle.ivy_world.specs.Runs.{IsRefusedBy}
 use Rattle.ivy_site.specs.Shown.{Shown, after_pulse_to, after_delivery}
-use Rattle.ivy_site.specs.Sites.{early_at, IsMadeByEvents, AfterTurn, IsSpentTurn, SiteDelivers, IsSpentDelivery}
+use Rattle.ivy_site.specs.Sites.{SpellsFrame, early_at, IsMadeByEvents, AfterTurn, IsSpentTurn, SiteDelivers, IsSpentDelivery}
 use Rattle.ivy_world.specs.WorldSites.{programs_of, world_of, AreSites}
 use Rattle.ivy_moves.specs.Early.{early_as}
 use Rattle.ivy_moves.proofs.Places.{set-cases}
@@ -337,20 +333,23 @@ delivered_went c sites sent index i old done bytes v limits h there found d =
 contains_at : (xs : List (List ℕ)) (i : ℕ) (x : List ℕ) → slice_get xs i ≡ Some x → Contains xs x
 contains_at xs i x found = (i, slice_get_within xs i x found, get_or_from_slice_get xs i x x found)
 
+pub delivery_spelled : (c : Config) (sites : List Shown) (sent : List (List ℕ)) (index i : ℕ)
+    (old : Shown) (bytes : List ℕ) → AreSites c sites → AllSpell c (world_of sites sent)
+    → slice_get sites i ≡ Some old → slice_get sent index ≡ Some bytes
+    → SpellsFrame old.config bytes
+delivery_spelled c sites sent index i old bytes h spell there found =
+    subst (λ k. SpellsFrame k bytes) (sym (h.config i old there))
+    (spell bytes (contains_at sent index bytes found))
+
 pub delivery_refused : (c : Config) (sites : List Shown) (sent : List (List ℕ)) (index i : ℕ)
-    (old : Shown) (bytes : List ℕ) (step : Move) (fault : Fault) (Is : Fault → Type 0)
+    (old : Shown) (bytes : List ℕ) (step : Move) (fault : Fault)
     → IsConfig c → AreSites c sites → AllSpell c (world_of sites sent)
     → slice_get sites i ≡ Some old → slice_get sent index ≡ Some bytes → step ≡ move.Deliver index i
-    → MatchResult (checked old.config bytes) (λ (k : FrameKind). IsWant fault) Is
-    → IsSpentDelivery old bytes fault → IsRefusedBy c (world_of sites sent) fault (Some step)
-delivery_refused c sites sent index i old bytes step fault Is limits h spell there found is refused
+    → IsWant fault → IsSpentDelivery old bytes fault
+    → IsRefusedBy c (world_of sites sent) fault (Some step)
+delivery_refused c sites sent index i old bytes step fault limits h spell there found is want
     spent =
     let config : old.config ≡ c = h.config i old there in
-    let frame = spell bytes (contains_at sent index bytes found) in
-    let once : checked old.config bytes ≡ Ok (frame_kind frame.0.body) =
-    ap (λ k. checked k bytes) config ∙ (spelled_once c frame.0 bytes limits frame.1).0 in
-    let want : IsWant fault =
-    subst (λ r. MatchResult r (λ (k : FrameKind). IsWant fault) Is) once refused in
     rw is (⊎_elim (λ m. rw m tt)
     (λ s. rw s
     (none-after (host_rules managed_ops) c (world_of sites sent) (move.Deliver index i)

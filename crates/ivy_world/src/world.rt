@@ -115,7 +115,7 @@ fn make<A: Allocator + Copy>(
             }
             sent.reserve(MOST_DELIVERED)?;
             let site = &mut sites[to as usize];
-            let _ = site.deliver_shared(&sent[index as usize])?;
+            let _ = site.deliver_spelled(&sent[index as usize])?;
             collect(site, sent);
             Ok(true)
         }

@@ -1,5 +1,5 @@
 -- A line more says a move more, or has no words.
-use Rattle.std.proofs.Common.{rules, ◌≡◌, ◌<◌, [], ◌∷◌, ◌++◌, length, map, subst, sym}
+use Rattle.std.proofs.Common.{rules, ◌≡◌, ◌<◌, [], ◌∷◌, ◌++◌, length, map, take, subst, sym}
 use Rattle.std.specs.List.{AllZip}
 use Rattle.std.specs.Str.Lines.{lines}
 use Rattle.std.proofs.lemmas.Iterator.Splits.{YieldsList-from_lines}
@@ -12,30 +12,29 @@ use Rattle.ivy_texts.proofs.schedule.parse_schedule.Goals as goal
 
 pub loop-before-preserved-then-is_empty : goal.loop-before-preserved-then-is_empty
 loop-before-preserved-then-is_empty g c =
-    let none : length c.in_ok-words.words.items ≡ 0 = search rules in
+    let none : length (take c.in-Some-few_words.count c.few_words.new.words) ≡ 0 = search rules in
     subst (λ ls. AllZip SpellsMove ls c.loop-before.moves.items)
     (sym (texts-blank c.loop-before.yielded c.in-Some.before c.in-Some.line
-    c.in_ok-words.words.items c.in_ok-words.ensures none))
+    (take c.in-Some-few_words.count c.few_words.new.words) c.in-Some-few_words.ensures.1 none))
     c.loop-before.invariant
 
 pub loop-before-preserved : goal.loop-before-preserved
 loop-before-preserved g c =
-    let some : 0 < length c.in_ok-words.words.items = search rules in
-    let spelled : SpellsMove (map (λ w. w.now) c.in_ok-words.words.items) c.in-Some-parse_move.step =
-    subst (λ ws. SpellsMove (map (λ w. w.now) ws) c.in-Some-parse_move.step) c.deref.ensures.value
+    let some : 0 < length (take c.in-Some-few_words.count c.few_words.new.words) = search rules in
+    let spelled : SpellsMove (map (λ w. w.now) (take c.in-Some-few_words.count c.few_words.new.words)) c.in-Some-parse_move.step =
     c.in-Some-parse_move.ensures in
     let more =
     zip_push SpellsMove (worded (texts_of c.loop-before.yielded)) c.loop-before.moves.items
-    (map (λ w. w.now) c.in_ok-words.words.items) c.in-Some-parse_move.step c.loop-before.invariant
+    (map (λ w. w.now) (take c.in-Some-few_words.count c.few_words.new.words)) c.in-Some-parse_move.step c.loop-before.invariant
     spelled in
     let lines =
-    texts-more c.loop-before.yielded c.in-Some.before c.in-Some.line c.in_ok-words.words.items
-    c.in_ok-words.ensures some in
+    texts-more c.loop-before.yielded c.in-Some.before c.in-Some.line (take c.in-Some-few_words.count c.few_words.new.words)
+    c.in-Some-few_words.ensures.1 some in
     let items : c.push.new.self.items ≡ c.loop-before.moves.items ++ c.in-Some-parse_move.step ∷ [] =
     search rules in
     subst (λ ls. AllZip SpellsMove ls c.push.new.self.items) (sym lines)
     (subst (λ ms. AllZip SpellsMove (worded (texts_of c.loop-before.yielded)
-    ++ map (λ w. w.now) c.in_ok-words.words.items ∷ []) ms) (sym items) more)
+    ++ map (λ w. w.now) (take c.in-Some-few_words.count c.few_words.new.words) ∷ []) ms) (sym items) more)
 
 pub returns-clause-moves : goal.returns-clause-moves
 returns-clause-moves g c =

@@ -3,7 +3,7 @@ use Rattle.std.proofs.lemmas.Option.{slice_get_read}
 use Rattle.ivy_model.specs.declared.Config.{Config}
 use Rattle.ivy_site.proofs.of_ivy_memory.Beginning.{err_there}
 use Rattle.ivy_world.proofs.Idling.{idle_turn}
-use Rattle.ivy_world.proofs.Making.{turn_went, turn_refused, pulse_went, delivery_refused}
+use Rattle.ivy_world.proofs.Making.{turn_went, turn_refused, pulse_went, delivery_refused, delivery_spelled}
 use Rattle.ivy_world.proofs.GoingOn.{went_there, delivery_went}
 use Rattle.ivy_world.proofs.world.make.Goals as goal
 
@@ -30,27 +30,44 @@ collect-requires g c =
     let ok = c.in_ok-reserve-in-Turn.ensures.ok in
     record { room = omega (arith, few, none, room, len, ok) }
 
-pub returns-in_err-deliver_shared-in-Deliver-clause-cause : goal.returns-in_err-deliver_shared-in-Deliver-clause-cause
-returns-in_err-deliver_shared-in-Deliver-clause-cause g c =
+pub deliver_spelled-requires : goal.deliver_spelled-requires
+deliver_spelled-requires g c =
     let found : slice_get c.args.sent.now.items c.in-Deliver.index ≡ Some c.index.result.now =
     ap (λ l. slice_get l c.in-Deliver.index) (sym c.reserve-in-Deliver.ensures.items)
     ∙ (slice_get_read c.reserve-in-Deliver.new.self.items
     (length c.reserve-in-Deliver.new.self.items) c.in-Deliver.index c.index.result.now refl
     (search rules) c.index.ensures) in
-    err_there c.from_residual-in_err-deliver_shared-in-Deliver.result _ _
-    c.from_residual-in_err-deliver_shared-in-Deliver.ensures.1
+    record {
+      spelled =
+          delivery_spelled c.args.config.now c.args.sites.now.items c.args.sent.now.items
+          c.in-Deliver.index c.in-Deliver.to c.index_mut-site-in-Deliver.result.now c.index.result.now
+          c.requires.sites c.requires.spelled
+          (slice_get_read c.args.sites.now.items (length c.args.sites.now.items) c.in-Deliver.to
+          c.index_mut-site-in-Deliver.result.now refl (search rules)
+          c.index_mut-site-in-Deliver.ensures.value) found;
+    }
+
+pub returns-in_err-deliver_spelled-in-Deliver-clause-cause : goal.returns-in_err-deliver_spelled-in-Deliver-clause-cause
+returns-in_err-deliver_spelled-in-Deliver-clause-cause g c =
+    let found : slice_get c.args.sent.now.items c.in-Deliver.index ≡ Some c.index.result.now =
+    ap (λ l. slice_get l c.in-Deliver.index) (sym c.reserve-in-Deliver.ensures.items)
+    ∙ (slice_get_read c.reserve-in-Deliver.new.self.items
+    (length c.reserve-in-Deliver.new.self.items) c.in-Deliver.index c.index.result.now refl
+    (search rules) c.index.ensures) in
+    err_there c.from_residual-in_err-deliver_spelled-in-Deliver.result _ _
+    c.from_residual-in_err-deliver_spelled-in-Deliver.ensures.1
     (delivery_refused c.args.config.now c.args.sites.now.items c.args.sent.now.items
     c.in-Deliver.index c.in-Deliver.to c.index_mut-site-in-Deliver.result.now c.index.result.now
-    c.args.step _ _ c.requires.limits c.requires.sites c.requires.spelled
+    c.args.step _ c.requires.limits c.requires.sites c.requires.spelled
     (slice_get_read c.args.sites.now.items (length c.args.sites.now.items) c.in-Deliver.to
     c.index_mut-site-in-Deliver.result.now refl (search rules)
     c.index_mut-site-in-Deliver.ensures.value) found c.in-Deliver.is
-    c.in_err-deliver_shared-in-Deliver.ensures.refused
-    c.in_err-deliver_shared-in-Deliver.ensures.spent)
+    c.in_err-deliver_spelled-in-Deliver.ensures.want
+    c.in_err-deliver_spelled-in-Deliver.ensures.spent)
 
 pub collect-requires-in-Deliver : goal.collect-requires-in-Deliver
 collect-requires-in-Deliver g c =
-    let few = c.in_ok-deliver_shared-in-Deliver.ensures.few in
+    let few = c.in_ok-deliver_spelled-in-Deliver.ensures.few in
     let none =
     ap length
     (c.requires.sites.none_waits c.in-Deliver.to c.index_mut-site-in-Deliver.result.now
@@ -134,62 +151,62 @@ returns-in_ok-turn-in-Turn-clause-programs g c =
     (c.collect.ensures.sent
     ∙ ap (λ l. l ++ c.program_turn.new.self.waiting) c.reserve.ensures.items))).programs
 
-pub returns-in_ok-deliver_shared-in-Deliver-clause-ok : goal.returns-in_ok-deliver_shared-in-Deliver-clause-ok
-returns-in_ok-deliver_shared-in-Deliver-clause-ok g c =
+pub returns-in_ok-deliver_spelled-in-Deliver-clause-ok : goal.returns-in_ok-deliver_spelled-in-Deliver-clause-ok
+returns-in_ok-deliver_spelled-in-Deliver-clause-ok g c =
     let found : slice_get c.args.sent.now.items c.in-Deliver.index ≡ Some c.index.result.now =
     ap (λ l. slice_get l c.in-Deliver.index) (sym c.reserve-in-Deliver.ensures.items)
     ∙ (slice_get_read c.reserve-in-Deliver.new.self.items
     (length c.reserve-in-Deliver.new.self.items) c.in-Deliver.index c.index.result.now refl
     (search rules) c.index.ensures) in
     (delivery_went c.args.config.now c.args.sites.now.items c.args.sent.now.items c.in-Deliver.index
-    c.in-Deliver.to c.index_mut-site-in-Deliver.result.now c.deliver_shared.new.self
-    c.collect-in-Deliver.new.site c.index.result.now c.in_ok-deliver_shared-in-Deliver.field-0
+    c.in-Deliver.to c.index_mut-site-in-Deliver.result.now c.deliver_spelled.new.self
+    c.collect-in-Deliver.new.site c.index.result.now c.in_ok-deliver_spelled-in-Deliver.field-0
     c.args.step c.collect-in-Deliver.new.sent.items c.requires.limits c.requires.sites
     (slice_get_read c.args.sites.now.items (length c.args.sites.now.items) c.in-Deliver.to
     c.index_mut-site-in-Deliver.result.now refl (search rules)
     c.index_mut-site-in-Deliver.ensures.value) found
-    c.in_ok-deliver_shared-in-Deliver.ensures.done c.in-Deliver.is
+    c.in_ok-deliver_spelled-in-Deliver.ensures.done c.in-Deliver.is
     c.collect-in-Deliver.ensures.site
     (c.collect-in-Deliver.ensures.sent
-    ∙ ap (λ l. l ++ c.deliver_shared.new.self.waiting) c.reserve-in-Deliver.ensures.items)).made
+    ∙ ap (λ l. l ++ c.deliver_spelled.new.self.waiting) c.reserve-in-Deliver.ensures.items)).made
 
-pub returns-in_ok-deliver_shared-in-Deliver-clause-sites : goal.returns-in_ok-deliver_shared-in-Deliver-clause-sites
-returns-in_ok-deliver_shared-in-Deliver-clause-sites g c =
+pub returns-in_ok-deliver_spelled-in-Deliver-clause-sites : goal.returns-in_ok-deliver_spelled-in-Deliver-clause-sites
+returns-in_ok-deliver_spelled-in-Deliver-clause-sites g c =
     let found : slice_get c.args.sent.now.items c.in-Deliver.index ≡ Some c.index.result.now =
     ap (λ l. slice_get l c.in-Deliver.index) (sym c.reserve-in-Deliver.ensures.items)
     ∙ (slice_get_read c.reserve-in-Deliver.new.self.items
     (length c.reserve-in-Deliver.new.self.items) c.in-Deliver.index c.index.result.now refl
     (search rules) c.index.ensures) in
     (delivery_went c.args.config.now c.args.sites.now.items c.args.sent.now.items c.in-Deliver.index
-    c.in-Deliver.to c.index_mut-site-in-Deliver.result.now c.deliver_shared.new.self
-    c.collect-in-Deliver.new.site c.index.result.now c.in_ok-deliver_shared-in-Deliver.field-0
+    c.in-Deliver.to c.index_mut-site-in-Deliver.result.now c.deliver_spelled.new.self
+    c.collect-in-Deliver.new.site c.index.result.now c.in_ok-deliver_spelled-in-Deliver.field-0
     c.args.step c.collect-in-Deliver.new.sent.items c.requires.limits c.requires.sites
     (slice_get_read c.args.sites.now.items (length c.args.sites.now.items) c.in-Deliver.to
     c.index_mut-site-in-Deliver.result.now refl (search rules)
     c.index_mut-site-in-Deliver.ensures.value) found
-    c.in_ok-deliver_shared-in-Deliver.ensures.done c.in-Deliver.is
+    c.in_ok-deliver_spelled-in-Deliver.ensures.done c.in-Deliver.is
     c.collect-in-Deliver.ensures.site
     (c.collect-in-Deliver.ensures.sent
-    ∙ ap (λ l. l ++ c.deliver_shared.new.self.waiting) c.reserve-in-Deliver.ensures.items)).are
+    ∙ ap (λ l. l ++ c.deliver_spelled.new.self.waiting) c.reserve-in-Deliver.ensures.items)).are
 
-pub returns-in_ok-deliver_shared-in-Deliver-clause-programs : goal.returns-in_ok-deliver_shared-in-Deliver-clause-programs
-returns-in_ok-deliver_shared-in-Deliver-clause-programs g c =
+pub returns-in_ok-deliver_spelled-in-Deliver-clause-programs : goal.returns-in_ok-deliver_spelled-in-Deliver-clause-programs
+returns-in_ok-deliver_spelled-in-Deliver-clause-programs g c =
     let found : slice_get c.args.sent.now.items c.in-Deliver.index ≡ Some c.index.result.now =
     ap (λ l. slice_get l c.in-Deliver.index) (sym c.reserve-in-Deliver.ensures.items)
     ∙ (slice_get_read c.reserve-in-Deliver.new.self.items
     (length c.reserve-in-Deliver.new.self.items) c.in-Deliver.index c.index.result.now refl
     (search rules) c.index.ensures) in
     (delivery_went c.args.config.now c.args.sites.now.items c.args.sent.now.items c.in-Deliver.index
-    c.in-Deliver.to c.index_mut-site-in-Deliver.result.now c.deliver_shared.new.self
-    c.collect-in-Deliver.new.site c.index.result.now c.in_ok-deliver_shared-in-Deliver.field-0
+    c.in-Deliver.to c.index_mut-site-in-Deliver.result.now c.deliver_spelled.new.self
+    c.collect-in-Deliver.new.site c.index.result.now c.in_ok-deliver_spelled-in-Deliver.field-0
     c.args.step c.collect-in-Deliver.new.sent.items c.requires.limits c.requires.sites
     (slice_get_read c.args.sites.now.items (length c.args.sites.now.items) c.in-Deliver.to
     c.index_mut-site-in-Deliver.result.now refl (search rules)
     c.index_mut-site-in-Deliver.ensures.value) found
-    c.in_ok-deliver_shared-in-Deliver.ensures.done c.in-Deliver.is
+    c.in_ok-deliver_spelled-in-Deliver.ensures.done c.in-Deliver.is
     c.collect-in-Deliver.ensures.site
     (c.collect-in-Deliver.ensures.sent
-    ∙ ap (λ l. l ++ c.deliver_shared.new.self.waiting)
+    ∙ ap (λ l. l ++ c.deliver_spelled.new.self.waiting)
     c.reserve-in-Deliver.ensures.items)).programs
 
 pub returns-in_ok-pulse-in-Pulse-clause-ok : goal.returns-in_ok-pulse-in-Pulse-clause-ok

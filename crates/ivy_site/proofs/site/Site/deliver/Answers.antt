@@ -1,6 +1,11 @@
+use Rattle.std.proofs.Common.{refl, sym, ap, subst, ◌∙◌}
+use Rattle.ivy_model.specs.Config.{IsConfig}
+use Rattle.ivy_wire.specs.Lent.{owned_frame}
 use Rattle.ivy_host.proofs.of_ivy_memory.Beginning.{err_there}
 use Rattle.ivy_site.specs.Sites.{IsSpentDelivery}
+use Rattle.ivy_site.specs.Shown.{Shown}
 use Rattle.ivy_site.proofs.Delivering.{spent_reading}
+use Rattle.ivy_site.proofs.Heads.{reads_frame, refused_none}
 use Rattle.ivy_site.proofs.site.Site.deliver.Goals as goal
 
 pub returns-in_err-read-clause-spent : goal.returns-in_err-read-clause-spent
@@ -9,3 +14,21 @@ returns-in_err-read-clause-spent g c =
     c.from_residual.ensures.1
     (spent_reading _ _ c.self.view_is c.config-config.result c.args.bytes.now _ _
     c.config-config.ensures.is c.in_err-read.ensures.fault)
+
+pub deliver_spelled-requires : goal.deliver_spelled-requires
+deliver_spelled-requires g c = record {
+  spelled =
+      reads_frame c.args.self.now _ c.self.view_is c.config-config.result c.config-config.ensures.is
+      (owned_frame c.in_ok-read.field-0) c.in_ok-string.string c.args.bytes.now
+      (sym c.in_ok-string.ensures) c.in_ok-read.ensures.found;
+}
+
+pub returns-clause-refused : goal.returns-clause-refused
+returns-clause-refused g c =
+    let config = c.config-config.ensures.is ∙ ap (λ (x : Shown). x.config) c.self.view_is in
+    refused_none c.args.self.now.config (subst IsConfig config c.config-config.ensures.limits)
+    c.args.bytes.now
+    (reads_frame c.args.self.now _ c.self.view_is c.config-config.result
+    c.config-config.ensures.is (owned_frame c.in_ok-read.field-0) c.args.bytes.now
+    c.args.bytes.now refl c.in_ok-read.ensures.found)
+    c.deliver_spelled.result c.deliver_spelled.ensures.want

@@ -1,13 +1,24 @@
 use Rattle.std.proofs.Common.{Contains, subst, sym, ◌∙◌}
 use Rattle.ivy_site.specs.Shown.{Shown}
-use Rattle.ivy_site.specs.Sites.{early_at}
+use Rattle.ivy_site.specs.Sites.{SpellsFrame, early_at}
 use Rattle.ivy_site.specs.Inside.{Receives}
 use Rattle.ivy_site.proofs.Receiving.{went_once, held_again}
 use Rattle.ivy_site.proofs.site.Site.go_on_once.Goals as goal
 
+pub receive-requires : goal.receive-requires
+receive-requires g c = record {
+  spelled =
+      subst (λ (x : Shown). SpellsFrame x.config c.in-Some.string) (sym c.in-Some.ensures.after)
+      (c.in-Some.ensures.held.frame, c.in-Some.ensures.held.spelled);
+}
+
 pub hold-requires : goal.hold-requires
 hold-requires g c =
     record {
+      spelled =
+          subst (λ (x : Shown). SpellsFrame x.config c.in-Some.string)
+          (sym (c.in-Err.ensures.done ∙ c.in-Some.ensures.after))
+          (c.in-Some.ensures.held.frame, c.in-Some.ensures.held.spelled);
       early =
           subst (λ (x : Shown). Contains (early_at x) c.in-Some.string)
           (sym (c.in-Err.ensures.done ∙ c.in-Some.ensures.after)) c.in-Some.ensures.held.early;

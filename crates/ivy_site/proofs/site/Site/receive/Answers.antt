@@ -1,3 +1,4 @@
+use Rattle.ivy_site.proofs.Heads.{held_spelled}
 use Rattle.ivy_site.proofs.Receiving.{received_none, received_some, received_early}
 use Rattle.ivy_site.proofs.site.Site.receive.Goals as goal
 
@@ -7,6 +8,9 @@ hold-requires g c =
       early = received_early c.args.string.now c.in-Some.held c.in_ok-verdict.verdict
           c.in_ok-verdict.from c.in_ok-verdict.early c.args.self.now c.hear.new.self c.in-Some.is
           c.in_ok-verdict.ensures.done;
+      spelled = held_spelled c.args.string.now c.in-Some.held c.in_ok-verdict.verdict
+          c.in_ok-verdict.from c.in_ok-verdict.early c.args.self.now c.hear.new.self c.in-Some.is
+          c.in_ok-verdict.ensures.done c.in_ok-verdict.ensures.same.0 c.requires.spelled;
     }
 
 pub returns-in-Some-clause-done : goal.returns-in-Some-clause-done
