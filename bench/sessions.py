@@ -1,8 +1,10 @@
 """Sessions of threads, timed by the clock and by the processor: what a turn, a hand-over and an idle worker cost, and
-how many times as long they take as drawn moves of the same programs, and as plain threads that hand over or meet as
-often.
+how many times as long they take as drawn moves of the same programs, as plain threads that hand over or meet as often,
+and as the same bound to one processor.
 """
 
+import os
+import random
 import subprocess
 import sys
 import time
@@ -12,9 +14,13 @@ from pathlib import Path
 
 from timing import run_once, write_lines
 
+sys.path.append(str(Path(__file__).resolve().parent.parent / "stress"))
+import phases
+
 PAGE_SIZE = 256
 LARGE_PAGE = 4096
 RUNS = 3
+DRAWN_PAGES = 8
 COMPUTES = "while True: pass"
 PLAIN = Path(__file__).resolve().parent / "plain.c"
 
@@ -33,6 +39,11 @@ class Session:
     plain: tuple | None = None
     # Whether drawn moves of the same programs are timed, too.
     drawn: bool = False
+    # Whether it is timed on one processor, too.
+    bound: bool = False
+    # The programs of one node of so many, whose turns a second are compared.
+    alone: tuple | None = None
+    runs: int = RUNS
 
 
 def loop(laps, body, name="again"):
@@ -119,6 +130,14 @@ def sums(numbers):
         yield "print r4"
 
 
+def drawn_phases(count):
+    """Thirty-two nodes store and load in phases, as drawn by `stress/run phases`."""
+    text = phases.Text(random.Random("drawn"), 32, DRAWN_PAGES, PAGE_SIZE)
+    for _ in range(count):
+        text.phase()
+    yield from text.programs().splitlines()
+
+
 def waits(laps):
     """Node 0 computes alone, and seven nodes wait until it is done."""
     yield "node 0"
@@ -128,17 +147,24 @@ def waits(laps):
         yield from (f"node {node}", "set r1 1", "await r2 r0 r1")
 
 
+LARGE = ("--page-size", str(LARGE_PAGE), "--pages")
+LOSSY = ("--capacity", "32", "--pulse", "1024")
+NARROW = ("--capacity", "7")
+
 SESSIONS = (
     Session("run-hits-1", "lap", 1_000_000, hits(1)),
-    Session("run-hits-8", "lap", 1_000_000, hits(8)),
+    Session("run-hits-8", "lap", 1_000_000, hits(8), alone=(hits(1), 8)),
     Session("run-ring-2", "hand-over", 4_000, ring(2)),
     Session("run-ring-2-beside", "hand-over", 4_000, ring(2), beside=4),
-    Session("run-ring-8", "hand-over", 1_600, ring(8), plain=("ring", 8)),
-    Session("run-barrier", "meeting", 300, barrier, plain=("meet", 8)),
-    Session("run-meet-32", "session", 1, meet, drawn=True),
-    Session("run-tree-32", "session", 1, tree, drawn=True),
-    Session("run-page", "hand-over", 10_000, page, options=("--page-size", str(LARGE_PAGE), "--pages", "2")),
-    Session("run-sum", "number", 80_000, sums, options=("--page-size", str(LARGE_PAGE), "--pages", "160")),
+    Session("run-ring-8", "hand-over", 1_600, ring(8), plain=("ring", 8), bound=True),
+    Session("run-barrier", "meeting", 300, barrier, plain=("meet", 8), bound=True),
+    Session("run-meet-32", "session", 1, meet, drawn=True, bound=True, runs=10),
+    Session("run-tree-32", "session", 1, tree, drawn=True, bound=True, runs=10),
+    Session("run-drawn-32", "phase", 4, drawn_phases, drawn=True, bound=True),
+    Session("run-drawn-32-lossy", "phase", 4, drawn_phases, options=LOSSY, drawn=True, bound=True),
+    Session("run-drawn-32-narrow", "phase", 4, drawn_phases, options=NARROW, drawn=True, bound=True),
+    Session("run-page", "hand-over", 10_000, page, options=(*LARGE, "2")),
+    Session("run-sum", "number", 80_000, sums, options=(*LARGE, "160")),
     Session("run-waits", "lap", 3_000_000, waits),
 )
 
@@ -150,8 +176,9 @@ def timed(words):
     return time.monotonic() - began, seconds, memory
 
 
-def best_wall(words):
-    return min(timed(words) for _ in range(RUNS))[0]
+def walls(words):
+    """The seconds of several runs, in order."""
+    return sorted(timed(words)[0] for _ in range(RUNS))
 
 
 def all_ended(program, file, moves):
@@ -170,32 +197,62 @@ def drawn_wall(program, file):
     while least + 1 < most:
         middle = (least + most) // 2
         least, most = (least, middle) if all_ended(program, file, middle) else (middle, most)
-    return best_wall([program, "sim", file, "--moves", str(most)])
+    return walls([program, "sim", file, "--moves", str(most)])[0]
 
 
-def plain_wall(kind, threads, count, folder):
-    """The seconds that plain threads take, which are compiled here."""
+def plain_words(kind, threads, count, folder):
+    """The words of plain threads, which are compiled here."""
     plain = Path(folder) / "plain"
     subprocess.run(["cc", "-O2", "-pthread", PLAIN, "-o", plain], check=True)
-    return best_wall([plain, kind, str(threads), str(count)])
+    return [plain, kind, str(threads), str(count)]
+
+
+def on_one(words):
+    """The seconds of a run on one processor, at best."""
+    first = min(os.sched_getaffinity(0))
+    return walls(["taskset", "-c", str(first), *words])[0]
 
 
 def times(wall, other):
-    return f"{wall / other:.1f}"
+    return f"{wall / other:.2f}"
+
+
+def compared(program, session, file, folder, clocks):
+    """How the seconds of the clock compare: with plain threads, with drawn moves (the median and the longest), with one
+    processor and, of plain threads, the same; and so many nodes' turns a second with those of one.
+    """
+    shown = dict.fromkeys(("plain", "sim", "one", "plain one", "node"), "")
+    least, median = clocks[0], clocks[len(clocks) // 2]
+    words = [program, "run", file, *session.options]
+    if session.bound:
+        shown["one"] = times(least, on_one(words))
+    if session.plain:
+        plain = plain_words(*session.plain, session.count, folder)
+        wall = walls(plain)[0]
+        shown["plain"] = times(least, wall)
+        shown["plain one"] = times(wall, on_one(plain))
+    if session.drawn:
+        wall = drawn_wall(program, file)
+        shown["sim"] = f"{times(median, wall)} {times(clocks[-1], wall)}"
+    if session.alone:
+        text, nodes = session.alone
+        other = write_lines(Path(folder) / "alone", text(session.count))
+        shown["node"] = times(nodes * walls([program, "run", other, *session.options])[0], least)
+    return shown.values()
 
 
 def row_of(program, session, folder):
-    """The columns of a session: those of the run that took the least time of three."""
+    """The columns of a session: the clock and the processor of the run that took the least time of so many."""
     others = [subprocess.Popen([sys.executable, "-c", COMPUTES]) for _ in range(session.beside)]
     file = write_lines(Path(folder) / "program", session.text(session.count))
     try:
-        wall, seconds, memory = min(timed([program, "run", file, *session.options]) for _ in range(RUNS))
+        runs = sorted(timed([program, "run", file, *session.options]) for _ in range(session.runs))
     finally:
         for other in others:
             other.kill()
             other.wait()
-    each = f"{wall / session.count * 1e6:.3f}"
-    plain = times(wall, plain_wall(*session.plain, session.count, folder)) if session.plain else ""
-    drawn = times(wall, drawn_wall(program, file)) if session.drawn else ""
+    wall, seconds, memory = runs[0]
     kept = (session.name, session.unit, session.count)
-    return *kept, f"{wall:.2f}", f"{seconds:.2f}", each, f"{memory:.0f}", plain, drawn
+    clocks = [clock for clock, _, _ in runs]
+    columns = (f"{wall:.3f}", f"{clocks[-1]:.3f}", f"{seconds:.3f}", f"{wall / session.count * 1e6:.3f}")
+    return *kept, *columns, f"{memory:.0f}", *compared(program, session, file, folder, clocks)

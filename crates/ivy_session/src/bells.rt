@@ -2,22 +2,56 @@
 use std::hint::spin_loop;
 use std::sync::Wait;
 use std::sync::atomic::{AtomicBool, AtomicU64, Ordering};
-use std::thread::Parker;
 use std::time::Duration;
 
 /// So often a program worker looks whether the wire worker has the lock that it wants.
 const COURTESY: u32 = 200;
 
+/// What one worker sleeps on: 1 from when it lies down until its bell is rung or it gets up, else 0.
+///
+/// The worker lies down, and then looks whether there is something to do; who gives it something to do rings afterwards.
+/// So it finds that, or is woken.
+pub(crate) type Bell = AtomicU64;
+
+/// The bell of a worker that is up.
+const UP: u64 = 0;
+
+/// The bell of a worker that lies down.
+const LIES: u64 = 1;
+
+/// Wakes a worker that lies down.
+pub(crate) fn ring(bell: &Bell) {
+    if bell.load(Ordering::SeqCst) == LIES && bell.swap(UP, Ordering::SeqCst) == LIES {
+        bell.wake_one();
+    }
+}
+
+/// The worker is about to sleep.
+pub(crate) fn lie_down(bell: &Bell) {
+    bell.store(LIES, Ordering::SeqCst);
+}
+
+/// The worker is up. It tells whether the bell was rung since it lay down.
+pub(crate) fn get_up(bell: &Bell) -> bool {
+    bell.swap(UP, Ordering::SeqCst) == UP
+}
+
+/// The worker, which lay down, sleeps until the bell is rung, so many microseconds at most. It tells whether it was.
+pub(crate) fn sleep<R: Wait>(rt: &R, bell: &Bell, most: u64) -> bool {
+    bell.park_timeout(rt, LIES as u32, Duration::from_micros(most));
+    get_up(bell)
+}
+
 /// What the two workers of a node sleep on, and what the workers of other nodes know of it.
 #[derive(Drop)]
 pub(crate) struct Bells {
-    program: Parker,
-    wire: Parker,
+    pub(crate) program: Bell,
+    pub(crate) wire: Bell,
     /// So many frames the node has served, which its program may have waited for.
     served: AtomicU64,
     /// 0 where no frame of the node waits to be put, else one more than the node that the first one is for.
     waiting: AtomicU64,
-    /// Whether the wire worker is about to lock the node's site.
+    /// Whether the wire worker waits for the node's site.
     wanted: AtomicBool,
 }
 
@@ -25,23 +59,22 @@ impl Bells {
     /// Nothing was served, and nothing waits.
     pub(crate) fn new() -> Bells {
         Bells {
-            program: Parker::new(),
-            wire: Parker::new(),
+            program: Bell::new(UP),
+            wire: Bell::new(UP),
             served: AtomicU64::new(0),
             waiting: AtomicU64::new(0),
             wanted: AtomicBool::new(false),
         }
     }
 
-    /// So many frames the node has served.
+    /// So many frames the node has served, which its program may have waited for.
     pub(crate) fn served(&self) -> u64 {
         self.served.load(Ordering::SeqCst)
     }
 
-    /// The node has served a frame: its program worker is woken.
-    pub(crate) fn ring_served(&self) {
+    /// The node has served a frame. Its program worker sees that where it looks, and sleeps on until its bell is rung.
+    pub(crate) fn count_served(&self) {
         self.served.fetch_add(1, Ordering::SeqCst);
-        self.program.unpark();
     }
 
     /// The node that the first frame is for that waits to be put.
@@ -66,7 +99,7 @@ impl Bells {
         true
     }
 
-    /// Says whether the wire worker is about to lock the node's site.
+    /// Says whether the wire worker waits for the node's site.
     pub(crate) fn want(&self, wanted: bool) {
         self.wanted.store(wanted, Ordering::SeqCst);
     }
@@ -81,24 +114,9 @@ impl Bells {
         }
     }
 
-    /// Wakes the wire worker.
-    pub(crate) fn wake_wire(&self) {
-        self.wire.unpark();
-    }
-
     /// Wakes both workers.
     pub(crate) fn wake(&self) {
-        self.program.unpark();
-        self.wire.unpark();
-    }
-
-    /// The program worker sleeps until it is woken, so many microseconds at most.
-    pub(crate) fn sleep_program<R: Wait>(&self, rt: &R, most: u64) {
-        self.program.park_timeout(rt, Duration::from_micros(most));
-    }
-
-    /// The wire worker sleeps until it is woken, so many microseconds at most.
-    pub(crate) fn sleep_wire<R: Wait>(&self, rt: &R, most: u64) {
-        self.wire.park_timeout(rt, Duration::from_micros(most));
+        ring(&self.program);
+        ring(&self.wire);
     }
 }

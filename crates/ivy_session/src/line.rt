@@ -4,76 +4,22 @@ ghost use Rattle.ivy_seating.specs.Faults.{IsStop};
 
 use ivy_model::Fault;
 use std::alloc::Allocator;
-use std::collections::VecDeque;
 use std::sync::atomic::{AtomicU64, Ordering};
-use std::sync::{Mutex, Wait};
-
-/// The node of no frame.
-const NOBODY: u64 = u64::MAX;
 
 /// The nodes that the frames on the ether are for, about in the order in which they lie there.
 ///
-/// A frame is noted when it is put, once more when it is put back, and struck out when its node has it or it is lost:
-/// each time right after the turn. So as many stand here for a node as were put for it and are missing. The order is
-/// only about that of the ether, since two workers may tell of their turns in another order than they made them.
-#[derive(Drop)]
-struct Frames<A: Allocator> {
-    nodes: VecDeque<u8, A>,
-    /// Those that were taken before they were noted.
-    early: VecDeque<u8, A>,
-}
-
-/// Strikes out the first one. It says whether it was there.
-fn strike_out<A: Allocator>(nodes: &mut VecDeque<u8, A>, node: u8) -> bool {
-    for place in 0..nodes.len() {
-        if nodes.get(place) == Some(&node) {
-            nodes.remove(place);
-            return true;
-        }
-    }
-    false
-}
-
-/// Adds one behind the others, where a place was made for it.
-fn add<A: Allocator>(nodes: &mut VecDeque<u8, A>, node: u8) {
-    if nodes.len() < nodes.capacity() {
-        nodes.push_back_reserved(node);
-    }
-}
-
-impl<A: Allocator> Frames<A> {
-    fn put(&mut self, node: u8) {
-        if !strike_out(&mut self.early, node) {
-            add(&mut self.nodes, node);
-        }
-    }
-
-    fn take(&mut self, node: u8) {
-        if !strike_out(&mut self.nodes, node) {
-            add(&mut self.early, node);
-        }
-    }
-
-    fn put_back(&mut self, node: u8) {
-        if strike_out(&mut self.nodes, node) {
-            add(&mut self.nodes, node);
-        }
-    }
-
-    /// The nodes of the first two.
-    fn near(&self) -> [Option<u8>; 2] {
-        [self.nodes.get(0).copied(), self.nodes.get(1).copied()]
-    }
-}
-
-/// The frames that are noted, and what anybody may read of them at any time.
+/// It goes along with the ether: who put a frame adds its node behind the others, and who took one strikes out the
+/// first, each right after the turn. So as many stand here as lie there. Workers may tell of their turns in another
+/// order than they made them: then a worker finds the frame of another node, puts it back and adds that node again,
+/// and line and ether agree once more.
 #[derive(Drop)]
 pub(crate) struct Line<A: Allocator> {
     capacity: u64,
-    frames: Mutex<Frames<A>>,
-    first: AtomicU64,
-    length: AtomicU64,
-    changes: AtomicU64,
+    /// So many were added, and so many struck out.
+    added: AtomicU64,
+    struck: AtomicU64,
+    /// The nodes that were added last, each at the place of its number, round.
+    nodes: Vec<AtomicU64, A>,
 }
 
 impl<A: Allocator + Copy> Line<A> {
@@ -81,75 +27,70 @@ impl<A: Allocator + Copy> Line<A> {
     pub(crate) fn new(alloc: A, capacity: u64, nodes: usize) -> Result<Self, Fault>
         ensures { IfErr result IsStop }
     {
-        let most = (capacity as usize).saturating_add(nodes);
-        let frames = Frames {
-            nodes: VecDeque::with_capacity(alloc, most)?,
-            early: VecDeque::with_capacity(alloc, most)?,
-        };
+        // A worker that took a frame and one that put another may both be late to tell.
+        let most = (capacity as usize).saturating_add(nodes.saturating_mul(2));
+        let mut places = Vec::new(alloc);
+        for _ in 0..most {
+            places.reserve(1)?;
+            places.push_reserved(AtomicU64::new(0));
+        }
         Ok(Line {
             capacity,
-            frames: Mutex::new(frames),
-            first: AtomicU64::new(NOBODY),
-            length: AtomicU64::new(0),
-            changes: AtomicU64::new(0),
+            added: AtomicU64::new(0),
+            struck: AtomicU64::new(0),
+            nodes: places,
         })
     }
 }
 
 impl<A: Allocator> Line<A> {
-    /// Tells anybody how it stands.
-    fn show(&self, frames: &Frames<A>) -> [Option<u8>; 2] {
-        let near = frames.near();
-        let first = match near[0] {
-            None => NOBODY,
-            Some(node) => u64::from(node),
-        };
-        self.first.store(first, Ordering::SeqCst);
-        self.length
-            .store(frames.nodes.len() as u64, Ordering::SeqCst);
-        self.changes.fetch_add(1, Ordering::SeqCst);
-        near
+    fn place(&self, number: u64) -> Option<&AtomicU64> {
+        let places = self.nodes.len() as u64;
+        self.nodes.get(number.checked_rem(places)? as usize)
     }
 
-    /// A frame was put for a node. Each such call says whom the first two are for from then on.
-    pub(crate) fn put<R: Wait>(&self, rt: &R, node: u8) -> [Option<u8>; 2] {
-        let mut frames = self.frames.lock(rt);
-        frames.put(node);
-        self.show(&frames)
+    /// A frame was put for a node.
+    pub(crate) fn add(&self, node: u8) {
+        let number = self.added.fetch_add(1, Ordering::SeqCst);
+        if let Some(place) = self.place(number) {
+            place.store(u64::from(node), Ordering::SeqCst);
+        }
     }
 
-    /// A frame for a node is on the ether no more.
-    pub(crate) fn take<R: Wait>(&self, rt: &R, node: u8) -> [Option<u8>; 2] {
-        let mut frames = self.frames.lock(rt);
-        frames.take(node);
-        self.show(&frames)
+    /// The first frame was taken.
+    pub(crate) fn strike_out(&self) {
+        self.struck.fetch_add(1, Ordering::SeqCst);
     }
 
-    /// A frame for a node was taken by the worker of another, and put back behind all others.
-    pub(crate) fn put_back<R: Wait>(&self, rt: &R, node: u8) -> [Option<u8>; 2] {
-        let mut frames = self.frames.lock(rt);
-        frames.put_back(node);
-        self.show(&frames)
+    /// So many frames are on the ether.
+    fn length(&self) -> u64 {
+        let struck = self.struck.load(Ordering::SeqCst);
+        self.added.load(Ordering::SeqCst).saturating_sub(struck)
     }
 
-    /// Whether no frame is on the ether.
-    pub(crate) fn is_empty(&self) -> bool {
-        self.first.load(Ordering::SeqCst) == NOBODY
+    /// The node that the frame is for behind so many others.
+    pub(crate) fn behind(&self, others: u64) -> Option<u8> {
+        let number = self.struck.load(Ordering::SeqCst).saturating_add(others);
+        if self.added.load(Ordering::SeqCst) <= number {
+            return None;
+        }
+        let node = self.place(number)?.load(Ordering::SeqCst);
+        Some(node.min(255) as u8)
     }
 
-    /// Whether the first frame is for this node.
-    pub(crate) fn is_first(&self, node: u8) -> bool {
-        self.first.load(Ordering::SeqCst) == u64::from(node)
+    /// The node that the first frame is for.
+    pub(crate) fn first(&self) -> Option<u8> {
+        self.behind(0)
     }
 
-    /// So often anything was noted.
+    /// So often anything was told.
     pub(crate) fn changes(&self) -> u64 {
-        self.changes.load(Ordering::SeqCst)
+        let struck = self.struck.load(Ordering::SeqCst);
+        struck.wrapping_add(self.added.load(Ordering::SeqCst))
     }
 
     /// So many places are left.
     pub(crate) fn places(&self) -> u64 {
-        self.capacity
-            .saturating_sub(self.length.load(Ordering::SeqCst))
+        self.capacity.saturating_sub(self.length())
     }
 }

@@ -2,7 +2,7 @@
 ghost use Rattle.std.specs.Prelude.{IfSome, IfErr};
 ghost use Rattle.ivy_seating.specs.Faults.{IsStop};
 
-use crate::bells::Bells;
+use crate::bells::{Bells, ring};
 use crate::limits::Limits;
 use crate::line::Line;
 use ivy_model::Fault;
@@ -15,8 +15,17 @@ use std::sync::{Mutex, Wait};
 /// So many turns a round of pulses has at most.
 const MOST_ROUND: u64 = 32_768;
 
-/// So many pulses a wire worker makes that nobody has woken for a while.
-const NAP_PULSES: u64 = 4;
+/// So often a worker looks for something to do before it sleeps, where there is a processor for each worker. What one
+/// worker waits for the next one does soon then, and a sleep would cost more. Where there are more workers than
+/// processors a worker that looks takes the processor from one that has something to do.
+const LOOKS: u32 = 8_000;
+
+/// So many places of an ether are kept, if it has twice as many, for the node that the first frame is for. It has to put
+/// its frames before it takes.
+const KEPT_PLACES: u64 = 3;
+
+/// So many frames behind the first one are looked at for one that can be taken.
+const MOST_BEHIND: u64 = 64;
 
 /// Where so few places of the ether are left, whoever waits for one is woken when one may have come.
 const FEW_PLACES: u64 = 8;
@@ -40,13 +49,13 @@ struct Standing {
 pub(crate) struct Shared<A: Allocator> {
     programs: u64,
     pulse_every: u64,
-    standing: Mutex<Standing>,
+    kept_places: u64,
+    looks: u32,
     over: AtomicBool,
     stopped: AtomicBool,
+    standing: Mutex<Standing>,
     losses: AtomicU64,
     line: Line<A>,
-    lookers: AtomicU64,
-    most_lookers: u64,
     bells: Vec<Bells, A>,
 }
 
@@ -69,16 +78,20 @@ impl<A: Allocator + Copy> Shared<A> {
         Ok(Shared {
             programs: programs as u64,
             pulse_every: limits.pulse_every,
+            kept_places: KEPT_PLACES.min(limits.capacity / 2),
+            looks: if (programs as u64) <= processors / 2 {
+                LOOKS
+            } else {
+                0
+            },
+            over: AtomicBool::new(false),
+            stopped: AtomicBool::new(false),
             standing: Mutex::new(Standing {
                 ended: 0,
                 stop: None,
             }),
-            over: AtomicBool::new(false),
-            stopped: AtomicBool::new(false),
             losses: AtomicU64::new(0),
             line,
-            lookers: AtomicU64::new(0),
-            most_lookers: processors.saturating_sub(1),
             bells,
         })
     }
@@ -131,11 +144,14 @@ impl<A: Allocator> Shared<A> {
             .min(MOST_ROUND)
     }
 
-    /// In so many turns a wire worker makes the pulses of one that nobody has woken for a while.
+    /// So many turns a wire worker makes that nobody has woken for a while, so that a pulse comes.
     pub(crate) fn nap_round(&self) -> u64 {
-        self.pulse_every
-            .saturating_mul(NAP_PULSES)
-            .min(self.round())
+        self.pulse_every.min(MOST_ROUND)
+    }
+
+    /// So often a worker looks for something to do before it sleeps, at most.
+    pub(crate) fn looks(&self) -> u32 {
+        self.looks
     }
 
     /// Wakes all workers, so that they see how the session stands.
@@ -166,53 +182,47 @@ impl<A: Allocator> Shared<A> {
         self.wake_all();
     }
 
-    /// Whether one more worker may look for something to do before it sleeps. If so it has to end that.
-    pub(crate) fn begin_looking(&self) -> bool {
-        if self.lookers.fetch_add(1, Ordering::SeqCst) < self.most_lookers {
+    fn has_frame(&self, node: u8) -> bool {
+        match self.bells(node) {
+            None => false,
+            Some(bells) => bells.waiting().is_some(),
+        }
+    }
+
+    /// Whether there is a place for a frame of this node.
+    pub(crate) fn has_place(&self, node: u8) -> bool {
+        let places = self.line.places();
+        if places > self.kept_places {
             return true;
         }
-        self.end_looking();
-        false
-    }
-
-    /// A worker looks no more.
-    pub(crate) fn end_looking(&self) {
-        self.lookers.fetch_sub(1, Ordering::SeqCst);
-    }
-
-    /// Whether a frame for a node should be put. The last place is left to nodes that have nothing to put themselves:
-    /// they take what is for them, so there is a place again.
-    pub(crate) fn has_room_for(&self, to: u8) -> bool {
-        match self.line.places() {
-            0 => false,
-            1 => match self.bells(to) {
-                None => true,
-                Some(bells) => bells.waiting().is_none(),
-            },
-            _ => true,
+        match self.line.first() {
+            None => true,
+            Some(first) => first == node && places > 0,
         }
     }
 
-    /// Wakes the wire workers that the first frames are for.
-    fn wake_near(&self, near: [Option<u8>; 2]) {
-        self.wake_wire(near[0]);
-        self.wake_wire(near[1]);
+    /// The node that is to put back what is before its frame, where the first frame's node can take nothing: it has a
+    /// frame to put, and there is no place.
+    pub(crate) fn turner(&self) -> Option<u8> {
+        if self.line.places() > 0 || !self.has_frame(self.line.first()?) {
+            return None;
+        }
+        for others in 1..MOST_BEHIND {
+            let node = self.line.behind(others)?;
+            if !self.has_frame(node) {
+                return Some(node);
+            }
+        }
+        None
     }
 
+    /// Wakes a node's wire worker.
     fn wake_wire(&self, node: Option<u8>) {
         let Some(node) = node else {
             return;
         };
         if let Some(bells) = self.bells(node) {
-            bells.wake_wire();
-        }
-    }
-
-    /// Whether the wire worker of these bells waits for a place and may have it.
-    fn may_put(&self, bells: &Bells) -> bool {
-        match bells.waiting() {
-            None => false,
-            Some(to) => self.has_room_for(to),
+            ring(&bells.wire);
         }
     }
 
@@ -222,40 +232,32 @@ impl<A: Allocator> Shared<A> {
         for _ in 0..self.bells.len() {
             let next = place.saturating_add(1);
             place = if next < self.bells.len() { next } else { 0 };
-            let Some(bells) = self.bells.get(place) else {
-                return;
-            };
-            if self.may_put(bells) {
-                bells.wake_wire();
+            let node = place.min(255) as u8;
+            if self.has_frame(node) && self.has_place(node) {
+                self.wake_wire(Some(node));
                 return;
             }
         }
     }
 
     /// Tells the workers what a node's turn on the wire came to: `own` are its bells, and `to` is the node that the frame
-    /// is for which was put, or taken and not served.
-    pub(crate) fn tell<R: Wait>(
-        &self,
-        rt: &R,
-        own: &Bells,
-        node: u8,
-        turn: WireTurn,
-        to: Option<u8>,
-    ) {
-        match (turn, to) {
-            (WireTurn::Sent, Some(to)) => self.wake_near(self.line.put(rt, to)),
-            (WireTurn::Served(_), _) => self.wake_near(self.line.take(rt, node)),
-            (WireTurn::Dropped, Some(to)) => self.wake_near(self.line.take(rt, to)),
-            (WireTurn::Returned, Some(to)) => self.wake_near(self.line.put_back(rt, to)),
-            _ => {}
-        }
+    /// is for which was put, or put back.
+    pub(crate) fn tell(&self, own: &Bells, node: u8, turn: WireTurn, to: Option<u8>) {
         match turn {
-            WireTurn::Served(Verdict::Next) => own.ring_served(),
-            WireTurn::Dropped => self.lose(),
+            WireTurn::Lost | WireTurn::Empty => return,
+            WireTurn::Sent => {}
+            WireTurn::Served(_) | WireTurn::Returned | WireTurn::Dropped => self.line.strike_out(),
+        }
+        match (turn, to) {
+            (WireTurn::Sent | WireTurn::Returned, Some(to)) => self.line.add(to),
+            (WireTurn::Served(Verdict::Next), _) => own.count_served(),
+            (WireTurn::Dropped, _) => self.lose(),
             _ => {}
         }
+        self.wake_wire(self.line.first());
         if self.line.places() < FEW_PLACES {
             self.wake_for_place(node);
+            self.wake_wire(self.turner());
         }
     }
 
@@ -266,13 +268,13 @@ impl<A: Allocator> Shared<A> {
         let Shared {
             programs: _,
             pulse_every: _,
-            standing,
+            kept_places: _,
+            looks: _,
             over: _,
             stopped: _,
+            standing,
             losses: _,
             line: _,
-            lookers: _,
-            most_lookers: _,
             bells: _,
         } = self;
         match standing.into_inner().stop {

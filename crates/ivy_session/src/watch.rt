@@ -1,34 +1,66 @@
 //! When a worker makes its next turn, and when it sleeps.
-use crate::bells::Bells;
+use crate::bells::{Bells, get_up, lie_down, ring, sleep};
 use crate::shared::Shared;
 use ivy_seating::WireTurn;
+use ivy_seating::ivy_link::Verdict;
 use std::alloc::Allocator;
 use std::hint::spin_loop;
 use std::sync::Wait;
 
-/// So often a worker looks for something to do before it sleeps. What is near comes meanwhile, and on a machine that
-/// computes it is soon over: who has slept is the first to be given a processor.
-const LOOKS: u32 = 200;
-
 /// So many microseconds a wire worker first sleeps at most. Each time that nobody wakes it, it sleeps twice as long, but
-/// for a bound: where work for it is long in coming, rounds of pulses would only take time from the others.
-const NAP: u64 = 1_000;
+/// for a bound: where work for it is long in coming, pulses would only take time from the others.
+const NAP: u64 = 2_000;
 
 /// So often that time is doubled at most.
 const DOUBLINGS: u32 = 5;
 
-/// So many microseconds a wire worker sleeps whose node's frame is the first one on an ether that has no place for what
-/// the node has to put: it takes nothing before it has put that, or lost it.
-const STUCK_NAP: u64 = 50;
-
-/// So often in a row a wire worker sleeps that nobody wakes, before it makes a turn all the same.
-const NAPS: u32 = 2;
-
-/// And where it has a frame to put and the ether has no place, which would lose it.
-const FULL_NAPS: u32 = 8;
+/// So many microseconds a wire worker sleeps at most where the ether has no place for what the node has to put.
+const FULL_NAP: u64 = 500;
 
 /// So many microseconds a program worker sleeps at most.
 const PROGRAM_NAP: u64 = 10_000;
+
+/// So many frames a node serves at most before its program worker is woken.
+const MOST_UNHEARD: u32 = 8;
+
+/// So often a worker looks at least, where it looks at all.
+const FEW_LOOKS: u32 = 200;
+
+/// How often a worker looks for something to do before it sleeps: twice as often each time that it found something, half
+/// as often each time that it did not, as on a machine that does other work.
+#[derive(Drop)]
+pub(crate) struct Patience {
+    most: u32,
+    looks: u32,
+}
+
+impl Patience {
+    /// At most so often, and so often at first.
+    pub(crate) fn new(most: u32) -> Patience {
+        Patience { most, looks: most }
+    }
+
+    /// Something was found, or not.
+    fn learn(&mut self, found: bool) {
+        let next = if found {
+            self.looks.saturating_mul(2)
+        } else {
+            (self.looks / 2).max(FEW_LOOKS)
+        };
+        self.looks = next.min(self.most);
+    }
+}
+
+/// Looks for a while whether the node has served a frame more, or the session is stopped.
+fn serves<A: Allocator>(looks: u32, shared: &Shared<A>, bells: &Bells, served: u64) -> bool {
+    for _ in 0..looks {
+        if bells.served() != served || shared.is_stopped() {
+            return true;
+        }
+        spin_loop();
+    }
+    false
+}
 
 /// A program worker, which had nothing to do when its node had served so many frames, waits until it has served one
 /// more, or for a while.
@@ -36,30 +68,20 @@ pub(crate) fn rest_program<A: Allocator, R: Wait>(
     rt: &R,
     shared: &Shared<A>,
     bells: &Bells,
+    patience: &mut Patience,
     served: u64,
 ) {
-    if bells.served() != served {
+    let found = serves(patience.looks, shared, bells, served);
+    patience.learn(found);
+    if found {
         return;
     }
-    if shared.begin_looking() {
-        let comes = is_served(shared, bells, served);
-        shared.end_looking();
-        if comes {
-            return;
-        }
+    lie_down(&bells.program);
+    if serves(1, shared, bells, served) {
+        get_up(&bells.program);
+    } else {
+        sleep(rt, &bells.program, PROGRAM_NAP);
     }
-    bells.sleep_program(rt, PROGRAM_NAP);
-}
-
-/// Looks for a while whether the node serves a frame more.
-fn is_served<A: Allocator>(shared: &Shared<A>, bells: &Bells, served: u64) -> bool {
-    for _ in 0..LOOKS {
-        if bells.served() != served || shared.is_stopped() {
-            return true;
-        }
-        spin_loop();
-    }
-    false
 }
 
 /// What a wire worker knows of what there is to do for it.
@@ -72,18 +94,23 @@ pub(crate) struct Watch {
     losses: u64,
     /// So often in a row nobody woke it.
     naps: u32,
+    /// So many frames the node has served since its program worker was woken.
+    unheard: u32,
+    patience: Patience,
     /// How often anything had been noted of the frames on the ether before its last turn, if that found none.
     empty_at: Option<u64>,
 }
 
 impl Watch {
     /// Of this node's wire worker, which has made no turn yet.
-    pub(crate) fn new(node: u8) -> Watch {
+    pub(crate) fn new(node: u8, most_looks: u32) -> Watch {
         Watch {
             node,
             turns: 0,
             losses: 0,
             naps: 0,
+            unheard: 0,
+            patience: Patience::new(most_looks),
             empty_at: None,
         }
     }
@@ -93,7 +120,12 @@ impl Watch {
         self.empty_at = None;
         match turn {
             WireTurn::Lost => self.turns = shared.round(),
-            WireTurn::Served(_) => self.naps = 0,
+            WireTurn::Served(verdict) => {
+                self.naps = 0;
+                if verdict == Verdict::Next {
+                    self.unheard = self.unheard.saturating_add(1);
+                }
+            }
             WireTurn::Empty => {
                 self.turns = self.turns.saturating_sub(1);
                 self.empty_at = Some(changes);
@@ -103,23 +135,27 @@ impl Watch {
     }
 
     /// Whether there is something to do: a frame to put for which there is a place, or the first frame to take, unless
-    /// another worker has it in hand. While nothing is on the ether, it is the turns that bring the next pulses.
+    /// another worker has it in hand, or to put back, where its node can't take it. Where nobody can take anything a
+    /// frame has to be lost. While nothing is on the ether, it is the turns that bring the next pulses.
     fn is_due<A: Allocator>(&self, shared: &Shared<A>, bells: &Bells) -> bool {
-        if shared.is_over() {
+        if shared.is_over() || shared.losses() != self.losses {
             return true;
         }
-        if let Some(to) = bells.waiting() {
-            return shared.has_room_for(to);
+        let first = shared.line().first();
+        if bells.waiting().is_some() {
+            return shared.has_place(self.node)
+                || (first == Some(self.node) && shared.turner().is_none());
         }
-        if shared.line().is_first(self.node) {
-            return self.empty_at != Some(shared.line().changes());
+        match first {
+            None => self.turns > 0,
+            Some(node) if node == self.node => self.empty_at != Some(shared.line().changes()),
+            Some(_) => shared.turner() == Some(self.node),
         }
-        self.turns > 0 && shared.line().is_empty()
     }
 
     /// Looks for a while whether there is something to do.
     fn comes<A: Allocator>(&self, shared: &Shared<A>, bells: &Bells) -> bool {
-        for _ in 0..LOOKS {
+        for _ in 0..self.patience.looks {
             if self.is_due(shared, bells) {
                 return true;
             }
@@ -128,8 +164,9 @@ impl Watch {
         false
     }
 
-    /// Waits until there is something to do, or for a while. Where a frame was lost a round of pulses is what there is to
-    /// do, and some pulses where nobody has woken it for a while.
+    /// Waits until there is something to do, or for a while. The program worker is woken before, once for what was
+    /// served since. Where a frame was lost a round of pulses is what there is to do, and a pulse where nobody has woken it
+    /// for a while.
     pub(crate) fn rest<A: Allocator, R: Wait>(
         &mut self,
         rt: &R,
@@ -140,37 +177,37 @@ impl Watch {
             self.losses = shared.losses();
             self.turns = shared.round();
         }
-        if self.is_due(shared, bells) {
+        let is_due = self.is_due(shared, bells);
+        if self.unheard > MOST_UNHEARD || (self.unheard > 0 && !is_due) {
+            self.unheard = 0;
+            ring(&bells.program);
+        }
+        if is_due {
             return;
         }
-        if shared.begin_looking() {
-            let comes = self.comes(shared, bells);
-            shared.end_looking();
-            if comes {
+        let found = self.comes(shared, bells);
+        self.patience.learn(found);
+        if !found {
+            self.sleep(rt, shared, bells);
+        }
+    }
+
+    /// Sleeps until there is something to do, or for a while in which nobody wakes it.
+    fn sleep<A: Allocator, R: Wait>(&mut self, rt: &R, shared: &Shared<A>, bells: &Bells) {
+        let most = if bells.waiting().is_some() {
+            FULL_NAP
+        } else {
+            NAP << self.naps.min(DOUBLINGS)
+        };
+        for _ in rt.forever() {
+            lie_down(&bells.wire);
+            if self.is_due(shared, bells) {
+                get_up(&bells.wire);
                 return;
             }
-        }
-        self.sleep(rt, shared, bells);
-    }
-
-    /// So often it sleeps before it makes a turn with nothing to do, and so many microseconds each time at most.
-    fn naps<A: Allocator>(&self, shared: &Shared<A>, bells: &Bells) -> (u32, u64) {
-        let nap = NAP << self.naps.min(DOUBLINGS);
-        if bells.waiting().is_none() {
-            return (NAPS, nap);
-        }
-        if shared.line().is_first(self.node) {
-            return (NAPS, STUCK_NAP);
-        }
-        (FULL_NAPS, nap)
-    }
-
-    /// Sleeps until there is something to do, or for a while. The first sleep may end at once, by a wake for what was
-    /// done meanwhile.
-    fn sleep<A: Allocator, R: Wait>(&mut self, rt: &R, shared: &Shared<A>, bells: &Bells) {
-        let (naps, most) = self.naps(shared, bells);
-        for _ in 0..naps {
-            bells.sleep_wire(rt, most);
+            if !sleep(rt, &bells.wire, most) {
+                break;
+            }
             if self.is_due(shared, bells) {
                 return;
             }

@@ -2,18 +2,23 @@
 ghost use Rattle.std.specs.Prelude.{IfErr};
 ghost use Rattle.ivy_seating.specs.Faults.{IsStop};
 
-use crate::bells::Bells;
+use crate::bells::{Bells, ring};
 use crate::gate::{Gate, Role};
 use crate::limits::Limits;
 use crate::shared::Shared;
-use crate::watch::{Watch, rest_program};
+use crate::watch::{Patience, Watch, rest_program};
 use ivy_model::Fault;
 use ivy_seating::ivy_ether::Setup;
 use ivy_seating::{Seated, Turn, WireTurn};
 use std::alloc::Allocator;
-use std::sync::{Mutex, Wait};
+use std::hint::spin_loop;
+use std::sync::{Mutex, MutexGuard, Wait};
 use std::thread;
 use std::thread::Threads;
+
+/// So often a worker looks whether the other one of its node has left the site, before it sleeps until then. A turn takes
+/// no longer.
+const MOST_LOCK_LOOKS: u32 = 500;
 
 /// Says whom the first frame is for that waits to be put at a site. It tells whether that is news.
 fn show_waiting<S: Setup, A: Allocator + Copy>(seated: &Seated<'_, S, A>, bells: &Bells) -> bool {
@@ -34,23 +39,25 @@ fn run_program<S: Setup, A: Allocator + Copy, R: Wait, G: Gate>(
     shared: &Shared<A>,
     gate: &G,
 ) {
+    let looks = MOST_LOCK_LOOKS.min(shared.looks());
+    let mut patience = Patience::new(shared.looks());
     for _ in 0..limits.turns {
         if shared.is_stopped() {
             return;
         }
         let served = bells.served();
         bells.let_wire_go();
-        let mut seated = seat.lock(rt);
+        let mut seated = lock_soon(rt, seat, looks);
         gate.enter(node, Role::Program, seated.records());
         let turn = seated.program_turn();
         let news = show_waiting(&seated, bells);
         drop(seated);
         if news {
-            bells.wake_wire();
+            ring(&bells.wire);
         }
         match turn {
             Ok(Turn::Moved) => {}
-            Ok(Turn::Idle) => rest_program(rt, shared, bells, served),
+            Ok(Turn::Idle) => rest_program(rt, shared, bells, &mut patience, served),
             Ok(Turn::Ended) => {
                 shared.end(rt);
                 return;
@@ -113,6 +120,33 @@ impl Pulses {
     }
 }
 
+/// Locks a site, and looks so often whether it is free before it sleeps.
+fn lock_soon<'m, T, R: Wait>(rt: &R, seat: &'m Mutex<T>, looks: u32) -> MutexGuard<'m, T> {
+    for _ in 0..looks {
+        if let Some(seated) = seat.try_lock() {
+            return seated;
+        }
+        spin_loop();
+    }
+    seat.lock(rt)
+}
+
+/// Locks a node's site for its wire worker. Where the program worker has it, that one lets the wire worker go next.
+fn lock_for_wire<'m, T, R: Wait>(
+    rt: &R,
+    seat: &'m Mutex<T>,
+    bells: &Bells,
+    looks: u32,
+) -> MutexGuard<'m, T> {
+    if let Some(seated) = seat.try_lock() {
+        return seated;
+    }
+    bells.want(true);
+    let seated = lock_soon(rt, seat, looks);
+    bells.want(false);
+    seated
+}
+
 /// Makes the turns of a node on the wire, one turn a lock, until all programs have ended.
 fn run_wire<S: Setup, A: Allocator + Copy, R: Wait, G: Gate>(
     rt: &R,
@@ -123,23 +157,22 @@ fn run_wire<S: Setup, A: Allocator + Copy, R: Wait, G: Gate>(
     shared: &Shared<A>,
     gate: &G,
 ) {
-    let mut watch = Watch::new(node);
+    let looks = MOST_LOCK_LOOKS.min(shared.looks());
+    let mut watch = Watch::new(node, shared.looks());
     let mut pulses = Pulses::new(limits.pulse_every);
     for _ in 0..limits.turns {
         if shared.is_over() {
             return;
         }
         let changes = shared.line().changes();
-        bells.want(true);
-        let mut seated = seat.lock(rt);
-        bells.want(false);
+        let mut seated = lock_for_wire(rt, seat, bells, looks);
         gate.enter(node, Role::Wire, seated.records());
         let turn = pulses.turn(rt, &mut seated);
         show_waiting(&seated, bells);
         drop(seated);
         match turn {
             Ok((turn, to)) => {
-                shared.tell(rt, bells, node, turn, to);
+                shared.tell(bells, node, turn, to);
                 watch.note(shared, turn, changes);
             }
             Err(fault) => {
