@@ -23,31 +23,43 @@ const PROGRAM_NAP: u64 = 10_000;
 /// So many frames a node serves at most before its program worker is woken.
 const MOST_UNHEARD: u32 = 8;
 
-/// So often a worker looks at least, where it looks at all.
-const FEW_LOOKS: u32 = 200;
+/// So often a worker looks after it looked in vain.
+const FEW_LOOKS: u32 = 1_000;
 
-/// How often a worker looks for something to do before it sleeps: twice as often each time that it found something, half
-/// as often each time that it did not, as on a machine that does other work.
+/// So often in a row it looks in vain before it looks for long again.
+const MOST_MISSES: u32 = 16;
+
+/// How often a worker looks for something to do before it sleeps: as often as it may where that helped, and less often
+/// where it was in vain, as on a machine that does other work.
 #[derive(Drop)]
 pub(crate) struct Patience {
     most: u32,
     looks: u32,
+    misses: u32,
 }
 
 impl Patience {
     /// At most so often, and so often at first.
     pub(crate) fn new(most: u32) -> Patience {
-        Patience { most, looks: most }
+        Patience {
+            most,
+            looks: most,
+            misses: 0,
+        }
     }
 
     /// Something was found, or not.
     fn learn(&mut self, found: bool) {
-        let next = if found {
-            self.looks.saturating_mul(2)
+        self.misses = if found || self.misses >= MOST_MISSES {
+            0
         } else {
-            (self.looks / 2).max(FEW_LOOKS)
+            self.misses + 1
         };
-        self.looks = next.min(self.most);
+        self.looks = if self.misses == 0 {
+            self.most
+        } else {
+            FEW_LOOKS.min(self.most)
+        };
     }
 }
 
@@ -165,8 +177,8 @@ impl Watch {
     }
 
     /// Waits until there is something to do, or for a while. The program worker is woken before, once for what was
-    /// served since. Where a frame was lost a round of pulses is what there is to do, and a pulse where nobody has woken it
-    /// for a while.
+    /// served since. Where a frame was lost a round of pulses is what there is to do, and a pulse where nobody has woken
+    /// it for a while.
     pub(crate) fn rest<A: Allocator, R: Wait>(
         &mut self,
         rt: &R,
