@@ -1,8 +1,9 @@
 use Rattle.std.proofs.Common.{Contains, subst, sym, ◌∙◌}
+use Rattle.ivy_model.specs.Wants.{IsWant}
 use Rattle.ivy_site.specs.Shown.{Shown}
 use Rattle.ivy_site.specs.Sites.{early_at}
 use Rattle.ivy_site.specs.Inside.{Receives}
-use Rattle.ivy_site.proofs.Receiving.{went_once, held_again}
+use Rattle.ivy_site.proofs.Receiving.{went_once, held_again, held_wants}
 use Rattle.ivy_site.proofs.site.Site.go_on_once.Goals as goal
 
 pub hold-requires : goal.hold-requires
@@ -25,3 +26,9 @@ returns-in-Err-clause-done g c =
     held_again c.args.self.now c.receive.new.self c.hold.new.self c.args.from c.in-Some.string
     c.in-Some.ensures.ready c.in-Some.ensures.held
     (c.in-Err.ensures.done ∙ c.in-Some.ensures.after) c.hold.ensures.after
+
+pub returns-in-Err-clause-want : goal.returns-in-Err-clause-want
+returns-in-Err-clause-want g c =
+    held_wants c.args.self.now c.take_ready.new.self c.args.from c.in-Some.string
+    (IsWant c.in-Err.fault) _ c.in-Some.ensures.limits c.in-Some.ensures.held
+    c.in-Some.ensures.same.0 c.in-Err.ensures.refused
