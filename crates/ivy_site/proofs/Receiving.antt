@@ -1,11 +1,14 @@
 -- What a site does with a string that comes and with one that it held, from what its parts did. `v`
 -- is what the fields are seen as, `n` the value.
-use Rattle.std.proofs.Common.{◌≡◌, ◌≢◌, ℕ, ◌+◌, List, [], ◌∷◌, ◌++◌, true, false, Option, Some, None, Contains, Result, Ok, Err, MatchResult, MatchOption, refl, sym, ap, subst, ◌∙◌, arith}
+use Rattle.std.proofs.Common.{◌≡◌, ◌≢◌, ℕ, ◌+◌, List, [], ◌∷◌, ◌++◌, true, false, Option, Some, None, Contains, Result, Ok, Err, MatchResult, MatchOption, length, refl, sym, ap, subst, ◌∙◌, arith, inl, inr}
 use Rattle.std.specs.Prelude.{IfSome}
 use Rattle.std.proofs.lemmas.Bool.{eq-eqb}
+use Rattle.std.proofs.lemmas.List.{length-append}
+use Rattle.ivy_moves.specs.ivy_link.Limits.{most_ahead}
 use Rattle.ivy_model.specs.declared.Config.{Config}
 use Rattle.ivy_model.specs.Config.{IsConfig}
 use Rattle.ivy_model.specs.declared.Fault.{Fault}
+use Rattle.ivy_model.specs.Wants.{IsWant}
 use Rattle.ivy_wire.specs.declared.FrameKind.{FrameKind}
 use Rattle.ivy_wire.specs.declared.frame.Frame as frame
 use Rattle.ivy_wire.specs.Data.{Frame}
@@ -23,7 +26,7 @@ use Rattle.ivy_outbox.specs.Outboxes.{Outbox, holding_of, with_holding}
 use Rattle.ivy_site.specs.Shown.{Shown, holding_at, after_delivery, box_of, boxed}
 use Rattle.ivy_site.specs.Sites.{early_at, IsSite, IsHeld, SiteDelivers}
 use Rattle.ivy_site.specs.Sites.{holding_in, without_ready}
-use Rattle.ivy_site.specs.Sites.{GoesOnOnce, SiteGoesOn, SiteWentOn, FollowsDelivery, AfterDelivery}
+use Rattle.ivy_site.specs.Sites.{GoesOnOnce, SiteGoesOn, FollowsDelivery, AfterDelivery, GoesAsFar, DeliversWhole}
 use Rattle.ivy_site.specs.Inside.{CameEarlyAs, Holds, HoldsString, Hears, Receives, WentOnOnce}
 use Rattle.ivy_site.proofs.HeldStrings.{CameEarly, IsNextOf, holding-holds, taking-holds, put-back-same}
 use Rattle.ivy_outbox.proofs.Boxes.{link-kept}
@@ -287,8 +290,38 @@ goes_more from [] a b d bytes same once =
 goes_more from (x ∷ more) a b d bytes on once =
     (on.0, on.1, goes_more from more on.0 b d bytes on.2 once)
 
-pub went_more : (from : ℕ) (a b d : Shown) → SiteWentOn from a b → WentOnOnce from b d → SiteWentOn from a d
-went_more from a b d on once = (on.0 ++ once.0 ∷ [], goes_more from on.0 a b d once.0 on.1 once.1)
+-- so many
+abbrev pub WentSoOften : ℕ → ℕ → Shown → Shown → Type 0
+WentSoOften from count a b =
+    (more : List (List ℕ)) × SiteGoesOn from more a b × (length more ≡ count)
+
+pub went_more : (from count : ℕ) (a b d : Shown) → WentSoOften from count a b → WentOnOnce from b d
+    → WentSoOften from (count + 1) a d
+went_more from count a b d on once = (
+  on.0 ++ once.0 ∷ [],
+  goes_more from on.0 a b d once.0 on.1 once.1,
+  length-append on.0 (once.0 ∷ []) ∙ ap (λ n. n + 1) on.2,
+)
+
+-- and no more
+pub went_to_end : (from count : ℕ) (a b d : Shown) → WentSoOften from count a b → d ≡ b
+    → ready_of (holding_at d) from ≡ None → GoesAsFar from None a d
+went_to_end from count a b d on same none = record {
+  more = on.0;
+  on = subst (SiteGoesOn from on.0 a) (sym same) on.1;
+  rest = inl none;
+}
+
+pub went_all : (from : ℕ) (a b : Shown) → WentSoOften from most_ahead a b → GoesAsFar from None a b
+went_all from a b on = record { more = on.0; on = on.1; rest = inr on.2 }
+
+pub went_to_refusal : (from count : ℕ) (a b d : Shown) (fault : Fault) → WentSoOften from count a b
+    → d ≡ b → IsWant fault → GoesAsFar from (Some fault) a d
+went_to_refusal from count a b d fault on same want = record {
+  more = on.0;
+  on = subst (SiteGoesOn from on.0 a) (sym same) on.1;
+  rest = want;
+}
 
 -- a delivery
 rests : (w : Verdict) (f : Frame) (bytes : List ℕ) (mid new : Shown) → w ≢ verdict.Next
@@ -307,14 +340,39 @@ after_rest bytes w from old new ne r =
       follows = rests w r.first.frame bytes r.mid new ne r.holds;
     }
 
-pub after_next : (bytes : List ℕ) (w : Verdict) (from : ℕ) (old mid new : Shown) → w ≡ verdict.Next
-    → Receives bytes w from old mid → SiteWentOn from mid new → AfterDelivery bytes w old new
-after_next bytes w from old mid new next r on =
-    let same : mid ≡ r.mid = subst (λ x. Holds x r.first.frame bytes r.mid mid) next r.holds in
-    let went : SiteWentOn r.first.frame.source r.mid new =
-    subst (λ i. SiteWentOn i r.mid new) (sym r.from) (subst (λ x. SiteWentOn from x new) same on) in
-    record {
-      mid = r.mid;
-      first = r.first;
-      follows = subst (λ x. FollowsDelivery x r.first.frame bytes r.mid new) (sym next) went;
-    }
+after_next : (bytes : List ℕ) (from : ℕ) (refused : Option Fault) (old mid new : Shown)
+    → Receives bytes verdict.Next from old mid → GoesAsFar from refused mid new
+    → DeliversWhole verdict.Next refused bytes old new
+after_next bytes from refused old mid new r far =
+    let went : GoesAsFar r.first.frame.source refused r.mid new =
+    subst (λ i. GoesAsFar i refused r.mid new) (sym r.from)
+    (subst (λ x. GoesAsFar from refused x new) r.holds far) in (
+      record { mid = r.mid; first = r.first; follows = (went.more, went.on) },
+      went.rest,
+    )
+
+pub whole_next : (bytes : List ℕ) (w : Verdict) (from : ℕ) (refused : Option Fault)
+    (old mid new : Shown) → w ≡ verdict.Next → Receives bytes w from old mid
+    → GoesAsFar from refused mid new → DeliversWhole w refused bytes old new
+whole_next bytes w from refused old mid new next r far =
+    subst (λ x. DeliversWhole x refused bytes old new) (sym next)
+    (after_next bytes from refused old mid new
+    (subst (λ x. Receives bytes x from old mid) next r) far)
+
+pub whole_rest : (bytes : List ℕ) (w : Verdict) (from : ℕ) (old new : Shown) → w ≢ verdict.Next
+    → Receives bytes w from old new → DeliversWhole w None bytes old new
+whole_rest bytes verdict.Next from old new ne r = absurd (ne refl)
+whole_rest bytes verdict.NotMine from old new ne r =
+    (after_rest bytes verdict.NotMine from old new ne r, refl)
+whole_rest bytes verdict.Repeat from old new ne r =
+    (after_rest bytes verdict.Repeat from old new ne r, refl)
+whole_rest bytes verdict.Ahead from old new ne r =
+    (after_rest bytes verdict.Ahead from old new ne r, refl)
+
+-- so it is delivered
+pub whole_delivers : (bytes : List ℕ) (w : Verdict) (refused : Option Fault) (old new : Shown)
+    → DeliversWhole w refused bytes old new → AfterDelivery bytes w old new
+whole_delivers bytes verdict.Next refused old new d = d.0
+whole_delivers bytes verdict.NotMine refused old new d = d.0
+whole_delivers bytes verdict.Repeat refused old new d = d.0
+whole_delivers bytes verdict.Ahead refused old new d = d.0

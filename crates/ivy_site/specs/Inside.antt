@@ -17,7 +17,8 @@ use Rattle.ivy_host.specs.ivy_heap.declared.Answer.TheVariants.{Given, Unserved}
 use Rattle.ivy_host.specs.ivy_memory.Memories as memories
 use Rattle.ivy_outbox.specs.Outboxes.{Outbox, HasNumbers, posted_by}
 use Rattle.ivy_host.specs.Hosts.{Host, turn_of}
-use Rattle.ivy_site.specs.Shown.{Shown}
+use Rattle.ivy_moves.specs.ivy_link.Holding.{ready_of}
+use Rattle.ivy_site.specs.Shown.{Shown, holding_at}
 use Rattle.ivy_site.specs.Sites.{early_at, SiteDelivers, holding_in, GoesOnOnce}
 
 -- a string with this verdict came too early, told from the events
@@ -58,6 +59,11 @@ pub record Receives (bytes : List ℕ) (verdict : Verdict) (source : ℕ) (old n
 -- the site went on once, with some string that it held
 abbrev pub WentOnOnce : ℕ → Shown → Shown → Type 0
 WentOnOnce source old new = (bytes : List ℕ) × GoesOnOnce source bytes old new
+
+-- it did, or it holds none that is the next one
+abbrev pub AfterOnce : Bool → ℕ → Shown → Shown → Type 0
+AfterOnce true source old new = WentOnOnce source old new
+AfterOnce false source old new = (ready_of (holding_at new) source ≡ None) × (new ≡ old)
 
 -- the host of these
 abbrev pub host_of : memories.NodeMemory Managed → Process → List Record → Host Managed

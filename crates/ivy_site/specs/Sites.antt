@@ -1,10 +1,11 @@
 -- What the calls of a site do.
-use Rattle.std.specs.Prelude.{◌≡◌, ℕ, ◌+◌, ◌*◌, ◌<◌, List, [], ◌∷◌, ◌++◌, replicate, Option, Some, None, Contains}
+use Rattle.std.specs.Prelude.{◌≡◌, ◌⊎◌, ℕ, ◌+◌, ◌*◌, ◌<◌, List, [], ◌∷◌, ◌++◌, length, replicate, Option, Some, None, Contains, MatchOption}
 use Rattle.ivy_model.specs.declared.Config.{Config}
 use Rattle.ivy_model.specs.declared.Call.{Call}
 use Rattle.ivy_model.specs.declared.Call.TheVariants.{Await}
 use Rattle.ivy_model.specs.declared.Fault.{Fault}
 use Rattle.ivy_model.specs.declared.Fault.TheVariants.{NumbersSpent}
+use Rattle.ivy_model.specs.Wants.{IsWant}
 use Rattle.ivy_wire.specs.Data.{Frame}
 use Rattle.ivy_wire.specs.Spelling.{Spells}
 use Rattle.ivy_moves.specs.ivy_link.Accepted.{offered}
@@ -125,6 +126,28 @@ pub record AfterDelivery (bytes : List ℕ) (verdict : Verdict) (old new : Shown
   pub mid : Shown
   pub first : SiteDelivers bytes verdict old mid
   pub follows : FollowsDelivery verdict first.frame bytes mid new
+
+-- none that is held of the node is the next one now, or as many went on as are ever held of one
+abbrev pub HasNoneReady : ℕ → List (List ℕ) → Shown → Type 0
+HasNoneReady source more new =
+    (ready_of (holding_at new) source ≡ None) ⊎ (length more ≡ most_ahead)
+
+-- the site went on as far as it can; or the next string that it holds was refused with this fault
+pub record GoesAsFar (source : ℕ) (refused : Option Fault) (old new : Shown) : Type 0 where
+  pub more : List (List ℕ)
+  pub on : SiteGoesOn source more old new
+  pub rest : MatchOption refused (HasNoneReady source more new) IsWant
+
+-- the string is delivered, and the site goes on so
+abbrev pub DeliversWhole : Verdict → Option Fault → List ℕ → Shown → Shown → Type 0
+DeliversWhole verdict.Next refused bytes old new = (d : AfterDelivery bytes verdict.Next old new)
+    × MatchOption refused (HasNoneReady d.first.frame.source d.follows.0 new) IsWant
+DeliversWhole verdict.NotMine refused bytes old new =
+    AfterDelivery bytes verdict.NotMine old new × (refused ≡ None)
+DeliversWhole verdict.Repeat refused bytes old new =
+    AfterDelivery bytes verdict.Repeat old new × (refused ≡ None)
+DeliversWhole verdict.Ahead refused bytes old new =
+    AfterDelivery bytes verdict.Ahead old new × (refused ≡ None)
 
 -- where the fault is that message numbers are at an end, the turn is no event
 abbrev pub IsSpentTurn : Shown → Fault → Type 0

@@ -13,8 +13,8 @@ ghost use Rattle.ivy_moves.specs.ivy_link.Holding.{ready_of};
 ghost use Rattle.ivy_outbox.specs.Outboxes.{next_dest};
 ghost use Rattle.ivy_site.specs.Shown.{holding_at, after_pulse_to};
 ghost use Rattle.ivy_site.specs.Sites.{most_sent, most_delivered, first_shown, AfterTurn, AfterDelivery};
-ghost use Rattle.ivy_site.specs.Sites.{SpellsFrame, SiteWentOn, IsHeld, early_at, without_ready, IsSpentTurn, IsSpentDelivery, TakesFrame, IsSameNode, IsMadeByEvents, IsSentBy, Awaits, await_in};
-ghost use Rattle.ivy_site.specs.Inside.{host_of, is_served, kept_by, told_by, HasTurn, AfterHostTurn, HasNoNumbers, Hears, Receives, WentOnOnce, HoldsString};
+ghost use Rattle.ivy_site.specs.Sites.{SpellsFrame, GoesAsFar, DeliversWhole, IsHeld, early_at, without_ready, IsSpentTurn, IsSpentDelivery, TakesFrame, IsSameNode, IsMadeByEvents, IsSentBy, Awaits, await_in};
+ghost use Rattle.ivy_site.specs.Inside.{host_of, is_served, kept_by, told_by, HasTurn, AfterHostTurn, HasNoNumbers, Hears, Receives, AfterOnce, HoldsString};
 ghost use Rattle.ivy_moves.specs.Marks.{marks};
 ghost use Rattle.ivy_model.specs.Legal.{HasWidth};
 
@@ -380,37 +380,42 @@ impl<A: Allocator + Copy> Site<A> {
     }
 
     /// Goes on with the string that is held of the next number from a node, if there is one, by the whole rule of
-    /// a delivery. It says whether the string was delivered: one that is refused is held again.
-    fn go_on_once(&mut self, from: u8) -> bool
+    /// a delivery [1, 17]. It says whether there was one. One that is refused is held again.
+    fn go_on_once(&mut self, from: u8) -> Result<bool, Fault>
         requires from { from < self.old.config.nodes }
         ensures same { IsSameNode self.old self.new }
-        ensures done { MatchBool result (WentOnOnce from self.old self.new) (self.new ≡ self.old) }
+        ensures done { MatchResult result (λ went. AfterOnce went from self.old self.new) (λ _. self.new ≡ self.old) }
+        ensures want { IfErr result IsWant }
         ensures few { length self.new.waiting ≤ length self.old.waiting + most_posted }
     {
         let Some(string) = self.take_ready(from) else {
-            return false;
+            return Ok(false);
         };
         match self.receive(&string) {
-            Ok(_) => true,
-            Err(_) => {
+            Ok(_) => Ok(true),
+            Err(fault) => {
                 self.hold(string);
-                false
+                Err(fault)
             }
         }
     }
 
-    /// Goes on with the strings of a node that are ready, one after another, until none is, or one is refused.
-    fn go_on(&mut self, from: u8)
+    /// Goes on with the strings of a node that are ready, one after another, until none is, or one is refused, with
+    /// this fault.
+    fn go_on(&mut self, from: u8) -> Option<Fault>
         requires from { from < self.old.config.nodes }
         ensures same { IsSameNode self.old self.new }
-        ensures done { SiteWentOn from self.old self.new }
+        ensures done { GoesAsFar from result self.old self.new }
         ensures few { length self.new.waiting ≤ length self.old.waiting + most_posted * most_ahead }
     {
         for _ in 0..MOST_AHEAD {
-            if !self.go_on_once(from) {
-                return;
+            match self.go_on_once(from) {
+                Ok(true) => {}
+                Ok(false) => return None,
+                Err(fault) => return Some(fault),
             }
         }
+        None
     }
 
     /// A string comes, any bytes at all [1, 11 to 17]. What the frame in it is to this node is the answer: one
@@ -443,9 +448,23 @@ impl<A: Allocator + Copy> Site<A> {
         ensures few { length self.new.waiting ≤ length self.old.waiting + most_delivered }
         ensures spent { IfErr result (IsSpentDelivery self.old string.now) }
     {
+        let (verdict, _) = self.deliver_telling(string)?;
+        Ok(verdict)
+    }
+
+    /// A string comes, as [`Site::deliver_shared`] says. Besides the verdict it says with which fault a string was
+    /// refused that the site held, and would have gone on with [1, 17]. Where none was, none that is held of the
+    /// frame's node is the next one now.
+    pub fn deliver_telling(&mut self, string: &Bytes<A>) -> Result<(Verdict, Option<Fault>), Fault>
+        ensures same { IsSameNode self.old self.new }
+        ensures done { MatchResult result (λ d. DeliversWhole d.0 d.1 string.now self.old self.new) (λ _. self.new ≡ self.old) }
+        ensures refused { MatchResult (checked self.old.config string.now) (λ _. IfErr result IsWant) (λ fault. result ≡ Err fault) }
+        ensures few { length self.new.waiting ≤ length self.old.waiting + most_delivered }
+        ensures spent { IfErr result (IsSpentDelivery self.old string.now) }
+    {
         let config = self.outbox.config();
         read(&config, string.bytes())?;
-        self.deliver_spelled(string)
+        self.deliver_whole(string)
     }
 
     /// A string comes that spells a frame, as [`Site::deliver_shared`] says [1, 17]. It is not tested again.
@@ -457,11 +476,25 @@ impl<A: Allocator + Copy> Site<A> {
         ensures few { length self.new.waiting ≤ length self.old.waiting + most_delivered }
         ensures spent { IfErr result (IsSpentDelivery self.old string.now) }
     {
-        let (answer, from) = self.receive(string)?;
-        if answer == Verdict::Next {
-            self.go_on(from);
+        let (verdict, _) = self.deliver_whole(string)?;
+        Ok(verdict)
+    }
+
+    /// A string comes that spells a frame, as [`Site::deliver_telling`] says.
+    fn deliver_whole(&mut self, string: &Bytes<A>) -> Result<(Verdict, Option<Fault>), Fault>
+        requires spelled { SpellsFrame self.old.config string.now }
+        ensures same { IsSameNode self.old self.new }
+        ensures done { MatchResult result (λ d. DeliversWhole d.0 d.1 string.now self.old self.new) (λ _. self.new ≡ self.old) }
+        ensures want { IfErr result IsWant }
+        ensures few { length self.new.waiting ≤ length self.old.waiting + most_delivered }
+        ensures spent { IfErr result (IsSpentDelivery self.old string.now) }
+    {
+        let (verdict, from) = self.receive(string)?;
+        if verdict != Verdict::Next {
+            return Ok((verdict, None));
         }
-        Ok(answer)
+        let refused = self.go_on(from);
+        Ok((verdict, refused))
     }
 
     /// A pulse to another node: what that node has not acknowledged waits to be put on the wire again, at most

@@ -1,7 +1,7 @@
 //! What is printed of calls, replies, records and moves, of one node, and of an order.
-ghost use Rattle.std.specs.Prelude.{Some, OnOk, decimal, flat_map};
+ghost use Rattle.std.specs.Prelude.{◌≡◌, Some, OnOk, decimal, flat_map};
 ghost use Rattle.std.specs.Io.KnownBytes.{Appends};
-ghost use Rattle.ivy_texts.specs.Lines.{value_line, end_line, verdict_line};
+ghost use Rattle.ivy_texts.specs.Lines.{kind_text, value_line, end_line, verdict_line};
 ghost use Rattle.ivy_texts.specs.Printed.{call_text, reply_text, record_text, move_text};
 
 use itoa::Buffer;
@@ -121,7 +121,9 @@ impl fmt::Display for MoveText {
 }
 
 /// The name of a kind of frame.
-pub fn kind_name(kind: FrameKind) -> &'static str {
+pub fn kind_name(kind: FrameKind) -> &'static str
+    ensures { result.now ≡ kind_text kind }
+{
     match kind {
         FrameKind::Ack => "Ack",
         FrameKind::ReadReq => "ReadReq",

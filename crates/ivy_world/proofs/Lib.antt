@@ -4,3 +4,5 @@ pub mod Idling
 pub mod Worlds
 pub mod Making
 pub mod GoingOn
+pub mod Growing
+pub mod Coming

@@ -1,10 +1,10 @@
 -- Moves that a world makes to come to rest.
-use Rattle.std.proofs.Common.{◌≡◌, ◌<◌, ◌≤◌, ◌+◌, ◌||◌, ℕ, Bool, true, false, List, [], ◌∷◌, ◌++◌, length, slice_get, Some, None, Result, Ok, Err, refl, ap, subst, ◌∙◌, arith, inl, inr}
+use Rattle.std.proofs.Common.{◌≡◌, ◌<◌, ◌≤◌, ◌+◌, ◌||◌, ℕ, Bool, true, false, List, [], ◌∷◌, ◌++◌, length, slice_get, Some, None, Result, Ok, Err, option_map, refl, ap, subst, ◌∙◌, arith, inl, inr}
 use Rattle.std.specs.Result.{result_ok}
 use Rattle.std.proofs.Math.Seq.{take-append_seam}
 use Rattle.std.proofs.lemmas.List.{length-append}
 use Rattle.std.proofs.lemmas.Bool.{cases_eq}
-use Rattle.std.proofs.lemmas.Option.{same_Some, slice_get_within}
+use Rattle.std.proofs.lemmas.Option.{same_Some, slice_get_within, slice_get-map}
 use Rattle.ivy_model.specs.declared.Fault.{Fault}
 use Rattle.ivy_moves.specs.declared.Move.{Move}
 use Rattle.ivy_moves.specs.Worlds.{Moves}
@@ -22,7 +22,8 @@ use Rattle.ivy_world.specs.Runs.{IsRefusedBy, IsSameRun}
 use Rattle.ivy_site.specs.Shown.{Shown}
 use Rattle.ivy_world.specs.WorldSites.{world_of}
 use Rattle.ivy_world.specs.Settling.{HasSettledBy, HasStopped, StandsStill}
-use Rattle.ivy_world.specs.Rounds.{DoesNothing, IsDelivered, IsDeliveredFrom, IsOfRound, round_after, HadTurns, IsInRound, HasMadeOne, HasRefusedOne}
+use Rattle.proof_headline.specs.proof_progress.Still.{HasNothingUnderWay}
+use Rattle.ivy_world.specs.Rounds.{DoesNothing, IsDeliveredFrom, IsRoundMove, round_after, HadTurns, IsInRound, HasMadeOne, HasRefusedOne}
 use Rattle.ivy_moves.proofs.Leading.{leads_one}
 
 at_end : {A : Type 0} (xs : List A) (x : A) → slice_get (xs ++ x ∷ []) (length xs) ≡ Some x
@@ -94,17 +95,18 @@ refused_after most made old new fault few h one =
 -- the next round, or a round in which one more move was made
 
 pub went_on : (old new : Run) (round : Round) (step : Move) (did : Bool) → IsInRound old round
-    → IsOfRound round.turn step → (did ≡ false → DoesNothing old.world step × (new ≡ old))
+    → IsRoundMove old.config old.world round.turn step
+    → (did ≡ false → DoesNothing old.world step × (new ≡ old))
     → HadTurns new (round_after round step did)
 went_on old new round (Turn i) did h is idle none j below =
     let both = or_false round.stirred did none in
     let same = (idle both.1).1 in
     rw same (elim (cases_eq j round.turn) [
-      | inl e ↦ rw e (rw (← is) (idle both.1).0)
+      | inl e ↦ rw e (rw (← is.0) (idle both.1).0)
       | inr ne ↦ h.idle both.0 j (omega (arith, below, ne))
     ])
 went_on old new round (Deliver index to) did h is idle none j below =
-    absurd (omega (arith, below, is))
+    absurd (let first = is.0 in omega (arith, below, first))
 went_on old new round (Pulse from to) did h is idle none j below = absurd is
 
 pub first_round : (r : Run) → 0 < r.config.nodes
@@ -113,15 +115,23 @@ first_round r some = record { within = some; idle = λ _ i below. absurd (omega 
 
 -- what is said of sites, said of the world's nodes
 pub world_delivered : (sites : List Shown) (sent : List (List ℕ))
-    → ((i : ℕ) → IsDeliveredFrom sites i) → IsDelivered (world_of sites sent)
+    → ((i : ℕ) → IsDeliveredFrom sites i) → HasNothingUnderWay (world_of sites sent)
 world_delivered sites sent all i j n m apart a b =
     let s = get_map (λ (s : Shown). s.node) sites n i a in
     let t = get_map (λ (s : Shown). s.node) sites m j b in
     rw s.2 (rw t.2 (all i j s.0 t.0 apart s.1 t.1))
 
+-- and said of the world's nodes, said of sites
+pub sites_delivered : (sites : List Shown) (sent : List (List ℕ))
+    → HasNothingUnderWay (world_of sites sent) → (i : ℕ) → IsDeliveredFrom sites i
+sites_delivered sites sent all i j s t apart a b =
+    all i j s.node t.node apart
+    (slice_get-map (λ (x : Shown). x.node) sites i ∙ ap (option_map (λ (x : Shown). x.node)) a)
+    (slice_get-map (λ (x : Shown). x.node) sites j ∙ ap (option_map (λ (x : Shown). x.node)) b)
+
 pub stands_still : (r : Run) (round : Round) → length r.world.nodes ≡ r.config.nodes
     → r.config.nodes ≤ round.turn → HadTurns r round → round.stirred ≡ false
-    → IsDelivered r.world → StandsStill r
+    → HasNothingUnderWay r.world → StandsStill r
 stands_still r round count over had none delivered =
     let idle : (i : ℕ) (n : Node (Host Managed)) → slice_get r.world.nodes i ≡ Some n
     → (turn_of managed_ops n.core ≡ None) × HasStopped n.core =
@@ -134,7 +144,7 @@ stands_still r round count over had none delivered =
 -- the same, where only the place from which strings are looked at changed before
 module _ (old mid new : Run) (was : mid ≡ old) where
   pub turned_on : (round : Round) (step : Move) (did : Bool) → IsInRound old round
-      → IsOfRound round.turn step
+      → IsRoundMove old.config old.world round.turn step
       → (◌≡◌ {A = Result Bool Fault} (Ok did) (Ok false)
       → DoesNothing mid.world step × (new ≡ mid))
       → HadTurns new (round_after round step did)

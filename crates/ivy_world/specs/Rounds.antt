@@ -1,7 +1,10 @@
 -- How a world comes to rest: in rounds, in which what is under way is delivered, and then each node
 -- has a turn.
 use Rattle.std.specs.Prelude.{◌≡◌, ◌≢◌, ◌<◌, ◌≤◌, ◌+◌, ◌||◌, ℕ, Bool, false, List, length, slice_get, Some, None}
+use Rattle.ivy_model.specs.declared.Config.{Config}
 use Rattle.ivy_model.specs.declared.Fault.{Fault}
+use Rattle.ivy_wire.specs.Data.{Frame}
+use Rattle.ivy_wire.specs.Spelling.{Spells}
 use Rattle.ivy_wire.specs.Destinations.{dest_of}
 use Rattle.ivy_moves.specs.ivy_link.Linked.{peer_at}
 use Rattle.ivy_moves.specs.declared.Move.{Move}
@@ -12,6 +15,7 @@ use Rattle.ivy_site.specs.ivy_host.Hosts.{Host, host_rules, turn_of}
 use Rattle.ivy_site.specs.ivy_host.Managers.{Managed, managed_ops}
 use Rattle.ivy_world.specs.declared.round.Round.{Round}
 use Rattle.proof_headline.specs.RunState.{Run}
+use Rattle.proof_headline.specs.proof_progress.Still.{IsStill}
 use Rattle.ivy_world.specs.Runs.{IsRefusedBy, CannotBeNamed}
 use Rattle.ivy_world.specs.Settling.{HasStopped}
 use Rattle.ivy_site.specs.Shown.{Shown}
@@ -27,6 +31,43 @@ abbrev pub DoesNothing : World (Host Managed) → Move → Type 0
 DoesNothing w (Turn i) = HasIdleTurn w i
 DoesNothing w (Deliver index to) = ⊥
 DoesNothing w (Pulse from to) = ⊥
+
+-- the move is a turn that does something, or no turn
+abbrev pub DoesSomething : World (Host Managed) → Move → Type 0
+DoesSomething w (Turn i) = (n : Node (Host Managed)) → slice_get w.nodes i ≡ Some n
+    → turn_of managed_ops n.core ≢ None
+DoesSomething w (Deliver index to) = Unit {0}
+DoesSomething w (Pulse from to) = Unit {0}
+
+-- the string in this place comes to the node: it spells a frame for it whose message was not
+-- delivered there yet
+pub record Comes (c : Config) (w : World (Host Managed)) (index to : ℕ) : Type 0 where
+  pub string : List ℕ
+  pub there : slice_get w.sent index ≡ Some string
+  pub byte : dest_of string ≡ Some to
+  pub node : Node (Host Managed)
+  pub at : slice_get w.nodes to ≡ Some node
+  pub frame : Frame
+  pub spelled : Spells c frame string
+  pub dest : frame.dest ≡ to
+  pub later : (peer_at node.link frame.source).delivered < frame.number
+
+-- none does of those before a place
+abbrev pub NoneComes : Config → World (Host Managed) → ℕ → Type 0
+NoneComes c w end = (index to : ℕ) → index < end → Comes c w index to → ⊥
+
+-- no string before the place comes to a node any more
+pub record IsPassed (c : Config) (w : World (Host Managed)) (passed : ℕ) : Type 0 where
+  pub within : passed ≤ length w.sent
+  pub none : NoneComes c w passed
+
+-- the next move of a round in which so many nodes had a turn: before the first turn the first string
+-- that comes to a node is delivered; where none does, or one had a turn, the next node has its turn
+abbrev pub IsRoundMove : Config → World (Host Managed) → ℕ → Move → Type 0
+IsRoundMove c w turn (Turn i) = (i ≡ turn) × (turn ≡ 0 → NoneComes c w (length w.sent))
+IsRoundMove c w turn (Deliver index to) =
+    (turn ≡ 0) × Comes c w index to × NoneComes c w index
+IsRoundMove c w turn (Pulse i j) = ⊥
 
 -- the string is under way to the site in this place: it is for that one, which awaits it
 pub record IsUnderWayTo (sites : List Shown) (string : List ℕ) (to : ℕ) : Type 0 where
@@ -55,21 +96,10 @@ IsNextMove sites sent from turn (Deliver index to) =
     (turn ≡ 0) × IsUnderWay sites sent index to × HasNoneUnderWay sites sent from index
 IsNextMove sites sent from turn (Pulse i j) = ⊥
 
--- it is a turn of the next node, or before the first turn a delivery
-abbrev pub IsOfRound : ℕ → Move → Type 0
-IsOfRound turn (Turn i) = i ≡ turn
-IsOfRound turn (Deliver index to) = turn ≡ 0
-IsOfRound turn (Pulse from to) = ⊥
-
 -- all that the site sent to the others was delivered there
 abbrev pub IsDeliveredFrom : List Shown → ℕ → Type 0
 IsDeliveredFrom sites i = (j : ℕ) (s t : Shown) → i ≢ j → slice_get sites i ≡ Some s
     → slice_get sites j ≡ Some t → (peer_at t.node.link i).delivered ≡ (peer_at s.node.link j).sent
-
--- all that nodes sent to each other was delivered
-abbrev pub IsDelivered : World (Host Managed) → Type 0
-IsDelivered w = (i j : ℕ) (n m : Node (Host Managed)) → i ≢ j → slice_get w.nodes i ≡ Some n
-    → slice_get w.nodes j ≡ Some m → (peer_at m.link i).delivered ≡ (peer_at n.link j).sent
 
 -- a turn is counted, and that it did anything is remembered
 abbrev pub round_after : Round → Move → Bool → Round
@@ -86,6 +116,18 @@ HadTurns r round = round.stirred ≡ false → (i : ℕ) → i < round.turn → 
 pub record IsInRound (r : Run) (round : Round) : Type 0 where
   pub within : round.turn < r.config.nodes
   pub idle : HadTurns r round
+
+-- where the world stands still and no turn of the round did anything, nor does this move, and the
+-- round is not at its end
+pub record RestsOn (old : Run) (round : Round) (new : Run) (after : Round) : Type 0 where
+  pub same : new ≡ old
+  pub turn : after.turn ≡ round.turn + 1
+  pub idle : after.stirred ≡ false
+  pub within : after.turn < old.config.nodes
+
+abbrev pub StaysStill : Run → Round → Run → Round → Type 0
+StaysStill old round new after =
+    IsStill managed_ops old.world → round.stirred ≡ false → RestsOn old round new after
 
 -- one move was made
 abbrev pub HasMadeOne : Run → Run → Type 0

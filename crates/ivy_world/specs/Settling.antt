@@ -1,5 +1,5 @@
 -- What a world comes to that is settled by at most so many moves.
-use Rattle.std.specs.Prelude.{◌≡◌, ◌≤◌, ◌⊎◌, ℕ, List, length, map, slice_get, Some, IsSome, Result, Ok}
+use Rattle.std.specs.Prelude.{◌≡◌, ◌<◌, ◌≤◌, ◌⊎◌, ℕ, List, length, map, slice_get, Some, IsSome, Result, Ok}
 use Rattle.ivy_model.specs.declared.Fault.{Fault}
 use Rattle.ivy_moves.specs.declared.Move.{Move}
 use Rattle.ivy_moves.specs.Nodes.{Node}
@@ -28,6 +28,11 @@ pub record HasSettledBy (most : ℕ) (result : Result Rest (ℕ × Fault)) (old 
 pub record Settles (most : ℕ) (result : Result Rest (ℕ × Fault)) (old new : Run) : Type 0 where
   pub by : HasSettledBy most result old new
   pub explained : IsExplainedOn old (made_of result by.moves) new
+
+-- a world that stands still is found so by as many moves as it has nodes
+abbrev pub IsFoundStill : ℕ → Result Rest (ℕ × Fault) → Run → Type 0
+IsFoundStill most result old =
+    result ≡ Ok Going → IsStill managed_ops old.world → most < old.config.nodes
 
 -- its program has ended, or it has a call in progress
 abbrev pub HasStopped : Host Managed → Type 0

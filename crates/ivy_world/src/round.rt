@@ -111,8 +111,10 @@ pub(crate) fn next_move<A: Allocator + Copy>(
     passed: &mut usize,
     round: Round,
 ) -> Move
+    requires within { passed.old ≤ length sent.now }
     ensures next { IsNextMove sites.now sent.now passed.old round.turn result }
     ensures passed { HasNoneUnderWay sites.now sent.now passed.old passed.new }
+    ensures within { passed.new ≤ length sent.now }
 {
     if round.turn > 0 {
         return Move::Turn(round.turn);

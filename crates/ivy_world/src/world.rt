@@ -12,8 +12,9 @@ ghost use Rattle.ivy_site.specs.ivy_host.Openings.{opening};
 ghost use Rattle.ivy_world.specs.Runs.{made_of, IsRefusedBy, IsNamedUnless, IsSameRun, IsRefusedAt, IsNamedAt, IsExplainedOn};
 ghost use Rattle.proof_headline.specs.Reached.{IsLedTo, IsReached};
 ghost use Rattle.ivy_site.specs.Sites.{await_in};
-ghost use Rattle.ivy_world.specs.Settling.{StandsStill, HasSettledBy, Settles, HasSettled};
-ghost use Rattle.ivy_world.specs.Rounds.{DoesNothing, IsDelivered, IsOfRound, IsInRound, HasMadeOne, HasRefusedOne};
+ghost use Rattle.proof_headline.specs.proof_progress.Still.{HasNothingUnderWay};
+ghost use Rattle.ivy_world.specs.Settling.{StandsStill, HasSettledBy, Settles, HasSettled, IsFoundStill};
+ghost use Rattle.ivy_world.specs.Rounds.{DoesNothing, DoesSomething, IsRoundMove, IsInRound, StaysStill, HasMadeOne, HasRefusedOne};
 ghost use Rattle.ivy_model.specs.Wants.{IsWant};
 ghost use Rattle.ivy_world.specs.WorldSites.{programs_of, world_of, AreSites, IsMemory, IsWorldWant, AreFirst};
 
@@ -50,7 +51,9 @@ pub struct World<A: Allocator> {
 
 impl<A: Allocator> Model for World<A> {
     ghost use Rattle.proof_headline.specs.RunState.{Run};
-    ghost use Rattle.ivy_world.specs.WorldSites.{run_of, IsRunning};
+    ghost use Rattle.std.specs.Prelude.{◌≡◌};
+    ghost use Rattle.ivy_world.specs.WorldSites.{run_of, world_of, IsRunning};
+    ghost use Rattle.ivy_world.specs.Rounds.{IsPassed};
 
     ghost Value = { Run };
 
@@ -62,7 +65,7 @@ impl<A: Allocator> Model for World<A> {
 
     ghost view = { λ w. run_of w.config w.sites.items w.sent.items };
 
-    ghost invariant = { λ w. IsRunning w.config w.sites.items w.sent.items };
+    ghost invariant = { λ w. IsRunning w.config w.sites.items w.sent.items × IsPassed w.config (world_of w.sites.items w.sent.items) w.passed };
 }
 
 /// Moves the strings that wait at a site behind all that were sent.
@@ -93,6 +96,7 @@ fn make<A: Allocator + Copy>(
     ensures each { length sites.new.items ≡ config.now.nodes }
     ensures programs { programs_of sites.new.items ≡ programs_of sites.old.items }
     ensures idle { result ≡ Ok false → DoesNothing (world_of sites.old.items sent.old.items) step × (sites.new.items ≡ sites.old.items) × (sent.new.items ≡ sent.old.items) }
+    ensures did { result ≡ Ok true → DoesSomething (world_of sites.old.items sent.old.items) step }
     ensures err { OnErr result ((sites.new.items ≡ sites.old.items) × (sent.new.items ≡ sent.old.items)) }
     ensures cause { IfErr result (λ fault. IsRefusedBy config.now (world_of sites.old.items sent.old.items) fault (Some step)) }
     ensures named { IsNamedUnless (world_of sites.old.items sent.old.items) result step }
@@ -226,6 +230,7 @@ impl<A: Allocator + Copy> World<A> {
         ensures stays { IsSameRun self.old self.new }
         ensures ok { OnOk result (Moves (host_rules managed_ops) self.old.config self.old.world step self.new.world) }
         ensures idle { result ≡ Ok false → DoesNothing self.old.world step × (self.new ≡ self.old) }
+        ensures did { result ≡ Ok true → DoesSomething self.old.world step }
         ensures err { OnErr result (self.new ≡ self.old) }
         ensures cause { IfErr result (λ fault. IsRefusedBy self.old.config self.old.world fault (Some step)) }
         ensures named { IsNamedUnless self.old.world result step }
@@ -304,7 +309,7 @@ impl<A: Allocator + Copy> World<A> {
 
     /// Whether all that nodes sent to each other was delivered.
     fn is_delivered(&self) -> bool
-        ensures { IsTrue result → IsDelivered self.now.world }
+        ensures { IsTrue result ↔ HasNothingUnderWay self.now.world }
     {
         is_delivered(&self.sites, &self.config)
     }
@@ -314,7 +319,7 @@ impl<A: Allocator + Copy> World<A> {
         requires { round.turn < self.old.config.nodes }
         ensures same { self.new ≡ self.old }
         ensures named { is_named self.old.world result ≡ true }
-        ensures next { IsOfRound round.turn result }
+        ensures next { IsRoundMove self.old.config self.old.world round.turn result }
     {
         next_move(&self.sites, &self.sent, &mut self.passed, round)
     }
@@ -327,8 +332,10 @@ impl<A: Allocator + Copy> World<A> {
         ensures made { OnOk result (HasMadeOne self.old self.new) }
         ensures round { OnOk result (IsInRound self.new round.new) }
         ensures still { result ≡ Ok true → StandsStill self.new }
+        ensures rests { result ≡ Ok false → StaysStill self.old round.old self.new round.new }
         ensures refused { IfErr result (λ fault. IsWant fault × (self.new ≡ self.old) × HasRefusedOne self.new fault) }
     {
+        self.keeps();
         let step = self.next_move(*round);
         let stirred = self.make(step)?;
         self.reached();
@@ -347,6 +354,7 @@ impl<A: Allocator + Copy> World<A> {
         ensures stays { IsSameRun self.old self.new }
         ensures made { HasSettledBy moves result self.old self.new }
         ensures still { result ≡ Ok Rest.Still → StandsStill self.new }
+        ensures found { IsFoundStill moves result self.old }
         ensures want { IfErr result (λ e. IsWant e.1) }
     {
         let mut round = Round::first();
@@ -380,6 +388,9 @@ impl<A: Allocator + Copy> World<A> {
         // progress waits. And some legal order has exactly each node's history as its part, in whose last memory each
         // call in progress is an await of a count that is below its least value.
         ensures still { result ≡ Ok Rest.Still → HasSettled self.new }
+
+        // A world of n nodes that stands still is found so by n moves.
+        ensures found { IsFoundStill moves result self.old }
     {
         self.reached();
         let result = self.settle_on(moves);

@@ -36,3 +36,6 @@ returns-in-Err-clause-done g c =
     held_again c.args.self.now c.receive.new.self c.hold.new.self c.args.from c.in-Some.string
     c.in-Some.ensures.ready c.in-Some.ensures.held
     (c.in-Err.ensures.done ∙ c.in-Some.ensures.after) c.hold.ensures.after
+
+pub returns-in-Err-clause-want : goal.returns-in-Err-clause-want
+returns-in-Err-clause-want g c = c.in-Err.ensures.want
