@@ -1,4 +1,5 @@
-//! The laws of what reaches a node.
+//! The laws of what reaches a node, and of who is answered.
+ghost use Rattle.proof_answers.specs.Answered.{SomeAnswered};
 ghost use Rattle.proof_answers.specs.Undropped.{NothingIsDropped};
 ghost use Rattle.proof_answers.specs.Pulses.{PulsesDeliver};
 
@@ -18,4 +19,16 @@ pub fn nothing_is_dropped()
 /// It says nothing of a string that is never delivered.
 pub fn pulses_deliver()
     ensures { PulsesDeliver }
+{}
+
+/// Some call is answered: the nodes together are lock-free. This is a fact, and the call does nothing.
+///
+/// In each world that moves lead to from the opening of some programs, under either manager, let a node's call be due:
+/// in progress, and if it is an await, its count was advanced often enough. A round of that node is any list of moves in
+/// which it has a turn, and by whose end each message is delivered that a node had sent at its beginning. Then there is
+/// a number so that as many rounds as that, whatever they are, make some node's history longer. So a call is passed over
+/// for ever only by others that are answered. It says nothing of a message that is never delivered, or of a node that
+/// has no turn; nor that this call is answered.
+pub fn some_call_is_answered()
+    ensures { SomeAnswered }
 {}
