@@ -1,5 +1,5 @@
 -- What an event of a node does to its link: a turn, a string that comes, and a pulse.
-use Rattle.std.proofs.Common.{◌≡◌, ◌≢◌, ℕ, ◌+◌, ◌^◌, ◌<◌, ◌≤◌, Bool, true, false, List, length, map, All, Option, Some, None, MatchOption, Ok, if◌then◌else◌, nat_le, refl, sym, ap, subst, ◌∙◌, arith, inl, inr}
+use Rattle.std.proofs.Common.{◌≡◌, ◌≢◌, ℕ, ◌+◌, ◌^◌, ◌<◌, ◌≤◌, Bool, true, false, List, length, map, All, Option, Some, None, MatchOption, Ok, if◌then◌else◌, nat_le, ◌==◌, refl, sym, ap, subst, ◌∙◌, arith, inl, inr}
 use Rattle.std.proofs.lemmas.Bool.{cases_eq, eq-eqb}
 use Rattle.std.proofs.lemmas.List.Elements.{All-nil, All-weaker}
 use Rattle.std.proofs.lemmas.Option.{same_Some, none-some}
@@ -22,7 +22,7 @@ use Rattle.ivy_moves.specs.Nodes.{Node, Effect, stays, posting, accepting, turne
 use Rattle.ivy_moves.proofs.of_ivy_link.Holds.{sends-delivered, offered-here, accepted-delivered}
 use Rattle.ivy_moves.proofs.of_ivy_link.Pairs.{offered-next}
 use Rattle.ivy_moves.proofs.of_ivy_link.Sending.{sends-me, sends-peers}
-use Rattle.proof_answers.proofs.LinkEvents.{IsLater, later_same, later_then, later_sends, later_accepts, later_pulse, IsTelling, sends_tell, pulse_tells}
+use Rattle.proof_answers.proofs.LinkEvents.{IsLater, later_same, later_then, later_sends, later_accepts, later_pulse, accepts_acks, IsTelling, sends_tell, pulse_tells}
 
 -- what is known of a node and its link
 pub record IsAt {C : Type 0} (c : Config) (Sound : ℕ → C → Type 0) (i : ℕ) (n : Node C) : Type 0 where
@@ -42,6 +42,18 @@ pub record IsEvent {C : Type 0} (c : Config) (there : ℕ → ℕ) (i : ℕ) (n 
 abbrev pub Reaches : {C : Type 0} → Node C → Effect C → Frame → Type 0
 Reaches n e f = f.dest ≡ n.link.me → f.number ≤ (peer_at n.link f.source).delivered + 1
     → f.number ≤ (peer_at e.after.link f.source).delivered
+
+-- what a frame for the node acknowledges is kept no more
+abbrev pub Acks : {C : Type 0} → Node C → Effect C → Frame → Type 0
+Acks n e f = f.dest ≡ n.link.me → f.ack ≤ (peer_at n.link f.source).sent
+    → length (peer_at n.link f.source).kept ≤ (peer_at n.link f.source).sent
+    → f.ack + length (peer_at e.after.link f.source).kept ≤ (peer_at e.after.link f.source).sent
+
+never_other : (a b : Bool) → (if a then verdict.Next else (if b then verdict.Repeat
+    else verdict.Ahead)) ≡ verdict.NotMine → ⊥
+never_other true b is = cc
+never_other false true is = cc
+never_other false false is = cc
 
 module _ {C : Type 0} (rules : Core C) (c : Config) (Sound : ℕ → C → Type 0) (config : IsConfig c)
     (tame : IsTame rules c Sound) (there : ℕ → ℕ) (i : ℕ) (n : Node C) (at : IsAt c Sound i n) where
@@ -189,6 +201,53 @@ module _ {C : Type 0} (rules : Core C) (c : Config) (Sound : ℕ → C → Type 
     pub delivery_event : (e : Effect C) → delivered rules c n bytes ≡ Some e → IsEvent c there i n e
     unfolding received
     delivery_event e eq = received_cases (offered n.link f) refl e (sym received_is ∙ eq)
+
+    -- what it acknowledges is kept no more
+    accepted_acks : (o : Option (Effect C))
+        → ((e : Effect C) → o ≡ Some e → IsEvent c there i n e) → (e : Effect C)
+        → accepting f o ≡ Some e → Acks n e f
+    accepted_acks None each e eq mine le few = absurd (none-some e eq)
+    accepted_acks (Some d) each e eq mine le few =
+        let later : IsLater there n.link d.after.link = (each d refl).later in
+        let source = spells.fits.source in
+        let long = at.peers in
+        let peers = later.peers in
+        let more = later.sent f.source in
+        let heard = later.heard f.source in
+        subst (λ (x : Effect C). f.ack + length (peer_at x.after.link f.source).kept
+        ≤ (peer_at x.after.link f.source).sent) (same_Some _ e eq)
+        (accepts_acks d.after.link f (mine ∙ sym later.me) (omega (arith, source, long, peers))
+        (omega (arith, le, more)) (omega (arith, few, heard)))
+
+    just_acks : (e : Effect C) → accepting f (Some (stays n)) ≡ Some e → Acks n e f
+    just_acks e eq =
+        accepted_acks (Some (stays n))
+        (λ d is. subst (IsEvent c there i n) (same_Some (stays n) d is) stays_event) e eq
+
+    next_acks : offered n.link f ≡ verdict.Next → (body : Option Message) → f.body ≡ body
+        → (e : Effect C) → served_next rules n f body ≡ Some e → Acks n e f
+    next_acks next None is e eq = just_acks e eq
+    next_acks next (Some m) is e eq =
+        accepted_acks
+        (posting n (rules.serve n.core f.source m).after (rules.serve n.core f.source m).posted)
+        (λ d made. posting_cases (rules.serve n.core f.source m).after
+        (rules.serve n.core f.source m).posted
+        (has_numbers n.link (rules.serve n.core f.source m).posted) refl (parcels_fit next m is) d
+        made) e eq
+
+    received_acks : (v : Verdict) → offered n.link f ≡ v → (e : Effect C)
+        → received_as rules v n f ≡ Some e → Acks n e f
+    received_acks verdict.NotMine is e eq mine le few =
+        absurd (never_other (f.number == (peer_at n.link f.source).delivered + 1)
+        (nat_le f.number (peer_at n.link f.source).delivered)
+        (sym (offered-here n.link f mine) ∙ is))
+    received_acks verdict.Next is e eq mine le few = next_acks is f.body refl e eq mine le few
+    received_acks verdict.Repeat is e eq mine le few = just_acks e eq mine le few
+    received_acks verdict.Ahead is e eq mine le few = just_acks e eq mine le few
+
+    pub delivery_acks : (e : Effect C) → delivered rules c n bytes ≡ Some e → Acks n e f
+    unfolding received
+    delivery_acks e eq = received_acks (offered n.link f) refl e (sym received_is ∙ eq)
 
     -- The next one is delivered.
     counted_one : (k : Linked) → k.me ≡ n.link.me → length k.peers ≡ c.nodes

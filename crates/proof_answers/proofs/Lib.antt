@@ -2,3 +2,7 @@ pub mod LinkEvents
 pub mod Events
 pub mod Told
 pub mod Pulsed
+pub mod Turning
+pub mod Falling
+pub mod Counts
+pub mod Answering

@@ -2,7 +2,7 @@
 -- more was delivered at the other node; and the frames made acknowledge what was delivered.
 use Rattle.std.proofs.Common.{◌≡◌, ◌≢◌, ℕ, zero, suc, ◌+◌, ◌-◌, ◌^◌, ◌<◌, ◌≤◌, Bool, true, false, List, [], ◌∷◌, length, take, drop, map, All, Some, if◌then◌else◌, refl, sym, ap, subst, ◌∙◌, arith, inl, inr}
 use Rattle.std.proofs.lemmas.Bool.{cases_eq, cases_lt, lt-leb, le-leb}
-use Rattle.std.proofs.lemmas.List.{length-append, length-drop, length-take}
+use Rattle.std.proofs.lemmas.List.{length-append, length-drop, length-set, length-take}
 use Rattle.std.proofs.lemmas.List.Elements.{All-nil, All-cons, All-head, All-tail, All-weaker}
 use Rattle.ivy_model.specs.declared.Config.{Config}
 use Rattle.ivy_wire.specs.Data.{Message, Frame, Parcel}
@@ -18,13 +18,17 @@ use Rattle.ivy_moves.proofs.of_ivy_link.Counting.{has-number}
 use Rattle.ivy_moves.proofs.of_ivy_link.Holds.{sends-delivered, pulsed-delivered}
 use Rattle.ivy_moves.proofs.of_ivy_link.Pairs.{IsSentTo, sent-to}
 use Rattle.ivy_moves.proofs.of_ivy_link.Peers.{accepted-mine, accepted-other}
-use Rattle.ivy_moves.proofs.of_ivy_link.Sending.{sends-me}
-use Rattle.ivy_moves.proofs.Places.{peer-either}
+use Rattle.ivy_moves.proofs.of_ivy_link.Sending.{sends-me, sends-peers}
+use Rattle.ivy_moves.proofs.Places.{peer-either, peer-there}
 
 -- The link after an event of its node, where so many of the node's messages were delivered at each
 -- other one.
 pub record IsLater (there : ℕ → ℕ) (l k : Linked) : Type 0 where
   pub me : k.me ≡ l.me
+  pub peers : length k.peers ≡ length l.peers
+  -- as much as was kept no more is kept no more
+  pub heard : (j : ℕ) → (peer_at l j).sent + length (peer_at k j).kept
+      ≤ (peer_at k j).sent + length (peer_at l j).kept
   pub sent : (j : ℕ) → (peer_at l j).sent ≤ (peer_at k j).sent
   pub more : (j : ℕ) → (peer_at l j).delivered ≤ (peer_at k j).delivered
   pub keeps : (j : ℕ) → (peer_at l j).sent ≤ there j + length (peer_at l j).kept
@@ -32,12 +36,21 @@ pub record IsLater (there : ℕ → ℕ) (l k : Linked) : Type 0 where
 
 pub later_same : (there : ℕ → ℕ) (l : Linked) → IsLater there l l
 later_same there l =
-    record { me = refl; sent = λ j. omega arith; more = λ j. omega arith; keeps = λ j h. h }
+    record {
+      me = refl;
+      peers = refl;
+      heard = λ j. omega arith;
+      sent = λ j. omega arith;
+      more = λ j. omega arith;
+      keeps = λ j h. h;
+    }
 
 pub later_then : (there : ℕ → ℕ) (l k m : Linked) → IsLater there l k → IsLater there k m
     → IsLater there l m
 later_then there l k m a b = record {
   me = b.me ∙ a.me;
+  peers = b.peers ∙ a.peers;
+  heard = λ j. (let x = a.heard j in let y = b.heard j in omega (arith, x, y));
   sent = λ j. (let x = a.sent j in let y = b.sent j in omega (arith, x, y));
   more = λ j. (let x = a.more j in let y = b.more j in omega (arith, x, y));
   keeps = λ j h. b.keeps j (a.keeps j h);
@@ -47,6 +60,16 @@ pub later_sends : (there : ℕ → ℕ) (nodes i : ℕ) (l : Linked) (ps : List 
     → length l.peers ≡ nodes → All (IsParcelOf nodes i) ps → IsLater there l (after_sends l ps)
 later_sends there nodes i l ps long own = record {
   me = sends-me l ps;
+  peers = sends-peers l ps;
+  heard = λ j. (
+      let s : IsSentTo (peer_at l j) (peer_at (after_sends l ps) j) (posted i j ps) =
+      sent-to i j nodes l ps long own in
+      let count = s.count in
+      let kept : length (peer_at (after_sends l ps) j).kept
+      ≡ length (peer_at l j).kept + length (posted i j ps) =
+      ap length s.added ∙ length-append (peer_at l j).kept (posted i j ps) in
+      omega (arith, count, kept)
+      );
   sent = λ j. (
       let s : IsSentTo (peer_at l j) (peer_at (after_sends l ps) j) (posted i j ps) =
       sent-to i j nodes l ps long own in
@@ -78,6 +101,41 @@ still_there p ack there told h = elim (cases_lt p.sent ack) [
       omega (arith, a, told, h, le))
 ]
 
+-- nor is more kept than before, nor what was acknowledged
+still_fewer : (p : Peer) (ack : ℕ) → length (still_kept p ack) ≤ length p.kept
+still_fewer p ack = elim (cases_lt p.sent ack) [
+  | inl lt ↦ rw (lt-leb ack p.sent lt) (omega arith)
+  | inr le ↦
+      rw (le-leb ack p.sent le)
+      (let a : length (drop (ack - (p.sent - length p.kept)) p.kept)
+      ≡ length p.kept - (ack - (p.sent - length p.kept)) =
+      length-drop (ack - (p.sent - length p.kept)) p.kept in
+      omega (arith, a))
+]
+
+still_above : (p : Peer) (ack : ℕ) → ack ≤ p.sent → length p.kept ≤ p.sent
+    → ack + length (still_kept p ack) ≤ p.sent
+still_above p ack le few =
+    rw (le-leb ack p.sent le)
+    (let a : length (drop (ack - (p.sent - length p.kept)) p.kept)
+    ≡ length p.kept - (ack - (p.sent - length p.kept)) =
+    length-drop (ack - (p.sent - length p.kept)) p.kept in
+    omega (arith, a, le, few))
+
+-- what a frame acknowledges is kept no more once it is accepted
+pub accepts_acks : (l : Linked) (f : Frame) → f.dest ≡ l.me → f.source < length l.peers
+    → f.ack ≤ (peer_at l f.source).sent
+    → length (peer_at l f.source).kept ≤ (peer_at l f.source).sent
+    → f.ack + length (peer_at (accepted l f) f.source).kept
+    ≤ (peer_at (accepted l f) f.source).sent
+accepts_acks l f mine within le few =
+    subst (λ k. f.ack + length (peer_at k f.source).kept ≤ (peer_at k f.source).sent)
+    (sym (accepted-mine l f mine))
+    (subst (λ (p : Peer). f.ack + length p.kept ≤ p.sent)
+    (sym (peer-there l f.source f.source
+    (heard (verdict_on (peer_at l f.source).delivered f.number) (peer_at l f.source) f.number
+    f.ack) refl within)) (still_above (peer_at l f.source) f.ack le few))
+
 then_more : (v : Verdict) (d : ℕ) → d ≤ delivered_then v d
 then_more verdict.Next d = omega arith
 then_more verdict.Repeat d = omega arith
@@ -100,6 +158,12 @@ later_accepts there l f told = elim (cases_eq f.dest l.me) [
     here : f.ack ≤ there f.source → IsLater there l (with_peer l f.source new)
     here ack = record {
       me = refl;
+      peers = length-set l.peers f.source new;
+      heard = λ j. peer-either (λ q. (peer_at l j).sent + length q.kept
+          ≤ q.sent + length (peer_at l j).kept) l f.source j new
+          (λ e. subst (λ k. (peer_at l k).sent + length new.kept
+          ≤ new.sent + length (peer_at l k).kept) (sym e)
+          (let a = still_fewer old f.ack in omega (arith, a))) (omega arith);
       sent = λ j. peer-either (λ q. (peer_at l j).sent ≤ q.sent) l f.source j new
           (λ e. subst (λ k. (peer_at l k).sent ≤ new.sent) (sym e) (omega arith)) (omega arith);
       more = λ j. peer-either (λ q. (peer_at l j).delivered ≤ q.delivered) l f.source j new
@@ -114,6 +178,11 @@ later_accepts there l f told = elim (cases_eq f.dest l.me) [
 pub later_pulse : (there : ℕ → ℕ) (l : Linked) (to : ℕ) → IsLater there l (after_pulse l to)
 later_pulse there l to = record {
   me = refl;
+  peers = length-set l.peers to (owing_nothing (peer_at l to));
+  heard = λ j. peer-either (λ q. (peer_at l j).sent + length q.kept
+      ≤ q.sent + length (peer_at l j).kept) l to j (owing_nothing (peer_at l to))
+      (λ e. subst (λ k. (peer_at l k).sent + length (peer_at l to).kept
+      ≤ (peer_at l to).sent + length (peer_at l k).kept) (sym e) (omega arith)) (omega arith);
   sent = λ j. peer-either (λ q. (peer_at l j).sent ≤ q.sent) l to j (owing_nothing (peer_at l to))
       (λ e. subst (λ k. (peer_at l k).sent ≤ (peer_at l to).sent) (sym e) (omega arith))
       (omega arith);
@@ -178,22 +247,29 @@ module _ (c : Config) (i : ℕ) where
   -- messages sent again
   module _ (l : Linked) (to ack : ℕ) (here : i < c.nodes) (there : to < c.nodes) (apart : i ≢ to)
       (told : ack ≤ (peer_at l to).delivered) (small : ack < 2 ^ 64) where
-    again_tells : (first : ℕ) (m : Message) → 1 ≤ first → first < 2 ^ 64 → FitsMessage c m
-        → IsTelling c i l
-        (spelling (record { source = i; dest = to; number = first; ack = ack; body = Some m }))
-    again_tells first m some few fit = record {
-      frame = record { source = i; dest = to; number = first; ack = ack; body = Some m };
-      spells = record {
-        fits = record {
-          source = here;
-          dest = there;
-          apart = apart;
-          number = few;
-          ack = small;
-          body = (some, fit);
-        };
-        text = refl;
+    abbrev again : ℕ → Message → Frame
+    again first m =
+        record { source = i; dest = to; number = first; ack = ack; body = Some m }
+
+    pub again_spells : (first : ℕ) (m : Message) → 1 ≤ first → first < 2 ^ 64 → FitsMessage c m
+        → Spells c (again first m) (spelling (again first m))
+    again_spells first m some few fit = record {
+      fits = record {
+        source = here;
+        dest = there;
+        apart = apart;
+        number = few;
+        ack = small;
+        body = (some, fit);
       };
+      text = refl;
+    }
+
+    again_tells : (first : ℕ) (m : Message) → 1 ≤ first → first < 2 ^ 64 → FitsMessage c m
+        → IsTelling c i l (spelling (again first m))
+    again_tells first m some few fit = record {
+      frame = again first m;
+      spells = again_spells first m some few fit;
       source = refl;
       ack = told;
     }
@@ -208,27 +284,33 @@ module _ (c : Config) (i : ℕ) where
         (numbered_tell (first + 1) ms (omega arith) (omega (arith, few))
         (All-tail (FitsMessage c) m ms fit))
 
-    alone_tells : (owed : Bool)
+    pub alone_spells : Spells c (ack_alone i to ack) (spelling (ack_alone i to ack))
+    alone_spells = record {
+      fits = record {
+        source = here;
+        dest = there;
+        apart = apart;
+        number = omega arith;
+        ack = small;
+        body = refl;
+      };
+      text = refl;
+    }
+
+    alone_tells : IsTelling c i l (spelling (ack_alone i to ack))
+    alone_tells = record {
+      frame = ack_alone i to ack;
+      spells = alone_spells;
+      source = refl;
+      ack = told;
+    }
+
+    owed_tells : (owed : Bool)
         → All (IsTelling c i l) (map spelling (if owed then ack_alone i to ack ∷ [] else []))
-    alone_tells false = All-nil (IsTelling c i l)
-    alone_tells true =
-        All-cons (IsTelling c i l) (spelling (ack_alone i to ack)) []
-        (record {
-          frame = ack_alone i to ack;
-          spells = record {
-            fits = record {
-              source = here;
-              dest = there;
-              apart = apart;
-              number = omega arith;
-              ack = small;
-              body = refl;
-            };
-            text = refl;
-          };
-          source = refl;
-          ack = told;
-        }) (All-nil (IsTelling c i l))
+    owed_tells false = All-nil (IsTelling c i l)
+    owed_tells true =
+        All-cons (IsTelling c i l) (spelling (ack_alone i to ack)) [] alone_tells
+        (All-nil (IsTelling c i l))
 
   pub all_taken : (k : ℕ) (ms : List Message) → All (FitsMessage c) ms → All (FitsMessage c) (take k ms)
   all_taken zero ms fit = All-nil (FitsMessage c)
@@ -249,7 +331,7 @@ module _ (c : Config) (i : ℕ) where
       p = peer_at l to
 
       either : (ms : List Message) → All (IsTelling c i l) (map spelling (frames_of_pulse ms i to p))
-      either [] = alone_tells l to p.delivered here there apart (omega arith) small p.owed
+      either [] = owed_tells l to p.delivered here there apart (omega arith) small p.owed
       either (m ∷ ms) =
           numbered_tell l to p.delivered here there apart (omega arith) small
           (p.sent - length p.kept + 1) (take most_again p.kept) (omega arith)

@@ -1,5 +1,5 @@
 -- What the strings of a pulse deliver where they come in order.
-use Rattle.std.proofs.Common.{◌≡◌, ◌≢◌, ℕ, zero, suc, ◌+◌, ◌-◌, ◌^◌, ◌<◌, ◌≤◌, List, [], ◌∷◌, ◌++◌, length, take, map, slice_get, All, Some, refl, sym, ap, subst, ◌∙◌, arith, inl, inr}
+use Rattle.std.proofs.Common.{◌≡◌, ◌≢◌, ℕ, zero, suc, ◌+◌, ◌-◌, ◌^◌, ◌<◌, ◌≤◌, List, [], ◌∷◌, ◌++◌, length, take, map, slice_get, All, Some, refl, sym, ap, subst, ◌∙◌, arith, inl, inr, Bool, true, false, if◌then◌else◌}
 use Rattle.std.proofs.lemmas.List.{length-map, length-take}
 use Rattle.std.proofs.lemmas.List.Elements.{All-head, All-tail}
 use Rattle.std.proofs.lemmas.Option.{same_Some, slice_get_within}
@@ -10,7 +10,7 @@ use Rattle.ivy_wire.specs.Spelling.{FitsMessage, Spells, spelling}
 use Rattle.ivy_program.specs.declared.Instruction.{Instruction}
 use Rattle.ivy_moves.specs.ivy_link.Limits.{most_again}
 use Rattle.ivy_moves.specs.ivy_link.Linked.{Peer, peer_at}
-use Rattle.ivy_moves.specs.ivy_link.Pulsed.{numbered, frames_of_pulse}
+use Rattle.ivy_moves.specs.ivy_link.Pulsed.{numbered, ack_alone, frames_of_pulse}
 use Rattle.ivy_moves.specs.declared.Move.{Move}
 use Rattle.ivy_moves.specs.Cores.{Core}
 use Rattle.ivy_moves.specs.Following.{IsTame}
@@ -23,9 +23,9 @@ use Rattle.proof_progress.specs.ivy_host.Openings.{opening}
 use Rattle.proof_progress.specs.ivy_host.Sound.{IsSoundHost}
 use Rattle.proof_progress.proofs.of_ivy_host.Tame.{tame, opening_is}
 use Rattle.proof_answers.specs.Undropped.{NothingIsDropped, IsOfMoves}
-use Rattle.proof_answers.specs.Pulses.{StandAmong, deliveries, last_again, PulsesDeliver}
-use Rattle.proof_answers.proofs.Told.{come, Stands, IsAfter, kept_few, kept_fits, link_inside, link_here, many_links, node_at, pulse_is, delivery_is, move_after, all_after, none_dropped, opening_stands}
-use Rattle.proof_answers.proofs.LinkEvents.{all_taken}
+use Rattle.proof_answers.specs.Pulses.{StandAmong, deliveries, last_again, PulsesDeliver, PulsesMoveOn}
+use Rattle.proof_answers.proofs.Told.{come, Stands, IsAfter, kept_few, kept_fits, link_inside, link_here, many_links, node_at, pulse_is, delivery_is, move_after, all_after, none_dropped, opening_stands, known}
+use Rattle.proof_answers.proofs.LinkEvents.{all_taken, again_spells, alone_spells}
 
 -- the string spells a frame from one node to another, of this number
 record IsNumber (c : Config) (i to is : ℕ) (s : List ℕ) : Type 0 where
@@ -40,6 +40,31 @@ record IsNumberAt (c : Config) (i to number : ℕ) (strings : List (List ℕ)) (
   string : List ℕ
   there : slice_get strings place ≡ Some string
   is : IsNumber c i to number string
+
+-- the string of this place spells a frame from one node to another that acknowledges so many
+record IsAckAt (c : Config) (i to told : ℕ) (strings : List (List ℕ)) (place : ℕ) : Type 0 where
+  string : List ℕ
+  there : slice_get strings place ≡ Some string
+  frame : Frame
+  spells : Spells c frame string
+  source : frame.source ≡ i
+  dest : frame.dest ≡ to
+  ack : frame.ack ≡ told
+
+acks_after : (c : Config) (i to told : ℕ) (xs ys : List (List ℕ)) → IsAckAt c i to told ys 0
+    → IsAckAt c i to told (xs ++ ys) (length xs)
+acks_after c i to told [] ys ack = ack
+acks_after c i to told (x ∷ xs) ys ack =
+    let rest : IsAckAt c i to told (xs ++ ys) (length xs) = acks_after c i to told xs ys ack in
+    record {
+      string = rest.string;
+      there = rest.there;
+      frame = rest.frame;
+      spells = rest.spells;
+      source = rest.source;
+      dest = rest.dest;
+      ack = rest.ack;
+    }
 
 module _ (c : Config) (i to : ℕ) where
   -- from a place on so many strings have the numbers that follow this one
@@ -146,10 +171,10 @@ module _ {C : Type 0} (rules : Core C) (c : Config) (Sound : ℕ → C → Type 
             let near : first.is.frame.number ≤ come w first.is.frame.source j + 1 =
             omega (arith, number, here, le) in
             let reached : first.is.frame.number ≤ come led.0 first.is.frame.source j =
-            d.1 first.is.frame first.string there first.is.spells first.is.dest near in
+            d.reached first.is.frame first.string there first.is.spells first.is.dest near in
             let more : base + 1 ≤ come led.0 i j = omega (arith, reached, number, now) in
             let rest : base + 1 + n ≤ come v i j =
-            all_reached moves led.0 v d.0.stands (suc place) (base + 1) n
+            all_reached moves led.0 v d.after.stands (suc place) (base + 1) n
             (λ k lt. moved_on k (are (suc k) (omega (arith, lt)))) more both.1 led.2 in
             omega (arith, rest))
       ]
@@ -174,6 +199,42 @@ module _ {C : Type 0} (rules : Core C) (c : Config) (Sound : ℕ → C → Type 
             (after.strings (place + suc k) at.string at.there);
         is = subst (λ x. IsNumber c i j x at.string) (omega arith) at.is;
       }
+
+  -- once the first string of a pulse has come, what it acknowledges is kept no more
+  first_heard : (told : ℕ) (moves : List Move) (w v : World C) (s : Good w) (place n : ℕ)
+      → IsAckAt c i j told w.sent place → StandAmong (deliveries j place (suc n)) moves
+      → Leads rules c w moves v → told + length (known v j i).kept ≤ (known v j i).sent
+  first_heard told [] w v s place n ack among led = absurd among
+  first_heard told (move ∷ moves) w v s place n ack among led =
+      let after : IsAfter rules c Sound config tame w led.0 =
+      move_after rules c Sound config tame w led.0 s move led.1 in
+      elim among [
+        | inr rest ↦
+            first_heard told moves led.0 v after.stands place n
+            (record {
+              string = ack.string;
+              there = after.strings place ack.string ack.there;
+              frame = ack.frame;
+              spells = ack.spells;
+              source = ack.source;
+              dest = ack.dest;
+              ack = ack.ack;
+            }) rest led.2
+        | inl both ↦
+            (let d =
+            delivery_is rules c Sound config tame w led.0 s place j
+            (subst (λ m. Moves rules c w m led.0) both.0 led.1) in
+            let dropped = d.dropped ack.frame ack.string ack.there ack.spells ack.dest in
+            let same : known led.0 j ack.frame.source ≡ known led.0 j i =
+            ap (λ x. known led.0 j x) ack.source in
+            let sent = ap (λ (q : Peer). q.sent) same in
+            let kept = ap (λ (q : Peer). length q.kept) same in
+            let is = ack.ack in
+            let rest : IsAfter rules c Sound config tame led.0 v =
+            all_after rules c Sound config tame moves led.0 v after.stands led.2 in
+            let heard = rest.heard j i in
+            omega (arith, dropped, sent, kept, is, heard))
+      ]
 
   module _ (w v end : World C) (s : Good w) (n m : Node C) (apart : i ≢ j)
       (here : slice_get w.nodes i ≡ Some n) (inside_j : j < c.nodes)
@@ -246,6 +307,91 @@ module _ {C : Type 0} (rules : Core C) (c : Config) (Sound : ℕ → C → Type 
         subst (λ l. last_again p ≤ (peer_at l i).delivered)
         (link_here rules c Sound config tame end last.stands j m there) (reached p.kept refl)
 
+    -- the first string of the pulse acknowledges all that was delivered
+    first_acks : (ks : List Message) → p.kept ≡ ks → (b : Bool) → p.owed ≡ b
+        → (pulsing n j).sent ≢ [] → IsAckAt c i j p.delivered (pulsing n j).sent 0
+    first_acks [] none true owes some =
+        let at = node_at rules c Sound config tame w s i n here in
+        let told =
+        alone_spells c i n.link j p.delivered at.inside inside_j apart (omega arith)
+        (at.small j inside_j) in
+        record {
+          string = spelling (ack_alone i j p.delivered);
+          there =
+              ap (λ l. slice_get l 0)
+              (strings ∙ ap (λ l. map spelling (frames_of_pulse l i j p)) none
+              ∙ ap (λ b. map spelling (if b then ack_alone i j p.delivered ∷ [] else [])) owes);
+          frame = ack_alone i j p.delivered;
+          spells = told;
+          source = refl;
+          dest = refl;
+          ack = refl;
+        }
+    first_acks [] none false free some =
+        absurd (some
+        (strings ∙ ap (λ l. map spelling (frames_of_pulse l i j p)) none
+        ∙ ap (λ b. map spelling (if b then ack_alone i j p.delivered ∷ [] else [])) free))
+    first_acks (x ∷ ks) kept b owes some =
+        let at = node_at rules c Sound config tame w s i n here in
+        let base : ℕ = p.sent - length p.kept in
+        let within : length p.kept ≤ p.sent =
+        kept_few rules c Sound config tame w s i n here j inside_j in
+        let one : length p.kept ≡ suc (length ks) = ap length kept in
+        let few : p.sent < 2 ^ 64 =
+        subst (λ l. (peer_at l j).sent < 2 ^ 64) (link_here rules c Sound config tame w s i n here)
+        (s.follows.numbers i j) in
+        let fits : All (FitsMessage c) (x ∷ ks) =
+        subst (All (FitsMessage c)) kept
+        (kept_fits rules c Sound config tame w s i n here j inside_j) in
+        let told =
+        again_spells c i n.link j p.delivered at.inside inside_j apart (omega arith)
+        (at.small j inside_j) (base + 1) x (omega arith) (omega (arith, within, one, few))
+        (All-head (FitsMessage c) x ks fits) in
+        record {
+          string = spelling (record {
+            source = i;
+            dest = j;
+            number = base + 1;
+            ack = p.delivered;
+            body = Some x;
+          });
+          there =
+              ap (λ l. slice_get l 0)
+              (strings ∙ ap (λ l. map spelling (frames_of_pulse l i j p)) kept
+              ∙ ap (λ l. map spelling (numbered i j p.delivered (base + 1) (take most_again l)))
+              kept);
+          frame = record {
+            source = i;
+            dest = j;
+            number = base + 1;
+            ack = p.delivered;
+            body = Some x;
+          };
+          spells = told;
+          source = refl;
+          dest = refl;
+          ack = refl;
+        }
+
+    pulse_heard : (ss : List (List ℕ)) → (pulsing n j).sent ≡ ss → (pulsing n j).sent ≢ []
+        → p.delivered + length (known end j i).kept ≤ (known end j i).sent
+    pulse_heard [] none some = absurd (some none)
+    pulse_heard (x ∷ ss) are some =
+        let ack : IsAckAt c i j p.delivered (pulsing n j).sent 0 =
+        first_acks p.kept refl p.owed refl some in
+        let sent : v.sent ≡ w.sent ++ (pulsing n j).sent =
+        ap (λ (z : World C). z.sent) (sym pulse) in
+        let placed : IsAckAt c i j p.delivered v.sent (length w.sent) =
+        subst (λ l. IsAckAt c i j p.delivered l (length w.sent)) (sym sent)
+        (acks_after c i j p.delivered w.sent (pulsing n j).sent ack) in
+        let count : length (pulsing n j).sent ≡ suc (length ss) = ap length are in
+        first_heard p.delivered moves v end after.stands (length w.sent) (length ss) placed
+        (subst (λ k. StandAmong (deliveries j (length w.sent) k) moves) count among) led
+
+    pub pulse_acks : (pulsing n j).sent ≢ []
+        → p.delivered + length (known end j i).kept ≤ (known end j i).sent
+    pulse_acks some = pulse_heard (pulsing n j).sent refl some
+
 -- under the manager of the configuration
 module _ (c : Config) (programs : List (List Instruction)) (w : World (Host Managed))
     (of : IsOfMoves c programs w) where
@@ -285,3 +431,44 @@ pulses_deliver c programs w end of i j m moves heard there =
     end good heard.node m is.3 heard.there (omega (arith, below, count))
     (subst (λ x. gone_on w i (pulsing x j) ≡ heard.led.0) same is.2) is.4 moves heard.led.2
     there heard.heard
+
+pub pulses_move_on : PulsesMoveOn
+pulses_move_on c programs w mid end of i j m back there first some second at =
+    let good = led_stands c programs w of in
+    let t = tamed c programs w of in
+    let one =
+    pulse_is (host_rules managed_ops) c (IsSoundHost managed_ops c) of.limits t w first.led.0 good j i
+    first.led.1 in
+    let same : one.0 ≡ first.node = same_Some one.0 first.node (sym one.1 ∙ first.there) in
+    let came =
+    all_after (host_rules managed_ops) c (IsSoundHost managed_ops c) of.limits t back first.led.0 mid
+    one.4.stands first.led.2 in
+    let two =
+    pulse_is (host_rules managed_ops) c (IsSoundHost managed_ops c) of.limits t mid second.led.0
+    came.stands i j second.led.1 in
+    let alike : two.0 ≡ second.node = same_Some two.0 second.node (sym two.1 ∙ second.there) in
+    let last =
+    all_after (host_rules managed_ops) c (IsSoundHost managed_ops c) of.limits t there second.led.0
+    end two.4.stands second.led.2 in
+    let below : j < length end.nodes = slice_get_within end.nodes j m at in
+    let many = last.stands.follows.nodes in
+    let low : i < length mid.nodes = slice_get_within mid.nodes i second.node second.there in
+    let few = came.stands.follows.nodes in
+    let acked =
+    pulse_acks (host_rules managed_ops) c (IsSoundHost managed_ops c) of.limits t j i w first.led.0
+    mid good first.node second.node one.3 first.there (omega (arith, low, few))
+    (subst (λ x. gone_on w j (pulsing x i) ≡ first.led.0) same one.2) one.4 back first.led.2
+    second.there first.heard some in
+    let here : known mid i j ≡ peer_at second.node.link j =
+    ap (λ l. peer_at l j)
+    (link_here (host_rules managed_ops) c (IsSoundHost managed_ops c) of.limits t mid came.stands i
+    second.node second.there) in
+    let sent = ap (λ (q : Peer). q.sent) here in
+    let kept = ap (λ (q : Peer). length q.kept) here in
+    let reached =
+    pulse_reaches (host_rules managed_ops) c (IsSoundHost managed_ops c) of.limits t i j mid
+    second.led.0 end came.stands second.node m two.3 second.there (omega (arith, below, many))
+    (subst (λ x. gone_on mid i (pulsing x j) ≡ second.led.0) alike two.2) two.4 there second.led.2
+    at second.heard in
+    let taken = length-take most_again (peer_at second.node.link j).kept in
+    omega (arith, acked, sent, kept, reached, taken)

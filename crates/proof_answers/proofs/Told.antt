@@ -28,7 +28,7 @@ use Rattle.ivy_moves.proofs.Places.{guarded, link-of, read-either}
 use Rattle.ivy_moves.proofs.of_ivy_link.Pairs.{link_at-with}
 use Rattle.proof_answers.specs.Undropped.{IsNothingDropped}
 use Rattle.proof_answers.proofs.LinkEvents.{IsTelling}
-use Rattle.proof_answers.proofs.Events.{IsAt, IsEvent, turn_event, pulse_event, delivery_event, delivery_reaches}
+use Rattle.proof_answers.proofs.Events.{IsAt, IsEvent, turn_event, pulse_event, delivery_event, delivery_reaches, delivery_acks}
 
 -- what stands in a list stands there when it grows
 pub get_longer : {X : Type 0} (xs ys : List X) (k : ℕ) (x : X) → slice_get xs k ≡ Some x
@@ -195,6 +195,8 @@ module _ {C : Type 0} (rules : Core C) (c : Config) (Sound : ℕ → C → Type 
     pub stands : Stands v
     pub more : (i j : ℕ) → come w i j ≤ come v i j
     pub sent : (i j : ℕ) → (known w i j).sent ≤ (known v i j).sent
+    pub heard : (i j : ℕ) → (known w i j).sent + length (known v i j).kept
+        ≤ (known v i j).sent + length (known w i j).kept
     pub strings : (k : ℕ) (s : List ℕ) → slice_get w.sent k ≡ Some s → slice_get v.sent k ≡ Some s
 
   pub after_none : (w : World C) → Stands w → IsAfter w w
@@ -202,6 +204,7 @@ module _ {C : Type 0} (rules : Core C) (c : Config) (Sound : ℕ → C → Type 
     stands = s;
     more = λ i j. omega arith;
     sent = λ i j. omega arith;
+    heard = λ i j. omega arith;
     strings = λ k s is. is;
   }
 
@@ -210,6 +213,7 @@ module _ {C : Type 0} (rules : Core C) (c : Config) (Sound : ℕ → C → Type 
     stands = b.stands;
     more = λ i j. (let x = a.more i j in let y = b.more i j in omega (arith, x, y));
     sent = λ i j. (let x = a.sent i j in let y = b.sent i j in omega (arith, x, y));
+    heard = λ i j. (let x = a.heard i j in let y = b.heard i j in omega (arith, x, y));
     strings = λ k s is. b.strings k s (a.strings k s is);
   }
 
@@ -260,6 +264,17 @@ module _ {C : Type 0} (rules : Core C) (c : Config) (Sound : ℕ → C → Type 
             ap (λ k. (known w k b).sent) eq ∙ ap (λ l. (peer_at l b).sent) link_here in
             let more = event.later.sent b in
             omega (arith, here, more))
+            (λ ne. omega arith);
+        heard = λ a b. linked c w i n e there event
+            (λ l. (known w a b).sent + length (peer_at l b).kept
+            ≤ (peer_at l b).sent + length (known w a b).kept) a
+            (λ eq.
+            let same : known w a b ≡ peer_at n.link b =
+            ap (λ k. known w k b) eq ∙ ap (λ l. peer_at l b) link_here in
+            let sends = ap (λ (p : Peer). p.sent) same in
+            let keeps = ap (λ (p : Peer). length p.kept) same in
+            let heard = event.later.heard b in
+            omega (arith, sends, keeps, heard))
             (λ ne. omega arith);
         strings = λ k s at. get_longer w.sent e.sent k s at;
       }
@@ -335,11 +350,30 @@ module _ {C : Type 0} (rules : Core C) (c : Config) (Sound : ℕ → C → Type 
             tells.spells told_here e made (mine ∙ sym node_at.me)
             (subst (λ l. tells.frame.number ≤ (peer_at l tells.frame.source).delivered + 1) link_here near)
 
+        -- what it acknowledges is kept no more
+        drops : tells.frame.dest ≡ i
+            → tells.frame.ack + length (peer_at e.after.link tells.frame.source).kept
+            ≤ (peer_at e.after.link tells.frame.source).sent
+        drops mine =
+            let from : ℕ = tells.frame.source in
+            let below : from < c.nodes = tells.spells.fits.source in
+            let told = told_here mine in
+            let few = s.follows.paired.delivered i from link_inside
+            (omega (arith, below, many_links)) in
+            let count = s.follows.paired.counted i from link_inside
+            (omega (arith, below, many_links)) in
+            delivery_acks rules c Sound config tame (λ j. come w i j) i n node_at tells.frame bytes
+            tells.spells told_here e made (mine ∙ sym node_at.me)
+            (subst (λ l. tells.frame.ack ≤ (peer_at l from).sent) link_here
+            (omega (arith, told, few, count))) (kept_few from below)
+
   -- the world after a string came
   record CameTo (w v : World C) (i : ℕ) (bytes : List ℕ) : Type 0 where
     after : IsAfter w v
     reached : (f : Frame) → Spells c f bytes → f.dest ≡ i → f.number ≤ come w f.source i + 1
         → f.number ≤ come v f.source i
+    dropped : (f : Frame) → Spells c f bytes → f.dest ≡ i
+        → f.ack + length (known v i f.source).kept ≤ (known v i f.source).sent
 
   string_came : (w v : World C) (s : Stands w) (i : ℕ) (bytes : List ℕ) → Tells c w bytes
       → (o : Option (Node C)) → slice_get w.nodes i ≡ o
@@ -365,6 +399,18 @@ module _ {C : Type 0} (rules : Core C) (c : Config) (Sound : ℕ → C → Type 
             (linked c w i n e.0 there (event w s i n there bytes tells e.0 e.1)
             (λ l. tells.frame.number ≤ (peer_at l tells.frame.source).delivered) i
             (λ eq. count) (λ ne. absurd (ne refl)))
+            );
+        dropped = λ f spells mine. (
+            let same : f ≡ tells.frame = spelled_same c config f tells.frame bytes spells tells.spells
+            in
+            let drop = drops w s i n there bytes tells e.0 e.1
+            (ap (λ (g : Frame). g.dest) (sym same) ∙ mine) in
+            subst (λ (g : Frame). g.ack + length (known last i g.source).kept
+            ≤ (known last i g.source).sent) (sym same)
+            (linked c w i n e.0 there (event w s i n there bytes tells e.0 e.1)
+            (λ l. tells.frame.ack + length (peer_at l tells.frame.source).kept
+            ≤ (peer_at l tells.frame.source).sent) i
+            (λ eq. drop) (λ ne. absurd (ne refl)))
             );
       })
 
@@ -470,25 +516,39 @@ module _ {C : Type 0} (rules : Core C) (c : Config) (Sound : ℕ → C → Type 
       let same : v ≡ m.mid = m.goes_on.1 in
       (is.0, is.1, is.2 ∙ sym same, made.1, subst (IsAfter w) (sym same) is.3)
 
-  -- a delivery: a frame for the node whose number is the next one, or less, is delivered then
+  -- a delivery: a frame for the node whose number is the next one, or less, is delivered then, and
+  -- what a frame for it acknowledges is kept no more
+  pub record Delivery (w v : World C) (index to : ℕ) : Type 0 where
+    pub after : IsAfter w v
+    pub reached : (f : Frame) (bytes : List ℕ) → slice_get w.sent index ≡ Some bytes
+        → Spells c f bytes → f.dest ≡ to → f.number ≤ come w f.source to + 1
+        → f.number ≤ come v f.source to
+    pub dropped : (f : Frame) (bytes : List ℕ) → slice_get w.sent index ≡ Some bytes
+        → Spells c f bytes → f.dest ≡ to
+        → f.ack + length (known v to f.source).kept ≤ (known v to f.source).sent
+
   pub delivery_is : (w v : World C) (s : Stands w) (index to : ℕ)
-      → Moves rules c w (Deliver index to) v
-      → IsAfter w v × ((f : Frame) (bytes : List ℕ) → slice_get w.sent index ≡ Some bytes
-      → Spells c f bytes → f.dest ≡ to → f.number ≤ come w f.source to + 1
-      → f.number ≤ come v f.source to)
+      → Moves rules c w (Deliver index to) v → Delivery w v index to
   delivery_is w v s index to m =
       let came =
       sent_came w m.mid s index to (slice_get w.sent index) refl
       (delivery_made w m.mid index to m.made) (step_of w m.mid s (Deliver index to) m.made) in
-      let rest : IsAfter m.mid v = goes_on m.more m.mid v to came.2.after.stands m.goes_on in (
-        after_then w m.mid v came.2.after rest,
-        λ f bytes there spells mine near. (
+      let rest : IsAfter m.mid v = goes_on m.more m.mid v to came.2.after.stands m.goes_on in
+      record {
+        after = after_then w m.mid v came.2.after rest;
+        reached = λ f bytes there spells mine near. (
             let same : bytes ≡ came.0 = same_Some bytes came.0 (sym there ∙ came.1) in
             let first = came.2.reached f (subst (Spells c f) same spells) mine near in
             let more = rest.more f.source to in
             omega (arith, first, more)
-            ),
-      )
+            );
+        dropped = λ f bytes there spells mine. (
+            let same : bytes ≡ came.0 = same_Some bytes came.0 (sym there ∙ came.1) in
+            let first = came.2.dropped f (subst (Spells c f) same spells) mine in
+            let heard = rest.heard to f.source in
+            omega (arith, first, heard)
+            );
+      }
 
   pub move_after : (w v : World C) (s : Stands w) (move : Move) → Moves rules c w move v
       → IsAfter w v
@@ -496,7 +556,7 @@ module _ {C : Type 0} (rules : Core C) (c : Config) (Sound : ℕ → C → Type 
       subst (IsAfter w) (sym m.goes_on.1)
       (turn_cases w m.mid s i (slice_get w.nodes i) refl (turn_made w m.mid i m.made)
       (step_of w m.mid s (Turn i) m.made))
-  move_after w v s (Deliver index to) m = (delivery_is w v s index to m).0
+  move_after w v s (Deliver index to) m = (delivery_is w v s index to m).after
   move_after w v s (Pulse i to) m = (pulse_is w v s i to m).4
 
   pub all_after : (moves : List Move) (w v : World C) → Stands w → Leads rules c w moves v

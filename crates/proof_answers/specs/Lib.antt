@@ -1,2 +1,4 @@
 pub mod Undropped
 pub mod Pulses
+pub mod Rounds
+pub mod Answered

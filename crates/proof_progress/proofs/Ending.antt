@@ -1,6 +1,6 @@
 -- Deliveries end: each lessens the work that is left, or lowers how far the messages have to go,
 -- and that is bounded by the work.
-use Rattle.std.proofs.Common.{◌≡◌, ◌≤◌, ◌<◌, ◌+◌, ◌*◌, ℕ, zero, suc, List, [], ◌∷◌, length, Option, Some, None, refl, sym, ap, subst, inl, inr, arith, mul-le-mul_left}
+use Rattle.std.proofs.Common.{◌≡◌, ◌≤◌, ◌<◌, ◌+◌, ◌*◌, ℕ, zero, suc, List, [], ◌∷◌, length, Option, Some, None, sym, ap, subst, inl, inr, arith, mul-le-mul_left}
 use Rattle.std.proofs.lemmas.Bool.{cases_eq}
 use Rattle.std.specs.Prelude.{sum_by}
 use Rattle.std.proofs.lemmas.List.Sums.{sum_by-cons}
@@ -15,10 +15,10 @@ use Rattle.proof_consistency.specs.ivy_host.Hosts.{Host, host_rules}
 use Rattle.proof_consistency.specs.ivy_host.Managers.{Managed, managed_ops}
 use Rattle.proof_routing.specs.proof_transitions.Letters.{content_of}
 use Rattle.proof_consistency.specs.proof_refinement.Runs.{IsReachedInOrder}
-use Rattle.proof_progress.specs.Ending.{sum_below, work_of, work_left, AreDeliveries, DeliveriesEnd}
+use Rattle.proof_progress.specs.Ending.{sum_below, work_left, AreDeliveries, DeliveriesEnd}
 use Rattle.proof_progress.proofs.Hops.{hops_most}
-use Rattle.proof_progress.proofs.Works.{work_some}
-use Rattle.proof_progress.proofs.Loads.{way_loads, aside_loads}
+use Rattle.proof_progress.proofs.Works.{heavy_of, heavy_work, work_some}
+use Rattle.proof_progress.proofs.Loads.{way_loads, aside_loads, load}
 use Rattle.proof_progress.proofs.Delivered.{under_way}
 use Rattle.proof_progress.proofs.Lowering.{page_asked, hops_to, fewer_hops, entries, claiming, hop_at, hops_at, far, far_way, work, way, lowers}
 
@@ -48,33 +48,33 @@ hops_within most i None = omega arith
 
 module _ (c : Config) (o : Ordered (Host Managed)) where
   -- one message
-  one_way : (i : ℕ) (b : Content) → far_way c o i b ≤ (c.nodes + 1) * work_of b
-  one_way i b =
+  one_way : (lost i : ℕ) (b : Content) → far_way c o i b ≤ (c.nodes + 1) * heavy_of lost b
+  one_way lost i b =
       let a : far c o i b ≤ hops_to (λ p j. c.nodes) i (page_asked b) =
       fewer_hops (hops_at c o) (λ p j. c.nodes)
       (λ p j. hops_most (claiming c o p) (hop_at c o p) c.nodes j) i (page_asked b) in
       let e : hops_to (λ p j. c.nodes) i (page_asked b) ≤ c.nodes =
       hops_within c.nodes i (page_asked b) in
-      let d : (c.nodes + 1) * 1 ≤ (c.nodes + 1) * work_of b =
-      mul-le-mul_left (c.nodes + 1) (work_some b) in
+      let d : (c.nodes + 1) * 1 ≤ (c.nodes + 1) * heavy_of lost b =
+      mul-le-mul_left (c.nodes + 1) (work_some lost b) in
       omega (arith, a, d, e)
 
   -- all of them
-  way_most : way c o ≤ (c.nodes + 1) * work c o
-  way_most =
+  pub way_most : (lost : ℕ) → way c o ≤ (c.nodes + 1) * work c o lost
+  way_most lost =
       let a : way_loads c.nodes c.pages (far_way c o) (under_way o)
-      ≤ (c.nodes + 1) * way_loads c.nodes c.pages (λ i. work_of) (under_way o) =
+      ≤ (c.nodes + 1) * way_loads c.nodes c.pages (λ i. heavy_of lost) (under_way o) =
       scaled_below (c.nodes + 1) c.nodes _ _ (λ i.
       scaled_below (c.nodes + 1) c.nodes _ _ (λ j.
       scaled_by (c.nodes + 1) (λ (m : Message). far_way c o j m.content)
-      (λ (m : Message). work_of m.content) (λ m. one_way j m.content) (under_way o i j))) in
+      (λ (m : Message). heavy_of lost m.content) (λ m. one_way lost j m.content) (under_way o i j))) in
       let b : aside_loads c.nodes c.pages (far c o) (entries c o)
-      ≤ (c.nodes + 1) * aside_loads c.nodes c.pages (λ i. work_of) (entries c o) =
+      ≤ (c.nodes + 1) * aside_loads c.nodes c.pages (λ i. heavy_of lost) (entries c o) =
       scaled_below (c.nodes + 1) c.nodes _ _ (λ i.
       scaled_below (c.nodes + 1) c.pages _ _ (λ p.
       scaled_by (c.nodes + 1) (λ (q : PutOff). far c o i (content_of q.kind p))
-      (λ (q : PutOff). work_of (content_of q.kind p))
-      (λ q. (let e = one_way i (content_of q.kind p) in omega (arith, e)))
+      (λ (q : PutOff). heavy_of lost (content_of q.kind p))
+      (λ q. (let e = one_way lost i (content_of q.kind p) in omega (arith, e)))
       (put_offs (entries c o i p)))) in
       omega (arith, a, b)
 
@@ -107,33 +107,34 @@ module _ (c : Config) (limits : IsConfig c) (programs : List (List Instruction))
     (many : length programs ≡ c.nodes) where
   ending : (after : List (Ordered (Host Managed))) (o : Ordered (Host Managed))
       → IsReachedInOrder managed_ops c programs o → AreDeliveries managed_ops o after
-      → length after ≤ rounds (c.nodes + 1) (work c o) + way c o
+      → length after ≤ rounds (c.nodes + 1) (work c o 0) + way c o
   ending [] o reached are = omega arith
   ending (next ∷ rest) o reached are =
       let d = are.0.2 in
       let step : Steps (host_rules managed_ops) o next = delivers are.0.0 are.0.1 d in
-      let more : length rest ≤ rounds (c.nodes + 1) (work c next) + way c next =
+      let more : length rest ≤ rounds (c.nodes + 1) (work c next 0) + way c next =
       ending rest next (o ∷ reached.0, (reached.1, step)) are.1 in
-      elim (lowers c limits programs many o next reached are.0.0 are.0.1 d) [
+      elim (lowers 0 c limits programs many o next reached are.0.0 are.0.1 d) [
         | inl less ↦
-            (let a : way c next ≤ (c.nodes + 1) * work c next = way_most c next in
-            let b : rounds (c.nodes + 1) (work c next) + (c.nodes + 1) * work c next + 1
-            ≤ rounds (c.nodes + 1) (work c o) =
-            rounds_fall (c.nodes + 1) (work c next) (work c o) less in
+            (let a : way c next ≤ (c.nodes + 1) * work c next 0 = way_most c next 0 in
+            let b : rounds (c.nodes + 1) (work c next 0) + (c.nodes + 1) * work c next 0 + 1
+            ≤ rounds (c.nodes + 1) (work c o 0) =
+            rounds_fall (c.nodes + 1) (work c next 0) (work c o 0) less in
             omega (arith, more, a, b))
         | inr both ↦
-            (let a : rounds (c.nodes + 1) (work c next) ≤ rounds (c.nodes + 1) (work c o) =
-            rounds_rise (c.nodes + 1) (work c next) (work c o) both.0 in
+            (let a : rounds (c.nodes + 1) (work c next 0) ≤ rounds (c.nodes + 1) (work c o 0) =
+            rounds_rise (c.nodes + 1) (work c next 0) (work c o 0) both.0 in
             let b : way c next < way c o = both.1 in
             omega (arith, more, a, b))
       ]
 
 pub deliveries_end : DeliveriesEnd managed_ops
 deliveries_end c programs limits many o reached after are =
-    let a : length after ≤ rounds (c.nodes + 1) (work c o) + way c o =
+    let a : length after ≤ rounds (c.nodes + 1) (work c o 0) + way c o =
     ending c limits programs many after o reached are in
-    let b : way c o ≤ (c.nodes + 1) * work c o = way_most c o in
-    let d : rounds (c.nodes + 1) (work c o) ≤ (c.nodes + 1) * work c o * work c o =
-    rounds_most (c.nodes + 1) (work c o) (omega arith) in
-    let e : work c o ≡ work_left c o = refl in
+    let b : way c o ≤ (c.nodes + 1) * work c o 0 = way_most c o 0 in
+    let d : rounds (c.nodes + 1) (work c o 0) ≤ (c.nodes + 1) * work c o 0 * work c o 0 =
+    rounds_most (c.nodes + 1) (work c o 0) (omega arith) in
+    let e : work c o 0 ≡ work_left c o =
+    ap (λ h. load c.nodes c.pages (λ i. h) (λ i. h) (under_way o) (entries c o)) heavy_work in
     omega (arith, a, b, d, e)

@@ -1,6 +1,6 @@
 -- What a message about a page does to one node: it lessens the work that is left, is put off, or is
 -- sent on.
-use Rattle.std.proofs.Common.{◌≡◌, ◌≢◌, ◌≤◌, ◌<◌, ◌+◌, ◌*◌, ℕ, Bool, true, false, not, ◌&&◌, List, [], ◌∷◌}
+use Rattle.std.proofs.Common.{◌≡◌, ◌≢◌, ◌≤◌, ◌<◌, ◌+◌, ◌-◌, ◌*◌, ℕ, Bool, true, false, not, ◌&&◌, List, [], ◌∷◌}
 use Rattle.std.proofs.Common.{◌++◌, length, Option, Some, None, refl, sym, ap, ◌∙◌, inl, inr, arith, subst, if◌then◌else◌, ◌==◌}
 use Rattle.std.specs.FinSet as set
 use Rattle.ivy_model.specs.Limits.{most_nodes}
@@ -11,7 +11,7 @@ use Rattle.ivy_pagetable.specs.declared.Entry.TheVariants as entry
 use Rattle.ivy_pagetable.specs.declared.PutOff.{PutOff}
 use Rattle.ivy_pagetable.specs.declared.Request.{Request}
 use Rattle.ivy_pagetable.specs.declared.Request.TheVariants as request
-use Rattle.ivy_pagetable.specs.NodeSets.{Nodes, nodes_of, nodes_with}
+use Rattle.ivy_pagetable.specs.NodeSets.{Nodes, nodes_with}
 use Rattle.ivy_pagetable.specs.States.{IdleState, WaitingState}
 use Rattle.ivy_pagetable.specs.Entries.{put_offs, can_put_off, with_put_off, copying, owning}
 use Rattle.ivy_pagetable.specs.Tables.{entry_at, page_at, with_entry}
@@ -27,8 +27,7 @@ use Rattle.proof_routing.specs.proof_transitions.Letters.{content_of}
 use Rattle.proof_routing.proofs.of_proof_transitions.Needs.{page_of}
 use Rattle.proof_routing.specs.Claiming.{claims}
 use Rattle.proof_routing.proofs.Claims.{put_claims}
-use Rattle.proof_progress.specs.Ending.{work_of}
-use Rattle.proof_progress.proofs.Works.{work_posted, work_put, work_some, owner_work, all_served_work, nodes_few, orders_work}
+use Rattle.proof_progress.proofs.Works.{heavy_of, bare, bare_idle, work_posted, work_put, work_some, owner_work, all_served_work, orders_most}
 
 -- a message, as it is put off
 abbrev put_off_as : ℕ → ℕ → Request → PutOff
@@ -37,7 +36,7 @@ put_off_as origin call kind = record { kind = kind; origin = origin; call = call
 abbrev pub request_of : Bool → ℕ → Content
 request_of write page = if write then content.WriteReq page else content.ReadReq page
 
-module _ {S : Type 0} (ops : Ops S) (k : Coherent S) (p : ℕ) where
+module _ {S : Type 0} (ops : Ops S) (lost : ℕ) (k : Coherent S) (p : ℕ) where
   abbrev pub before : Entry
   before = entry_at k.table p
 
@@ -47,18 +46,20 @@ module _ {S : Type 0} (ops : Ops S) (k : Coherent S) (p : ℕ) where
 
   -- what a message of this body does to the node
   pub data Handles (origin call : ℕ) (body : Content) (e : CoherenceEffect S) : Type 0 where
-    lessens : work_posted e.posted + work_put p (put_offs (entry_at e.after.table p))
-        < work_of body + work_put p (put_offs before) → Handles origin call body e
+    lessens : work_posted lost e.posted + work_put lost p (put_offs (entry_at e.after.table p))
+        + (bare lost (entry_at e.after.table p) - bare lost before)
+        < heavy_of lost body + work_put lost p (put_offs before) → Handles origin call body e
     puts_off : (q : PutOff) → content_of q.kind p ≡ body → e.posted ≡ []
         → e.after.manager ≡ k.manager
         → put_offs (entry_at e.after.table p) ≡ put_offs before ++ q ∷ []
-        → claims (entry_at e.after.table p) ≡ claims before → Handles origin call body e
+        → claims (entry_at e.after.table p) ≡ claims before
+        → bare lost (entry_at e.after.table p) ≡ bare lost before → Handles origin call body e
     sends_on : (write : Bool) → body ≡ request_of write p
         → e.posted ≡ parcel_to k.me (ops.next_hop k.manager p) origin call body ∷ []
         → e.after.manager ≡ ops.on_forward k.manager p write origin
         → put_offs (entry_at e.after.table p) ≡ [] → put_offs before ≡ []
         → claims before ≡ false → claims (entry_at e.after.table p) ≡ false
-        → Handles origin call body e
+        → bare lost (entry_at e.after.table p) ≡ bare lost before → Handles origin call body e
 
   -- and it writes no other entry
   pub record Does (origin call : ℕ) (body : Content) (e : CoherenceEffect S) : Type 0 where
@@ -79,7 +80,7 @@ module _ {S : Type 0} (ops : Ops S) (k : Coherent S) (p : ℕ) where
     -- it fits no rule
     breach_does : (origin call : ℕ) (body : Content) → Does origin call body (breach ops k)
     breach_does origin call body = record {
-      handles = lessens (let a : 1 ≤ work_of body = work_some body in omega (arith, a));
+      handles = lessens (let a : 1 ≤ heavy_of lost body = work_some lost body in omega (arith, a));
       elsewhere = λ q ne. refl;
     }
 
@@ -87,29 +88,31 @@ module _ {S : Type 0} (ops : Ops S) (k : Coherent S) (p : ℕ) where
     less_does : (origin call : ℕ) (body : Content) (e : CoherenceEffect S) (z : Entry)
         → entry_at e.after.table p ≡ z
         → ((q : ℕ) → q ≢ p → entry_at e.after.table q ≡ entry_at k.table q)
-        → work_posted e.posted + work_put p (put_offs z)
-        < work_of body + work_put p (put_offs before) → Does origin call body e
+        → work_posted lost e.posted + work_put lost p (put_offs z) + (bare lost z - bare lost before)
+        < heavy_of lost body + work_put lost p (put_offs before) → Does origin call body e
     less_does origin call body e z is others less = record {
       handles = lessens
-          (subst (λ v. work_posted e.posted + work_put p (put_offs v)
-          < work_of body + work_put p (put_offs before)) (sym is) less);
+          (subst (λ v. work_posted lost e.posted + work_put lost p (put_offs v)
+          + (bare lost v - bare lost before)
+          < heavy_of lost body + work_put lost p (put_offs before)) (sym is) less);
       elsewhere = others;
     }
 
     -- the word that waits is carried out, and what was put off is served
     unlocked_does : (from : ℕ) (idle : IdleState) (reply : Option Request) (bytes : List ℕ)
-        (s : WaitingState) (origin call : ℕ) (body : Content) → put_offs before ≡ s.put_off
+        (s : WaitingState) (origin call : ℕ) (body : Content) → bare_idle lost idle ≡ 0
+        → put_offs before ≡ s.put_off
         → Does origin call body (unlocked ops k from p idle reply bytes s)
-    unlocked_does from idle reply bytes s origin call body is =
+    unlocked_does from idle reply bytes s origin call body free is =
         less_does origin call body (unlocked ops k from p idle reply bytes s) (entry.Idle _)
         (here _) (there _)
-        (let a : work_posted (unlocked ops k from p idle reply bytes s).posted
-        ≤ work_posted [] + work_put p s.put_off =
-        all_served_work ops k.me p (carried_out s.word bytes).bytes
+        (let a =
+        all_served_work ops lost k.me p (carried_out s.word bytes).bytes
         (serving idle (told ops from p k.manager reply) k.breaches []) s.put_off in
-        let b : 1 ≤ work_of body = work_some body in
-        let d : work_put p (put_offs before) ≡ work_put p s.put_off = ap (work_put p) is in
-        omega (arith, a, b, d))
+        let b : 1 ≤ heavy_of lost body = work_some lost body in
+        let d : work_put lost p (put_offs before) ≡ work_put lost p s.put_off =
+        ap (work_put lost p) is in
+        omega (arith, a, b, d, free))
 
     -- it is put off
     put_does : (q : PutOff) (e : Entry) → before ≡ e
@@ -123,6 +126,12 @@ module _ {S : Type 0} (ops : Ops S) (k : Coherent S) (p : ℕ) where
         last (entry.AwaitWrite s) h = refl
         last (entry.AwaitAcks s) h = refl
 
+        stays : (z : Entry) → bare lost (with_put_off z q) ≡ bare lost z
+        stays (entry.Idle s) = refl
+        stays (entry.AwaitRead s) = refl
+        stays (entry.AwaitWrite s) = refl
+        stays (entry.AwaitAcks s) = refl
+
         either : (b : Bool) → can_put_off e ≡ b
             → Does q.origin q.call (content_of q.kind p)
             (if b then put_by ops k p e q else breach ops k)
@@ -130,7 +139,8 @@ module _ {S : Type 0} (ops : Ops S) (k : Coherent S) (p : ℕ) where
           handles = puts_off q refl refl refl
               (ap put_offs (here (with_put_off e q)) ∙ last e room
               ∙ ap (λ v. put_offs v ++ q ∷ []) (sym is))
-              (ap claims (here (with_put_off e q)) ∙ put_claims e q ∙ ap claims (sym is));
+              (ap claims (here (with_put_off e q)) ∙ put_claims e q ∙ ap claims (sym is))
+              (ap (bare lost) (here (with_put_off e q)) ∙ stays e ∙ ap (bare lost) (sym is));
           elsewhere = there (with_put_off e q);
         }
         either false full = breach_does q.origin q.call (content_of q.kind p)
@@ -141,8 +151,8 @@ module _ {S : Type 0} (ops : Ops S) (k : Coherent S) (p : ℕ) where
         (asked ops k p (put_off_as origin call kind) (entry.Idle s))
     idle_does origin call kind s is = either s.owner refl
       where
-        none_before : work_put p (put_offs before) ≡ 0
-        none_before = ap (λ z. work_put p (put_offs z)) is
+        none_before : work_put lost p (put_offs before) ≡ 0
+        none_before = ap (λ z. work_put lost p (put_offs z)) is
 
         sent_on : (write : Bool) → s.owner ≡ false → Does origin call (request_of write p)
             (after_serving ops k p (record {
@@ -155,7 +165,8 @@ module _ {S : Type 0} (ops : Ops S) (k : Coherent S) (p : ℕ) where
         sent_on write plain = record {
           handles = sends_on write refl refl refl (ap put_offs (here (entry.Idle s)))
               (ap put_offs is) (ap claims is ∙ plain)
-              (ap claims (here (entry.Idle s)) ∙ plain);
+              (ap claims (here (entry.Idle s)) ∙ plain)
+              (ap (bare lost) (here (entry.Idle s)) ∙ ap (bare lost) (sym is));
           elsewhere = there (entry.Idle s);
         }
 
@@ -175,12 +186,11 @@ module _ {S : Type 0} (ops : Ops S) (k : Coherent S) (p : ℕ) where
         either false plain = by_other kind plain
         either true own =
             less_does origin call (content_of kind p) _ (entry.Idle _) (here _) (there _)
-            (let a : work_posted
-            (served_by_owner ops k.me p (page_at k.table p) (unserved s) origin call kind).posted
-            < work_posted [] + work_of (content_of kind p) =
-            owner_work ops k.me p (page_at k.table p) (unserved s) origin call kind in
+            (let a =
+            owner_work ops lost k.me p (page_at k.table p) (unserved s) origin call kind in
             let b = none_before in
-            omega (arith, a, b))
+            let d : bare lost before ≡ bare_idle lost s = ap (bare lost) is in
+            omega (arith, a, b, d))
 
     -- a request, or an order
     asked_does : (origin call : ℕ) (kind : Request) (e : Entry) → before ≡ e
@@ -195,8 +205,8 @@ module _ {S : Type 0} (ops : Ops S) (k : Coherent S) (p : ℕ) where
         put_does (put_off_as origin call request.Write) (entry.AwaitWrite s) is
     asked_does origin call request.Invalidate (entry.AwaitWrite s) is =
         less_does origin call (content.Inval p) _ (entry.AwaitWrite _) (here _) (there _)
-        (let a : work_put p (put_offs before) ≡ work_put p s.waiting.put_off =
-        ap (λ z. work_put p (put_offs z)) is in
+        (let a : work_put lost p (put_offs before) ≡ work_put lost p s.waiting.put_off =
+        ap (λ z. work_put lost p (put_offs z)) is in
         omega (arith, a))
     asked_does origin call request.Read (entry.AwaitAcks s) is =
         put_does (put_off_as origin call request.Read) (entry.AwaitAcks s) is
@@ -214,7 +224,7 @@ module _ {S : Type 0} (ops : Ops S) (k : Coherent S) (p : ℕ) where
             (if b then unlocked ops k from p copying (Some request.Read) bytes s else breach ops k)
         either true =
             unlocked_does from copying (Some request.Read) bytes s origin call (content.ReadRep p bytes)
-            (ap put_offs is)
+            refl (ap put_offs is)
         either false = breach_does origin call (content.ReadRep p bytes)
     copy_does from origin call bytes (entry.Idle s) is = breach_does origin call _
     copy_does from origin call bytes (entry.AwaitWrite s) is = breach_does origin call _
@@ -236,16 +246,15 @@ module _ {S : Type 0} (ops : Ops S) (k : Coherent S) (p : ℕ) where
             })
         collects true =
             unlocked_does from owning (Some request.Write) bytes s.waiting origin call
-            (content.WriteRep p bits bytes) (ap put_offs is)
+            (content.WriteRep p bits bytes) refl (ap put_offs is)
         collects false =
             less_does origin call (content.WriteRep p bits bytes) _ (entry.AwaitAcks _) (here _)
             (there _)
-            (let a : work_posted (invalidations k.me p call copies) ≡ 2 * length (nodes_of copies) =
-            orders_work k.me p call (nodes_of copies) in
-            let b : length (nodes_of copies) ≤ most_nodes = nodes_few copies in
-            let d : work_put p (put_offs before) ≡ work_put p s.waiting.put_off =
-            ap (λ z. work_put p (put_offs z)) is in
-            omega (arith, a, b, d))
+            (let a : work_posted lost (invalidations k.me p call copies) ≤ (lost + 2) * most_nodes =
+            orders_most lost k.me p call copies in
+            let d : work_put lost p (put_offs before) ≡ work_put lost p s.waiting.put_off =
+            ap (λ z. work_put lost p (put_offs z)) is in
+            omega (arith, a, d))
 
         either : (b : Bool) → Does origin call (content.WriteRep p bits bytes)
             (if b then owned_with ops k from call p copies bytes s.waiting else breach ops k)
@@ -269,11 +278,11 @@ module _ {S : Type 0} (ops : Ops S) (k : Coherent S) (p : ℕ) where
             })
         fewer true =
             unlocked_does from owning None (page_at k.table p) s.waiting origin call
-            (content.InvalAck p) (ap put_offs is)
+            (content.InvalAck p) refl (ap put_offs is)
         fewer false =
             less_does origin call (content.InvalAck p) _ (entry.AwaitAcks _) (here _) (there _)
-            (let d : work_put p (put_offs before) ≡ work_put p s.waiting.put_off =
-            ap (λ z. work_put p (put_offs z)) is in
+            (let d : work_put lost p (put_offs before) ≡ work_put lost p s.waiting.put_off =
+            ap (λ z. work_put lost p (put_offs z)) is in
             omega (arith, d))
 
         either : (b : Bool) → Does origin call (content.InvalAck p)
@@ -284,49 +293,49 @@ module _ {S : Type 0} (ops : Ops S) (k : Coherent S) (p : ℕ) where
     ack_does from origin call (entry.AwaitRead s) is = breach_does origin call _
     ack_does from origin call (entry.AwaitWrite s) is = breach_does origin call _
 
-module _ {S : Type 0} (ops : Ops S) (k : Coherent S) where
+module _ {S : Type 0} (ops : Ops S) (lost : ℕ) (k : Coherent S) where
   unless : (p : ℕ) (b : Bool) (origin call : ℕ) (body : Content) (e f : CoherenceEffect S)
-      → Does ops k p origin call body e → Does ops k p origin call body f
-      → Does ops k p origin call body (if b then e else f)
+      → Does ops lost k p origin call body e → Does ops lost k p origin call body f
+      → Does ops lost k p origin call body (if b then e else f)
   unless p true origin call body e f first second = first
   unless p false origin call body e f first second = second
 
   handled_does_as : (from origin call : ℕ) (body : Content)
       → page_of body < length k.table.entries
-      → Does ops k (page_of body) origin call body (handled_as ops k from origin call body)
+      → Does ops lost k (page_of body) origin call body (handled_as ops k from origin call body)
   handled_does_as from origin call (content.ReadReq p) within =
-      unless p (origin == k.me) origin call _ _ _ (breach_does ops k p within origin call _)
-      (asked_does ops k p within origin call request.Read (entry_at k.table p) refl)
+      unless p (origin == k.me) origin call _ _ _ (breach_does ops lost k p within origin call _)
+      (asked_does ops lost k p within origin call request.Read (entry_at k.table p) refl)
   handled_does_as from origin call (content.WriteReq p) within =
-      unless p (origin == k.me) origin call _ _ _ (breach_does ops k p within origin call _)
-      (asked_does ops k p within origin call request.Write (entry_at k.table p) refl)
+      unless p (origin == k.me) origin call _ _ _ (breach_does ops lost k p within origin call _)
+      (asked_does ops lost k p within origin call request.Write (entry_at k.table p) refl)
   handled_does_as from origin call (content.Inval p) within =
       unless p (origin == from) origin call _ _ _
-      (asked_does ops k p within origin call request.Invalidate (entry_at k.table p) refl)
-      (breach_does ops k p within origin call _)
+      (asked_does ops lost k p within origin call request.Invalidate (entry_at k.table p) refl)
+      (breach_does ops lost k p within origin call _)
   handled_does_as from origin call (content.ReadRep p bytes) within =
       unless p (origin == k.me) origin call _ _ _
-      (copy_does ops k p within from origin call bytes (entry_at k.table p) refl)
-      (breach_does ops k p within origin call _)
+      (copy_does ops lost k p within from origin call bytes (entry_at k.table p) refl)
+      (breach_does ops lost k p within origin call _)
   handled_does_as from origin call (content.WriteRep p bits bytes) within =
       unless p (origin == k.me) origin call _ _ _
-      (page_does ops k p within from origin call bits (nodes_with bits) bytes
+      (page_does ops lost k p within from origin call bits (nodes_with bits) bytes
       (entry_at k.table p) refl)
-      (breach_does ops k p within origin call _)
+      (breach_does ops lost k p within origin call _)
   handled_does_as from origin call (content.InvalAck p) within =
       unless p (origin == k.me) origin call _ _ _
-      (ack_does ops k p within from origin call (entry_at k.table p) refl)
-      (breach_does ops k p within origin call _)
+      (ack_does ops lost k p within from origin call (entry_at k.table p) refl)
+      (breach_does ops lost k p within origin call _)
   handled_does_as from origin call (content.AllocReq size) within =
-      breach_does ops k 0 within origin call _
+      breach_does ops lost k 0 within origin call _
   handled_does_as from origin call (content.AllocRep code addr) within =
-      breach_does ops k 0 within origin call _
+      breach_does ops lost k 0 within origin call _
   handled_does_as from origin call (content.FreeReq addr) within =
-      breach_does ops k 0 within origin call _
+      breach_does ops lost k 0 within origin call _
   handled_does_as from origin call (content.FreeRep code) within =
-      breach_does ops k 0 within origin call _
+      breach_does ops lost k 0 within origin call _
 
   pub handled_does : (from : ℕ) (m : Message) → page_of m.content < length k.table.entries
-      → Does ops k (page_of m.content) m.origin m.call m.content (handled ops k from m)
+      → Does ops lost k (page_of m.content) m.origin m.call m.content (handled ops k from m)
   unfolding handled
   handled_does from m within = handled_does_as from m.origin m.call m.content within

@@ -49,6 +49,62 @@ module _ (nodes pages : ℕ) where
       (λ q. le i (content_of q.kind p)))) in
       omega (arith, a, b)
 
+  -- parcels are posted
+  module _ (heavy : ℕ → Content → ℕ) (rest now : ℕ → ℕ → List Message) (ps : List Parcel) where
+    abbrev v : ℕ → Message → ℕ
+    v j n = heavy j n.content
+
+    posted_load : ((i j : ℕ) → now i j ≡ rest i j ++ posted i j ps)
+        → way_loads heavy now ≤ way_loads heavy rest + parcels nodes v ps
+    posted_load is =
+        let once : count_posted nodes v ps ≤ parcels nodes v ps = posted_once nodes v ps in
+        let split : sum_below nodes (λ i. sum_below nodes (way_load heavy rest i)
+        + sum_below nodes (λ j. sum_by (v j) (posted i j ps)))
+        ≡ way_loads heavy rest + count_posted nodes v ps =
+        sum_add nodes (λ i. sum_below nodes (way_load heavy rest i))
+        (λ i. sum_below nodes (λ j. sum_by (v j) (posted i j ps))) in
+        let less : way_loads heavy now
+        ≤ sum_below nodes (λ i. sum_below nodes (way_load heavy rest i)
+        + sum_below nodes (λ j. sum_by (v j) (posted i j ps))) =
+        sum_le nodes (λ i. sum_below nodes (way_load heavy now i)) _
+        (λ i l. (let a : sum_below nodes (λ j. way_load heavy rest i j
+        + sum_by (v j) (posted i j ps))
+        ≡ sum_below nodes (way_load heavy rest i)
+        + sum_below nodes (λ j. sum_by (v j) (posted i j ps)) =
+        sum_add nodes (way_load heavy rest i) (λ j. sum_by (v j) (posted i j ps)) in
+        let b : sum_below nodes (way_load heavy now i)
+        ≤ sum_below nodes (λ j. way_load heavy rest i j + sum_by (v j) (posted i j ps)) =
+        sum_le nodes (way_load heavy now i) _
+        (λ j d. (let e : way_load heavy now i j
+        ≡ way_load heavy rest i j + sum_by (v j) (posted i j ps) =
+        ap (sum_by (v j)) (is i j) ∙ sum_by-append (v j) (rest i j) (posted i j ps) in
+        omega (arith, e))) in
+        omega (arith, a, b))) in
+        omega (arith, once, split, less)
+
+  -- the entry of one page is written
+  module _ (weight : ℕ → Content → ℕ) (at then : ℕ → ℕ → Entry) (x p : ℕ) (here : x < nodes)
+      (inside : p < pages) where
+    written_load : ((i q : ℕ) → (i ≢ x) ⊎ (q ≢ p) → then i q ≡ at i q)
+        → aside_loads weight then + aside_load weight at x p
+        ≤ aside_loads weight at + aside_load weight then x p
+    written_load others =
+        let one : sum_below pages (aside_load weight then x) + aside_load weight at x p
+        ≤ sum_below pages (aside_load weight at x) + aside_load weight then x p =
+        sum_change pages p (aside_load weight at x) (aside_load weight then x) inside
+        (λ q l ne. (let e : aside_load weight then x q ≡ aside_load weight at x q =
+        ap (λ z. sum_by (λ (r : PutOff). weight x (content_of r.kind q)) (put_offs z))
+        (others x q (inr ne)) in omega (arith, e))) in
+        let all : aside_loads weight then + sum_below pages (aside_load weight at x)
+        ≤ aside_loads weight at + sum_below pages (aside_load weight then x) =
+        sum_change nodes x (λ i. sum_below pages (aside_load weight at i))
+        (λ i. sum_below pages (aside_load weight then i)) here
+        (λ i l ne. sum_le pages (aside_load weight then i) (aside_load weight at i)
+        (λ q d. (let e : aside_load weight then i q ≡ aside_load weight at i q =
+        ap (λ z. sum_by (λ (r : PutOff). weight i (content_of r.kind q)) (put_offs z))
+        (others i q (inl ne)) in omega (arith, e)))) in
+        omega (arith, one, all)
+
   -- One message from s to x is taken, the entry of one page is written there, and parcels are
   -- posted.
   module _ (heavy weight : ℕ → Content → ℕ) (way rest now : ℕ → ℕ → List Message)
@@ -78,54 +134,6 @@ module _ (nodes pages : ℕ) where
         ap (sum_by (w x)) first ∙ sum_by-cons (w x) m (rest s x) in
         omega (arith, one, all, it)
 
-    posted_load : ((i j : ℕ) → now i j ≡ rest i j ++ posted i j ps)
-        → way_loads heavy now ≤ way_loads heavy rest + parcels nodes w ps
-    posted_load is =
-        let once : count_posted nodes w ps ≤ parcels nodes w ps = posted_once nodes w ps in
-        let split : sum_below nodes (λ i. sum_below nodes (way_load heavy rest i)
-        + sum_below nodes (λ j. sum_by (w j) (posted i j ps)))
-        ≡ way_loads heavy rest + count_posted nodes w ps =
-        sum_add nodes (λ i. sum_below nodes (way_load heavy rest i))
-        (λ i. sum_below nodes (λ j. sum_by (w j) (posted i j ps))) in
-        let less : way_loads heavy now
-        ≤ sum_below nodes (λ i. sum_below nodes (way_load heavy rest i)
-        + sum_below nodes (λ j. sum_by (w j) (posted i j ps))) =
-        sum_le nodes (λ i. sum_below nodes (way_load heavy now i)) _
-        (λ i l. (let a : sum_below nodes (λ j. way_load heavy rest i j
-        + sum_by (w j) (posted i j ps))
-        ≡ sum_below nodes (way_load heavy rest i)
-        + sum_below nodes (λ j. sum_by (w j) (posted i j ps)) =
-        sum_add nodes (way_load heavy rest i) (λ j. sum_by (w j) (posted i j ps)) in
-        let b : sum_below nodes (way_load heavy now i)
-        ≤ sum_below nodes (λ j. way_load heavy rest i j + sum_by (w j) (posted i j ps)) =
-        sum_le nodes (way_load heavy now i) _
-        (λ j d. (let e : way_load heavy now i j
-        ≡ way_load heavy rest i j + sum_by (w j) (posted i j ps) =
-        ap (sum_by (w j)) (is i j) ∙ sum_by-append (w j) (rest i j) (posted i j ps) in
-        omega (arith, e))) in
-        omega (arith, a, b))) in
-        omega (arith, once, split, less)
-
-    written_load : ((i q : ℕ) → (i ≢ x) ⊎ (q ≢ p) → then i q ≡ at i q)
-        → aside_loads weight then + aside_load weight at x p
-        ≤ aside_loads weight at + aside_load weight then x p
-    written_load others =
-        let one : sum_below pages (aside_load weight then x) + aside_load weight at x p
-        ≤ sum_below pages (aside_load weight at x) + aside_load weight then x p =
-        sum_change pages p (aside_load weight at x) (aside_load weight then x) inside
-        (λ q l ne. (let e : aside_load weight then x q ≡ aside_load weight at x q =
-        ap (λ z. sum_by (λ (r : PutOff). weight x (content_of r.kind q)) (put_offs z))
-        (others x q (inr ne)) in omega (arith, e))) in
-        let all : aside_loads weight then + sum_below pages (aside_load weight at x)
-        ≤ aside_loads weight at + sum_below pages (aside_load weight then x) =
-        sum_change nodes x (λ i. sum_below pages (aside_load weight at i))
-        (λ i. sum_below pages (aside_load weight then i)) here
-        (λ i l ne. sum_le pages (aside_load weight then i) (aside_load weight at i)
-        (λ q d. (let e : aside_load weight then i q ≡ aside_load weight at i q =
-        ap (λ z. sum_by (λ (r : PutOff). weight i (content_of r.kind q)) (put_offs z))
-        (others i q (inl ne)) in omega (arith, e)))) in
-        omega (arith, one, all)
-
     pub event_load : way s x ≡ m ∷ rest s x
         → ((i j : ℕ) → (i ≢ s) ⊎ (j ≢ x) → rest i j ≡ way i j)
         → ((i j : ℕ) → now i j ≡ rest i j ++ posted i j ps)
@@ -136,7 +144,20 @@ module _ (nodes pages : ℕ) where
         let a : way_loads heavy rest + heavy x m.content
         ≤ way_loads heavy way = taken_load first others in
         let b : way_loads heavy now ≤ way_loads heavy rest + parcels nodes w ps =
-        posted_load is in
+        posted_load heavy rest now ps is in
         let d : aside_loads weight then + aside_load weight at x p
-        ≤ aside_loads weight at + aside_load weight then x p = written_load same in
+        ≤ aside_loads weight at + aside_load weight then x p = written_load weight at then x p here inside same in
         omega (arith, a, b, d)
+
+  -- A node posts parcels, and writes the entry of one page.
+  pub posting_load : (heavy weight : ℕ → Content → ℕ) (way now : ℕ → ℕ → List Message)
+      (at then : ℕ → ℕ → Entry) (x p : ℕ) (ps : List Parcel) → x < nodes → p < pages
+      → ((i j : ℕ) → now i j ≡ way i j ++ posted i j ps)
+      → ((i q : ℕ) → (i ≢ x) ⊎ (q ≢ p) → then i q ≡ at i q)
+      → load heavy weight now then + aside_load weight at x p
+      ≤ load heavy weight way at + parcels nodes (λ j n. heavy j n.content) ps
+      + aside_load weight then x p
+  posting_load heavy weight way now at then x p ps here inside is same =
+      let a = posted_load heavy way now ps is in
+      let b = written_load weight at then x p here inside same in
+      omega (arith, a, b)

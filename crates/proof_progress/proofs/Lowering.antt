@@ -44,10 +44,9 @@ use Rattle.proof_routing.specs.Routing.{AreRoutes, hops}
 use Rattle.proof_routing.proofs.Claims.{writer_claims}
 use Rattle.proof_routing.proofs.Found.{plain_away}
 use Rattle.proof_progress.proofs.EitherRoutes.{either_routed}
-use Rattle.proof_progress.specs.Ending.{work_of}
 use Rattle.proof_progress.proofs.Totals.{parcels}
 use Rattle.proof_progress.proofs.Hops.{hops_left, no_more_hops, one_hop}
-use Rattle.proof_progress.proofs.Works.{work_posted, work_put, work_some}
+use Rattle.proof_progress.proofs.Works.{heavy_of, bare, work_posted, work_put, work_some}
 use Rattle.proof_progress.proofs.Handling.{Handles, lessens, puts_off, sends_on, Does, request_of, handled_does}
 use Rattle.proof_progress.proofs.Loads.{lighter, load, aside_load, event_load}
 use Rattle.proof_progress.proofs.Delivered.{under_way, others_under_way, first_taken, others_stay, answers_follow, core_here, core_there}
@@ -93,13 +92,14 @@ page_inside c (content.FreeReq addr) about fits = absurd (let f : false ≡ true
 page_inside c (content.FreeRep code) about fits = absurd (let f : false ≡ true = about in cc)
 
 -- an answer of the heap is less work than its call
-answer_less : (k : HeapCall) (r : Reply) → work_of (answer_to k r) < work_of (request k)
-answer_less (heap_call.Alloc size) (reply.Value addr) = omega arith
-answer_less (heap_call.Alloc size) reply.Done = omega arith
-answer_less (heap_call.Alloc size) (reply.Refused code) = omega arith
-answer_less (heap_call.Free addr) (reply.Value v) = omega arith
-answer_less (heap_call.Free addr) reply.Done = omega arith
-answer_less (heap_call.Free addr) (reply.Refused code) = omega arith
+answer_less : (lost : ℕ) (k : HeapCall) (r : Reply)
+    → heavy_of lost (answer_to k r) < heavy_of lost (request k)
+answer_less lost (heap_call.Alloc size) (reply.Value addr) = omega arith
+answer_less lost (heap_call.Alloc size) reply.Done = omega arith
+answer_less lost (heap_call.Alloc size) (reply.Refused code) = omega arith
+answer_less lost (heap_call.Free addr) (reply.Value v) = omega arith
+answer_less lost (heap_call.Free addr) reply.Done = omega arith
+answer_less lost (heap_call.Free addr) (reply.Refused code) = omega arith
 
 -- of an ordered world
 module _ (c : Config) (o : Ordered (Host Managed)) where
@@ -124,18 +124,33 @@ module _ (c : Config) (o : Ordered (Host Managed)) where
   far_way i b = 1 + far i b
 
   -- the work that is left
-  abbrev pub work : ℕ
-  work = load c.nodes c.pages (λ i. work_of) (λ i. work_of) (under_way o) entries
+  abbrev pub work : ℕ → ℕ
+  work lost = load c.nodes c.pages (λ i. heavy_of lost) (λ i. heavy_of lost) (under_way o) entries
 
   -- how far the messages have to go
   abbrev pub way : ℕ
   way = load c.nodes c.pages far_way far (under_way o) entries
 
--- a delivery lowers the one, or leaves it and lowers the other
-abbrev pub Lowers : Config → Ordered (Host Managed) → Ordered (Host Managed) → Type 0
-Lowers c o o' = (work c o' < work c o) ⊎ ((work c o' ≤ work c o) × (way c o' < way c o))
+-- where entries, next hops and the messages under way are the same, both are
+module _ (c : Config) (o u : Ordered (Host Managed)) (entry : entries c u ≡ entries c o)
+    (hop : hop_at c u ≡ hop_at c o) (under : under_way u ≡ under_way o) where
+  pub same_work : (lost : ℕ) → work c u lost ≡ work c o lost
+  same_work lost =
+      λ k. load c.nodes c.pages (λ i. heavy_of lost) (λ i. heavy_of lost) (under k) (entry k)
 
-module _ (c : Config) (limits : IsConfig c) (programs : List (List Instruction))
+  pub same_way : way c u ≡ way c o
+  same_way =
+      λ k. load c.nodes c.pages
+      (λ i b. 1
+      + hops_of (λ p j. hops_left (λ y. claims (entry k y p)) (hop k p) c.nodes j) i b)
+      (λ i b. hops_of (λ p j. hops_left (λ y. claims (entry k y p)) (hop k p) c.nodes j) i b)
+      (under k) (entry k)
+
+-- a delivery lowers the one, or leaves it and lowers the other
+abbrev pub Lowers : ℕ → Config → Ordered (Host Managed) → Ordered (Host Managed) → Type 0
+Lowers lost c o o' = (work c o' lost < work c o lost) ⊎ ((work c o' lost ≤ work c o lost) × (way c o' < way c o))
+
+module _ (lost : ℕ) (c : Config) (limits : IsConfig c) (programs : List (List Instruction))
     (many : length programs ≡ c.nodes) (o o' : Ordered (Host Managed))
     (reached : IsReachedInOrder managed_ops c programs o) (source x : ℕ)
     (t : Delivers (host_rules managed_ops) o source x o') where
@@ -187,7 +202,7 @@ module _ (c : Config) (limits : IsConfig c) (programs : List (List Instruction))
       (core_there (host_rules managed_ops) o o' source x t i ne)
 
   module _ (p : ℕ) (inside : p < c.pages)
-      (does : Does managed_ops k p m.origin m.call m.content effect) where
+      (does : Does managed_ops lost k p m.origin m.call m.content effect) where
     entries_there : (i q : ℕ) → (i ≢ x) ⊎ (q ≢ p) → entries c o' i q ≡ entries c o i q
     entries_there i q (inl ne) =
         ap (λ z. entry_of z q) (core_there (host_rules managed_ops) o o' source x t i ne)
@@ -214,17 +229,17 @@ module _ (c : Config) (limits : IsConfig c) (programs : List (List Instruction))
         (others_stay (host_rules managed_ops) o o' source x t)
         (answers_follow (host_rules managed_ops) o o' source x t sound.within) entries_there
 
-    work_loaded : work c o' + work_of m.content + work_put p (put_offs (entry_at k.table p))
-        ≤ work c o + work_posted effect.posted
-        + work_put p (put_offs (entry_at effect.after.table p))
+    pub work_loaded : work c o' lost + heavy_of lost m.content + work_put lost p (put_offs (entry_at k.table p))
+        ≤ work c o lost + work_posted lost effect.posted
+        + work_put lost p (put_offs (entry_at effect.after.table p))
     work_loaded =
-        let a = loaded (λ i. work_of) (λ i. work_of) in
-        let b : work_put p (put_offs (entries c o x p))
-        ≡ work_put p (put_offs (entry_at k.table p)) =
-        ap (λ z. work_put p (put_offs z)) (here_before p) in
-        let d : work_put p (put_offs (entries c o' x p))
-        ≡ work_put p (put_offs (entry_at effect.after.table p)) =
-        ap (λ z. work_put p (put_offs z)) (here_after p) in
+        let a = loaded (λ i. heavy_of lost) (λ i. heavy_of lost) in
+        let b : work_put lost p (put_offs (entries c o x p))
+        ≡ work_put lost p (put_offs (entry_at k.table p)) =
+        ap (λ z. work_put lost p (put_offs z)) (here_before p) in
+        let d : work_put lost p (put_offs (entries c o' x p))
+        ≡ work_put lost p (put_offs (entry_at effect.after.table p)) =
+        ap (λ z. work_put lost p (put_offs z)) (here_after p) in
         omega (arith, a, b, d)
 
     -- no more hops are left to any request
@@ -276,19 +291,19 @@ module _ (c : Config) (limits : IsConfig c) (programs : List (List Instruction))
     put_lowers : (q : PutOff) → content_of q.kind p ≡ m.content → effect.posted ≡ []
         → effect.after.manager ≡ k.manager
         → put_offs (entry_at effect.after.table p) ≡ put_offs (entry_at k.table p) ++ q ∷ []
-        → claims (entry_at effect.after.table p) ≡ claims (entry_at k.table p) → Lowers c o o'
+        → claims (entry_at effect.after.table p) ≡ claims (entry_at k.table p) → Lowers lost c o o'
     put_lowers q is none manager put stays = inr (same_work, less_way)
       where
-        same_work : work c o' ≤ work c o
+        same_work : work c o' lost ≤ work c o lost
         same_work =
             let a = work_loaded in
-            let b : work_posted effect.posted ≡ 0 = ap work_posted none in
-            let d : work_put p (put_offs (entry_at effect.after.table p))
-            ≡ work_put p (put_offs (entry_at k.table p)) + work_of (content_of q.kind p) =
-            ap (work_put p) put
-            ∙ sum_by_push (λ (r : PutOff). work_of (content_of r.kind p))
+            let b : work_posted lost effect.posted ≡ 0 = ap (work_posted lost) none in
+            let d : work_put lost p (put_offs (entry_at effect.after.table p))
+            ≡ work_put lost p (put_offs (entry_at k.table p)) + heavy_of lost (content_of q.kind p) =
+            ap (work_put lost p) put
+            ∙ sum_by_push (λ (r : PutOff). heavy_of lost (content_of r.kind p))
             (put_offs (entry_at k.table p)) q in
-            let e : work_of (content_of q.kind p) ≡ work_of m.content = ap work_of is in
+            let e : heavy_of lost (content_of q.kind p) ≡ heavy_of lost m.content = ap (heavy_of lost) is in
             omega (arith, a, b, d, e)
 
         hop_stays : (r : ℕ) → hop_at c o' r x ≡ hop_at c o r x
@@ -377,15 +392,15 @@ module _ (c : Config) (limits : IsConfig c) (programs : List (List Instruction))
         → effect.after.manager ≡ managed_ops.on_forward k.manager p write m.origin
         → put_offs (entry_at effect.after.table p) ≡ [] → put_offs (entry_at k.table p) ≡ []
         → claims (entry_at k.table p) ≡ false → claims (entry_at effect.after.table p) ≡ false
-        → Lowers c o o'
+        → Lowers lost c o o'
     sent_lowers write is posts manager none_then none plain free = inr (same_work, less_way)
       where
-        same_work : work c o' ≤ work c o
+        same_work : work c o' lost ≤ work c o lost
         same_work =
             let a = work_loaded in
-            let b : work_posted effect.posted ≡ 0 + work_of m.content = ap work_posted posts in
-            let d : work_put p (put_offs (entry_at effect.after.table p)) ≡ 0 =
-            ap (work_put p) none_then in
+            let b : work_posted lost effect.posted ≡ 0 + heavy_of lost m.content = ap (work_posted lost) posts in
+            let d : work_put lost p (put_offs (entry_at effect.after.table p)) ≡ 0 =
+            ap (work_put lost p) none_then in
             omega (arith, a, b, d)
 
         less_way : way c o' < way c o
@@ -404,31 +419,31 @@ module _ (c : Config) (limits : IsConfig c) (programs : List (List Instruction))
             let f = one_less plain in
             omega (arith, a, b, d, e, f)
 
-    lowers_as : Handles managed_ops k p m.origin m.call m.content effect → Lowers c o o'
+    lowers_as : Handles managed_ops lost k p m.origin m.call m.content effect → Lowers lost c o o'
     lowers_as (lessens less) = (let a = work_loaded in inl (omega (arith, a, less)))
-    lowers_as (puts_off q is none manager put stays) = put_lowers q is none manager put stays
-    lowers_as (sends_on write is posts manager none_then none plain free) =
+    lowers_as (puts_off q is none manager put stays bare) = put_lowers q is none manager put stays
+    lowers_as (sends_on write is posts manager none_then none plain free bare) =
         sent_lowers write is posts manager none_then none plain free
 
-    does_lower : Lowers c o o'
+    does_lower : Lowers lost c o o'
     does_lower = lowers_as does.handles
 
   -- a message of the heap is answered, or ends
   heap_less : HeapDelivery managed_ops o source x t.core m
-      → work_posted (serving managed_ops t.core source m).posted < work_of m.content
+      → work_posted lost (serving managed_ops t.core source m).posted < heavy_of lost m.content
   heap_less (serves home away asker at call number asked on_way none same heap is does) =
-      let a : work_posted (serving managed_ops t.core source m).posted
-      ≡ 0 + work_of (answer_to call (told_of heap call).reply) =
-      ap (λ (z : Outcome (Host Managed)). work_posted z.posted) does in
-      let b : work_of m.content ≡ work_of (request call) =
-      ap (λ (z : Message). work_of z.content) same in
-      let d : work_of (answer_to call (told_of heap call).reply) < work_of (request call) =
-      answer_less call (told_of heap call).reply in
+      let a : work_posted lost (serving managed_ops t.core source m).posted
+      ≡ 0 + heavy_of lost (answer_to call (told_of heap call).reply) =
+      ap (λ (z : Outcome (Host Managed)). work_posted lost z.posted) does in
+      let b : heavy_of lost m.content ≡ heavy_of lost (request call) =
+      ap (λ (z : Message). heavy_of lost z.content) same in
+      let d : heavy_of lost (answer_to call (told_of heap call).reply) < heavy_of lost (request call) =
+      answer_less lost call (told_of heap call).reply in
       omega (arith, a, b, d)
   heap_less (learns away home call number r asked back tells does) =
-      let a : work_posted (serving managed_ops t.core source m).posted ≡ 0 =
-      ap (λ (z : Outcome (Host Managed)). work_posted z.posted) does in
-      let b : 1 ≤ work_of m.content = work_some m.content in
+      let a : work_posted lost (serving managed_ops t.core source m).posted ≡ 0 =
+      ap (λ (z : Outcome (Host Managed)). work_posted lost z.posted) does in
+      let b : 1 ≤ heavy_of lost m.content = work_some lost m.content in
       omega (arith, a, b)
 
   heap_table : HeapDelivery managed_ops o source x t.core m → effect.after ≡ k
@@ -438,34 +453,45 @@ module _ (c : Config) (limits : IsConfig c) (programs : List (List Instruction))
       ap (λ (z : Outcome (Host Managed)). z.after.memory.coherence) does
 
   heap_does : HeapDelivery managed_ops o source x t.core m
-      → Does managed_ops k 0 m.origin m.call m.content effect
+      → Does managed_ops lost k 0 m.origin m.call m.content effect
   heap_does h = record {
     handles = lessens
         (let a = heap_less h in
-        let b : work_put 0 (put_offs (entry_at effect.after.table 0))
-        ≡ work_put 0 (put_offs (entry_at k.table 0)) =
-        ap (λ (z : Coherent Managed). work_put 0 (put_offs (entry_at z.table 0))) (heap_table h) in
-        omega (arith, a, b));
+        let b : work_put lost 0 (put_offs (entry_at effect.after.table 0))
+        ≡ work_put lost 0 (put_offs (entry_at k.table 0)) =
+        ap (λ (z : Coherent Managed). work_put lost 0 (put_offs (entry_at z.table 0))) (heap_table h) in
+        let d : bare lost (entry_at effect.after.table 0) ≡ bare lost (entry_at k.table 0) =
+        ap (λ (z : Coherent Managed). bare lost (entry_at z.table 0)) (heap_table h) in
+        omega (arith, a, b, d));
     elsewhere = λ q ne. ap (λ (z : Coherent Managed). entry_at z.table q) (heap_table h);
   }
 
   pages_does : is_of_pages m.content ≡ true → page_of m.content < c.pages
-      → Does managed_ops k (page_of m.content) m.origin m.call m.content effect
+      → Does managed_ops lost k (page_of m.content) m.origin m.call m.content effect
   pages_does about inside =
-      subst (λ z. Does managed_ops k (page_of m.content) m.origin m.call m.content (effect_of z))
+      subst (λ z. Does managed_ops lost k (page_of m.content) m.origin m.call m.content (effect_of z))
       (sym (page_serving managed_ops t.core source m about))
-      (handled_does managed_ops k source m
+      (handled_does managed_ops lost k source m
       (let a = good.memory.coherent.entries in
       let b = ap (λ (z : Config). z.pages) good.config in
       omega (arith, a, b, inside)))
 
-  lowers_if : (b : Bool) → is_of_pages m.content ≡ b → Lowers c o o'
-  lowers_if true about =
-      let inside = page_inside c m.content about sent.fits.content in
-      does_lower (page_of m.content) inside (pages_does about inside)
-  lowers_if false heap =
-      does_lower 0 (let a = limits.pages_from in omega (arith, a))
-      (heap_does (fits_heap managed_ops c o o' sound source x t heap))
+  -- what the delivery does, and to which page
+  abbrev IsDone : Type 0
+  IsDone = (p : ℕ) × (p < c.pages) × Does managed_ops lost k p m.origin m.call m.content effect
 
-  pub lowers : Lowers c o o'
-  lowers = lowers_if (is_of_pages m.content) refl
+  done_if : (b : Bool) → is_of_pages m.content ≡ b → IsDone
+  done_if true about =
+      let inside = page_inside c m.content about sent.fits.content in
+      (page_of m.content, inside, pages_does about inside)
+  done_if false heap = (
+    0,
+    (let a = limits.pages_from in omega (arith, a)),
+    heap_does (fits_heap managed_ops c o o' sound source x t heap),
+  )
+
+  pub done : IsDone
+  done = done_if (is_of_pages m.content) refl
+
+  pub lowers : Lowers lost c o o'
+  lowers = does_lower done.0 done.1 done.2

@@ -113,6 +113,7 @@ mod exchanges;
 mod first_load;
 mod growths_of_worlds;
 mod heap;
+mod rounds;
 mod schedules;
 mod settling;
 mod stores;

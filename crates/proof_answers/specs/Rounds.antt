@@ -1,0 +1,28 @@
+-- Rounds of a node: all that was sent is delivered, and the node has a turn.
+use Rattle.std.specs.Prelude.{◌≡◌, ◌≢◌, ◌≤◌, ℕ, zero, suc, List, ◌∷◌, ◌++◌, slice_get, Some}
+use Rattle.ivy_model.specs.declared.Config.{Config}
+use Rattle.ivy_moves.specs.ivy_link.Linked.{peer_at}
+use Rattle.ivy_moves.specs.declared.Move.{Move}
+use Rattle.ivy_moves.specs.declared.Move.TheVariants.{Turn}
+use Rattle.ivy_moves.specs.Nodes.{Node}
+use Rattle.ivy_moves.specs.Worlds.{World, Leads}
+use Rattle.proof_progress.specs.ivy_host.Hosts.{Host, host_rules}
+use Rattle.proof_progress.specs.ivy_host.Managers.{Managed, managed_ops}
+
+module _ (c : Config) (i : ℕ) where
+  -- Moves lead from one world to another, a turn of node i among them, and each message that a node
+  -- had sent another one is delivered then. Any other moves may stand between; no other node need
+  -- have a turn.
+  pub record IsRound (w end : World (Host Managed)) : Type 0 where
+    pub before : List Move
+    pub after : List Move
+    pub led : Leads (host_rules managed_ops) c w (before ++ Turn i ∷ after) end
+    pub delivered : (x y : ℕ) (n m : Node (Host Managed)) → x ≢ y → slice_get w.nodes x ≡ Some n
+        → slice_get end.nodes y ≡ Some m
+        → (peer_at n.link y).sent ≤ (peer_at m.link x).delivered
+
+  -- so many rounds lead from one world to another
+  abbrev pub AreRounds : ℕ → World (Host Managed) → World (Host Managed) → Type 0
+  AreRounds zero w end = end ≡ w
+  AreRounds (suc more) w end =
+      (mid : World (Host Managed)) × IsRound w mid × AreRounds more mid end
