@@ -14,8 +14,9 @@ const NAP: u64 = 2_000;
 /// So often that time is doubled at most.
 const DOUBLINGS: u32 = 5;
 
-/// So many microseconds a wire worker sleeps at most where the ether has no place for what the node has to put.
-const FULL_NAP: u64 = 500;
+/// So many microseconds a wire worker sleeps at most where the ether has no place for what the node has to put, and where
+/// it lost a frame and makes its round as soon as nothing is on the ether.
+const SHORT_NAP: u64 = 500;
 
 /// So many microseconds a program worker sleeps at most.
 const PROGRAM_NAP: u64 = 10_000;
@@ -206,8 +207,9 @@ impl Watch {
 
     /// Sleeps until there is something to do, or for a while in which nobody wakes it.
     fn sleep<A: Allocator, R: Wait>(&mut self, rt: &R, shared: &Shared<A>, bells: &Bells) {
-        let most = if bells.waiting().is_some() {
-            FULL_NAP
+        let has_lost = self.turns > shared.nap_round();
+        let most = if has_lost || bells.waiting().is_some() {
+            SHORT_NAP
         } else {
             NAP << self.naps.min(DOUBLINGS)
         };
