@@ -25,10 +25,10 @@ const PROGRAM_NAP: u64 = 10_000;
 const MOST_UNHEARD: u32 = 8;
 
 /// So often a worker looks after it looked in vain.
-const FEW_LOOKS: u32 = 500;
+const FEW_LOOKS: u32 = 200;
 
 /// So often in a row it looks in vain before it looks for long again.
-const MOST_MISSES: u32 = 32;
+const MOST_MISSES: u32 = 16;
 
 /// How often a worker looks for something to do before it sleeps: as often as it may where that helped, and less often
 /// where it was in vain, as on a machine that does other work.
