@@ -14,6 +14,7 @@ mod texts;
 
 pub use command::perform;
 pub use failure::Failure;
+pub use ivy_arguments;
 pub use ivy_arguments::ivy_texts;
 pub use ivy_session;
 pub use ivy_session::ivy_ether;

@@ -210,6 +210,89 @@ fn growths_of_a_request_that_comes(rt: HostRuntime) {
     growths_of(&rt, rt.alloc(), &REQUEST_COMES);
 }
 
+/// The order to give the copy up, which comes before the copy, and the answer to it.
+const ENDS: &str =
+    "495602050001000d 0000000000000002 0000000000000001 00 0000000000000001 00000001";
+
+const ENDED: &str =
+    "495602060100000d 0000000000000002 0000000000000001 00 0000000000000001 00000001";
+
+/// Node 1 asked for a copy, and holds the order that came before it.
+const HOLDING: [Step; 4] = [
+    Step::Turns(2),
+    Step::Sends((REQUEST, None)),
+    Step::Comes((ENDS, None), Ok(Verdict::Ahead)),
+    Step::Silent,
+];
+
+/// The copy comes with the n-th growth refused. Whether that growth was asked for.
+fn copy_comes<A: Allocator + Copy>(
+    rt: &impl Abort,
+    memory: &Refusing<Global>,
+    n: u64,
+    site: &mut Site<A>,
+    copy: &[u8],
+) -> (Result<Verdict, Fault>, bool) {
+    memory.refuse(n);
+    let answer = receive(site, copy);
+    let met = memory.asked(n) >= n;
+    memory.refuse(0);
+    assert!(rt;
+        answer == Ok(Verdict::Next) || (met && answer == Err(Fault::Memory)),
+        "growth {n}"
+    );
+    (answer, met)
+}
+
+/// The node gives the copy up, at once or once what was refused comes again, and its load is answered.
+fn goes_on<A: Allocator + Copy>(
+    rt: &impl Abort,
+    (memory, alloc): (&Refusing<Global>, A),
+    n: u64,
+    strings: (&[u8], &[u8]),
+    site: &mut Site<A>,
+) -> bool {
+    let (answer, met) = copy_comes(rt, memory, n, site, strings.0);
+    if answer.is_err() {
+        expect_same_at(rt, n, receive(site, strings.0), Ok(Verdict::Next));
+    } else if met {
+        // The copy came, and the order is held still: it is not tried again before it comes again.
+        expect_silent(rt, site);
+        expect_same_at(rt, n, receive(site, strings.1), Ok(Verdict::Next));
+    }
+    expect_next(rt, alloc, site, (ENDED, None));
+    take_turns(rt, site, 1);
+    expect_silent(rt, site);
+    assert!(rt; site.history() == LOADED.as_slice());
+    met
+}
+
+/// The same of a node that holds the order.
+fn goes_on_at<A: Allocator + Copy>(
+    rt: &impl Abort,
+    (memory, alloc): (&Refusing<Global>, A),
+    n: u64,
+    strings: (&[u8], &[u8]),
+) -> bool {
+    let mut site = node_of(rt, alloc, 1, LOADS);
+    make_all(rt, alloc, &mut site, &HOLDING);
+    goes_on(rt, (memory, alloc), n, strings, &mut site)
+}
+
+#[test]
+fn growths_while_a_string_is_held(rt: HostRuntime) {
+    let copy = string(&rt, rt.alloc(), (REPLY, Some(0)));
+    let ends = string(&rt, rt.alloc(), (ENDS, None));
+    let memory = Refusing::new(rt.alloc());
+    for n in 1..MANY {
+        if !goes_on_at(&rt, (&memory, &memory), n, (&copy, &ends)) {
+            assert!(&rt; n > 1);
+            return;
+        }
+    }
+    panic!(&rt; "no end of growths");
+}
+
 const LOADED: [Record; 1] = [Record {
     node: 1,
     call: Call::Load { width: 8, addr: 64 },

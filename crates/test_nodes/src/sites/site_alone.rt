@@ -1,7 +1,7 @@
 //! One node that is handed strings, well spelled, forged and broken.
 ghost use Rattle.std.specs.Prelude.{◌<◌};
 
-use crate::sites::common::{LOADS, PAIR, REPLY, REQUEST, TRIO, string};
+use crate::sites::common::{ALLOC_ASKS, ALLOC_GETS, LOADS, PAIR, REPLY, REQUEST, TRIO, string};
 use crate::sites::steps::{Step, play, play_owner};
 use ivy_model::Fault;
 use ivy_wire::FrameKind;
@@ -116,6 +116,63 @@ const FORGED: [Step; 2] = [
 #[test]
 fn forged_acknowledgement(rt: HostRuntime) {
     play_owner(&rt, rt.alloc(), &PAIR, &FORGED);
+}
+
+/// Three requests of node 1 for eight bytes, which come in the wrong order, and what node 0 sends for them.
+const HELD: [Step; 9] = [
+    Step::Comes((ALLOC_ASKS_THIRD, None), Ok(Verdict::Ahead)),
+    Step::Comes((ALLOC_ASKS_SECOND, None), Ok(Verdict::Ahead)),
+    Step::Silent,
+    Step::Comes((ALLOC_ASKS, None), Ok(Verdict::Next)),
+    Step::Sends((ALLOC_GETS, None)),
+    Step::Sends((
+        "4956020800010012 0000000000000002 0000000000000001 01 0000000000000002 00 0000000000000048",
+        None,
+    )),
+    Step::Sends((
+        "4956020800010012 0000000000000003 0000000000000002 01 0000000000000003 00 0000000000000050",
+        None,
+    )),
+    Step::Silent,
+    // Those that were held are held no more, and came before.
+    Step::Comes((ALLOC_ASKS_SECOND, None), Ok(Verdict::Repeat)),
+];
+
+const ALLOC_ASKS_SECOND: &str =
+    "4956020701000011 0000000000000002 0000000000000000 01 0000000000000002 0000000000000008";
+
+const ALLOC_ASKS_THIRD: &str =
+    "4956020701000011 0000000000000003 0000000000000000 01 0000000000000003 0000000000000008";
+
+/// Two strings are held, and the node goes on with both once the one before them comes.
+#[test]
+fn two_held_strings(rt: HostRuntime) {
+    play_owner(&rt, rt.alloc(), &PAIR, &HELD);
+}
+
+/// A string of node 1 to node 2, and then the request once, and late once more.
+const OTHERS_AND_LATE: [Step; 9] = [
+    Step::Comes(
+        (
+            "495602010102000d 0000000000000001 0000000000000000 01 0000000000000001 00000001",
+            None,
+        ),
+        Ok(Verdict::NotMine),
+    ),
+    Step::Silent,
+    Step::Listed(0),
+    Step::Comes((REQUEST, None), Ok(Verdict::Next)),
+    Step::SendsKind(FrameKind::ReadRep, 0, 1),
+    Step::Comes((ALLOC_ASKS_SECOND, None), Ok(Verdict::Next)),
+    Step::SendsKind(FrameKind::AllocRep, 0, 1),
+    Step::Comes((REQUEST, None), Ok(Verdict::Repeat)),
+    Step::Silent,
+];
+
+/// A string for another node is left alone and not listed, and one that comes late is a repeat.
+#[test]
+fn strings_of_others_and_late_ones(rt: HostRuntime) {
+    play_owner(&rt, rt.alloc(), &TRIO, &OTHERS_AND_LATE);
 }
 
 /// What happens at node 1, which goes on to its end once the reply comes.

@@ -34,6 +34,8 @@ pub(crate) enum Step<'a> {
     SendsKind(FrameKind, u8, u8),
     /// No string waits.
     Silent,
+    /// It has listed so many events.
+    Listed(usize),
     /// So many messages fitted no rule.
     Breaches(u64),
     /// Its program has ended.
@@ -95,6 +97,7 @@ fn make<A: Allocator + Copy>(rt: &impl Abort, alloc: A, site: &mut Site<A>, step
         Step::Sends(written) => expect_next(rt, alloc, site, *written),
         Step::SendsKind(kind, source, dest) => expect_kind(rt, site, (*kind, *source, *dest)),
         Step::Silent => expect_silent(rt, site),
+        Step::Listed(number) => expect_same(rt, site.events().len(), *number),
         Step::Breaches(number) => expect_same(rt, site.breaches(), *number),
         Step::Ended => assert!(rt; site.ended()),
         Step::Answered(records) => assert!(rt; site.history() == *records),

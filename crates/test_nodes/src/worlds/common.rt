@@ -165,7 +165,8 @@ fn check_nodes<A: Allocator + Copy>(rt: &impl Abort, world: &World<A>, nodes: &[
     }
 }
 
-fn check_world<A: Allocator + Copy>(
+/// Makes the moves of these stages, and asserts that the world shows what the run says.
+pub(crate) fn check_world<A: Allocator + Copy>(
     rt: &impl Abort,
     alloc: A,
     world: &mut World<A>,

@@ -58,10 +58,10 @@ const NOTICE_AGAIN: [Move; 8] = [
 ];
 
 /// Node 1 asks for page 1 to store, and is given it.
-const STORE_ASKS: &str =
+pub(crate) const STORE_ASKS: &str =
     "495602020100000d 0000000000000001 0000000000000000 01 0000000000000001 00000001";
 
-const STORE_GETS: &str =
+pub(crate) const STORE_GETS: &str =
     "4956020400010051 0000000000000001 0000000000000000 01 0000000000000001 00000001 00000000";
 
 /// It asks for page 0 to advance, and is given it.

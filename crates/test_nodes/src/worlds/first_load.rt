@@ -109,6 +109,29 @@ fn lost_request(rt: HostRuntime) -> Result<(), Fail> {
     check_run(&rt, &LOST)
 }
 
+/// The first load, where each string also comes to the node that sent it.
+const ASTRAY: [Move; 8] = [
+    Move::Turn(1),
+    Move::Turn(1),
+    Move::Deliver { index: 0, to: 1 },
+    Move::Deliver { index: 0, to: 0 },
+    Move::Deliver { index: 1, to: 0 },
+    Move::Deliver { index: 1, to: 1 },
+    Move::Turn(1),
+    Move::Turn(1),
+];
+
+static STRAYED: Run<'static> = Run {
+    stages: &[(&ASTRAY, 2)],
+    ..FIRST_LOAD
+};
+
+/// A string that comes to a node that it is not for changes nothing.
+#[test]
+fn strings_astray(rt: HostRuntime) -> Result<(), Fail> {
+    check_run(&rt, &STRAYED)
+}
+
 /// The first load with each delivery made three times.
 const THRICE: [Move; 10] = [
     Move::Turn(1),

@@ -5,10 +5,10 @@
 //! requests that are put off and then served in one event. One more run has calls of the heap that node 0 serves for
 //! another node.
 use crate::worlds::common::{
-    HAS_LOADED, LOADS, MANY, PAIR, Stage, TRIO, expect_same, expect_same_at, play, play_stages,
-    shows, world,
+    HAS_LOADED, IDLE, LOADS, MANY, PAIR, REPLY, REQUEST, Run, Shown, Stage, TRIO, Written,
+    check_world, expect_same, expect_same_at, play, world,
 };
-use crate::worlds::counts::{NOTICE, NOTICE_MOVES};
+use crate::worlds::counts::{GIVEN_NOTICE, NOTICE, NOTICE_MOVES, NOTICED, STORE_ASKS, STORE_GETS};
 use crate::worlds::dynamic::{HINTS, UPGRADE, upgrade_moves};
 use crate::worlds::eight_nodes::{
     ALL_STORE, EIGHT, ONE_STORES, PUT_OFF_WHILE_AWAITED, moves_of, put_off_by_a_writer,
@@ -20,6 +20,7 @@ use crate::worlds::stores::{
 };
 use failing_alloc::Refusing;
 use ivy_model::{Config, Fault};
+use ivy_wire::FrameKind;
 use ivy_world::{Move, World};
 use std::alloc::{Allocator, Global};
 use std::process::Abort;
@@ -210,64 +211,143 @@ fn growths_of_the_heap(rt: HostRuntime) -> Result<(), Fail> {
     growths_of_moves(&rt, PAIR, text.as_str(), moves)
 }
 
-/// Node 1 asks, and node 0 is to be given its request.
-static ASKS: [Move; 2] = [Move::Turn(1), Move::Turn(1)];
+/// Programs of two nodes. Node 1 asks, and the delivery of its request to node 0 is refused.
+#[derive(Clone, Copy)]
+struct Replaced<'a> {
+    text: &'a str,
+    asks: &'a [Move],
+    /// A pulse and the delivery of what it sends replace the delivery that was refused.
+    replaces: &'a [Stage<'a>],
+    /// What kinds of strings were sent then: node 0 owned the page still, and gives it once.
+    kinds: &'a [(FrameKind, u8, u8)],
+    strings: &'a [(usize, Written<'a>)],
+    nodes: &'a [Shown<'a>],
+}
 
 static IS_ASKED: [Move; 1] = [Move::Deliver { index: 0, to: 0 }];
 
-/// A pulse and the delivery of what it sends replace the delivery that was refused.
-static REPLACES: [Stage<'static>; 2] = [
-    (
-        &[
-            Move::Pulse { from: 1, to: 0 },
-            Move::Deliver { index: 1, to: 0 },
-            Move::Deliver { index: 2, to: 1 },
-        ],
-        3,
-    ),
-    (&[Move::Turn(1), Move::Turn(1)], 3),
+/// The request comes again, and is answered.
+const COMES_AGAIN: [Move; 3] = [
+    Move::Pulse { from: 1, to: 0 },
+    Move::Deliver { index: 1, to: 0 },
+    Move::Deliver { index: 2, to: 1 },
 ];
 
-fn check_replaced<A: Allocator + Copy>(rt: &impl Abort, n: u64, world: &mut World<A>) {
+static REPLACED: [Replaced<'static>; 2] = [
+    Replaced {
+        text: LOADS,
+        asks: &[Move::Turn(1), Move::Turn(1)],
+        replaces: &[(&COMES_AGAIN, 3), (&[Move::Turn(1), Move::Turn(1)], 3)],
+        kinds: &[
+            (FrameKind::ReadReq, 1, 0),
+            (FrameKind::ReadReq, 1, 0),
+            (FrameKind::ReadRep, 0, 1),
+        ],
+        strings: &[(1, (REQUEST, None)), (2, (REPLY, Some(0)))],
+        nodes: &[HAS_LOADED],
+    },
+    Replaced {
+        text: NOTICE,
+        asks: &[Move::Turn(1), Move::Turn(1), Move::Turn(1)],
+        replaces: &[(&COMES_AGAIN, 3), (&NOTICE_GOES_ON, 9)],
+        kinds: &[
+            (FrameKind::WriteReq, 1, 0),
+            (FrameKind::WriteReq, 1, 0),
+            (FrameKind::WriteRep, 0, 1),
+        ],
+        strings: &[(1, (STORE_ASKS, None)), (2, (STORE_GETS, Some(0)))],
+        nodes: &[NOTICED, GIVEN_NOTICE],
+    },
+];
+
+/// The rest of the notice, with one string more before it.
+const NOTICE_GOES_ON: [Move; 16] = [
+    Move::Turn(1),
+    Move::Turn(1),
+    Move::Deliver { index: 3, to: 0 },
+    Move::Deliver { index: 4, to: 1 },
+    Move::Turn(1),
+    Move::Turn(0),
+    Move::Turn(0),
+    Move::Deliver { index: 5, to: 1 },
+    Move::Deliver { index: 6, to: 0 },
+    Move::Turn(0),
+    Move::Turn(0),
+    Move::Turn(0),
+    Move::Deliver { index: 7, to: 1 },
+    Move::Deliver { index: 8, to: 0 },
+    Move::Turn(0),
+    Move::Turn(0),
+];
+
+fn check_replaced<A: Allocator + Copy>(
+    rt: &impl Abort,
+    (n, alloc): (u64, A),
+    replaced: &Replaced,
+    world: &mut World<A>,
+) -> Result<(), Fail> {
     expect_same_at(rt, n, world.sent().len(), 1);
-    play_stages(rt, world, &REPLACES);
-    expect_same_at(rt, n, shows(world, &HAS_LOADED), true);
+    let run = Run {
+        kinds: replaced.kinds,
+        strings: replaced.strings,
+        nodes: replaced.nodes,
+        ..IDLE
+    };
+    check_world(rt, alloc, world, &run, replaced.replaces)
 }
 
 /// Delivers the request with the n-th growth refused. Whether that growth was asked for.
 fn replaced_of<A: Allocator + Copy>(
     rt: &impl Abort,
-    memory: &Refusing<Global>,
+    (memory, alloc): (&Refusing<Global>, A),
     n: u64,
+    replaced: &Replaced,
     world: &mut World<A>,
-) -> bool {
-    expect_same(rt, play(world, &ASKS), Ok(()));
+) -> Result<bool, Fail> {
+    expect_same(rt, play(world, replaced.asks), Ok(()));
     memory.refuse(n);
     let answer = play(world, &IS_ASKED);
     let met = memory.asked(n) >= n;
     memory.refuse(0);
     if met {
         expect_same_at(rt, n, answer, Err((0, Fault::Memory)));
-        check_replaced(rt, n, world);
+        check_replaced(rt, (n, alloc), replaced, world)?;
     } else {
         expect_same_at(rt, n, answer, Ok(()));
     }
-    met
+    Ok(met)
 }
 
-fn replaced_at(rt: &impl Abort, memory: &Refusing<Global>, n: u64) -> Result<bool, Fail> {
-    let mut world = world(memory, PAIR, LOADS)?;
-    Ok(replaced_of(rt, memory, n, &mut world))
+fn replaced_at(
+    rt: &impl Abort,
+    memory: &Refusing<Global>,
+    n: u64,
+    replaced: &Replaced,
+) -> Result<bool, Fail> {
+    let mut world = world(memory, PAIR, replaced.text)?;
+    replaced_of(rt, (memory, memory), n, replaced, &mut world)
 }
 
-#[test]
-fn refused_delivery_replaced(rt: HostRuntime) -> Result<(), Fail> {
-    let memory = Refusing::new(rt.alloc());
+fn replace_each(
+    rt: &impl Abort,
+    memory: &Refusing<Global>,
+    replaced: &Replaced,
+) -> Result<(), Fail> {
     for n in 1..MANY {
-        if !replaced_at(&rt, &memory, n)? {
+        if !replaced_at(rt, memory, n, replaced)? {
             assert!(rt; n > 1);
             return Ok(());
         }
     }
     Err("no end of growths".into())
+}
+
+/// A pulse and a delivery replace the delivery that was refused, and the programs go on to the same end.
+#[test]
+fn refused_delivery_replaced(rt: HostRuntime) -> Result<(), Fail> {
+    let memory = Refusing::new(rt.alloc());
+    for replaced in &REPLACED {
+        replace_each(&rt, &memory, replaced)?;
+    }
+    Ok(())
 }

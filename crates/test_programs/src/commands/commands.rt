@@ -1,14 +1,17 @@
 //! Command lines: what is printed on both streams, and the status.
 
-use crate::commands::common::{check_each, expect_same, printed_by};
-use example_texts::{EMPTY, File, LOADS, WAITS, scheduled};
+use crate::commands::common::{check_each, expect_same, printed_by, words_of};
+use example_texts::{EMPTY, File, LOADS, NOTICE, WAITS, scheduled};
+use ivy_commands::ivy_arguments::Request;
+use ivy_commands::ivy_texts::Settings;
+use ivy_model::Kind;
 use std::process::Abort;
 use std::sync::Wait;
 use std::test::Fail;
 use std::thread::Threads;
 
 /// The files of every test.
-const FILES: [File; 12] = [
+const FILES: [File; 20] = [
     File {
         name: "empty",
         text: EMPTY,
@@ -43,6 +46,38 @@ const FILES: [File; 12] = [
     },
     scheduled::STORE_BUFFERING,
     File {
+        name: "notice",
+        text: NOTICE,
+    },
+    File {
+        name: "third",
+        text: NOTICE_BESIDE_A_THIRD,
+    },
+    File {
+        name: "first",
+        text: "turn 1\nturn 1\ndeliver 0 0\ndeliver 1 1\nturn 1\nturn 1\n",
+    },
+    File {
+        name: "prints",
+        text: "node 0\nlabel a\nprint r0\njump a\nnode 1\nlabel a\nprint r0\njump a\nnode 2\nlabel a\nprint r0\njump a\n",
+    },
+    File {
+        name: "just",
+        text: "node 0\nset r1 1461\nset r2 1\nlabel a\nsub r1 r1 r2\njumpz r1 b\njump a\nlabel b\nnode 1\n",
+    },
+    File {
+        name: "beyond",
+        text: "node 0\nset r1 1462\nset r2 1\nlabel a\nsub r1 r1 r2\njumpz r1 b\njump a\nlabel b\nnode 1\n",
+    },
+    File {
+        name: "blocks",
+        text: "node 0\nnode 1\nset r1 8\nalloc r2 r1\nfree r2\n",
+    },
+    File {
+        name: "answers",
+        text: "turn 1\nturn 1\ndeliver 0 0\ndeliver 1 1\nturn 1\nturn 1\ndeliver 2 0\ndeliver 3 1\nturn 1\n",
+    },
+    File {
         name: "moves",
         text: "turn 1\n",
     },
@@ -56,8 +91,114 @@ const FILES: [File; 12] = [
     },
 ];
 
+/// Node 1 stores and then advances a count, which node 0 awaits. A third program is empty.
+const NOTICE_BESIDE_A_THIRD: &str = "\
+node 0
+set r1 1
+await r2 r0 r1
+set r1 64
+load 8 r3 r1
+print r3
+node 1
+set r1 64
+set r2 9
+store 8 r1 r2
+advance r0
+node 2
+";
+
+/// The trace of the first load.
+const FIRST_LOAD: &str = "\
+1 turn 1
+2 turn 1
+  sent 0 ReadReq 1 0 1
+3 deliver 0 0
+  sent 1 ReadRep 0 1 1
+4 deliver 1 1
+5 turn 1
+  1 load 8 64 = value 0
+6 turn 1
+node 1: 0
+node 0 ended
+node 1 ended
+";
+
+/// The trace of a block that node 1 asks for and ends.
+const BLOCK: &str = "\
+1 turn 1
+2 turn 1
+  sent 0 AllocReq 1 0 1
+3 deliver 0 0
+  sent 1 AllocRep 0 1 1
+4 deliver 1 1
+5 turn 1
+  1 alloc 8 = value 64
+6 turn 1
+  sent 2 FreeReq 1 0 2
+7 deliver 2 0
+  sent 3 FreeRep 0 1 2
+8 deliver 3 1
+9 turn 1
+  1 free 64 = done
+node 0 ended
+node 1 ended
+";
+
+/// What three nodes print in the first twelve moves of seed 1, of which 3, 2 and 4 are their turns. Two turns print once.
+const DRAWN_BY_1: &str = "\
+node 0: 0
+node 0: 0
+node 1: 0
+node 2: 0
+node 2: 0
+node 0 open
+node 1 open
+node 2 open
+";
+
+/// The same of seed 7: 5, 3 and 3 are their turns.
+const DRAWN_BY_7: &str = "\
+node 0: 0
+node 0: 0
+node 0: 0
+node 1: 0
+node 1: 0
+node 2: 0
+node 2: 0
+node 0 open
+node 1 open
+node 2 open
+";
+
 /// Command lines that end with status 0, by what they print.
-const DONE: [(&str, &[&str]); 5] = [
+const DONE: [(&str, &[&str]); 11] = [
+    (
+        DRAWN_BY_1,
+        &["sim prints --moves 12", "sim prints --seed 1 --moves 12"],
+    ),
+    (DRAWN_BY_7, &["sim prints --seed 7 --moves 12"]),
+    (
+        "node 0 open\nnode 1 ended\n",
+        // Of the first 10,000 moves of seed 1 over two nodes, 4,384 are turns of node 0. It makes 4,387.
+        &["sim beyond"],
+    ),
+    (
+        FIRST_LOAD,
+        &["step load first --pages 2 --page-size 64 --manager fixed"],
+    ),
+    (
+        BLOCK,
+        &["step blocks answers --pages 2 --page-size 64 --manager fixed"],
+    ),
+    (
+        "node 0: 9\n",
+        &[
+            "run notice --pages 2 --page-size 64 --manager fixed",
+            "run notice --pages 2 --page-size 64 --manager dynamic",
+            "run third --pages 2 --page-size 64 --manager fixed --capacity 1",
+            "run third --pages 2 --page-size 64 --manager dynamic --capacity 1",
+        ],
+    ),
     (
         "",
         &[
@@ -79,7 +220,8 @@ const DONE: [(&str, &[&str]); 5] = [
     ),
     (
         "node 0 ended\nnode 1 ended\n",
-        &["step empty none", "sim empty"],
+        // Of `just` node 0 makes 4,384 turns.
+        &["step empty none", "sim empty", "sim just"],
     ),
     (
         "node 0 ended\nnode 1 open\n",
@@ -189,6 +331,34 @@ const BAD: [&str; 19] = [
 #[test]
 fn bad_command_lines(rt: HostRuntime) -> Result<(), Fail> {
     check_each(&rt, &FILES, &BAD, (2, "", "ivy: bad command line\n"))
+}
+
+/// What stands for each option that is not given.
+#[test]
+fn defaults(rt: HostRuntime) -> Result<(), Fail> {
+    let settings = Settings {
+        pages: 16,
+        page_size: 256,
+        manager: Kind::Dynamic,
+    };
+    let run = words_of(rt.alloc(), "run load")?;
+    let wanted = Request::Run {
+        file: "load",
+        turns: 100_000_000,
+        capacity: 256,
+        pulse: 1024,
+        settings,
+    };
+    expect_same(&rt, Request::read(rt.alloc(), &run).ok(), Some(wanted));
+    let sim = words_of(rt.alloc(), "sim load")?;
+    let wanted = Request::Sim {
+        file: "load",
+        seed: 1,
+        moves: 10_000,
+        settings,
+    };
+    expect_same(&rt, Request::read(rt.alloc(), &sim).ok(), Some(wanted));
+    Ok(())
 }
 
 /// Two runs of one seed print the same bytes.

@@ -30,7 +30,7 @@ impl Texts for Shelf<'_> {
 }
 
 /// The words of a command line that is given without the program's name.
-fn words_of(alloc: Global, line: &str) -> Result<Vec<String>, AllocError> {
+pub(crate) fn words_of(alloc: Global, line: &str) -> Result<Vec<String>, AllocError> {
     let mut words = Vec::new(alloc);
     words.push(String::from_str(alloc, "ivy")?)?;
     for word in line.split_whitespace() {

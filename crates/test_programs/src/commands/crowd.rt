@@ -44,6 +44,14 @@ fn crowd_under_managing_nodes(rt: HostRuntime) -> Result<(), Fail> {
     check_crowd(&rt, "fixed")
 }
 
+/// The numbers 1 to 256 are summed by thirty-two nodes.
+#[test]
+fn sum_of_thirty_two(rt: HostRuntime) -> Result<(), Fail> {
+    let files = [SUM_OF_THIRTY_TWO.programs];
+    let line = "run sum_of_thirty_two.ivy";
+    check_managers(&rt, &files, line, (0, SUM_OF_THIRTY_TWO.out, ""))
+}
+
 /// Under 2,000 drawn moves no node of the example ends: node 0 makes more turns before it lets the others begin.
 #[test]
 fn sum_of_thirty_two_drawn(rt: HostRuntime) -> Result<(), Fail> {

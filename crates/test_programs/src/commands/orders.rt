@@ -1,6 +1,7 @@
 //! Orders, and whether they are legal.
 use crate::commands::common::{check_each, check_over};
 use example_texts::{File, Order, orders};
+use std::alloc::{AllocError, Global};
 use std::process::Abort;
 use std::sync::Wait;
 use std::test::Fail;
@@ -226,4 +227,24 @@ fn at_fault(rt: HostRuntime) -> Result<(), Fail> {
     }
     check_over(&rt, &[], "check order", (2, "", "ivy: cannot read order\n"))?;
     check_each(&rt, &[], &BAD, (2, "", "ivy: bad command line\n"))
+}
+
+/// An order of 70,000 records, each of a count that nobody advanced.
+fn long_order(alloc: Global) -> Result<String, AllocError> {
+    let mut text = String::from_str(alloc, "ivy order 2 2 64\n")?;
+    for _ in 0..70_000 {
+        text.push_str("0 count 0 = value 0\n")?;
+    }
+    Ok(text)
+}
+
+/// An order may have more records than two bytes count.
+#[test]
+fn many_records(rt: HostRuntime) -> Result<(), Fail> {
+    let text = long_order(rt.alloc())?;
+    let files = [File {
+        name: "long",
+        text: text.as_str(),
+    }];
+    check_over(&rt, &files, "check long", (0, "legal\n", ""))
 }

@@ -1,6 +1,8 @@
 //! Swaps and their kin: the trace of one, four nodes that swap one word or add to one, and locks.
 
-use crate::commands::common::{check_over, check_seeds, expect_same_at, printed_by};
+use crate::commands::common::{
+    check_managers, check_over, check_seeds, expect_same_at, printed_by,
+};
 use example_texts::{CAS_LOCK, File, SPIN_LOCK, TICKET_FADD, TICKET_LOCK};
 use std::process::Abort;
 use std::test::Fail;
@@ -173,7 +175,17 @@ node 6 open
 node 7 open
 ";
 
-/// Whole runs of the locks take too long for a test, and are made by `stress/check`.
+/// No raise of the number is lost, by a lock that a swap takes, nor by tickets.
+#[test]
+fn locks(rt: HostRuntime) -> Result<(), Fail> {
+    for lock in [&SPIN_LOCK, &TICKET_LOCK] {
+        let line = format!(in rt.alloc(); "run {}", lock.programs.name)?;
+        check_managers(&rt, &[lock.programs], line.as_str(), (0, lock.out, ""))?;
+    }
+    Ok(())
+}
+
+/// Whole runs of the other two locks are made by `stress/check`.
 #[test]
 fn locks_begin(rt: HostRuntime) -> Result<(), Fail> {
     let seeds = [1, 2, 3];

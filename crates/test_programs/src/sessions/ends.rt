@@ -1,9 +1,12 @@
 //! Sessions that give no report, and one that just does.
-use crate::sessions::common::{LIMITS, NOTICE, PAIR, WAITS, expect_same_at, run, shown_of};
-use ivy_commands::ivy_session::Limits;
+use crate::sessions::common::{
+    LIMITS, NOTICE, PAIR, WAITS, expect_same_at, run, run_behind, shown_of,
+};
+use ivy_commands::ivy_session::{Gate, Limits, Role};
 use ivy_model::{Config, Fault};
 use std::process::Abort;
 use std::sync::Wait;
+use std::sync::atomic::{AtomicU64, Ordering};
 use std::thread::Threads;
 
 /// Asserts that a session ends with this fault. The number of the case is named where it does not.
@@ -45,6 +48,59 @@ const SPENT: [(Config, &str, Limits); 3] = [
 #[test]
 fn turns_spent(rt: HostRuntime) {
     check_faults(&rt, &SPENT, Fault::TurnLimit);
+}
+
+/// How many turns each of the four workers of two nodes begins.
+#[derive(Drop)]
+struct Counted {
+    turns: [AtomicU64; 4],
+}
+
+impl Counted {
+    fn new() -> Counted {
+        Counted {
+            turns: [
+                AtomicU64::new(0),
+                AtomicU64::new(0),
+                AtomicU64::new(0),
+                AtomicU64::new(0),
+            ],
+        }
+    }
+
+    /// The most turns of a worker.
+    fn most(&self) -> u64 {
+        let mut most = 0;
+        for turns in &self.turns {
+            most = turns.load(Ordering::SeqCst).max(most);
+        }
+        most
+    }
+}
+
+impl Gate for Counted {
+    fn enter(&self, node: u8, role: Role, _records: u64) {
+        let place = match role {
+            Role::Program => usize::from(node),
+            Role::Wire => usize::from(node).saturating_add(2),
+        };
+        if let Some(turns) = self.turns.get(place) {
+            turns.fetch_add(1, Ordering::SeqCst);
+        }
+    }
+}
+
+/// The session is over once a worker has made as many turns as are allowed, and no worker makes more.
+#[test]
+fn turns_counted(rt: HostRuntime) {
+    let gate = Counted::new();
+    let limits = Limits {
+        turns: 50,
+        ..LIMITS
+    };
+    let found = run_behind(&rt, rt.alloc(), PAIR, WAITS, limits, &gate).err();
+    expect_same_at(&rt, 0, found, Some(Fault::TurnLimit));
+    expect_same_at(&rt, 1, gate.most(), 50);
 }
 
 /// Sessions of which a limit, the configuration or the number of programs does not suit.
