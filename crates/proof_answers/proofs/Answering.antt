@@ -39,7 +39,8 @@ use Rattle.proof_progress.proofs.Reached.{IsToldBy, reached_told}
 use Rattle.proof_progress.proofs.StillWorlds.{none_under_way, either_unblocked}
 use Rattle.proof_answers.specs.Answered.{IsDue, IsSomeAnswered, SomeAnswered}
 use Rattle.proof_answers.specs.Rounds.{IsRound, AreRounds}
-use Rattle.proof_answers.proofs.Falling.{AreLater, all_later, all_then, IsLaterAt, Grew, grew_later, grew_on, whole, Falls, Progress, grew, fell, Stood, After, after_none, after_then, progress_then, then_progress, by_step}
+use Rattle.proof_answers.proofs.Falling.{AreLater, all_later, all_then, IsLaterAt, Grew, grew_later, grew_on, whole, Falls}
+use Rattle.proof_answers.proofs.Falling.{Progress, grew, fell, Stood, After, after_none, after_then, progress_then, then_progress, by_step}
 use Rattle.proof_answers.proofs.Turning.{cost, host_weight, TurnDoes, records, goes, begins, turn_does}
 use Rattle.proof_answers.proofs.Counts.{due_later, no_answer_due}
 

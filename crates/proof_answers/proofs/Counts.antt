@@ -1,6 +1,7 @@
 -- A count has come at least to as many as the nodes were told that they had advanced it, by every
 -- order that explains what they were answered.
-use Rattle.std.proofs.Common.{◌≡◌, ◌≤◌, ◌<◌, ◌+◌, ◌-◌, ◌^◌, ◌==◌, ℕ, Bool, true, false, List, [], ◌∷◌, ◌++◌, length, slice_get, slice_set, Option, Some, None, MatchBool, MatchOption, if◌then◌else◌, refl, sym, ap, ◌∙◌, subst, arith, inl, inr}
+use Rattle.std.proofs.Common.{◌≡◌, ◌≤◌, ◌<◌, ◌+◌, ◌-◌, ◌^◌, ◌==◌, ℕ, Bool, true, false, List, [], ◌∷◌, ◌++◌, length}
+use Rattle.std.proofs.Common.{slice_get, slice_set, Option, Some, None, MatchBool, MatchOption, if◌then◌else◌, refl, sym, ap, ◌∙◌, subst, arith, inl, inr}
 use Rattle.std.specs.FinMap.{get}
 use Rattle.std.specs.Prelude.{count_by}
 use Rattle.std.proofs.lemmas.Bool.{cases_eq, eq-eqb, ne_eqb}
@@ -63,15 +64,7 @@ same_tick : (k : ℕ) (called : Call) (answer : Reply)
 same_tick k (call.Advance j) reply.Done = refl
 same_tick k (call.Advance j) (reply.Value value) = refl
 same_tick k (call.Advance j) (reply.Refused code) = refl
-same_tick k (call.Load width addr) answer = refl
-same_tick k (call.Store width addr value) answer = refl
-same_tick k (call.Swap width addr value) answer = refl
-same_tick k (call.Cas width addr expected value) answer = refl
-same_tick k (call.FetchAdd width addr value) answer = refl
-same_tick k (call.Count j) answer = refl
-same_tick k (call.Await j least) answer = refl
-same_tick k (call.Alloc size) answer = refl
-same_tick k (call.Free addr) answer = refl
+same_tick k called answer = refl
 
 record Rises (k a more : ℕ) (m : Memory) : Type 0 where
   count : ℕ

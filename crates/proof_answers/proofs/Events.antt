@@ -1,5 +1,6 @@
 -- What an event of a node does to its link: a turn, a string that comes, and a pulse.
-use Rattle.std.proofs.Common.{◌≡◌, ◌≢◌, ℕ, ◌+◌, ◌^◌, ◌<◌, ◌≤◌, Bool, true, false, List, length, map, All, Option, Some, None, MatchOption, Ok, if◌then◌else◌, nat_le, ◌==◌, refl, sym, ap, subst, ◌∙◌, arith, inl, inr}
+use Rattle.std.proofs.Common.{◌≡◌, ◌≢◌, ℕ, ◌+◌, ◌^◌, ◌<◌, ◌≤◌, Bool, true, false, List, length, map, All, Option}
+use Rattle.std.proofs.Common.{Some, None, MatchOption, Ok, if◌then◌else◌, nat_le, ◌==◌, refl, sym, ap, subst, ◌∙◌, arith, inl, inr}
 use Rattle.std.proofs.lemmas.Bool.{cases_eq, eq-eqb}
 use Rattle.std.proofs.lemmas.List.Elements.{All-nil, All-weaker}
 use Rattle.std.proofs.lemmas.Option.{same_Some, none-some}
@@ -25,12 +26,13 @@ use Rattle.ivy_moves.proofs.of_ivy_link.Sending.{sends-me, sends-peers}
 use Rattle.proof_answers.proofs.LinkEvents.{IsLater, later_same, later_then, later_sends, later_accepts, later_pulse, accepts_acks, IsTelling, sends_tell, pulse_tells}
 
 -- what is known of a node and its link
-pub record IsAt {C : Type 0} (c : Config) (Sound : ℕ → C → Type 0) (i : ℕ) (n : Node C) : Type 0 where
-  pub inside : i < c.nodes
-  pub sound : Sound i n.core
-  pub me : n.link.me ≡ i
-  pub peers : length n.link.peers ≡ c.nodes
-  pub small : (j : ℕ) → j < c.nodes → (peer_at n.link j).delivered < 2 ^ 64
+pub record IsAt {C : Type 0} (c : Config) (Sound : ℕ → C → Type 0) (i : ℕ) (n : Node C) : Type 0
+  where
+    pub inside : i < c.nodes
+    pub sound : Sound i n.core
+    pub me : n.link.me ≡ i
+    pub peers : length n.link.peers ≡ c.nodes
+    pub small : (j : ℕ) → j < c.nodes → (peer_at n.link j).delivered < 2 ^ 64
 
 -- the event makes of its link a later one, and the strings tell no more than was delivered
 pub record IsEvent {C : Type 0} (c : Config) (there : ℕ → ℕ) (i : ℕ) (n : Node C) (e : Effect C) :
@@ -96,7 +98,8 @@ module _ {C : Type 0} (rules : Core C) (c : Config) (Sound : ℕ → C → Type 
       }
 
   -- then the link accepts a frame
-  accepts_event : (f : Frame) → (f.dest ≡ i → f.ack ≤ there f.source) → (e : Effect C) → IsEvent c there i n e
+  accepts_event : (f : Frame) → (f.dest ≡ i → f.ack ≤ there f.source) → (e : Effect C)
+      → IsEvent c there i n e
       → IsEvent c there i n (record {
         after = record { core = e.after.core; link = accepted e.after.link f };
         sent = e.sent;

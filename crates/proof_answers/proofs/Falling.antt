@@ -1,6 +1,7 @@
 -- A step of an ordered world lets some history grow, or lowers what is left to be done, or leaves
 -- that and each node with a call in progress as they were.
-use Rattle.std.proofs.Common.{◌≡◌, ◌≢◌, ◌≤◌, ◌<◌, ◌+◌, ◌-◌, ◌⊎◌, ℕ, Bool, true, false, List, [], ◌∷◌, ◌++◌, length, slice_get, Option, Some, None, if◌then◌else◌, drop, refl, sym, ap, ◌∙◌, subst, arith, inl, inr, append-nil, append_assoc, length-append}
+use Rattle.std.proofs.Common.{◌≡◌, ◌≢◌, ◌≤◌, ◌<◌, ◌+◌, ◌-◌, ◌⊎◌, ℕ, Bool, true, false, List, [], ◌∷◌, ◌++◌, length}
+use Rattle.std.proofs.Common.{slice_get, Option, Some, None, if◌then◌else◌, drop, refl, sym, ap, ◌∙◌, subst, arith, inl, inr, append-nil, append_assoc, length-append}
 use Rattle.std.proofs.lemmas.Bool.{cases_eq}
 use Rattle.std.proofs.lemmas.List.{drop-append-le}
 use Rattle.std.proofs.lemmas.Option.{none-some, same_Some, slice_get_within}
@@ -376,7 +377,8 @@ module _ (c : Config) (o u : Ordered (Host Managed)) (x : ℕ) (n m : Host Manag
     stays = record {
       posted = posted;
       delivered = delivered;
-      weight = (let a = same_work c o u entries_same hops_same under_same cost in let b = hosts_change in
+      weight = (let a = same_work c o u entries_same hops_same under_same cost in
+          let b = hosts_change in
           let d : host_weight m ≡ host_weight n =
           ap (λ (z : NodeMemory Managed). call_weight z.asked (entry_at z.coherence.table 0)) same
           in omega (arith, a, b, d));

@@ -1,6 +1,7 @@
--- What sending, accepting and pulsing do to a link: no fewer are delivered, and what is not kept any
--- more was delivered at the other node; and the frames made acknowledge what was delivered.
-use Rattle.std.proofs.Common.{◌≡◌, ◌≢◌, ℕ, zero, suc, ◌+◌, ◌-◌, ◌^◌, ◌<◌, ◌≤◌, Bool, true, false, List, [], ◌∷◌, length, take, drop, map, All, Some, if◌then◌else◌, refl, sym, ap, subst, ◌∙◌, arith, inl, inr}
+-- What sending, accepting and pulsing do to a link: no fewer are delivered, and what is not kept
+-- any more was delivered at the other node; and the frames made acknowledge what was delivered.
+use Rattle.std.proofs.Common.{◌≡◌, ◌≢◌, ℕ, zero, suc, ◌+◌, ◌-◌, ◌^◌, ◌<◌, ◌≤◌, Bool, true, false, List, []}
+use Rattle.std.proofs.Common.{◌∷◌, length, take, drop, map, All, Some, if◌then◌else◌, refl, sym, ap, subst, ◌∙◌, arith, inl, inr}
 use Rattle.std.proofs.lemmas.Bool.{cases_eq, cases_lt, lt-leb, le-leb}
 use Rattle.std.proofs.lemmas.List.{length-append, length-drop, length-set, length-take}
 use Rattle.std.proofs.lemmas.List.Elements.{All-nil, All-cons, All-head, All-tail, All-weaker}
@@ -222,7 +223,8 @@ module _ (c : Config) (i : ℕ) where
       let number = has-number l p ps has in
       let same : (j : ℕ) → (peer_at (sent_one l p) j).delivered ≡ (peer_at l j).delivered =
       λ j. sends-delivered l (p ∷ []) j in
-      All-cons (IsTelling c i l) (spelling (frame_of l p)) (map spelling (frames_of (sent_one l p) ps))
+      All-cons (IsTelling c i l) (spelling (frame_of l p))
+      (map spelling (frames_of (sent_one l p) ps))
       (record {
         frame = frame_of l p;
         spells = record {
@@ -312,7 +314,8 @@ module _ (c : Config) (i : ℕ) where
         All-cons (IsTelling c i l) (spelling (ack_alone i to ack)) [] alone_tells
         (All-nil (IsTelling c i l))
 
-  pub all_taken : (k : ℕ) (ms : List Message) → All (FitsMessage c) ms → All (FitsMessage c) (take k ms)
+  pub all_taken : (k : ℕ) (ms : List Message) → All (FitsMessage c) ms
+      → All (FitsMessage c) (take k ms)
   all_taken zero ms fit = All-nil (FitsMessage c)
   all_taken (suc k) [] fit = All-nil (FitsMessage c)
   all_taken (suc k) (m ∷ ms) fit =
@@ -330,7 +333,8 @@ module _ (c : Config) (i : ℕ) where
       p : Peer
       p = peer_at l to
 
-      either : (ms : List Message) → All (IsTelling c i l) (map spelling (frames_of_pulse ms i to p))
+      either : (ms : List Message)
+          → All (IsTelling c i l) (map spelling (frames_of_pulse ms i to p))
       either [] = owed_tells l to p.delivered here there apart (omega arith) small p.owed
       either (m ∷ ms) =
           numbered_tell l to p.delivered here there apart (omega arith) small

@@ -1,5 +1,6 @@
 -- What the strings of a pulse deliver where they come in order.
-use Rattle.std.proofs.Common.{◌≡◌, ◌≢◌, ℕ, zero, suc, ◌+◌, ◌-◌, ◌^◌, ◌<◌, ◌≤◌, List, [], ◌∷◌, ◌++◌, length, take, map, slice_get, All, Some, refl, sym, ap, subst, ◌∙◌, arith, inl, inr, Bool, true, false, if◌then◌else◌}
+use Rattle.std.proofs.Common.{◌≡◌, ◌≢◌, ℕ, zero, suc, ◌+◌, ◌-◌, ◌^◌, ◌<◌, ◌≤◌, List, [], ◌∷◌, ◌++◌, length, take}
+use Rattle.std.proofs.Common.{map, slice_get, All, Some, refl, sym, ap, subst, ◌∙◌, arith, inl, inr, Bool, true, false, if◌then◌else◌}
 use Rattle.std.proofs.lemmas.List.{length-map, length-take}
 use Rattle.std.proofs.lemmas.List.Elements.{All-head, All-tail}
 use Rattle.std.proofs.lemmas.Option.{same_Some, slice_get_within}
@@ -24,7 +25,8 @@ use Rattle.proof_progress.specs.ivy_host.Sound.{IsSoundHost}
 use Rattle.proof_progress.proofs.of_ivy_host.Tame.{tame, opening_is}
 use Rattle.proof_answers.specs.Undropped.{NothingIsDropped, IsOfMoves}
 use Rattle.proof_answers.specs.Pulses.{StandAmong, deliveries, last_again, PulsesDeliver, PulsesMoveOn}
-use Rattle.proof_answers.proofs.Told.{come, Stands, IsAfter, kept_few, kept_fits, link_inside, link_here, many_links, node_at, pulse_is, delivery_is, move_after, all_after, none_dropped, opening_stands, known}
+use Rattle.proof_answers.proofs.Told.{come, Stands, IsAfter, kept_few, kept_fits, link_inside, link_here, many_links}
+use Rattle.proof_answers.proofs.Told.{node_at, pulse_is, delivery_is, move_after, all_after, none_dropped, opening_stands, known}
 use Rattle.proof_answers.proofs.LinkEvents.{all_taken, again_spells, alone_spells}
 
 -- the string spells a frame from one node to another, of this number
@@ -36,10 +38,11 @@ record IsNumber (c : Config) (i to is : ℕ) (s : List ℕ) : Type 0 where
   number : frame.number ≡ is
 
 -- a string of this place does
-record IsNumberAt (c : Config) (i to number : ℕ) (strings : List (List ℕ)) (place : ℕ) : Type 0 where
-  string : List ℕ
-  there : slice_get strings place ≡ Some string
-  is : IsNumber c i to number string
+record IsNumberAt (c : Config) (i to number : ℕ) (strings : List (List ℕ)) (place : ℕ) : Type 0
+  where
+    string : List ℕ
+    there : slice_get strings place ≡ Some string
+    is : IsNumber c i to number string
 
 -- the string of this place spells a frame from one node to another that acknowledges so many
 record IsAckAt (c : Config) (i to told : ℕ) (strings : List (List ℕ)) (place : ℕ) : Type 0 where

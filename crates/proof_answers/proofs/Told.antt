@@ -1,6 +1,7 @@
 -- In each world that moves lead to each string acknowledges no more than was delivered, so nothing
 -- that is undelivered is dropped.
-use Rattle.std.proofs.Common.{◌≡◌, ◌≢◌, ℕ, zero, suc, ◌+◌, ◌^◌, ◌<◌, ◌≤◌, true, not, nat_lt, List, [], ◌∷◌, ◌++◌, length, get_or, set, slice_get, All, Option, Some, None, Result, Ok, ◌&&◌, ◌==◌, refl, sym, ap, subst, ◌∙◌, arith}
+use Rattle.std.proofs.Common.{◌≡◌, ◌≢◌, ℕ, zero, suc, ◌+◌, ◌^◌, ◌<◌, ◌≤◌, true, not, nat_lt, List, [], ◌∷◌, ◌++◌, length}
+use Rattle.std.proofs.Common.{get_or, set, slice_get, All, Option, Some, None, Result, Ok, ◌&&◌, ◌==◌, refl, sym, ap, subst, ◌∙◌, arith}
 use Rattle.std.proofs.lemmas.Bool.{and_parts, ltb-true, eq-eqb, true≢false}
 use Rattle.std.proofs.lemmas.List.{map-set, length-map, length-set, length-append}
 use Rattle.std.proofs.lemmas.List.Elements.{All-nil, All-append, All-push, All-contains, All-tail, All-weaker}
@@ -234,8 +235,10 @@ module _ {C : Type 0} (rules : Core C) (c : Config) (Sound : ℕ → C → Type 
       -- so few messages were sent and delivered that their numbers can be written
       few : (j k : ℕ) → j < c.nodes → k < c.nodes → come w j k < 2 ^ 64
       few j k lt at =
-          let a = s.follows.paired.delivered j k (omega (arith, lt, many_links)) (omega (arith, at, many_links)) in
-          let b = s.follows.paired.counted j k (omega (arith, lt, many_links)) (omega (arith, at, many_links)) in
+          let a = s.follows.paired.delivered j k (omega (arith, lt, many_links))
+          (omega (arith, at, many_links)) in
+          let b = s.follows.paired.counted j k (omega (arith, lt, many_links))
+          (omega (arith, at, many_links)) in
           let d = s.follows.numbers j k in
           omega (arith, a, b, d)
 
@@ -244,7 +247,8 @@ module _ {C : Type 0} (rules : Core C) (c : Config) (Sound : ℕ → C → Type 
         inside = omega (arith, link_inside, many_links);
         sound = s.follows.sound i n there;
         me = ap (λ (l : Linked). l.me) (sym link_here) ∙ s.follows.paired.me i link_inside;
-        peers = ap (λ (l : Linked). length l.peers) (sym link_here) ∙ s.follows.paired.peers i link_inside ∙ many_links;
+        peers = ap (λ (l : Linked). length l.peers) (sym link_here)
+            ∙ s.follows.paired.peers i link_inside ∙ many_links;
         small = λ j lt. subst (λ l. (peer_at l j).delivered < 2 ^ 64) link_here
             (few j i lt (omega (arith, link_inside, many_links)));
       }
@@ -297,7 +301,8 @@ module _ {C : Type 0} (rules : Core C) (c : Config) (Sound : ℕ → C → Type 
           let whole : length (s.posted i j) ≡ length end.0 + length (known w i j).kept =
           ap length end.1 ∙ length-append end.0 (known w i j).kept in
           let count = s.follows.paired.counted i j link_inside (omega (arith, lt, many_links)) in
-          subst (λ l. length (peer_at l j).kept ≤ (peer_at l j).sent) link_here (omega (arith, whole, count))
+          subst (λ l. length (peer_at l j).kept ≤ (peer_at l j).sent) link_here
+          (omega (arith, whole, count))
 
       pub kept_fits : (j : ℕ) → j < c.nodes → All (FitsMessage c) (peer_at n.link j).kept
       kept_fits j lt =
@@ -312,7 +317,8 @@ module _ {C : Type 0} (rules : Core C) (c : Config) (Sound : ℕ → C → Type 
       pulse_after to lt apart step =
           effect_after (pulsing n to)
           (pulse_event rules c Sound config tame (λ j. come w i j) i n node_at to lt apart
-          (subst (λ l. (peer_at l to).sent < 2 ^ 64) link_here (s.follows.numbers i to)) (kept_few to lt)
+          (subst (λ l. (peer_at l to).sent < 2 ^ 64) link_here (s.follows.numbers i to))
+          (kept_few to lt)
           (kept_fits to lt)) step
 
       -- a string that is told comes
@@ -348,7 +354,8 @@ module _ {C : Type 0} (rules : Core C) (c : Config) (Sound : ℕ → C → Type 
         reaches mine near =
             delivery_reaches rules c Sound config tame (λ j. come w i j) i n node_at tells.frame bytes
             tells.spells told_here e made (mine ∙ sym node_at.me)
-            (subst (λ l. tells.frame.number ≤ (peer_at l tells.frame.source).delivered + 1) link_here near)
+            (subst (λ l. tells.frame.number ≤ (peer_at l tells.frame.source).delivered + 1)
+            link_here near)
 
         -- what it acknowledges is kept no more
         drops : tells.frame.dest ≡ i

@@ -183,14 +183,8 @@ module _ {S : Type 0} (ops : Ops S) (k : Coherent S) (page : ℕ) (w : Word) (nu
 
 -- a word that is no await, or one
 word_cases : (w : Word) → IsPlain w ⊎ ((offset least : ℕ) × (w ≡ word.Await offset least))
-word_cases (word.Load width offset) = inl tt
-word_cases (word.Store width offset value) = inl tt
-word_cases (word.Swap width offset value) = inl tt
-word_cases (word.Cas width offset expected value) = inl tt
-word_cases (word.FetchAdd width offset value) = inl tt
-word_cases (word.Count offset) = inl tt
-word_cases (word.Advance offset) = inl tt
 word_cases (word.Await offset least) = inr (offset, least, refl)
+word_cases w = inl tt
 
 none_there : (a b : Option Reply) → first_reply a b ≡ None → b ≡ None
 none_there None b is = is
