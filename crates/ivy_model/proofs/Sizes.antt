@@ -26,7 +26,7 @@ use Rattle.ivy_model.proofs.Limits.{page_has_words}
 use Rattle.ivy_model.proofs.Lists.{length-overwrite}
 use Rattle.ivy_model.proofs.Words.{IsPlaced, word_placed, page_inside, with_word, length-page, first_page}
 
-none_refused : (aligned below reserved : Bool)
+pub none_refused : (aligned below reserved : Bool)
     → cond {A = Option ℕ} aligned (cond below (cond reserved (Some 5) None) (Some 4)) (Some 3)
     ≡ None → (aligned ≡ true) × (below ≡ true) × (reserved ≡ false)
 none_refused true true true e = absurd (none-some 5 (sym e))
@@ -43,12 +43,12 @@ access_placed c width addr h w e =
     word_placed c width addr h w (eqb-true (addr % width) 0 tests.0)
     (ltb-false addr c.page_size tests.2) (ltb-true addr (heap_end c) tests.1)
 
-by_option : {A G : Type 0} (o : Option A) {N : Type 0} {S : A → Type 0} → MatchOption o N S
+pub by_option : {A G : Type 0} (o : Option A) {N : Type 0} {S : A → Type 0} → MatchOption o N S
     → (o ≡ None → N → G) → ((x : A) → o ≡ Some x → S x → G) → G
 by_option None p at_none at_some = at_none refl p
 by_option (Some x) p at_none at_some = at_some x refl p
 
-by_bool : {G : Type 0} (b : Bool) {P Q : Type 0} → MatchBool b P Q → (b ≡ true → P → G)
+pub by_bool : {G : Type 0} (b : Bool) {P Q : Type 0} → MatchBool b P Q → (b ≡ true → P → G)
     → (b ≡ false → Q → G) → G
 by_bool true p at_true at_false = at_true refl p
 by_bool false p at_true at_false = at_false refl p

@@ -1,0 +1,31 @@
+-- The memory that a program is tested on.
+use Rattle.std.specs.Prelude.{◌≡◌, ℕ, ◌<◌, ◌⊎◌, List, map, refl}
+use Rattle.std.specs.Coded.{Coded, code_by, coded×, coded_list}
+use Rattle.ivy_model.specs.declared.config.Config.{Config}
+use Rattle.ivy_model.specs.declared.fault.Fault.{Fault}
+use Rattle.ivy_model.specs.declared.fault.Fault.TheVariants.{Memory, TurnLimit}
+use Rattle.ivy_model.specs.Flat.{FlatState, flat_state_code}
+use Rattle.ivy_model.specs.Legal.{ServesAll}
+use Rattle.ivy_model.specs.Memory.{first}
+use Rattle.ivy_calls.specs.declared.answer.Answer.{Answer}
+use Rattle.ivy_calls.specs.contracts.answer.Answer.{the_row}
+use Rattle.ivy_calls.specs.Answers.{by}
+
+-- a flat memory, and what it answered
+pub record AloneState : Type 0 where
+  pub flat : FlatState
+  pub answers : List Answer
+
+-- a state is stored as the pair of its fields
+abbrev pub alone_state_code : Coded AloneState
+alone_state_code = code_by (FlatState × List Answer) (coded× flat_state_code (coded_list the_row.coded))
+    (λ s. (s.flat, s.answers)) (λ p. record { flat = p.0; answers = p.1 }) (λ _. refl)
+
+-- as the records of any one node, the answers are those of the flat memory from its first state on
+abbrev pub AreFlat : FlatState → List Answer → Type 0
+AreFlat flat answers = (me : ℕ) → me < flat.config.nodes
+    → ServesAll flat.config (first flat.config) (map (by me) answers) flat.memory
+
+-- memory ran out, or the call is an await that nobody else can end
+abbrev pub IsLack : Fault → Type 0
+IsLack fault = (fault ≡ Memory) ⊎ (fault ≡ TurnLimit)

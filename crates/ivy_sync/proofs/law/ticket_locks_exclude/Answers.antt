@@ -1,0 +1,5 @@
+use Rattle.ivy_sync.proofs.TicketLocks.{ticket_locks-exclude}
+use Rattle.ivy_sync.proofs.law.ticket_locks_exclude.Goals as goal
+
+pub returns : goal.returns
+returns c = ticket_locks-exclude

@@ -1,0 +1,69 @@
+-- The answers that the calls of this library add.
+use Rattle.std.specs.Prelude.{◌≡◌, ◌≢◌, ℕ, Bool, true, false, List, [], ◌∷◌, ◌++◌}
+use Rattle.std.specs.List.{AllByRecursion as Each}
+use Rattle.ivy_model.specs.declared.call.Call.TheVariants.{Load, Store, Swap, Cas, FetchAdd}
+use Rattle.ivy_model.specs.declared.call.Call.TheVariants.{Advance, Await}
+use Rattle.ivy_model.specs.declared.call.Reply.TheVariants.{Value, Done}
+use Rattle.ivy_calls.specs.declared.answer.Answer.{Answer}
+
+-- the number found was in the word of 8 bytes at a
+abbrev pub loads : ℕ → ℕ → Answer
+loads a found = record { call = Load 8 a; reply = Value found }
+
+-- the number was stored there
+abbrev pub stores : ℕ → ℕ → Answer
+stores a value = record { call = Store 8 a value; reply = Done }
+
+-- the lock at a was asked for, and this was there: 0 gave it to who asked
+abbrev pub asks : ℕ → ℕ → Answer
+asks a found = record { call = Swap 8 a 1; reply = Value found }
+
+-- eventcount k was advanced
+abbrev pub arrives : ℕ → Answer
+arrives k = record { call = Advance k; reply = Done }
+
+-- eventcount k was awaited to be at least this, and then it was that
+abbrev pub passes : ℕ → ℕ → ℕ → Answer
+passes k least found = record { call = Await k least; reply = Value found }
+
+-- the lock was asked for in vain
+pub record IsRefusal (a : ℕ) (r : Answer) : Type 0 where
+  pub found : ℕ
+  pub is : r ≡ asks a found
+  pub taken : found ≢ 0
+
+-- the lock was asked for until it was got
+pub record Locks (a : ℕ) (old new : List Answer) : Type 0 where
+  pub refusals : List Answer
+  pub each : Each (IsRefusal a) refusals
+  pub whole : new ≡ old ++ (refusals ++ asks a 0 ∷ [])
+
+-- eventcount k was advanced, and awaited to be at least this
+pub record Crosses (k least : ℕ) (old new : List Answer) : Type 0 where
+  pub found : ℕ
+  pub whole : new ≡ (old ++ arrives k ∷ []) ++ passes k least found ∷ []
+
+-- this ticket was drawn from the word at a
+abbrev pub draws : ℕ → ℕ → Answer
+draws a ticket = record { call = FetchAdd 8 a 1; reply = Value ticket }
+
+-- a ticket was drawn, and its turn awaited
+pub record Enters (a k ticket : ℕ) (old new : List Answer) : Type 0 where
+  pub found : ℕ
+  pub whole : new ≡ (old ++ draws a ticket ∷ []) ++ passes k ticket found ∷ []
+
+-- the word at a was claimed, and this was there: 0 gave it to who claimed it
+abbrev pub claims : ℕ → ℕ → Answer
+claims a found = record { call = Cas 8 a 0 1; reply = Value found }
+
+-- the claim was in vain, and eventcount k was awaited
+pub record Yields (a k : ℕ) (old new : List Answer) : Type 0 where
+  pub claimed : ℕ
+  pub taken : claimed ≢ 0
+  pub found : ℕ
+  pub whole : new ≡ (old ++ claims a claimed ∷ []) ++ passes k 1 found ∷ []
+
+-- whether the turn is one's own
+abbrev pub IsTurn : ℕ → ℕ → Bool → List Answer → List Answer → Type 0
+IsTurn a k true old new = new ≡ old ++ claims a 0 ∷ []
+IsTurn a k false old new = Yields a k old new

@@ -1,0 +1,16 @@
+pub mod Words
+pub mod Registers
+pub mod Counts
+pub mod Doing
+pub mod Barriers
+pub mod Phases
+pub mod Locks
+pub mod Sections
+pub mod Messages
+pub mod Queues
+pub mod Reductions
+pub mod Broadcasts
+pub mod Tickets
+pub mod TicketLocks
+pub mod Failing
+pub mod Sums

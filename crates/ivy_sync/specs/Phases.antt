@@ -1,0 +1,24 @@
+-- What one node writes before a barrier, and nobody after it.
+use Rattle.std.specs.Prelude.{◌≡◌, ℕ, ◌+◌, ◌<◌, List, slice_get, Some}
+use Rattle.std.specs.List.{AllByRecursion as Each}
+use Rattle.ivy_model.specs.declared.config.Config.{Config}
+use Rattle.ivy_model.specs.declared.call.Record.{Record}
+use Rattle.ivy_model.specs.declared.call.Reply.TheVariants.{Value}
+use Rattle.ivy_model.specs.Memory.{Memory}
+use Rattle.ivy_calls.specs.declared.answer.Answer.{Answer}
+use Rattle.ivy_calls.specs.Answers.{answers_of}
+use Rattle.ivy_sync.specs.Barriers.{CrossesAt}
+use Rattle.ivy_sync.specs.Words.{word, IsWord, NoWrite, IsWhole, Reads, last, Runs}
+
+-- A word that node i alone writes before a barrier, and nobody after it, is read after it as node i
+-- left it.
+abbrev pub PhasesShare : Type 0
+PhasesShare = (c : Config) (old new : Memory) (order : List Record) (k count : ℕ)
+    (before after : (i : ℕ) → i < c.nodes → List Answer) (a i : ℕ) (l : i < c.nodes)
+    → Runs c old order new → slice_get old.counts k ≡ Some count
+    → ((j : ℕ) (m : j < c.nodes)
+    → CrossesAt k (count + c.nodes) (before j m) (after j m) (answers_of j order))
+    → IsWord c a → Each (λ r. IsWhole a r.call) (before i l)
+    → ((j : ℕ) (m : j < c.nodes) → (j ≡ i → ⊥) → NoWrite a (before j m))
+    → ((j : ℕ) (m : j < c.nodes) → NoWrite a (after j m)) → (j : ℕ) (m : j < c.nodes)
+    → Each (λ r. Reads a r.call → r.reply ≡ Value (last a (word c old a) (before i l))) (after j m)

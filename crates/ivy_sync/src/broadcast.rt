@@ -1,0 +1,40 @@
+ghost use Rattle.std.specs.Prelude.{◌≡◌, ◌+◌, ◌++◌, ◌∷◌, [], IfErr, IfOk, OnErr};
+
+use crate::barrier::Barrier;
+use crate::error::SyncError;
+use ivy_calls::{SharedMemory, load, store};
+
+/// A number that one node gives to all, in the word of 8 bytes at `addr`. Each node has a value of its own.
+///
+/// Nobody else writes the word before the barrier, and nobody at all after it, until all have met again.
+#[derive(Clone, Copy, Debug, PartialEq, Eq)]
+pub struct Broadcast {
+    pub addr: u64,
+    pub barrier: Barrier,
+}
+
+impl Broadcast {
+    ghost use Rattle.ivy_sync.specs.Broadcasts.{Gives, Gets};
+    ghost use Rattle.ivy_sync.specs.Failing.{FailsToGive, FailsToGet};
+
+    /// Gives the number, and waits for the others. After an `Err` the broadcast is as it was.
+    pub fn give<M: SharedMemory>(&mut self, memory: &mut M, value: u64) -> Result<(), SyncError>
+        ensures gives { IfOk result (λ _. Gives self.old value (M.answers memory.old) (M.answers memory.new)) }
+        ensures same { OnErr result (self.new ≡ self.old) }
+        ensures next { IfOk result (λ _. self.new ≡ record self.old { barrier = record self.old.barrier { passed = self.old.barrier.passed + self.old.barrier.nodes } }) }
+        ensures fails { IfErr result (λ error. FailsToGive (λ fault. (state : M) × M.can_fail state fault) self.old value error (M.answers memory.old) (M.answers memory.new)) }
+    {
+        store(memory, self.addr, value)?;
+        self.barrier.wait(memory)
+    }
+
+    /// Waits for the others, and gets the number. After an `Err` of the barrier the broadcast is as it was.
+    pub fn get<M: SharedMemory>(&mut self, memory: &mut M) -> Result<u64, SyncError>
+        ensures gets { IfOk result (λ value. Gets self.old value (M.answers memory.old) (M.answers memory.new)) }
+        ensures next { IfOk result (λ _. self.new ≡ record self.old { barrier = record self.old.barrier { passed = self.old.barrier.passed + self.old.barrier.nodes } }) }
+        ensures fails { IfErr result (λ error. FailsToGet (λ fault. (state : M) × M.can_fail state fault) self.old error (M.answers memory.old) (M.answers memory.new)) }
+    {
+        self.barrier.wait(memory)?;
+        Ok(load(memory, self.addr)?)
+    }
+}

@@ -1,0 +1,80 @@
+//! What holds of every order that explains what the nodes were answered. Each of these is a fact, and
+//! the call does nothing.
+ghost use Rattle.ivy_sync.specs.Barriers.{BarrierSeparates};
+ghost use Rattle.ivy_sync.specs.Broadcasts.{BroadcastsArrive};
+ghost use Rattle.ivy_sync.specs.Locks.{LeftLocksAreFree, MutualExclusion};
+ghost use Rattle.ivy_sync.specs.Messages.{MessagesPass};
+ghost use Rattle.ivy_sync.specs.Phases.{PhasesShare};
+ghost use Rattle.ivy_sync.specs.Queues.{QueuesKeepOrder};
+ghost use Rattle.ivy_sync.specs.Reductions.{ReductionsAgree};
+ghost use Rattle.ivy_sync.specs.Registers.{WordsAreRegisters};
+ghost use Rattle.ivy_sync.specs.Sections.{SectionsAreSerial};
+ghost use Rattle.ivy_sync.specs.Sums.{SumsAreWhole};
+ghost use Rattle.ivy_sync.specs.TicketLocks.{TicketLocksExclude};
+ghost use Rattle.ivy_sync.specs.Tickets.{TicketsExclude};
+
+/// The accesses to a word that is always written whole are those of one register.
+pub fn words_are_registers()
+    ensures { WordsAreRegisters }
+{}
+
+/// A barrier separates: all that the nodes did before it stands before all that they did after it.
+pub fn barrier_separates()
+    ensures { BarrierSeparates }
+{}
+
+/// A word that one node alone writes before a barrier, and nobody after it, is read after it as that
+/// node left it.
+pub fn phases_share()
+    ensures { PhasesShare }
+{}
+
+/// At no point do two nodes hold a lock.
+pub fn mutual_exclusion()
+    ensures { MutualExclusion }
+{}
+
+/// A lock that all nodes have left is free.
+pub fn left_locks_are_free()
+    ensures { LeftLocksAreFree }
+{}
+
+/// At no point are two nodes inside by tickets of their own.
+pub fn tickets_exclude()
+    ensures { TicketsExclude }
+{}
+
+/// At no point has the turn of two nodes come that drew their tickets by a fetch-and-add.
+pub fn ticket_locks_exclude()
+    ensures { TicketLocksExclude }
+{}
+
+/// What is guarded by a lock is done in one whole critical section after another.
+pub fn sections_are_serial()
+    ensures { SectionsAreSerial }
+{}
+
+/// What a node stored before it advanced an eventcount is loaded after that advance was awaited.
+pub fn messages_pass()
+    ensures { MessagesPass }
+{}
+
+/// What is taken from a queue is what was sent, in the order in which it was sent.
+pub fn queues_keep_order()
+    ensures { QueuesKeepOrder }
+{}
+
+/// In a reduction each node finds what each other one stored.
+pub fn reductions_agree()
+    ensures { ReductionsAgree }
+{}
+
+/// In a broadcast each node gets what the one node gave.
+pub fn broadcasts_arrive()
+    ensures { BroadcastsArrive }
+{}
+
+/// Where each node adds its number to a sum under a lock and then meets the others, all read the whole sum.
+pub fn sums_are_whole()
+    ensures { SumsAreWhole }
+{}

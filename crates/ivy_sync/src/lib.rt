@@ -1,0 +1,24 @@
+//! Locks, barriers, queues and reductions over a shared memory, and the laws that their users reason by.
+#![tactic(auto)]
+
+mod barrier;
+mod broadcast;
+mod error;
+mod law;
+mod lock;
+mod once;
+mod queue;
+mod ticket_lock;
+
+pub use barrier::Barrier;
+pub use broadcast::Broadcast;
+pub use error::SyncError;
+pub use law::{
+    barrier_separates, broadcasts_arrive, left_locks_are_free, messages_pass, mutual_exclusion,
+    phases_share, queues_keep_order, reductions_agree, sections_are_serial, sums_are_whole,
+    ticket_locks_exclude, tickets_exclude, words_are_registers,
+};
+pub use lock::Lock;
+pub use once::Once;
+pub use queue::{Queue, Receiver, Sender};
+pub use ticket_lock::TicketLock;

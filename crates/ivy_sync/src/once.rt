@@ -1,0 +1,40 @@
+ghost use Rattle.std.specs.Prelude.{◌≡◌, ◌++◌, ◌∷◌, [], IfErr, IfOk};
+ghost use Rattle.ivy_model.specs.declared.call.Call.TheVariants.{Advance};
+ghost use Rattle.ivy_calls.specs.Fails.{Fails};
+ghost use Rattle.ivy_sync.specs.Doing.{IsTurn, arrives};
+ghost use Rattle.ivy_sync.specs.Failing.{FailsToBegin};
+
+use ivy_calls::{CallError, SharedMemory, advance, await_, cas};
+
+/// Something that one node does for all, by the word of 8 bytes at `word` and eventcount `done`, both 0 at
+/// first.
+///
+/// The word is a lock that nobody leaves: at no point do two nodes have begun.
+#[derive(Clone, Copy, Debug, PartialEq, Eq)]
+pub struct Once {
+    pub word: u64,
+    pub done: u64,
+}
+
+impl Once {
+    /// Whether it is this node that has to do it, and then [`Once::finish`]. Where another node has begun, it
+    /// waits until that has finished.
+    pub fn begin<M: SharedMemory>(&self, memory: &mut M) -> Result<bool, CallError>
+        ensures begins { IfOk result (λ mine. IsTurn self.now.word self.now.done mine (M.answers memory.old) (M.answers memory.new)) }
+        ensures fails { IfErr result (λ error. FailsToBegin (λ fault. (state : M) × M.can_fail state fault) self.now.word self.now.done error (M.answers memory.old) (M.answers memory.new)) }
+    {
+        if cas(memory, self.word, 0u64, 1u64)? == 0 {
+            return Ok(true);
+        }
+        await_(memory, self.done, 1)?;
+        Ok(false)
+    }
+
+    /// Says that it is done.
+    pub fn finish<M: SharedMemory>(&self, memory: &mut M) -> Result<(), CallError>
+        ensures finishes { IfOk result (λ _. M.answers memory.new ≡ M.answers memory.old ++ arrives self.now.done ∷ []) }
+        ensures fails { IfErr result (λ error. Fails (M.can_fail memory.old) (Advance self.now.done) error (M.answers memory.old) (M.answers memory.new)) }
+    {
+        advance(memory, self.done)
+    }
+}

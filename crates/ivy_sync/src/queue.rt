@@ -1,0 +1,90 @@
+ghost use Rattle.std.specs.Prelude.{◌≡◌, ◌+◌, ◌*◌, ◌<◌, ◌^◌, ◌≤◌, ℕ, List, IfErr, IfOk, OnErr};
+
+use crate::error::SyncError;
+use ivy_calls::{SharedMemory, advance, await_, load, store};
+
+/// Where a queue of one sender and one receiver lies: `size` words of 8 bytes from `at` on, and two eventcounts,
+/// 0 at first, that say how many values were sent and taken.
+#[derive(Clone, Copy, Debug, PartialEq, Eq)]
+pub struct Queue {
+    pub at: u64,
+    pub size: u64,
+    pub sent: u64,
+    pub taken: u64,
+}
+
+impl Queue {
+    ghost use Rattle.ivy_sync.specs.Queues.{IsPlace, slot};
+
+    /// Where the `n`-th value lies.
+    fn slot(&self, n: u64) -> u64
+        requires { IsPlace self.now }
+        ensures { result ≡ slot self.now n }
+    {
+        self.at + 8 * (n % self.size)
+    }
+}
+
+/// The sending end of a queue: one node has it, and makes it once.
+#[derive(Clone, Copy, Debug, PartialEq, Eq)]
+pub struct Sender {
+    pub queue: Queue,
+    /// How many values were sent so far: 0 at first.
+    pub next: u64,
+}
+
+impl Sender {
+    ghost use Rattle.ivy_sync.specs.Queues.{AddsSend, IsPlace};
+    ghost use Rattle.ivy_sync.specs.Failing.{FailsToSend};
+
+    /// Waits for room, and sends the value. After an `Err` the sender is as it was.
+    pub fn send<M: SharedMemory>(&mut self, memory: &mut M, value: u64) -> Result<(), SyncError>
+        requires { IsPlace self.old.queue }
+        ensures sends { IfOk result (λ _. AddsSend self.old.queue self.old.next value (M.answers memory.old) (M.answers memory.new)) }
+        ensures next { IfOk result (λ _. self.new ≡ record self.old { next = self.old.next + 1 }) }
+        ensures same { OnErr result (self.new ≡ self.old) }
+        ensures fails { IfErr result (λ error. FailsToSend (λ fault. (state : M) × M.can_fail state fault) self.old.queue self.old.next value error (M.answers memory.old) (M.answers memory.new)) }
+    {
+        let queue = self.queue;
+        let Some(after) = self.next.checked_add(1) else {
+            return Err(SyncError::Spent { place: queue.sent });
+        };
+        await_(memory, queue.taken, after.saturating_sub(queue.size))?;
+        store(memory, queue.slot(self.next), value)?;
+        advance(memory, queue.sent)?;
+        self.next = after;
+        Ok(())
+    }
+}
+
+/// The receiving end of a queue: one node has it, and makes it once.
+#[derive(Clone, Copy, Debug, PartialEq, Eq)]
+pub struct Receiver {
+    pub queue: Queue,
+    /// How many values were taken so far: 0 at first.
+    pub next: u64,
+}
+
+impl Receiver {
+    ghost use Rattle.ivy_sync.specs.Queues.{AddsTake, IsPlace};
+    ghost use Rattle.ivy_sync.specs.Failing.{FailsToTake};
+
+    /// Waits for the next value, and takes it. After an `Err` the receiver is as it was.
+    pub fn take<M: SharedMemory>(&mut self, memory: &mut M) -> Result<u64, SyncError>
+        requires { IsPlace self.old.queue }
+        ensures takes { IfOk result (λ value. AddsTake self.old.queue self.old.next value (M.answers memory.old) (M.answers memory.new)) }
+        ensures next { IfOk result (λ _. self.new ≡ record self.old { next = self.old.next + 1 }) }
+        ensures same { OnErr result (self.new ≡ self.old) }
+        ensures fails { IfErr result (λ error. FailsToTake (λ fault. (state : M) × M.can_fail state fault) self.old.queue self.old.next error (M.answers memory.old) (M.answers memory.new)) }
+    {
+        let queue = self.queue;
+        let Some(after) = self.next.checked_add(1) else {
+            return Err(SyncError::Spent { place: queue.sent });
+        };
+        await_(memory, queue.sent, after)?;
+        let value = load(memory, queue.slot(self.next))?;
+        advance(memory, queue.taken)?;
+        self.next = after;
+        Ok(value)
+    }
+}

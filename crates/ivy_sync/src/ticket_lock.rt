@@ -1,0 +1,39 @@
+ghost use Rattle.std.specs.Prelude.{◌≡◌, ◌++◌, ◌∷◌, [], IfErr, IfOk};
+ghost use Rattle.ivy_model.specs.declared.call.Call.TheVariants.{Advance};
+ghost use Rattle.ivy_calls.specs.Fails.{Fails};
+ghost use Rattle.ivy_sync.specs.Doing.{Enters, arrives};
+ghost use Rattle.ivy_sync.specs.Failing.{FailsToEnter};
+
+use ivy_calls::{CallError, SharedMemory, advance, await_, fetch_add};
+
+/// A lock by tickets: the word of 8 bytes at `next` has the next ticket, and eventcount `turn` the one whose
+/// turn it is. Both are 0 at first.
+///
+/// A node comes in in the order of the tickets, and waits with one call, however long it takes.
+#[derive(Clone, Copy, Debug, PartialEq, Eq)]
+pub struct TicketLock {
+    pub next: u64,
+    pub turn: u64,
+}
+
+impl TicketLock {
+    /// Draws a ticket, and waits for its turn. It gives the ticket.
+    ///
+    /// After an `Err` of the await the ticket is drawn and its turn will not pass, so nobody comes in any more.
+    pub fn acquire<M: SharedMemory>(&self, memory: &mut M) -> Result<u64, CallError>
+        ensures enters { IfOk result (λ ticket. Enters self.now.next self.now.turn ticket (M.answers memory.old) (M.answers memory.new)) }
+        ensures fails { IfErr result (λ error. FailsToEnter (λ fault. (state : M) × M.can_fail state fault) self.now.next self.now.turn error (M.answers memory.old) (M.answers memory.new)) }
+    {
+        let ticket = fetch_add(memory, self.next, 1u64)?;
+        await_(memory, self.turn, ticket)?;
+        Ok(ticket)
+    }
+
+    /// Gives the turn to the next ticket. By the rule of tickets only who is inside may do so.
+    pub fn release<M: SharedMemory>(&self, memory: &mut M) -> Result<(), CallError>
+        ensures leaves { IfOk result (λ _. M.answers memory.new ≡ M.answers memory.old ++ arrives self.now.turn ∷ []) }
+        ensures fails { IfErr result (λ error. Fails (M.can_fail memory.old) (Advance self.now.turn) error (M.answers memory.old) (M.answers memory.new)) }
+    {
+        advance(memory, self.turn)
+    }
+}

@@ -1,0 +1,11 @@
+//! Tests of a program's own calls, of locks, barriers, queues and reductions, over the flat memory with no
+//! other node. What the contracts say is proved, so these tests hold that calls can succeed, values worked out
+//! by hand, the texts of errors, and that a refused growth leaves all as it was.
+#![tactic(auto)]
+
+#[cfg(test)]
+mod calls;
+#[cfg(test)]
+mod common;
+#[cfg(test)]
+mod sync;
