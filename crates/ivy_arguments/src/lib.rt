@@ -1,6 +1,6 @@
 //! What a command line asks for.
 //!
-//! It is the only crate that uses `clap`, whose statements take long to load.
+//! It stands apart, since the statements of `clap` take long to load.
 #![tactic(auto)]
 
 mod error;

@@ -191,6 +191,13 @@ impl<A: Allocator + Copy> Site<A> {
         self.machine.ended()
     }
 
+    /// The call in progress. It takes no memory.
+    pub fn asked(&self) -> Option<Call>
+        ensures { result ≡ self.now.node.core.memory.asked }
+    {
+        self.memory.asked()
+    }
+
     /// The count and the least value of the await in progress, where the call in progress is one. It takes no memory.
     pub fn waits(&self) -> Option<(u64, u64)>
         ensures { result ≡ await_in self.now.node.core.memory.asked }

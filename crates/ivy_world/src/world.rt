@@ -20,7 +20,7 @@ ghost use Rattle.ivy_world.specs.WorldSites.{programs_of, world_of, AreSites, Is
 
 use crate::rest::Rest;
 use crate::round::{Round, is_delivered, next_move};
-use ivy_model::{Config, Fault, MOST_NODES, Record};
+use ivy_model::{Call, Config, Fault, MOST_NODES, Record};
 use ivy_moves::Move;
 use ivy_moves::ivy_link::MOST_AHEAD;
 use ivy_program::Program;
@@ -214,6 +214,14 @@ impl<A: Allocator + Copy> World<A> {
         ensures { IfSome (slice_get self.now.world.nodes node) (λ n. IsTrue result ↔ HasEnded n.core.process) }
     {
         self.sites[node as usize].ended()
+    }
+
+    /// The call that a node has in progress; the node is one of the world's. It takes no memory.
+    pub fn asked(&self, node: u64) -> Option<Call>
+        requires { node < self.now.config.nodes }
+        ensures { IfSome (slice_get self.now.world.nodes node) (λ n. result ≡ n.core.memory.asked) }
+    {
+        self.sites[node as usize].asked()
     }
 
     /// The count and the least value of the await that a node has in progress, where its call in progress is one; the

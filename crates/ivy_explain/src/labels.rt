@@ -1,0 +1,60 @@
+//! Labels, and the jumps to them.
+
+use crate::blame::{Blame, Wanted};
+use crate::grammar::blame_at;
+use crate::words::Word;
+use std::alloc::{AllocError, Global};
+
+/// A name at a node.
+#[derive(Clone, Copy, Debug, PartialEq, Eq)]
+pub(crate) struct Named<'a> {
+    pub(crate) node: u64,
+    pub(crate) line: usize,
+    pub(crate) word: Word<'a>,
+}
+
+/// The labels of a text, and the names that its jumps have.
+#[derive(Debug, Drop)]
+pub(crate) struct Labels<'a> {
+    labels: Vec<Named<'a>>,
+    jumps: Vec<Named<'a>>,
+}
+
+impl<'a> Labels<'a> {
+    pub(crate) fn new(alloc: Global) -> Labels<'a> {
+        Labels {
+            labels: Vec::new(alloc),
+            jumps: Vec::new(alloc),
+        }
+    }
+
+    /// Whether the node of a name has a label of that name.
+    fn has(&self, named: &Named<'a>) -> bool {
+        self.labels.iter().any(|label| label.node == named.node
+            && label.word.text == named.word.text)
+    }
+
+    /// Adds a label. It is at fault where its name is taken.
+    pub(crate) fn add(&mut self, named: Named<'a>) -> Result<Option<Blame<'a>>, AllocError> {
+        if self.has(&named) {
+            return Ok(Some(blame_at(named.line, named.word, Wanted::NewLabel)));
+        }
+        self.labels.push(named)?;
+        Ok(None)
+    }
+
+    pub(crate) fn jump(&mut self, named: Named<'a>) -> Result<(), AllocError> {
+        self.jumps.push(named)?;
+        Ok(())
+    }
+
+    /// Adds the jumps whose label is not there.
+    pub(crate) fn blame(&self, blames: &mut Vec<Blame<'a>>) -> Result<(), AllocError> {
+        for jump in self.jumps.iter() {
+            if !self.has(jump) {
+                blames.push(blame_at(jump.line, jump.word, Wanted::Label))?;
+            }
+        }
+        Ok(())
+    }
+}

@@ -1,0 +1,49 @@
+-- What it means that an order of records explains the run of a text.
+use Rattle.std.specs.Prelude.{◌≡◌, ℕ, ◌<◌, List, ◌++◌, map, slice_get, Option, Some}
+use Rattle.ivy_model.specs.declared.Config.{Config}
+use Rattle.ivy_model.specs.declared.Call.{Call}
+use Rattle.ivy_model.specs.declared.Record.{Record}
+use Rattle.ivy_model.specs.Explains.{part, Answered, IsOwed, IsExplained}
+use Rattle.ivy_program.specs.declared.Instruction.{Instruction}
+use Rattle.ivy_program.specs.Texts.{SpellsText}
+use Rattle.ivy_moves.specs.declared.Move.{Move}
+use Rattle.ivy_moves.specs.Nodes.{Node}
+use Rattle.ivy_moves.specs.Worlds.{World}
+use Rattle.ivy_world.specs.ivy_host.Hosts.{Host, answered_by}
+use Rattle.ivy_world.specs.ivy_host.Managers.{Managed, managed_ops}
+use Rattle.ivy_world.specs.ivy_host.Openings.{opening}
+use Rattle.ivy_world.specs.proof_headline.RunState.{Run}
+use Rattle.ivy_world.specs.proof_headline.Reached.{IsLedTo}
+
+-- a node's part of an order: its history, and then perhaps a record of the call in progress
+abbrev pub IsPart : List Record → Answered → Type 0
+IsPart mine n = (rest : List Record) × (mine ≡ n.history ++ rest) × IsOwed n.asked rest
+
+-- what each node of a world was answered, and the call that it has in progress
+abbrev pub answers_of : World (Host Managed) → List Answered
+answers_of w = map (λ (n : Node (Host Managed)). answered_by n.core) w.nodes
+
+-- of the first nodes, so many, each has its part of the order
+abbrev pub HavePartsBelow : ℕ → World (Host Managed) → List Record → Type 0
+HavePartsBelow count w order = (i : ℕ) → i < count → (n : Answered)
+    → slice_get (answers_of w) i ≡ Some n → IsPart (part i order) n
+
+-- it is the world in which the programs of a text begin
+pub record IsOpening (c : Config) (text : List ℕ) (r : Run) : Type 0 where
+  pub spelled : SpellsText text r.programs
+  pub config : r.config ≡ c
+  pub world : r.world ≡ opening managed_ops c r.programs
+
+-- the moves lead from where the programs of a text begin to this world
+pub record IsPlayed (c : Config) (text : List ℕ) (moves : List Move) (end : World (Host Managed))
+    : Type 0 where
+  pub programs : List (List Instruction)
+  pub spelled : SpellsText text programs
+  pub led : IsLedTo c (opening managed_ops c programs) moves end
+
+-- they lead to a world, and the order is legal and explains what its nodes were answered
+pub record IsOrderOf (c : Config) (text : List ℕ) (moves : List Move) (order : List Record)
+    : Type 0 where
+  pub end : World (Host Managed)
+  pub played : IsPlayed c text moves end
+  pub explained : IsExplained c order (answers_of end)

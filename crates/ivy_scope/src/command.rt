@@ -1,0 +1,276 @@
+//! Whole commands.
+
+use crate::failure::Failure;
+use crate::faults::{Kind, explain, sound};
+use crate::judging::judge;
+use crate::looking::look;
+use crate::played::{Run, order, schedule, shortest};
+use crate::sessions::{Wishes, run};
+use crate::settled::settle;
+use crate::views::{both, chart, counts};
+use ivy_commands::Texts;
+use ivy_commands::ivy_session::Limits;
+use ivy_replay::Progress;
+use ivy_scope_words::{Moves, Request, Steps, Told, read};
+use std::alloc::Global;
+use std::io::Write;
+use std::sync::Wait;
+use std::thread::Threads;
+
+/// The exit status where what was asked for failed, but nothing is at fault.
+const FAILED: u8 = 1;
+
+/// The exit status where a text is at fault.
+const MISUSED: u8 = 2;
+
+/// The exit status of an order that is not legal.
+const NOT_LEGAL: u8 = 3;
+
+/// The exit status of a standstill at which a program has not ended.
+const STANDSTILL: u8 = 5;
+
+fn text_of<'a, T: Texts>(files: &T, name: &'a str) -> Result<String, Failure<'a>> {
+    files.text(name)?.ok_or(Failure::CannotRead(name))
+}
+
+/// The text of a file of programs, which is no fault.
+fn programs_of<'a, T: Texts, E: Write>(
+    alloc: Global,
+    files: &T,
+    name: &'a str,
+    err: &mut E,
+) -> Result<String, Failure<'a>> {
+    let text = text_of(files, name)?;
+    sound(alloc, Kind::Programs, name, text.as_str(), err)?;
+    Ok(text)
+}
+
+/// The text of the schedule of a run, where it has one.
+fn schedule_of<'a, T: Texts, E: Write>(
+    alloc: Global,
+    files: &T,
+    steps: Steps<'a>,
+    err: &mut E,
+) -> Result<Option<String>, Failure<'a>> {
+    let Steps::Schedule(name) = steps else {
+        return Ok(None);
+    };
+    let text = text_of(files, name)?;
+    sound(alloc, Kind::Schedule, name, text.as_str(), err)?;
+    Ok(Some(text))
+}
+
+/// The seed and the number of drawn moves, where there is no schedule.
+fn drawn_of(steps: Steps<'_>) -> (u64, u64) {
+    match steps {
+        Steps::Drawn { seed, moves } => (seed, moves),
+        Steps::Schedule(_) => (0, 0),
+    }
+}
+
+/// What is asked of a run.
+#[derive(Clone, Copy, Debug, PartialEq, Eq)]
+enum View {
+    Schedule,
+    Shortest,
+    Order,
+    Chart(Option<u64>),
+    Counts,
+    Both,
+}
+
+/// Prints what is asked of a run.
+fn show<'a, T: Texts, W: Write, E: Write, P: Progress>(
+    alloc: Global,
+    moves: Moves<'a>,
+    view: View,
+    files: &T,
+    out: &mut W,
+    err: &mut E,
+    progress: &mut P,
+) -> Result<u8, Failure<'a>> {
+    let programs = programs_of(alloc, files, moves.file, err)?;
+    let schedule_text = schedule_of(alloc, files, moves.steps, err)?;
+    let schedule_text = match &schedule_text {
+        Some(text) => Some(text.as_str()),
+        None => None,
+    };
+    let run = Run {
+        alloc,
+        programs: programs.as_str(),
+        schedule: schedule_text,
+        drawn: drawn_of(moves.steps),
+        settings: moves.settings,
+    };
+    match view {
+        View::Schedule => schedule(&run, out)?,
+        View::Shortest => shortest(&run, out, err, progress)?,
+        View::Order => order(&run, out)?,
+        View::Chart(page) => chart(&run, page, out)?,
+        View::Counts => counts(&run, out)?,
+        View::Both => both(&run, out)?,
+    }
+    Ok(0)
+}
+
+/// Prints what is asked of a text alone.
+fn texts<'a, T: Texts, W: Write, E: Write, P: Progress>(
+    alloc: Global,
+    request: Request<'a>,
+    files: &T,
+    out: &mut W,
+    err: &mut E,
+    progress: &mut P,
+) -> Result<u8, Failure<'a>> {
+    match request {
+        Request::Explain { file } => {
+            let text = text_of(files, file)?;
+            let is_sound = explain(alloc, file, text.as_str(), out)?;
+            Ok(if is_sound { 0 } else { MISUSED })
+        }
+        Request::Check { file } => {
+            let text = text_of(files, file)?;
+            sound(alloc, Kind::Order, file, text.as_str(), err)?;
+            let is_legal = judge(alloc, file, text.as_str(), out)?;
+            Ok(if is_legal { 0 } else { NOT_LEGAL })
+        }
+        Request::Search {
+            file,
+            states,
+            until,
+            settings,
+        } => {
+            let text = programs_of(alloc, files, file, err)?;
+            let is_found = look(
+                alloc,
+                text.as_str(),
+                settings,
+                (states, until),
+                out,
+                progress,
+            )?;
+            Ok(if is_found { 0 } else { FAILED })
+        }
+        Request::Settle {
+            file,
+            seed,
+            moves,
+            settings,
+        } => {
+            let text = programs_of(alloc, files, file, err)?;
+            let waits = settle(alloc, text.as_str(), settings, (seed, moves), out)?;
+            Ok(if waits { STANDSTILL } else { 0 })
+        }
+        _ => Ok(0),
+    }
+}
+
+/// Carries out a request, and gives the exit status.
+fn carry_out<'a, R: Threads + Wait + Sync, T: Texts, W: Write, E: Write, P: Progress>(
+    rt: &R,
+    alloc: Global,
+    request: Request<'a>,
+    files: &T,
+    out: &mut W,
+    err: &mut E,
+    progress: &mut P,
+) -> Result<u8, Failure<'a>> {
+    let (moves, asked) = match request {
+        Request::Schedule { moves, shortest } if shortest => (moves, View::Shortest),
+        Request::Schedule { moves, .. } => (moves, View::Schedule),
+        Request::Order { moves } => (moves, View::Order),
+        Request::Chart { moves, page } => (moves, View::Chart(page)),
+        Request::Counts { moves, both } if both => (moves, View::Both),
+        Request::Counts { moves, .. } => (moves, View::Counts),
+        Request::Run { .. } => return session(rt, alloc, request, files, out, err),
+        _ => return texts(alloc, request, files, out, err, progress),
+    };
+    show(alloc, moves, asked, files, out, err, progress)
+}
+
+/// Runs a session.
+fn session<'a, R: Threads + Wait + Sync, T: Texts, W: Write, E: Write>(
+    rt: &R,
+    alloc: Global,
+    request: Request<'a>,
+    files: &T,
+    out: &mut W,
+    err: &mut E,
+) -> Result<u8, Failure<'a>> {
+    let Request::Run {
+        file,
+        turns,
+        capacity,
+        pulse,
+        strict,
+        history,
+        counts,
+        settings,
+    } = request
+    else {
+        return Ok(0);
+    };
+    let text = programs_of(alloc, files, file, err)?;
+    let limits = Limits {
+        capacity,
+        turns,
+        pulse_every: pulse,
+    };
+    let wishes = Wishes {
+        strict,
+        history,
+        counts,
+    };
+    let failed = run(rt, alloc, text.as_str(), limits, settings, wishes, out, err)?;
+    Ok(if failed { FAILED } else { 0 })
+}
+
+/// Carries out what the words ask for, and gives the exit status.
+fn obey<'a, R: Threads + Wait + Sync, T: Texts, W: Write, E: Write, P: Progress>(
+    rt: &R,
+    alloc: Global,
+    words: &'a [String],
+    files: &T,
+    out: &mut W,
+    err: &mut E,
+    progress: &mut P,
+) -> Result<u8, Failure<'a>> {
+    match read(alloc, words) {
+        Ok(request) => carry_out(rt, alloc, request, files, out, err, progress),
+        Err(Told::Memory) => Err(Failure::from(ivy_model::Fault::Memory)),
+        Err(Told::Help(text)) => {
+            write!(out, "{text}")?;
+            Ok(0)
+        }
+        Err(Told::Bad(text)) => {
+            // The status tells of it also where standard error takes nothing.
+            let _ = write!(err, "{text}");
+            Err(Failure::BadCommandLine)
+        }
+    }
+}
+
+/// Carries out a command and gives its exit status: 0 where it was done, 1 where a run was refused, what was looked for
+/// was not found, or standard output took no more, 2 where the command line, a file or the configuration is at fault, 3
+/// where an order is not legal, and 5 at a standstill where a program has not ended.
+///
+/// The first word is the program's name. What is at fault is printed on standard error. What may take long tells how far
+/// it is.
+pub fn perform<R: Threads + Wait + Sync, T: Texts, O: Write, E: Write, P: Progress>(
+    rt: &R,
+    alloc: Global,
+    words: &[String],
+    files: &T,
+    out: &mut O,
+    err: &mut E,
+    progress: &mut P,
+) -> u8 {
+    let done = obey(rt, alloc, words, files, out, err, progress);
+    let failure = match (done, out.flush()) {
+        (Ok(status), Ok(())) => return status,
+        (Err(failure), Ok(())) => failure,
+        (Err(failure), Err(_)) if failure.status() == MISUSED => failure,
+        (_, Err(_)) => Failure::Unwritten,
+    };
+    failure.report(err)
+}

@@ -1,0 +1,128 @@
+//! What is at fault in a text.
+
+use crate::failure::Failure;
+use ivy_explain::ivy_texts::{parse_order, parse_schedule};
+use ivy_explain::{
+    Blame, Wanted, blames_of_order, blames_of_programs, blames_of_schedule, print_blame,
+};
+use ivy_model::Fault;
+use ivy_program::{parse, words_of};
+use std::alloc::{AllocError, Global};
+use std::io::{self, Write};
+
+/// What a text is.
+#[derive(Clone, Copy, Debug, PartialEq, Eq)]
+pub(crate) enum Kind {
+    Programs,
+    Schedule,
+    Order,
+}
+
+/// What a text is, by its first word.
+pub(crate) fn kind_of(alloc: Global, text: &str) -> Result<Kind, AllocError> {
+    for line in text.lines() {
+        let words = words_of(alloc, line)?;
+        if let Some(first) = words.first() {
+            return Ok(match *first {
+                "ivy" => Kind::Order,
+                "turn" | "deliver" | "pulse" => Kind::Schedule,
+                _ => Kind::Programs,
+            });
+        }
+    }
+    Ok(Kind::Programs)
+}
+
+/// The line that the parser of such texts finds at fault first, if it does.
+fn line_at_fault(alloc: Global, kind: Kind, text: &str) -> Result<Option<u64>, Fault> {
+    let found = match kind {
+        Kind::Programs => parse(alloc, text).err(),
+        Kind::Schedule => parse_schedule(alloc, text).err(),
+        Kind::Order => parse_order(alloc, text).err(),
+    };
+    match found {
+        None => Ok(None),
+        Some(Fault::ProgramFault(line)) => Ok(Some(line)),
+        Some(fault) => Err(fault),
+    }
+}
+
+/// The line of a text, from 1.
+fn line_of(text: &str, number: usize) -> &str {
+    match text.lines().nth(number.saturating_sub(1)) {
+        Some(line) => line.trim_end(),
+        None => "",
+    }
+}
+
+/// Tells what is at fault, line by line.
+fn tell<E: Write>(file: &str, text: &str, blames: &[Blame<'_>], err: &mut E) -> io::Result<()> {
+    for blame in blames {
+        print_blame(file, line_of(text, blame.line), blame, err)?;
+    }
+    Ok(())
+}
+
+/// Whether a text is no fault. Else it is told what is, on a stream.
+pub(crate) fn is_sound<E: Write>(
+    alloc: Global,
+    kind: Kind,
+    file: &str,
+    text: &str,
+    err: &mut E,
+) -> Result<bool, Fault> {
+    let Some(line) = line_at_fault(alloc, kind, text)? else {
+        return Ok(true);
+    };
+    let mut blames = match kind {
+        Kind::Programs => blames_of_programs(alloc, text)?,
+        Kind::Schedule => blames_of_schedule(alloc, text)?,
+        Kind::Order => blames_of_order(alloc, text)?,
+    };
+    let line = usize::try_from(line).unwrap_or(usize::MAX);
+    if !blames.iter().any(|blame| blame.line == line) {
+        blames.push(Blame {
+            line,
+            column: 1,
+            word: None,
+            wanted: Wanted::Other,
+        })?;
+    }
+    // The status tells of the fault also where the stream takes nothing.
+    let _ = tell(file, text, &blames, err);
+    Ok(false)
+}
+
+/// A text that is no fault, of which standard error is told else.
+pub(crate) fn sound<'a, E: Write>(
+    alloc: Global,
+    kind: Kind,
+    file: &'a str,
+    text: &str,
+    err: &mut E,
+) -> Result<(), Failure<'a>> {
+    if is_sound(alloc, kind, file, text, err)? {
+        Ok(())
+    } else {
+        Err(Failure::AtFault(file))
+    }
+}
+
+/// Prints what is at fault in a text, or that nothing is. It says whether something is.
+pub(crate) fn explain<'a, W: Write>(
+    alloc: Global,
+    file: &'a str,
+    text: &str,
+    out: &mut W,
+) -> Result<bool, Failure<'a>> {
+    let kind = kind_of(alloc, text)?;
+    if !is_sound(alloc, kind, file, text, out)? {
+        return Ok(false);
+    }
+    match kind {
+        Kind::Programs => writeln!(out, "{file}: programs, and nothing is at fault")?,
+        Kind::Schedule => writeln!(out, "{file}: a schedule, and nothing is at fault")?,
+        Kind::Order => writeln!(out, "{file}: an order, and nothing is at fault")?,
+    }
+    Ok(true)
+}

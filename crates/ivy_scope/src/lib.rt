@@ -1,0 +1,22 @@
+//! The commands of the program `ivyscope`, which shows what happened in runs of programs over one shared memory.
+//!
+//! In a comment, numbers in brackets as [1, 17] are the fault numbers that a call may answer.
+#![tactic(auto)]
+
+mod calls;
+mod command;
+mod failure;
+mod faults;
+mod goals;
+mod judging;
+mod looking;
+mod played;
+mod refused;
+mod sessions;
+mod settled;
+mod views;
+
+pub use command::perform;
+pub use failure::Failure;
+pub use ivy_commands;
+pub use ivy_replay;

@@ -1,0 +1,75 @@
+//! Pictures and numbers of a run.
+
+use crate::failure::Failure;
+use crate::played::Run;
+use ivy_model::Kind;
+use ivy_pictures::ivy_log::Log;
+use ivy_pictures::{
+    Chart, Counts, Picture, Writes, count, print_both, print_counts, print_sharing,
+};
+use ivy_replay::seen;
+use std::io::Write;
+
+/// What is seen of a run.
+fn log_of(run: &Run<'_>) -> Result<Log, Failure<'static>> {
+    let text = run.text()?;
+    let moves = run.moves(&text)?;
+    Ok(seen(&text, &moves)?.into_log())
+}
+
+/// The first page that a message is about, or 1.
+fn first_page(log: &Log) -> u32 {
+    let mut least = None;
+    for head in log.strings.iter() {
+        if let Some(page) = head.page() {
+            least = match least {
+                None => Some(page),
+                Some(known) => Some(page.min(known)),
+            };
+        }
+    }
+    least.unwrap_or(1)
+}
+
+/// Draws a run.
+pub(crate) fn chart<W: Write>(
+    run: &Run<'_>,
+    page: Option<u64>,
+    out: &mut W,
+) -> Result<(), Failure<'static>> {
+    let config = run.text()?.config;
+    let log = log_of(run)?;
+    let page = match page {
+        Some(page) => u32::try_from(page).unwrap_or(u32::MAX),
+        None => first_page(&log),
+    };
+    let chart = Chart {
+        nodes: u64::from(config.nodes),
+        page,
+    };
+    Picture::of(run.alloc, chart, &log)?.draw(&log, out)?;
+    Ok(())
+}
+
+fn counts_of(run: &Run<'_>) -> Result<Counts, Failure<'static>> {
+    let config = run.text()?.config;
+    Ok(count(run.alloc, &config, &log_of(run)?)?)
+}
+
+/// Prints what is counted of a run, by node and by page.
+pub(crate) fn counts<W: Write>(run: &Run<'_>, out: &mut W) -> Result<(), Failure<'static>> {
+    let config = run.text()?.config;
+    let log = log_of(run)?;
+    print_counts(&count(run.alloc, &config, &log)?, out)?;
+    let writes = Writes::of(run.alloc, &config, &log)?;
+    print_sharing(&writes, out)?;
+    Ok(())
+}
+
+/// Prints what is counted of a run under either manager.
+pub(crate) fn both<W: Write>(run: &Run<'_>, out: &mut W) -> Result<(), Failure<'static>> {
+    let fixed = counts_of(&run.under(Kind::Fixed))?;
+    let dynamic = counts_of(&run.under(Kind::Dynamic))?;
+    print_both(&fixed, &dynamic, out)?;
+    Ok(())
+}
