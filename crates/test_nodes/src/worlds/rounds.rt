@@ -46,8 +46,8 @@ await r5 r0 r4
 /// How many calls they make together.
 const CALLS: u64 = 18;
 
-/// So many rounds of three nodes that await ended in small worlds, where all of them were searched, before somebody
-/// was answered; one more, and one that records it.
+/// In so many rounds of three nodes somebody is answered. It was found by a search of small worlds, which is no part of
+/// this repository: the law says no more than that there is a number.
 const MOST: u64 = 8;
 
 const PULSES: [Move; 6] = [
