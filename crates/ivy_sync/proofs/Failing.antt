@@ -15,10 +15,12 @@ use Rattle.ivy_sync.specs.declared.broadcast.Broadcast.{Broadcast}
 use Rattle.ivy_sync.specs.declared.error.SyncError.{SyncError}
 use Rattle.ivy_sync.specs.declared.error.SyncError.TheVariants as error
 use Rattle.ivy_sync.specs.declared.queue.Queue.{Queue}
+use Rattle.ivy_sync.specs.declared.reduction.Reduction.{Reduction}
 use Rattle.ivy_sync.specs.Broadcasts.{least_of}
 use Rattle.ivy_sync.specs.Doing.{Crosses, stores}
 use Rattle.ivy_sync.specs.Failing.{StopsIn, FailsToCross, FailsToGet, FailsToGive, FailsToSend}
 use Rattle.ivy_sync.specs.Failing.{FailsToTake}
+use Rattle.ivy_sync.specs.Folds.{FailsToGather}
 use Rattle.ivy_sync.specs.Queues.{slot}
 
 -- of a result that has exactly this error, and of one whose error is such a one
@@ -77,6 +79,17 @@ give_stops can b value (error.Call e) old mid new adds fails =
     (Advance b.barrier.count ∷ Await b.barrier.count (least_of b) ∷ []) Done e old mid new adds
     fails
 give_stops can b value (error.Spent place) old mid new adds fails =
+    (fails.0, fails.1, fails.2 ∙ adds)
+
+pub gather_stops : (can : Fault → Type 0) (r : Reduction) (me value : ℕ) (e : SyncError)
+    (old mid new : List Answer) → mid ≡ old ++ stores (r.addr + 8 * me) value ∷ []
+    → FailsToCross can r.barrier.count (r.barrier.passed + r.barrier.nodes) e mid new
+    → FailsToGather can r me value e old new
+gather_stops can r me value (error.Call e) old mid new adds fails =
+    inl (stops_on can (Store 8 (r.addr + 8 * me) value)
+    (Advance r.barrier.count ∷ Await r.barrier.count (r.barrier.passed + r.barrier.nodes) ∷ []) Done e
+    old mid new adds fails)
+gather_stops can r me value (error.Spent place) old mid new adds fails =
     (fails.0, fails.1, fails.2 ∙ adds)
 
 -- the calls of a queue, with their words and counts as the code has them

@@ -19,3 +19,4 @@ pub mod Locked
 pub mod TicketLocks
 pub mod Sums
 pub mod Failing
+pub mod Folded

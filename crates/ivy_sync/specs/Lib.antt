@@ -14,3 +14,4 @@ pub mod Tickets
 pub mod TicketLocks
 pub mod Failing
 pub mod Sums
+pub mod Folds

@@ -8,6 +8,7 @@ mod law;
 mod lock;
 mod once;
 mod queue;
+mod reduction;
 mod ticket_lock;
 
 pub use barrier::Barrier;
@@ -21,4 +22,5 @@ pub use law::{
 pub use lock::Lock;
 pub use once::Once;
 pub use queue::{Queue, Receiver, Sender};
+pub use reduction::Reduction;
 pub use ticket_lock::TicketLock;

@@ -1,9 +1,11 @@
 //! Locks, barriers, queues, reductions, broadcasts, and what is done once. The other nodes' calls are made by
 //! hand, before those of the node that is tried.
 use crate::common::{expect_same, small};
-use ivy_calls::{CallError, SharedMemory, advance, load};
+use ivy_calls::{CallError, SharedMemory, advance, load, store};
 use ivy_model::{Call, Fault};
-use ivy_sync::{Barrier, Broadcast, Lock, Once, Queue, Receiver, Sender, SyncError, TicketLock};
+use ivy_sync::{
+    Barrier, Broadcast, Lock, Once, Queue, Receiver, Reduction, Sender, SyncError, TicketLock,
+};
 use std::process::Abort;
 
 /// That nobody else would ever end this await.
@@ -74,6 +76,23 @@ fn a_barrier_over_and_over(rt: HostRuntime) {
         barrier.wait(&mut memory),
         Err(SyncError::Spent { place: 1 }),
     );
+}
+
+#[test]
+fn a_sum_of_two(rt: HostRuntime) {
+    let mut memory = small(&rt, rt.alloc());
+    expect_same(&rt, store(&mut memory, 72, 5u64), Ok(()));
+    expect_same(&rt, advance(&mut memory, 0), Ok(()));
+    let barrier = Barrier {
+        count: 0,
+        nodes: 2,
+        passed: 0,
+    };
+    let mut reduction = Reduction { addr: 64, barrier };
+    let sum = reduction.fold(&mut memory, 0, 7, 0u64, |sum: u64, value: u64| {
+        sum.wrapping_add(value)
+    });
+    expect_same(&rt, sum, Ok(12));
 }
 
 #[test]

@@ -1,0 +1,44 @@
+ghost use Rattle.std.specs.Prelude.{◌≡◌, ◌+◌, ◌*◌, ◌<◌, ◌^◌, IfErr, IfOk};
+
+use crate::barrier::Barrier;
+use crate::error::SyncError;
+use ivy_calls::{SharedMemory, load, store};
+
+/// A number of each node, from which each node works out the same: node `i` gives its own in the `i`-th word of 8
+/// bytes from `addr` on. Each node has a value of its own.
+///
+/// Nobody else writes these words. Before they are written again, all have to meet once more.
+#[derive(Clone, Copy, Debug, PartialEq, Eq)]
+pub struct Reduction {
+    pub addr: u64,
+    pub barrier: Barrier,
+}
+
+impl Reduction {
+    ghost use Rattle.ivy_sync.specs.Folds.{FailsToGather, Folds};
+
+    /// Gives the number of node `me`, waits for the others, and folds the numbers of all nodes, from node 0 on.
+    pub fn fold<T: Drop, F: Fn(T, u64) -> T + Drop, M: SharedMemory>(
+        &mut self,
+        memory: &mut M,
+        me: u8,
+        value: u64,
+        first: T,
+        f: F,
+    ) -> Result<T, SyncError>
+        requires callable { F.IsAlwaysCallable f }
+        requires fits { self.old.addr + 8 * 256 < 2 ^ 64 }
+        ensures folds { IfOk result (λ out. Folds (λ p x q. F.post f p x q) self.old me value first out (M.answers memory.old) (M.answers memory.new)) }
+        ensures next { IfOk result (λ _. self.new ≡ record self.old { barrier = record self.old.barrier { passed = self.old.barrier.passed + self.old.barrier.nodes } }) }
+        ensures fails { IfErr result (λ error. FailsToGather (λ fault. (state : M) × M.can_fail state fault) self.old me value error (M.answers memory.old) (M.answers memory.new)) }
+    {
+        store(memory, self.addr + 8 * u64::from(me), value)?;
+        self.barrier.wait(memory)?;
+        let mut out = first;
+        for node in 0..self.barrier.nodes {
+            let found = load(memory, self.addr + 8 * u64::from(node))?;
+            out = f(out, found);
+        }
+        Ok(out)
+    }
+}
