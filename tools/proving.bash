@@ -1,9 +1,9 @@
 # shellcheck shell=bash
-# Functions of the script `ivy`, which prove the crates that its program needs, several side by side.
+# Functions of the script `ivy`, which prove the crates that a program needs, several side by side.
 #
 # `rt` locks a crate and all below it, so of two checks over one library the second would wait. Here
 # each check has a room instead: a root of its own, with the crate and the libraries below it. What it
-# made goes back to the crate's folder, where `rt` finds it. The script sets `root`.
+# made goes back to the crate's folder, where `rt` finds it. The script sets `root` and `name`, its program.
 
 crates=$root/crates
 # How many crates are to be proved, and how many are.
@@ -11,7 +11,7 @@ all=0
 proved=0
 
 say() {
-    echo "ivy: $*" >&2
+    echo "${name-ivy}: $*" >&2
 }
 
 fail() {

@@ -1,0 +1,84 @@
+//! The program `ivyscope`: hands the words of the command line, the files and the streams to the commands.
+#![tactic(auto)]
+
+use ivy_model::Fault;
+use ivy_scope::ivy_commands::FilesOf;
+use ivy_scope::ivy_replay::Progress;
+use ivy_scope::{Failure, perform};
+use std::env;
+use std::io::{self, BufWriter, ErrorKind, IsTerminal, Write};
+use std::process::ExitCode;
+use std::rt::{Clock, Env, Files};
+use std::sync::Wait;
+use std::thread::Threads;
+
+/// How many seconds pass before anything is told.
+const SILENT: u64 = 2;
+
+/// Tells standard error how far something is, once a second, where that is a terminal.
+#[derive(Drop)]
+struct Teller<'a, R> {
+    runtime: &'a R,
+    is_terminal: bool,
+    /// In seconds: when the program began, and when something was told.
+    began: u64,
+    told: u64,
+}
+
+/// The seconds of the clock, or 0 where it is refused.
+fn seconds<R: Clock>(rt: &R) -> u64 {
+    match rt.monotonic() {
+        Ok(time) => time.as_secs(),
+        Err(_) => 0,
+    }
+}
+
+impl<R: Clock + Eprint> Progress for Teller<'_, R> {
+    fn tell(&mut self, done: u64) {
+        if !self.is_terminal {
+            return;
+        }
+        let now = seconds(self.runtime);
+        if now > self.began.saturating_add(SILENT) && now > self.told {
+            self.told = now;
+            // Nothing else is said where standard error takes nothing.
+            let _ = eprintln!(self.runtime; "ivyscope: {done} so far");
+        }
+    }
+}
+
+/// Carries out the command. Err only where memory is short before it begins, or a word is not UTF-8.
+fn performed<R, O, E>(rt: &R, out: O, err: &mut E) -> io::Result<u8>
+where
+    R: Env + Files + Clock + Eprint + AllocGlobal + Threads + Wait + Sync,
+    O: Write + Drop,
+    E: Write + IsTerminal,
+{
+    let words: Vec<String> = env::args(rt)?.collect(rt.alloc())?;
+    let mut out = BufWriter::new(rt.alloc(), out)?;
+    let files = FilesOf { runtime: rt };
+    let mut teller = Teller {
+        runtime: rt,
+        is_terminal: err.is_terminal(),
+        began: seconds(rt),
+        told: 0,
+    };
+    Ok(perform(rt, rt.alloc(), &words, &files, &mut out, err, &mut teller))
+}
+
+/// Why the command did not begin.
+fn failure_of(error: &io::Error) -> Failure<'static> {
+    match error.kind() {
+        ErrorKind::OutOfMemory => Failure::Refused(Fault::Memory),
+        _ => Failure::BadCommandLine,
+    }
+}
+
+fn main(rt: HostRuntime) -> ExitCode {
+    let mut err = rt.stderr();
+    let status = match performed(&rt, rt.stdout(), &mut err) {
+        Ok(status) => status,
+        Err(error) => failure_of(&error).report(&mut err),
+    };
+    ExitCode::from(status)
+}

@@ -1,0 +1,81 @@
+//! What is found in all orders of moves, and at standstills.
+
+use crate::common::{Case, answer_of, check_each, expect_all};
+use example_texts::{File, scheduled};
+use std::test::Fail;
+
+const FILES: [File; 3] = [
+    scheduled::STORE_BUFFERING,
+    // Each awaits what the other one advances after that.
+    File {
+        name: "deadlock.ivy",
+        text: "node 0\nset r1 1\nawait r2 r3 r1\nadvance r1\nnode 1\nset r1 1\nawait r2 r1 r1\nadvance r3\n",
+    },
+    File {
+        name: "prints.ivy",
+        text: "node 0\nset r1 7\nprint r1\nnode 1\n",
+    },
+];
+
+const CASES: [Case<'static>; 4] = [
+    (
+        &["settle", "deadlock.ivy"],
+        (
+            5,
+            "node 0, line 3: waits for count 0 to reach 1, and it is 0\n\
+             node 1, line 7: waits for count 1 to reach 1, and it is 0\n",
+            "",
+        ),
+    ),
+    (
+        &["settle", "prints.ivy"],
+        (0, "node 0: 7\nnode 0 ended\nnode 1 ended\n", ""),
+    ),
+    (
+        &["search", "prints.ivy", "--until", "node 0 prints 7"],
+        (
+            0,
+            "# what was looked for, by 2 moves:\nturn 0\nturn 0\n",
+            "",
+        ),
+    ),
+    (
+        &["search", "prints.ivy", "--until", "node 0 says 7"],
+        (
+            2,
+            "",
+            "ivyscope: `node 0 says 7` is not `node I prints X`\n",
+        ),
+    ),
+];
+
+#[test]
+fn standstills(rt: HostRuntime) -> Result<(), Fail> {
+    check_each(&rt, &FILES, &CASES)
+}
+
+/// Of two nodes that store and load each other's word, at most one loads 0. Nobody waits at an end.
+#[test]
+fn store_buffering(rt: HostRuntime) -> Result<(), Fail> {
+    let (status, printed, _told) = answer_of(&rt, &FILES, &["search", "store_buffering.ivy"])?;
+    assert_eq!(rt; status, 0);
+    let parts = [
+        "outputs: node 0: 0, node 1: 1\n",
+        "outputs: node 0: 1, node 1: 0\n",
+        "outputs: node 0: 1, node 1: 1\n",
+        "at each of these ends all programs have ended\n",
+    ];
+    expect_all(&rt, printed.as_str(), &parts);
+    assert!(rt; !printed.as_str().contains("node 0: 0, node 1: 0"));
+    Ok(())
+}
+
+/// A text that deadlocks has an end at which a node waits.
+#[test]
+fn deadlock(rt: HostRuntime) -> Result<(), Fail> {
+    let (status, printed, _told) = answer_of(&rt, &FILES, &["search", "deadlock.ivy"])?;
+    assert_eq!(rt; status, 0);
+    let parts = ["outputs: none\n", "# an end at which a node waits, by"];
+    expect_all(&rt, printed.as_str(), &parts);
+    Ok(())
+}
