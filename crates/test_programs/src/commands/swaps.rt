@@ -175,14 +175,18 @@ node 6 open
 node 7 open
 ";
 
-/// No raise of the number is lost, by a lock that a swap takes, nor by tickets.
+/// Under a lock that a swap takes no raise of the number is lost.
 #[test]
-fn locks(rt: HostRuntime) -> Result<(), Fail> {
-    for lock in [&SPIN_LOCK, &TICKET_LOCK] {
-        let line = format!(in rt.alloc(); "run {}", lock.programs.name)?;
-        check_managers(&rt, &[lock.programs], line.as_str(), (0, lock.out, ""))?;
-    }
-    Ok(())
+fn spin_lock(rt: HostRuntime) -> Result<(), Fail> {
+    let answer = (0, SPIN_LOCK.out, "");
+    check_managers(&rt, &[SPIN_LOCK.programs], "run spin_lock.ivy", answer)
+}
+
+/// Nor is one by tickets.
+#[test]
+fn ticket_lock(rt: HostRuntime) -> Result<(), Fail> {
+    let answer = (0, TICKET_LOCK.out, "");
+    check_managers(&rt, &[TICKET_LOCK.programs], "run ticket_lock.ivy", answer)
 }
 
 /// Whole runs of the other two locks are made by `stress/check`.
