@@ -1,6 +1,5 @@
 -- What a reduction works out, and what it leaves where it fails.
-use Rattle.std.specs.Prelude.{◌≡◌, ℕ, ◌+◌, ◌*◌, ◌%◌, ◌^◌, ◌≤◌, ◌<◌, ◌⊎◌, nat_lt, List, [], ◌∷◌}
-use Rattle.std.specs.Prelude.{◌++◌, if◌then◌else◌, length, sum}
+use Rattle.std.specs.Prelude.{◌≡◌, ℕ, ◌+◌, ◌*◌, ◌^◌, ◌≤◌, ◌⊎◌, List, [], ◌∷◌, ◌++◌, length}
 use Rattle.std.specs.List.{FoldsTo}
 use Rattle.ivy_model.specs.declared.call.Call.TheVariants.{Load, Store, Advance, Await}
 use Rattle.ivy_model.specs.declared.fault.Fault.{Fault}
@@ -28,21 +27,6 @@ pub record Folds {T : Type 0} (calls : T → ℕ → T → Type 0) (r : Reductio
   pub values : List ℕ
   pub gathers : GathersAll r me value values old new
   pub folds : FoldsTo calls first values last
-
--- their sum in 64 bits
-pub record Adds (r : Reduction) (me value out : ℕ) (old new : List Answer) : Type 0 where
-  pub values : List ℕ
-  pub gathers : GathersAll r me value values old new
-  pub sum : out ≡ sum values % 2 ^ 64
-
--- the least and the greatest of these numbers, where this is one of them
-abbrev pub least : ℕ → List ℕ → ℕ
-least n [] = n
-least n (v ∷ vs) = least (if nat_lt v n then v else n) vs
-
-abbrev pub greatest : ℕ → List ℕ → ℕ
-greatest n [] = n
-greatest n (v ∷ vs) = greatest (if nat_lt n v then v else n) vs
 
 -- the value was not given, or the others were not waited for, or a number was not found
 pub record FailsToFind (can_fail : Fault → Type 0) (r : Reduction) (me value : ℕ) (e : SyncError)
