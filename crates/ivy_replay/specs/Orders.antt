@@ -29,7 +29,7 @@ HavePartsBelow count w order = (i : ℕ) → i < count → (n : Answered)
     → slice_get (answers_of w) i ≡ Some n → IsPart (part i order) n
 
 -- it is the world in which the programs of a text begin
-pub record IsOpening (c : Config) (text : List ℕ) (r : Run) : Type 0 where
+pub record BeginsText (c : Config) (text : List ℕ) (r : Run) : Type 0 where
   pub spelled : SpellsText text r.programs
   pub config : r.config ≡ c
   pub world : r.world ≡ opening managed_ops c r.programs

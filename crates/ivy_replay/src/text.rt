@@ -1,6 +1,6 @@
 //! A text of programs, and the configuration that it runs under.
 ghost use Rattle.std.specs.Prelude.{IfOk};
-ghost use Rattle.ivy_replay.specs.Orders.{IsOpening};
+ghost use Rattle.ivy_replay.specs.Orders.{BeginsText};
 
 use ivy_model::{Config, Fault};
 use ivy_world::{Program, World, parse};
@@ -17,7 +17,7 @@ pub struct Text<'a> {
 impl Text<'_> {
     /// The opening world of the programs [1, 2, 20].
     pub fn world(&self) -> Result<World<Global>, Fault>
-        ensures { IfOk result (IsOpening self.now.config self.now.programs.now) }
+        ensures { IfOk result (BeginsText self.now.config self.now.programs.now) }
     {
         World::new(self.alloc, self.config, parse(self.alloc, self.programs)?)
     }

@@ -1,5 +1,5 @@
-use Rattle.std.proofs.Common.{arith, rules}
-use Rattle.std.proofs.lemmas.List.{take_more_same, take_all}
+use Rattle.std.proofs.Common.{arith}
+use Rattle.std.proofs.lemmas.List.{take_more_same}
 use Rattle.ivy_replay.proofs.Parts.{record_same}
 use Rattle.ivy_replay.proofs.explaining.begins_with.Goals as goal
 
