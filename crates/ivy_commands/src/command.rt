@@ -4,7 +4,8 @@ ghost use Rattle.std.specs.Io.KnownBytes.{Appends};
 ghost use Rattle.ivy_model.specs.Config.{IsConfig};
 ghost use Rattle.ivy_model.specs.Legal.{Legal};
 ghost use Rattle.ivy_arguments.specs.ivy_texts.Lines.{verdict_line};
-ghost use Rattle.ivy_commands.specs.Commands.{config_of, final_status, AreSpelled, IsCarriedOut, IsRequestDone, IsSessionFailure, PrintsSession, PrintsVerdict};
+ghost use Rattle.ivy_simulation.specs.Played.{config_of};
+ghost use Rattle.ivy_commands.specs.Commands.{final_status, AreSpelled, IsCarriedOut, IsRequestDone, IsSessionFailure, PrintsSession, PrintsVerdict};
 
 use crate::failure::Failure;
 use crate::print::Reported;
