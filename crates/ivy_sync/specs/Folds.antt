@@ -36,11 +36,12 @@ pub record FailsToFind (can_fail : Fault → Type 0) (r : Reduction) (me value :
   pub stops : StopsIn can_fail (Load 8 (r.addr + 8 * length values) ∷ []) e
       (gathered r.addr r.barrier.count (least_of r) value me found values old) new
 
-abbrev pub FailsToGather : (Fault → Type 0) → Reduction → ℕ → ℕ → SyncError → List Answer → List Answer
-    → Type 0
+abbrev pub FailsToGather : (Fault → Type 0) → Reduction → ℕ → ℕ → SyncError → List Answer
+    → List Answer → Type 0
 FailsToGather can_fail r me value (error.Call e) old new =
     StopsIn can_fail
-    (Store 8 (r.addr + 8 * me) value ∷ Advance r.barrier.count ∷ Await r.barrier.count (least_of r) ∷ [])
+    (Store 8 (r.addr + 8 * me) value ∷ Advance r.barrier.count
+    ∷ Await r.barrier.count (least_of r) ∷ [])
     (error.Call e) old new
     ⊎ FailsToFind can_fail r me value (error.Call e) old new
 FailsToGather can_fail r me value (error.Spent place) old new =
