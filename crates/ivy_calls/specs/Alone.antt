@@ -18,7 +18,8 @@ pub record AloneState : Type 0 where
 
 -- a state is stored as the pair of its fields
 abbrev pub alone_state_code : Coded AloneState
-alone_state_code = code_by (FlatState × List Answer) (coded× flat_state_code (coded_list the_row.coded))
+alone_state_code = code_by (FlatState × List Answer) (coded× flat_state_code
+    (coded_list the_row.coded))
     (λ s. (s.flat, s.answers)) (λ p. record { flat = p.0; answers = p.1 }) (λ _. refl)
 
 -- as the records of any one node, the answers are those of the flat memory from its first state on

@@ -1,3 +1,4 @@
 pub mod Answers
 pub mod Fails
 pub mod Alone
+pub mod Shared

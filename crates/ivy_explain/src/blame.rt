@@ -4,7 +4,7 @@ use std::fmt;
 use std::io::{self, Write};
 
 /// What was expected.
-#[derive(Clone, Copy, Debug, PartialEq, Eq)]
+#[derive(Clone, Copy)]
 pub enum Wanted {
     /// A word that begins a line, of which one is nearly what stands there.
     Keyword(Option<&'static str>),
@@ -27,10 +27,10 @@ pub enum Wanted {
     FirstLine,
     /// An equals sign.
     Equals,
-    /// A call.
-    Call,
-    /// A reply.
-    Reply,
+    /// A call, of which one is nearly what stands there.
+    Call(Option<&'static str>),
+    /// A reply, of which one is nearly what stands there.
+    Reply(Option<&'static str>),
     /// What no test of a line tells.
     Other,
 }
@@ -54,8 +54,10 @@ impl fmt::Display for Wanted {
             Wanted::NewLabel => "a name that no other label of this node has",
             Wanted::FirstLine => "`ivy order`, and how many nodes, pages and bytes of a page",
             Wanted::Equals => "`=` and a reply",
-            Wanted::Call => "a call, as `load 8 256`",
-            Wanted::Reply => "a reply: `value X`, `done` or `refused X`",
+            Wanted::Call(None) => "a call, as `load 8 256`",
+            Wanted::Call(Some(name)) => return write!(f, "a call, perhaps `{name}`"),
+            Wanted::Reply(None) => "a reply: `value X`, `done` or `refused X`",
+            Wanted::Reply(Some(name)) => return write!(f, "a reply, perhaps `{name}`"),
             Wanted::Other => "a text within its limits",
         };
         f.write_str(text)
@@ -63,7 +65,7 @@ impl fmt::Display for Wanted {
 }
 
 /// What is at fault in a line.
-#[derive(Clone, Copy, Debug, PartialEq, Eq)]
+#[derive(Clone, Copy)]
 pub struct Blame<'a> {
     /// The line, from 1.
     pub line: usize,

@@ -1,11 +1,12 @@
 //! What the words of a line may be.
 
 use crate::blame::{Blame, Wanted};
+use crate::nearest::Nearest;
 use crate::words::{Word, Words};
 use ivy_program::parse_number;
 
 /// What a word after the first is to be.
-#[derive(Clone, Copy, Debug, PartialEq, Eq)]
+#[derive(Clone, Copy)]
 pub(crate) enum Operand {
     Register,
     Number,
@@ -18,9 +19,6 @@ pub(crate) type Form = (&'static str, &'static [Operand]);
 
 /// The most letters of a name.
 const MOST_LETTERS: usize = 16;
-
-/// How many letters may be wrong in a word that is nearly right.
-const MOST_WRONG: usize = 2;
 
 /// Whether a word is `r0` to `r15`.
 fn is_register(word: &str) -> bool {
@@ -115,51 +113,13 @@ pub(crate) fn form_of(forms: &[Form], word: &str) -> Option<Form> {
     None
 }
 
-/// How many letters two words have in common, from their beginnings.
-fn common_first(one: &[u8], other: &[u8]) -> usize {
-    let mut count = 0usize;
-    for (a, b) in one.iter().zip(other.iter()) {
-        if *a != *b {
-            break;
-        }
-        count = count.saturating_add(1);
-    }
-    count
-}
-
-/// How many letters two words have in common, from their ends.
-fn common_last(one: &[u8], other: &[u8]) -> usize {
-    let mut count = 0usize;
-    for (a, b) in one.iter().rev().zip(other.iter().rev()) {
-        if *a != *b {
-            break;
-        }
-        count = count.saturating_add(1);
-    }
-    count
-}
-
-/// How many letters of the longer word stand between what both begin with and what both end with.
-fn distance(one: &str, other: &str) -> usize {
-    let (one, other) = (one.as_bytes(), other.as_bytes());
-    let (first, last) = (common_first(one, other), common_last(one, other));
-    let longest = one.len().max(other.len());
-    let shortest = one.len().min(other.len());
-    longest - first.saturating_add(last).min(shortest)
-}
-
 /// The first word of a line that is nearest to a word, where that is nearly it.
 pub(crate) fn nearest(forms: &[Form], word: &str) -> Option<&'static str> {
-    let mut best = MOST_WRONG.saturating_add(1);
-    let mut found = None;
+    let mut nearest = Nearest::new(word);
     for form in forms {
-        let wrong = distance(form.0, word);
-        if wrong < best && wrong < word.len() {
-            best = wrong;
-            found = Some(form.0);
-        }
+        nearest.offer(form.0);
     }
-    found
+    nearest.name()
 }
 
 /// What is at fault in a line that is to be one of these forms.

@@ -5,7 +5,7 @@ use ivy_model::{Call, Config, Fault, Record, Reply, check_order};
 use std::alloc::Global;
 
 /// A record that one memory does not make, after those before it.
-#[derive(Clone, Copy, Debug, PartialEq, Eq)]
+#[derive(Clone, Copy)]
 pub struct Broken {
     /// Its place among the records, from 0.
     pub place: usize,

@@ -6,7 +6,7 @@ use crate::words::Word;
 use std::alloc::{AllocError, Global};
 
 /// A name at a node.
-#[derive(Clone, Copy, Debug, PartialEq, Eq)]
+#[derive(Clone, Copy)]
 pub(crate) struct Named<'a> {
     pub(crate) node: u64,
     pub(crate) line: usize,
@@ -14,7 +14,7 @@ pub(crate) struct Named<'a> {
 }
 
 /// The labels of a text, and the names that its jumps have.
-#[derive(Debug, Drop)]
+#[derive(Drop)]
 pub(crate) struct Labels<'a> {
     labels: Vec<Named<'a>>,
     jumps: Vec<Named<'a>>,

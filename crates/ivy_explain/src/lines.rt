@@ -4,7 +4,7 @@ use crate::words::Words;
 use std::alloc::{AllocError, Global};
 
 /// Of each node, the lines of its instructions, from 1.
-#[derive(Debug, Drop)]
+#[derive(Drop)]
 pub struct Lines {
     nodes: Vec<Vec<usize>>,
 }

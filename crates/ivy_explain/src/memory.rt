@@ -7,7 +7,7 @@ use std::alloc::{AllocError, Global};
 use std::collections::BTreeMap;
 
 /// The bytes of the heap and the counts that are not 0.
-#[derive(Debug, Drop)]
+#[derive(Drop)]
 pub(crate) struct Stood {
     bytes: BTreeMap<u64, u8>,
     counts: BTreeMap<u64, u64>,

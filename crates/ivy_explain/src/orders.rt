@@ -1,7 +1,7 @@
 //! What is at fault in an order.
 
 use crate::blame::{Blame, Wanted};
-use crate::grammar::{Form, Operand, blame_at, blame_end, blame_operands, form_of};
+use crate::grammar::{Form, Operand, blame_at, blame_end, blame_operands, form_of, nearest};
 use crate::words::{Word, Words};
 use ivy_program::parse_number;
 use std::alloc::{AllocError, Global};
@@ -53,19 +53,31 @@ fn part<'a>(
     Ok(Words { words: part, end })
 }
 
-/// What is at fault in words that are to be one of these forms.
-fn blame_form<'a>(
-    line: usize,
-    words: &Words<'a>,
-    forms: &[Form],
-    wanted: Wanted,
-) -> Option<Blame<'a>> {
+/// What is at fault in words that are to be a call.
+fn blame_call<'a>(line: usize, words: &Words<'a>) -> Option<Blame<'a>> {
     let Some(first) = words.get(0) else {
-        return Some(blame_end(line, words, wanted));
+        return Some(blame_end(line, words, Wanted::Call(None)));
     };
-    match form_of(forms, first.text) {
+    match form_of(&CALLS, first.text) {
         Some((_name, operands)) => blame_operands(line, words, 1, operands),
-        None => Some(blame_at(line, first, wanted)),
+        None => {
+            let near = nearest(&CALLS, first.text);
+            Some(blame_at(line, first, Wanted::Call(near)))
+        }
+    }
+}
+
+/// What is at fault in words that are to be a reply.
+fn blame_reply<'a>(line: usize, words: &Words<'a>) -> Option<Blame<'a>> {
+    let Some(first) = words.get(0) else {
+        return Some(blame_end(line, words, Wanted::Reply(None)));
+    };
+    match form_of(&REPLIES, first.text) {
+        Some((_name, operands)) => blame_operands(line, words, 1, operands),
+        None => {
+            let near = nearest(&REPLIES, first.text);
+            Some(blame_at(line, first, Wanted::Reply(near)))
+        }
     }
 }
 
@@ -94,14 +106,14 @@ fn blame_record<'a>(
     let count = words.words.len();
     let equals = equals_in(words).unwrap_or(count);
     let call = part(alloc, words, 1, equals)?;
-    if let Some(blame) = blame_form(line, &call, &CALLS, Wanted::Call) {
+    if let Some(blame) = blame_call(line, &call) {
         return Ok(Some(blame));
     }
     if equals == count {
         return Ok(Some(blame_end(line, words, Wanted::Equals)));
     }
     let reply = part(alloc, words, equals.saturating_add(1), count)?;
-    if let Some(blame) = blame_form(line, &reply, &REPLIES, Wanted::Reply) {
+    if let Some(blame) = blame_reply(line, &reply) {
         return Ok(Some(blame));
     }
     match (reply.get(0), reply.get(1)) {

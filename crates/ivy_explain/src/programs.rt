@@ -35,7 +35,7 @@ const FORMS: [Form; 22] = [
 ];
 
 /// A text of programs that is read line by line.
-#[derive(Debug, Drop)]
+#[derive(Drop)]
 struct Reading<'a> {
     /// How many lines `node` there were.
     nodes: u64,

@@ -3,7 +3,7 @@
 use std::alloc::{AllocError, Global};
 
 /// A word of a line.
-#[derive(Clone, Copy, Debug, PartialEq, Eq)]
+#[derive(Clone, Copy)]
 pub(crate) struct Word<'a> {
     pub(crate) text: &'a str,
     /// The place of its first letter in the line, from 0.
@@ -11,7 +11,7 @@ pub(crate) struct Word<'a> {
 }
 
 /// The words of a line, and where the last one ends.
-#[derive(Debug, Drop)]
+#[derive(Drop)]
 pub(crate) struct Words<'a> {
     pub(crate) words: Vec<Word<'a>>,
     pub(crate) end: usize,

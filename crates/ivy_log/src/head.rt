@@ -4,7 +4,7 @@ use ivy_model::{Config, Fault};
 use ivy_wire::{Content, FrameKind, Message, read};
 
 /// What a message is about.
-#[derive(Clone, Copy, Debug, PartialEq, Eq)]
+#[derive(Clone, Copy)]
 pub struct About {
     /// The node whose call it is.
     pub origin: u8,
@@ -15,7 +15,7 @@ pub struct About {
 }
 
 /// What the frame of a string says, but for the bytes of its page.
-#[derive(Clone, Copy, Debug, PartialEq, Eq)]
+#[derive(Clone, Copy)]
 pub struct Head {
     pub kind: FrameKind,
     /// The node that sent it.

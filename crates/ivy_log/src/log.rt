@@ -7,7 +7,7 @@ use ivy_moves::ivy_link::Verdict;
 use std::alloc::Global;
 
 /// What a move did.
-#[derive(Debug, Drop)]
+#[derive(Drop)]
 pub struct Happening {
     pub step: Move,
     /// The node whose event it is.
@@ -29,7 +29,7 @@ pub struct Happening {
 }
 
 /// What was seen of a run from its opening on.
-#[derive(Debug, Drop)]
+#[derive(Drop)]
 pub struct Log {
     /// Every string that was sent, in the order sent.
     pub strings: Vec<Head>,

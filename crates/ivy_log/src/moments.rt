@@ -12,7 +12,7 @@ use std::alloc::{AllocError, Global};
 use std::collections::BTreeMap;
 
 /// A call is carried out.
-#[derive(Clone, Copy, Debug, PartialEq, Eq)]
+#[derive(Clone, Copy)]
 pub struct Moment {
     /// The node whose call it is.
     pub node: u64,
@@ -21,7 +21,7 @@ pub struct Moment {
 }
 
 /// How far a node is with its call.
-#[derive(Clone, Copy, Debug, PartialEq, Eq)]
+#[derive(Clone, Copy)]
 struct Doing {
     /// How many calls it began.
     number: u64,
@@ -41,7 +41,7 @@ const AT_FIRST: Doing = Doing {
     missing: 0,
 };
 
-#[derive(Debug, Drop)]
+#[derive(Drop)]
 struct Watch {
     nodes: BTreeMap<u64, Doing>,
     counts: BTreeMap<u64, u64>,

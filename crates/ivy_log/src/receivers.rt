@@ -5,7 +5,7 @@ use ivy_moves::ivy_link::{MOST_AHEAD, Verdict};
 use std::alloc::{AllocError, Global};
 
 /// A string that came before its turn.
-#[derive(Clone, Copy, Debug, PartialEq, Eq)]
+#[derive(Clone, Copy)]
 struct Held {
     to: u64,
     source: u8,
@@ -14,7 +14,7 @@ struct Held {
 }
 
 /// How many messages of a node were delivered to another.
-#[derive(Clone, Copy, Debug, PartialEq, Eq)]
+#[derive(Clone, Copy)]
 struct Delivered {
     to: u64,
     source: u8,
@@ -22,7 +22,7 @@ struct Delivered {
 }
 
 /// What came to the nodes so far.
-#[derive(Debug, Drop)]
+#[derive(Drop)]
 pub struct Receivers {
     delivered: Vec<Delivered>,
     held: Vec<Held>,

@@ -10,7 +10,7 @@ use Rattle.ivy_moves.specs.Early.{early_as, node_after, after_mark, early_by, ea
 use Rattle.ivy_moves.specs.Parts.{Happens, AllHappen, AllCanBeMade}
 
 module _ {C : Type 0} (rules : Core C) (c : Config) where
-  mark-after : (n : Node C) (m : Mark) (e : Effect C) → Happens rules c n m e
+  pub mark-after : (n : Node C) (m : Mark) (e : Effect C) → Happens rules c n m e
       → after_mark rules c n m ≡ e.after
   mark-after n Turn e h = ap (node_after rules c n) h.1
   mark-after n (Delivery bytes) e h = ap (node_after rules c n) h.1

@@ -9,4 +9,6 @@ pub mod Splitting
 pub mod Early
 pub mod GoingOn
 pub mod Leading
+pub mod Unseen
+pub mod Carried
 pub use Rattle.ivy_link.proofs as of_ivy_link

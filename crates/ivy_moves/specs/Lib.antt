@@ -6,6 +6,7 @@ pub mod Nodes
 pub mod Worlds
 pub mod Parts
 pub mod Early
+pub mod Carrying
 pub mod Explained
 pub mod Ordered
 pub mod Following

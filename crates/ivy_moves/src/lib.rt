@@ -12,5 +12,5 @@ mod same;
 
 pub use event::{Event, Events};
 pub use ivy_link;
-pub use laws::{parts_go_on, runs_are_their_parts};
+pub use laws::{events_carry_over, parts_go_on, runs_are_their_parts, runs_carry_over};
 pub use moves::Move;

@@ -5,7 +5,7 @@ use ivy_moves::Move;
 use std::alloc::{AllocError, Global};
 
 /// A move that names its string by what its frame says.
-#[derive(Clone, Copy, Debug, PartialEq, Eq)]
+#[derive(Clone, Copy)]
 pub enum Named {
     /// A move that names no string.
     Plain(Move),

@@ -4,6 +4,7 @@ ghost use Rattle.ivy_replay.specs.Orders.{IsPlayed, IsOrderOf};
 
 use crate::explaining::explains;
 use crate::play::{Play, seen};
+use crate::progress::Progress;
 use crate::text::Text;
 use crate::world::history_of;
 use ivy_log::{Moment, moments_of};
@@ -53,8 +54,12 @@ fn records_of(
 }
 
 /// The records of a run, in the order in which their calls were carried out.
-fn candidate(text: &Text<'_>, moves: &[Move]) -> Result<Vec<Record>, Fault> {
-    let play: Play = seen(text, moves)?;
+fn candidate<P: Progress>(
+    text: &Text<'_>,
+    moves: &[Move],
+    progress: &mut P,
+) -> Result<Vec<Record>, Fault> {
+    let play: Play = seen(text, moves, progress)?;
     let moments = moments_of(text.alloc, play.log())?;
     let later = answered(text, moves)?;
     records_of(text, &later, &moments)
@@ -65,10 +70,14 @@ fn candidate(text: &Text<'_>, moves: &[Move]) -> Result<Vec<Record>, Fault> {
 ///
 /// The records stand in the order in which their calls were carried out. None is given where that list did not pass the
 /// test, which was not seen yet.
-pub fn order_of(text: &Text<'_>, moves: &[Move]) -> Result<Option<Vec<Record>>, Fault>
+pub fn order_of<P: Progress>(
+    text: &Text<'_>,
+    moves: &[Move],
+    progress: &mut P,
+) -> Result<Option<Vec<Record>>, Fault>
     ensures { IfOk result (λ found. IfSome found (λ order. IsOrderOf text.now.config text.now.programs.now moves.now order.items)) }
 {
-    let order = candidate(text, moves)?;
+    let order = candidate(text, moves, progress)?;
     let world = played(text, moves)?;
     text.config.check()?;
     if explains(text.alloc, &text.config, &world, &order)? {

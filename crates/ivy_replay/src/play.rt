@@ -1,5 +1,6 @@
 //! A world that is played move by move, and what was seen of it.
 
+use crate::progress::Progress;
 use crate::text::Text;
 use crate::world::{asked_of, history_of, node_of};
 use ivy_log::{Happening, Head, Log, Receivers, Verdict};
@@ -97,19 +98,14 @@ impl Play {
         })?;
         Ok(())
     }
-
-    /// Makes moves in order, up to the first that is refused [1, 17, 19].
-    pub fn make_all(&mut self, moves: &[Move]) -> Result<(), Fault> {
-        for step in moves {
-            self.make(*step)?;
-        }
-        Ok(())
-    }
 }
 
 /// What was seen of the run by these moves [1, 2, 17, 19, 20].
-pub fn seen(text: &Text<'_>, moves: &[Move]) -> Result<Play, Fault> {
+pub fn seen<P: Progress>(text: &Text<'_>, moves: &[Move], progress: &mut P) -> Result<Play, Fault> {
     let mut play = Play::new(text)?;
-    play.make_all(moves)?;
+    for (made, step) in moves.iter().enumerate() {
+        progress.tell(made as u64, "moves");
+        play.make(*step)?;
+    }
     Ok(play)
 }

@@ -2,14 +2,14 @@
 
 /// Is told how far something is that may take long.
 pub trait Progress {
-    /// So many runs were made, or states looked at.
-    fn tell(&mut self, done: u64);
+    /// So many of these are done, as `moves`.
+    fn tell(&mut self, done: u64, what: &str);
 }
 
 /// Is told, and does nothing.
-#[derive(Clone, Copy, Debug)]
+#[derive(Clone, Copy)]
 pub struct Silence;
 
 impl Progress for Silence {
-    fn tell(&mut self, _done: u64) {}
+    fn tell(&mut self, _done: u64, _what: &str) {}
 }

@@ -13,7 +13,7 @@ use std::alloc::Global;
 const MOST_RUNS: u64 = 5_000;
 
 /// A schedule from which moves were dropped.
-#[derive(Debug, Drop)]
+#[derive(Drop)]
 pub struct Shorter {
     pub moves: Vec<Move>,
     /// How many runs were made.
@@ -94,7 +94,7 @@ impl Shortening<'_> {
             if from >= self.named.len() || self.runs >= MOST_RUNS {
                 return Ok(is_shorter);
             }
-            progress.tell(self.runs);
+            progress.tell(self.runs, "runs");
             if self.drop_at(from, count)? {
                 is_shorter = true;
             } else {
@@ -159,7 +159,7 @@ pub fn shortened<P: Progress>(
     moves: &[Move],
     progress: &mut P,
 ) -> Result<Shorter, Fault> {
-    let wanted = seen(text, moves)?;
+    let wanted = seen(text, moves, progress)?;
     let named = Named::all_of(text.alloc, wanted.log())?;
     let mut shortening = Shortening {
         text: *text,

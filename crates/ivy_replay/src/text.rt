@@ -7,7 +7,7 @@ use ivy_world::{Program, World, parse};
 use std::alloc::Global;
 
 /// A text of programs, and the configuration that they run under.
-#[derive(Clone, Copy, Debug)]
+#[derive(Clone, Copy)]
 pub struct Text<'a> {
     pub alloc: Global,
     pub config: Config,

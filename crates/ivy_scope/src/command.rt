@@ -2,20 +2,24 @@
 
 use crate::failure::Failure;
 use crate::faults::{Kind, explain, sound};
+use crate::help::print_help;
 use crate::judging::judge;
 use crate::looking::look;
 use crate::played::{Run, order, schedule, shortest};
-use crate::sessions::{Wishes, run};
+use crate::reading::read;
+use crate::request::{Moves, Request, Steps, View};
+use crate::sessions::run;
 use crate::settled::settle;
 use crate::views::{both, chart, counts};
 use ivy_commands::Texts;
-use ivy_commands::ivy_session::Limits;
 use ivy_replay::Progress;
-use ivy_scope_words::{Moves, Request, Steps, Told, read};
 use std::alloc::Global;
 use std::io::Write;
 use std::sync::Wait;
 use std::thread::Threads;
+
+/// What `--version` prints.
+const VERSION: &str = "1";
 
 /// The exit status where what was asked for failed, but nothing is at fault.
 const FAILED: u8 = 1;
@@ -68,17 +72,6 @@ fn drawn_of(steps: Steps<'_>) -> (u64, u64) {
     }
 }
 
-/// What is asked of a run.
-#[derive(Clone, Copy, Debug, PartialEq, Eq)]
-enum View {
-    Schedule,
-    Shortest,
-    Order,
-    Chart(Option<u64>),
-    Counts,
-    Both,
-}
-
 /// Prints what is asked of a run.
 fn show<'a, T: Texts, W: Write, E: Write, P: Progress>(
     alloc: Global,
@@ -88,7 +81,7 @@ fn show<'a, T: Texts, W: Write, E: Write, P: Progress>(
     out: &mut W,
     err: &mut E,
     progress: &mut P,
-) -> Result<u8, Failure<'a>> {
+) -> Result<(), Failure<'a>> {
     let programs = programs_of(alloc, files, moves.file, err)?;
     let schedule_text = schedule_of(alloc, files, moves.steps, err)?;
     let schedule_text = match &schedule_text {
@@ -103,66 +96,40 @@ fn show<'a, T: Texts, W: Write, E: Write, P: Progress>(
         settings: moves.settings,
     };
     match view {
-        View::Schedule => schedule(&run, out)?,
+        View::Schedule => schedule(&run, out, progress)?,
         View::Shortest => shortest(&run, out, err, progress)?,
-        View::Order => order(&run, out)?,
-        View::Chart(page) => chart(&run, page, out)?,
-        View::Counts => counts(&run, out)?,
-        View::Both => both(&run, out)?,
+        View::Order => order(&run, out, progress)?,
+        View::Chart(page) => chart(&run, page, out, progress)?,
+        View::Counts => counts(&run, out, progress)?,
+        View::Both => both(&run, out, progress)?,
     }
-    Ok(0)
+    Ok(())
 }
 
-/// Prints what is asked of a text alone.
-fn texts<'a, T: Texts, W: Write, E: Write, P: Progress>(
+/// Says what is at fault in a text.
+fn explained<'a, T: Texts, W: Write>(
     alloc: Global,
-    request: Request<'a>,
+    file: &'a str,
+    files: &T,
+    out: &mut W,
+) -> Result<u8, Failure<'a>> {
+    let text = text_of(files, file)?;
+    let is_sound = explain(alloc, file, text.as_str(), out)?;
+    Ok(if is_sound { 0 } else { MISUSED })
+}
+
+/// Says whether an order is legal.
+fn checked<'a, T: Texts, W: Write, E: Write>(
+    alloc: Global,
+    file: &'a str,
     files: &T,
     out: &mut W,
     err: &mut E,
-    progress: &mut P,
 ) -> Result<u8, Failure<'a>> {
-    match request {
-        Request::Explain { file } => {
-            let text = text_of(files, file)?;
-            let is_sound = explain(alloc, file, text.as_str(), out)?;
-            Ok(if is_sound { 0 } else { MISUSED })
-        }
-        Request::Check { file } => {
-            let text = text_of(files, file)?;
-            sound(alloc, Kind::Order, file, text.as_str(), err)?;
-            let is_legal = judge(alloc, file, text.as_str(), out)?;
-            Ok(if is_legal { 0 } else { NOT_LEGAL })
-        }
-        Request::Search {
-            file,
-            states,
-            until,
-            settings,
-        } => {
-            let text = programs_of(alloc, files, file, err)?;
-            let is_found = look(
-                alloc,
-                text.as_str(),
-                settings,
-                (states, until),
-                out,
-                progress,
-            )?;
-            Ok(if is_found { 0 } else { FAILED })
-        }
-        Request::Settle {
-            file,
-            seed,
-            moves,
-            settings,
-        } => {
-            let text = programs_of(alloc, files, file, err)?;
-            let waits = settle(alloc, text.as_str(), settings, (seed, moves), out)?;
-            Ok(if waits { STANDSTILL } else { 0 })
-        }
-        _ => Ok(0),
-    }
+    let text = text_of(files, file)?;
+    sound(alloc, Kind::Order, file, text.as_str(), err)?;
+    let is_legal = judge(alloc, file, text.as_str(), out)?;
+    Ok(if is_legal { 0 } else { NOT_LEGAL })
 }
 
 /// Carries out a request, and gives the exit status.
@@ -175,79 +142,45 @@ fn carry_out<'a, R: Threads + Wait + Sync, T: Texts, W: Write, E: Write, P: Prog
     err: &mut E,
     progress: &mut P,
 ) -> Result<u8, Failure<'a>> {
-    let (moves, asked) = match request {
-        Request::Schedule { moves, shortest } if shortest => (moves, View::Shortest),
-        Request::Schedule { moves, .. } => (moves, View::Schedule),
-        Request::Order { moves } => (moves, View::Order),
-        Request::Chart { moves, page } => (moves, View::Chart(page)),
-        Request::Counts { moves, both } if both => (moves, View::Both),
-        Request::Counts { moves, .. } => (moves, View::Counts),
-        Request::Run { .. } => return session(rt, alloc, request, files, out, err),
-        _ => return texts(alloc, request, files, out, err, progress),
-    };
-    show(alloc, moves, asked, files, out, err, progress)
-}
-
-/// Runs a session.
-fn session<'a, R: Threads + Wait + Sync, T: Texts, W: Write, E: Write>(
-    rt: &R,
-    alloc: Global,
-    request: Request<'a>,
-    files: &T,
-    out: &mut W,
-    err: &mut E,
-) -> Result<u8, Failure<'a>> {
-    let Request::Run {
-        file,
-        turns,
-        capacity,
-        pulse,
-        strict,
-        history,
-        counts,
-        settings,
-    } = request
-    else {
-        return Ok(0);
-    };
-    let text = programs_of(alloc, files, file, err)?;
-    let limits = Limits {
-        capacity,
-        turns,
-        pulse_every: pulse,
-    };
-    let wishes = Wishes {
-        strict,
-        history,
-        counts,
-    };
-    let failed = run(rt, alloc, text.as_str(), limits, settings, wishes, out, err)?;
-    Ok(if failed { FAILED } else { 0 })
-}
-
-/// Carries out what the words ask for, and gives the exit status.
-fn obey<'a, R: Threads + Wait + Sync, T: Texts, W: Write, E: Write, P: Progress>(
-    rt: &R,
-    alloc: Global,
-    words: &'a [String],
-    files: &T,
-    out: &mut W,
-    err: &mut E,
-    progress: &mut P,
-) -> Result<u8, Failure<'a>> {
-    match read(alloc, words) {
-        Ok(request) => carry_out(rt, alloc, request, files, out, err, progress),
-        Err(Told::Memory) => Err(Failure::from(ivy_model::Fault::Memory)),
-        Err(Told::Help(text)) => {
-            write!(out, "{text}")?;
-            Ok(0)
+    match request {
+        Request::Help(command) => print_help(command, out)?,
+        Request::Version => writeln!(out, "ivyscope {VERSION}")?,
+        Request::Explain(file) => return explained(alloc, file, files, out),
+        Request::Check(file) => return checked(alloc, file, files, out, err),
+        Request::Show { moves, view } => show(alloc, moves, view, files, out, err, progress)?,
+        Request::Run {
+            file,
+            limits,
+            wishes,
+            settings,
+        } => {
+            let text = programs_of(alloc, files, file, err)?;
+            let failed = run(rt, alloc, text.as_str(), limits, settings, wishes, out, err)?;
+            return Ok(if failed { FAILED } else { 0 });
         }
-        Err(Told::Bad(text)) => {
-            // The status tells of it also where standard error takes nothing.
-            let _ = write!(err, "{text}");
-            Err(Failure::BadCommandLine)
+        Request::Search {
+            file,
+            states,
+            until,
+            settings,
+        } => {
+            let text = programs_of(alloc, files, file, err)?;
+            let limit = (states, until);
+            let is_found = look(alloc, text.as_str(), settings, limit, out, progress)?;
+            return Ok(if is_found { 0 } else { FAILED });
+        }
+        Request::Settle {
+            file,
+            seed,
+            moves,
+            settings,
+        } => {
+            let text = programs_of(alloc, files, file, err)?;
+            let waits = settle(alloc, text.as_str(), settings, (seed, moves), out, progress)?;
+            return Ok(if waits { STANDSTILL } else { 0 });
         }
     }
+    Ok(0)
 }
 
 /// Carries out a command and gives its exit status: 0 where it was done, 1 where a run was refused, what was looked for
@@ -265,7 +198,10 @@ pub fn perform<R: Threads + Wait + Sync, T: Texts, O: Write, E: Write, P: Progre
     err: &mut E,
     progress: &mut P,
 ) -> u8 {
-    let done = obey(rt, alloc, words, files, out, err, progress);
+    let done = match read(alloc, words) {
+        Ok(request) => carry_out(rt, alloc, request, files, out, err, progress),
+        Err(failure) => Err(failure),
+    };
     let failure = match (done, out.flush()) {
         (Ok(status), Ok(())) => return status,
         (Err(failure), Ok(())) => failure,

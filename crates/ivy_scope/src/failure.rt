@@ -1,15 +1,16 @@
 //! Why a command was not carried out.
 
+use crate::misuse::Misuse;
 use ivy_model::Fault;
 use std::alloc::{AllocError, AllocFailed};
 use std::fmt;
 use std::io::{self, Write};
 
 /// Why a command was not carried out. Its text is what standard error is told.
-#[derive(Clone, Copy, Debug, PartialEq, Eq)]
+#[derive(Clone, Copy)]
 pub enum Failure<'a> {
-    /// The words of the command line are no command. It was told why.
-    BadCommandLine,
+    /// The words of the command line are no command.
+    BadCommandLine(Misuse<'a>),
     /// What is looked for is not written as `node I prints X`.
     BadGoal(&'a str),
     /// The file of this name can't be read as UTF-8.
@@ -28,7 +29,7 @@ impl Failure<'_> {
     /// The exit status: 2 where the command line, a file or the configuration is at fault, else 1.
     pub fn status(&self) -> u8 {
         match self {
-            Failure::BadCommandLine | Failure::BadGoal(_) => 2,
+            Failure::BadCommandLine(_) | Failure::BadGoal(_) => 2,
             Failure::CannotRead(_) | Failure::AtFault(_) => 2,
             Failure::Refused(Fault::BadConfig | Fault::ProgramFault(_)) => 2,
             Failure::Refused(_) | Failure::NoOrder | Failure::Unwritten => 1,
@@ -38,7 +39,7 @@ impl Failure<'_> {
     /// Tells standard error of the failure, and gives the exit status. Nothing more is printed where standard output took
     /// no more.
     pub fn report<E: Write>(&self, err: &mut E) -> u8 {
-        if *self != Failure::Unwritten {
+        if !matches!(self, Failure::Unwritten) {
             // The status tells of the failure also where standard error takes nothing.
             let _ = writeln!(err, "ivyscope: {self}");
         }
@@ -49,7 +50,7 @@ impl Failure<'_> {
 impl fmt::Display for Failure<'_> {
     fn fmt<W: fmt::Write>(&self, f: &mut fmt::Formatter<W>) -> fmt::Result {
         match self {
-            Failure::BadCommandLine => write!(f, "bad command line"),
+            Failure::BadCommandLine(misuse) => write!(f, "bad command line: {misuse}"),
             Failure::BadGoal(text) => write!(f, "`{text}` is not `node I prints X`"),
             Failure::CannotRead(name) => write!(f, "cannot read {name}"),
             Failure::AtFault(name) => write!(f, "{name} is at fault"),
@@ -57,6 +58,12 @@ impl fmt::Display for Failure<'_> {
             Failure::NoOrder => write!(f, "no order passed the test"),
             Failure::Unwritten => write!(f, "standard output took no more"),
         }
+    }
+}
+
+impl<'a> From<Misuse<'a>> for Failure<'a> {
+    fn from(misuse: Misuse<'a>) -> Self {
+        Failure::BadCommandLine(misuse)
     }
 }
 

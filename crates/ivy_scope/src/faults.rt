@@ -6,28 +6,38 @@ use ivy_explain::{
     Blame, Wanted, blames_of_order, blames_of_programs, blames_of_schedule, print_blame,
 };
 use ivy_model::Fault;
-use ivy_program::{parse, words_of};
+use ivy_program::{parse, parse_number, words_of};
 use std::alloc::{AllocError, Global};
 use std::io::{self, Write};
 
 /// What a text is.
-#[derive(Clone, Copy, Debug, PartialEq, Eq)]
+#[derive(Clone, Copy)]
 pub(crate) enum Kind {
     Programs,
     Schedule,
     Order,
 }
 
-/// What a text is, by its first word.
-pub(crate) fn kind_of(alloc: Global, text: &str) -> Result<Kind, AllocError> {
+/// What a text is that has a line with this first word, if the word tells.
+fn kind_by(first: &str) -> Option<Kind> {
+    match first {
+        "node" => Some(Kind::Programs),
+        "turn" | "deliver" | "pulse" => Some(Kind::Schedule),
+        "ivy" => Some(Kind::Order),
+        // A record begins with its node.
+        _ if parse_number(first).is_some() => Some(Kind::Order),
+        _ => None,
+    }
+}
+
+/// What a text is, by the first of its lines whose first word tells. Else it is taken for programs.
+fn kind_of(alloc: Global, text: &str) -> Result<Kind, AllocError> {
     for line in text.lines() {
         let words = words_of(alloc, line)?;
         if let Some(first) = words.first() {
-            return Ok(match *first {
-                "ivy" => Kind::Order,
-                "turn" | "deliver" | "pulse" => Kind::Schedule,
-                _ => Kind::Programs,
-            });
+            if let Some(kind) = kind_by(first) {
+                return Ok(kind);
+            }
         }
     }
     Ok(Kind::Programs)

@@ -10,7 +10,7 @@ use std::alloc::Global;
 use std::io::{self, Write};
 
 /// A run: its programs, and where its moves come from.
-#[derive(Clone, Copy, Debug)]
+#[derive(Clone, Copy)]
 pub(crate) struct Run<'a> {
     pub(crate) alloc: Global,
     pub(crate) programs: &'a str,
@@ -44,11 +44,15 @@ impl<'a> Run<'a> {
     }
 
     /// The moves.
-    pub(crate) fn moves(&self, text: &Text<'_>) -> Result<Vec<Move>, Failure<'static>> {
+    pub(crate) fn moves<P: Progress>(
+        &self,
+        text: &Text<'_>,
+        progress: &mut P,
+    ) -> Result<Vec<Move>, Failure<'static>> {
         let (seed, count) = self.drawn;
         match self.schedule {
             Some(schedule) => Ok(parse_schedule(self.alloc, schedule)?),
-            None => Ok(drawn_moves(text, seed, count)?),
+            None => Ok(drawn_moves(text, seed, count, progress)?),
         }
     }
 }
@@ -62,9 +66,13 @@ pub(crate) fn print_moves<W: Write>(moves: &[Move], out: &mut W) -> io::Result<(
 }
 
 /// Prints the moves of a run.
-pub(crate) fn schedule<W: Write>(run: &Run<'_>, out: &mut W) -> Result<(), Failure<'static>> {
+pub(crate) fn schedule<W: Write, P: Progress>(
+    run: &Run<'_>,
+    out: &mut W,
+    progress: &mut P,
+) -> Result<(), Failure<'static>> {
     let text = run.text()?;
-    let moves = run.moves(&text)?;
+    let moves = run.moves(&text, progress)?;
     print_moves(&moves, out)?;
     Ok(())
 }
@@ -77,7 +85,7 @@ pub(crate) fn shortest<W: Write, E: Write, P: Progress>(
     progress: &mut P,
 ) -> Result<(), Failure<'static>> {
     let text = run.text()?;
-    let moves = run.moves(&text)?;
+    let moves = run.moves(&text, progress)?;
     let shorter = shortened(&text, &moves, progress)?;
     let (before, after, runs) = (moves.len(), shorter.moves.len(), shorter.runs);
     let end = if shorter.is_least {
@@ -105,10 +113,14 @@ fn print_order<W: Write>(config: &Config, records: &[Record], out: &mut W) -> io
 }
 
 /// Prints the order of records that explains a run.
-pub(crate) fn order<W: Write>(run: &Run<'_>, out: &mut W) -> Result<(), Failure<'static>> {
+pub(crate) fn order<W: Write, P: Progress>(
+    run: &Run<'_>,
+    out: &mut W,
+    progress: &mut P,
+) -> Result<(), Failure<'static>> {
     let text = run.text()?;
-    let moves = run.moves(&text)?;
-    match order_of(&text, &moves)? {
+    let moves = run.moves(&text, progress)?;
+    match order_of(&text, &moves, progress)? {
         Some(records) => Ok(print_order(&text.config, &records, out)?),
         None => Err(Failure::NoOrder),
     }

@@ -1,16 +1,16 @@
 //! Calls that were refused.
 
-use crate::failure::Failure;
+use crate::standing::Listing;
 use ivy_commands::ivy_session::Report;
-use ivy_explain::{Lines, Place, Walk, lines_of};
+use ivy_explain::{Lines, Place, Walk};
 use ivy_model::{Call, Record, Reply};
-use ivy_program::{Program, parse};
+use ivy_program::Program;
 use std::alloc::{AllocError, Global};
 use std::fmt;
 use std::io::{self, Write};
 
 /// The calls of one line of a node that were refused for one reason.
-#[derive(Clone, Copy, Debug, PartialEq, Eq)]
+#[derive(Clone, Copy)]
 pub(crate) struct Refusal {
     node: u64,
     line: Option<usize>,
@@ -108,15 +108,14 @@ fn note_all(
 /// The calls of a session that were refused, by node and line.
 pub(crate) fn refusals_of(
     alloc: Global,
-    programs: &str,
+    listing: &Listing,
     report: &Report<Global>,
-) -> Result<Vec<Refusal>, Failure<'static>> {
-    let lines = lines_of(alloc, programs)?;
+) -> Result<Vec<Refusal>, AllocError> {
     let mut refusals = Vec::new(alloc);
-    let all = parse(alloc, programs)?;
     for node in 0..report.nodes() {
-        if let Some(program) = all.get(node as usize) {
-            note_all(&mut refusals, node, program, report.history(node), &lines)?;
+        if let Some(program) = listing.programs.get(node as usize) {
+            let history = report.history(node);
+            note_all(&mut refusals, node, program, history, &listing.lines)?;
         }
     }
     Ok(refusals)

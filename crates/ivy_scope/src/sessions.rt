@@ -3,6 +3,7 @@
 use crate::calls::print_calls;
 use crate::failure::Failure;
 use crate::refused::{refusals_of, tell_all};
+use crate::standing::Listing;
 use ivy_commands::ivy_session::{Limits, OpenGate, Report, Session};
 use ivy_explain::ivy_texts::{RecordText, Settings, print_output};
 use ivy_model::Record;
@@ -13,7 +14,7 @@ use std::sync::Wait;
 use std::thread::Threads;
 
 /// What is printed of a session beside the outputs, and whether a refused call counts as a failure.
-#[derive(Clone, Copy, Debug, PartialEq, Eq)]
+#[derive(Clone, Copy)]
 pub(crate) struct Wishes {
     pub(crate) strict: bool,
     pub(crate) history: bool,
@@ -57,7 +58,7 @@ pub(crate) fn run<R: Threads + Wait + Sync, W: Write, E: Write>(
     let config = settings.config(parsed.len())?;
     let report = Session::run(rt, alloc, config, parsed, limits, &OpenGate)?;
     print_report(&report, wishes, out)?;
-    let refusals = refusals_of(alloc, programs, &report)?;
+    let refusals = refusals_of(alloc, &Listing::of(alloc, programs)?, &report)?;
     // What is printed stands also where standard error takes nothing.
     let _ = tell_all(&refusals, err);
     Ok(wishes.strict && !refusals.is_empty())

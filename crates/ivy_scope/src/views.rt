@@ -3,18 +3,17 @@
 use crate::failure::Failure;
 use crate::played::Run;
 use ivy_model::Kind;
-use ivy_pictures::ivy_log::Log;
-use ivy_pictures::{
-    Chart, Counts, Picture, Writes, count, print_both, print_counts, print_sharing,
+use ivy_replay::ivy_log::{
+    Chart, Counts, Log, Picture, Writes, count, print_both, print_counts, print_sharing,
 };
-use ivy_replay::seen;
+use ivy_replay::{Progress, seen};
 use std::io::Write;
 
 /// What is seen of a run.
-fn log_of(run: &Run<'_>) -> Result<Log, Failure<'static>> {
+fn log_of<P: Progress>(run: &Run<'_>, progress: &mut P) -> Result<Log, Failure<'static>> {
     let text = run.text()?;
-    let moves = run.moves(&text)?;
-    Ok(seen(&text, &moves)?.into_log())
+    let moves = run.moves(&text, progress)?;
+    Ok(seen(&text, &moves, progress)?.into_log())
 }
 
 /// The first page that a message is about, or 1.
@@ -32,13 +31,14 @@ fn first_page(log: &Log) -> u32 {
 }
 
 /// Draws a run.
-pub(crate) fn chart<W: Write>(
+pub(crate) fn chart<W: Write, P: Progress>(
     run: &Run<'_>,
     page: Option<u64>,
     out: &mut W,
+    progress: &mut P,
 ) -> Result<(), Failure<'static>> {
     let config = run.text()?.config;
-    let log = log_of(run)?;
+    let log = log_of(run, progress)?;
     let page = match page {
         Some(page) => u32::try_from(page).unwrap_or(u32::MAX),
         None => first_page(&log),
@@ -51,15 +51,19 @@ pub(crate) fn chart<W: Write>(
     Ok(())
 }
 
-fn counts_of(run: &Run<'_>) -> Result<Counts, Failure<'static>> {
+fn counts_of<P: Progress>(run: &Run<'_>, progress: &mut P) -> Result<Counts, Failure<'static>> {
     let config = run.text()?.config;
-    Ok(count(run.alloc, &config, &log_of(run)?)?)
+    Ok(count(run.alloc, &config, &log_of(run, progress)?)?)
 }
 
 /// Prints what is counted of a run, by node and by page.
-pub(crate) fn counts<W: Write>(run: &Run<'_>, out: &mut W) -> Result<(), Failure<'static>> {
+pub(crate) fn counts<W: Write, P: Progress>(
+    run: &Run<'_>,
+    out: &mut W,
+    progress: &mut P,
+) -> Result<(), Failure<'static>> {
     let config = run.text()?.config;
-    let log = log_of(run)?;
+    let log = log_of(run, progress)?;
     print_counts(&count(run.alloc, &config, &log)?, out)?;
     let writes = Writes::of(run.alloc, &config, &log)?;
     print_sharing(&writes, out)?;
@@ -67,9 +71,13 @@ pub(crate) fn counts<W: Write>(run: &Run<'_>, out: &mut W) -> Result<(), Failure
 }
 
 /// Prints what is counted of a run under either manager.
-pub(crate) fn both<W: Write>(run: &Run<'_>, out: &mut W) -> Result<(), Failure<'static>> {
-    let fixed = counts_of(&run.under(Kind::Fixed))?;
-    let dynamic = counts_of(&run.under(Kind::Dynamic))?;
+pub(crate) fn both<W: Write, P: Progress>(
+    run: &Run<'_>,
+    out: &mut W,
+    progress: &mut P,
+) -> Result<(), Failure<'static>> {
+    let fixed = counts_of(&run.under(Kind::Fixed), progress)?;
+    let dynamic = counts_of(&run.under(Kind::Dynamic), progress)?;
     print_both(&fixed, &dynamic, out)?;
     Ok(())
 }

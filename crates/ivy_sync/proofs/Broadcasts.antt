@@ -12,10 +12,11 @@ use Rattle.ivy_model.specs.Memory.{Memory}
 use Rattle.ivy_calls.specs.declared.answer.Answer.{Answer}
 use Rattle.ivy_calls.specs.Answers.{answers_of}
 use Rattle.ivy_sync.specs.Barriers.{CrossesAt}
-use Rattle.ivy_sync.specs.Broadcasts.{HasGiven, HasGot, BroadcastsArrive}
-use Rattle.ivy_sync.specs.Counts.{is_advance}
+use Rattle.ivy_sync.specs.Broadcasts.{GivesOnce, GetsOnce, BroadcastsArrive}
+use Rattle.ivy_sync.specs.Counts.{is_advance_of}
 use Rattle.ivy_sync.specs.Doing.{loads, stores}
-use Rattle.ivy_sync.specs.Words.{word, IsWord, is_write, NoWrite, IsWhole, Reads, last, Runs}
+use Rattle.ivy_sync.specs.Words.{word, IsHeapWord, NoWrite, IsWhole, Reads, last}
+use Rattle.ivy_sync.specs.Words.{LeadsThrough}
 use Rattle.ivy_sync.proofs.Lists.{All-both}
 use Rattle.ivy_sync.proofs.Phases.{no_write_whole, phases-share}
 use Rattle.ivy_sync.proofs.Registers.{last-append}
@@ -32,7 +33,7 @@ record Met (i addr k least given got j : ℕ) (history : List Answer) : Type 0 w
   gets : (j ≡ i → ⊥) → (rest : List Answer) × (after ≡ loads addr got ∷ rest)
 
 met_giver : (i addr k least given got j : ℕ) (history : List Answer) → j ≡ i
-    → HasGiven addr k least given history → Met i addr k least given got j history
+    → GivesOnce addr k least given history → Met i addr k least given got j history
 met_giver i addr k least given got j history same w = record {
   before = w.before ++ stores addr given ∷ [];
   after = w.after;
@@ -40,7 +41,7 @@ met_giver i addr k least given got j history same w = record {
     found = w.found;
     whole = w.whole;
     alone =
-        All-both (λ (r : Answer). is_advance k r.call ≡ false) w.before (stores addr given ∷ [])
+        All-both (λ (r : Answer). is_advance_of k r.call ≡ false) w.before (stores addr given ∷ [])
         w.alone
         (refl, tt);
   };
@@ -51,7 +52,7 @@ met_giver i addr k least given got j history same w = record {
 }
 
 met_getter : (i addr k least given got j : ℕ) (history : List Answer) → (j ≡ i → ⊥)
-    → HasGot addr k least got history → Met i addr k least given got j history
+    → GetsOnce addr k least got history → Met i addr k least given got j history
 met_getter i addr k least given got j history other w = record {
   before = w.before;
   after = loads addr got ∷ w.after;
@@ -63,18 +64,18 @@ met_getter i addr k least given got j history other w = record {
 }
 
 module _ (c : Config) (old new : Memory) (order : List Record) (addr k count i given : ℕ)
-    (got : ℕ → ℕ) (run : Runs c old order new) (at : slice_get old.counts k ≡ Some count)
-    (place : IsWord c addr) (l : i < c.nodes) (fits : given < 2 ^ 64)
-    (giver : HasGiven addr k (count + c.nodes) given (answers_of i order))
+    (got : ℕ → ℕ) (run : LeadsThrough c old order new) (at : slice_get old.counts k ≡ Some count)
+    (place : IsHeapWord c addr) (l : i < c.nodes) (fits : given < 2 ^ 64)
+    (giver : GivesOnce addr k (count + c.nodes) given (answers_of i order))
     (getters : (j : ℕ) → j < c.nodes → j ≢ i
-    → HasGot addr k (count + c.nodes) (got j) (answers_of j order)) where
+    → GetsOnce addr k (count + c.nodes) (got j) (answers_of j order)) where
   met : (j : ℕ) → j < c.nodes
       → Met i addr k (count + c.nodes) given (got j) j (answers_of j order)
   met j m =
       elim (cases_eq j i) [
         | inl same ↦
             met_giver i addr k (count + c.nodes) given (got j) j (answers_of j order) same
-            (subst (λ n. HasGiven addr k (count + c.nodes) given (answers_of n order)) (sym same)
+            (subst (λ n. GivesOnce addr k (count + c.nodes) given (answers_of n order)) (sym same)
             giver)
         | inr other ↦
             met_getter i addr k (count + c.nodes) given (got j) j (answers_of j order) other

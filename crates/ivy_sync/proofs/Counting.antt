@@ -22,17 +22,17 @@ use Rattle.ivy_model.specs.Legal.{ServesAll}
 use Rattle.ivy_model.proofs.Sizes.{by_option, by_bool}
 use Rattle.ivy_calls.specs.declared.answer.Answer.{Answer}
 use Rattle.ivy_calls.specs.Answers.{answer, answers, answers_of}
-use Rattle.ivy_calls.proofs.Answers.{answers-append}
-use Rattle.ivy_sync.specs.Counts.{is_advance, is_advance_kind, raised, raised_kind, advances}
+use Rattle.ivy_sync.specs.Counts.{is_advance_of, is_advance_of_kind, raised, raised_kind}
+use Rattle.ivy_sync.specs.Counts.{times_advanced}
 use Rattle.ivy_sync.specs.Counts.{NoAdvance}
 use Rattle.ivy_sync.specs.Doing.{arrives, passes}
 use Rattle.ivy_sync.proofs.Cuts.{OwnOr, leads_cut}
 use Rattle.ivy_sync.proofs.Lists.{All-append}
 use Rattle.ivy_sync.proofs.Totals.{tally, tally-append}
 
-pub tally-advances : (k : ℕ) (rs : List Answer) → tally (raised k) rs ≡ advances k rs
-tally-advances k [] = refl
-tally-advances k (r ∷ rs) = ap (λ n. raised k r + n) (tally-advances k rs)
+pub tally-times_advanced : (k : ℕ) (rs : List Answer) → tally (raised k) rs ≡ times_advanced k rs
+tally-times_advanced k [] = refl
+tally-times_advanced k (r ∷ rs) = ap (λ n. raised k r + n) (tally-times_advanced k rs)
 
 one_most : (b : Bool) → cond b 1 0 ≤ 1
 one_most true = omega arith
@@ -51,7 +51,7 @@ raised_kind_most k (Free addr) reply = omega arith
 pub raised_most : (k : ℕ) (r : Answer) → raised k r ≤ 1
 raised_most k r = raised_kind_most k (kind_of_call r.call) r.reply
 
-raised_kind_none : (k : ℕ) (kind : CallKind) (reply : Reply) → is_advance_kind k kind ≡ false
+raised_kind_none : (k : ℕ) (kind : CallKind) (reply : Reply) → is_advance_of_kind k kind ≡ false
     → raised_kind k kind reply ≡ 0
 raised_kind_none k (Advance j) Done h = ap (λ b. cond b 1 0) h
 raised_kind_none k (Advance j) (Value x) h = refl
@@ -63,7 +63,7 @@ raised_kind_none k (Alloc size) reply h = refl
 raised_kind_none k (Free addr) reply h = refl
 
 -- a call that is no advance of k adds nothing
-pub raised_none : (k : ℕ) (r : Answer) → is_advance k r.call ≡ false → raised k r ≡ 0
+pub raised_none : (k : ℕ) (r : Answer) → is_advance_of k r.call ≡ false → raised k r ≡ 0
 raised_none k r h = raised_kind_none k (kind_of_call r.call) r.reply h
 
 pub none_raised : (k : ℕ) (rs : List Answer) → NoAdvance k rs → tally (raised k) rs ≡ 0
@@ -83,7 +83,7 @@ raised_once k before h =
 
 -- where node i alone advances k, its answers alone tell how often
 tally_step : (k i : ℕ) (r : Record) (rs : List Record) (b : Bool) → (r.node == i) ≡ b
-    → OwnOr i (λ a. is_advance k a.call ≡ false) r
+    → OwnOr i (λ a. is_advance_of k a.call ≡ false) r
     → raised k (answer r) + tally (raised k) (answers_of i rs)
     ≡ tally (raised k) (answers (cond b (r ∷ part i rs) (part i rs)))
 tally_step k i r rs true is h = refl
@@ -92,7 +92,7 @@ tally_step k i r rs false is (inr quiet) =
     let none = raised_none k (answer r) quiet in omega (arith, none)
 
 pub tally-part : (k i : ℕ) (rs : List Record)
-    → Each (OwnOr i (λ a. is_advance k a.call ≡ false)) rs
+    → Each (OwnOr i (λ a. is_advance_of k a.call ≡ false)) rs
     → tally (raised k) (answers rs) ≡ tally (raised k) (answers_of i rs)
 tally-part k i [] h = refl
 tally-part k i (r ∷ rs) h =
@@ -217,7 +217,7 @@ awaited c old new k n least found p e =
 pub reached : (c : Config) (old mid : Memory) (xs : List Record) (r : Record) (ys : List Record)
     (k count least found i : ℕ) → answer r ≡ passes k least found
     → ServesAll c old (xs ++ r ∷ ys) mid → slice_get old.counts k ≡ Some count
-    → Each (OwnOr i (λ a. is_advance k a.call ≡ false)) (xs ++ r ∷ ys)
+    → Each (OwnOr i (λ a. is_advance_of k a.call ≡ false)) (xs ++ r ∷ ys)
     → least ≤ count + tally (raised k) (answers_of i xs)
 reached c old mid xs r ys k count least found i is led at alone =
     let w = leads_cut c old mid xs (r ∷ ys) led in
@@ -227,6 +227,6 @@ reached c old mid xs r ys k count least found i is led at alone =
     let wants = awaited c w.0 w.2.0 k (count + tally (raised k) (answers xs)) least found served
     there in
     let own =
-    tally-part k i xs (All-append (OwnOr i (λ a. is_advance k a.call ≡ false)) xs (r ∷ ys)
+    tally-part k i xs (All-append (OwnOr i (λ a. is_advance_of k a.call ≡ false)) xs (r ∷ ys)
     alone).0 in
     omega (arith, wants, own)

@@ -1,5 +1,6 @@
 -- Where a call of several calls stops.
-use Rattle.std.proofs.Common.{◌≡◌, ℕ, ◌+◌, ◌-◌, ◌*◌, inl, inr, List, [], ◌∷◌, ◌++◌, refl, subst, sym, ◌∙◌}
+use Rattle.std.proofs.Common.{◌≡◌, ℕ, ◌+◌, ◌-◌, ◌*◌, inl, inr, List, [], ◌∷◌, ◌++◌, refl, subst}
+use Rattle.std.proofs.Common.{sym, ◌∙◌}
 use Rattle.std.specs.Prelude.{IfErr, IsErrAnd, Result, Ok, Err}
 use Rattle.ivy_model.specs.declared.call.Call.{Call}
 use Rattle.ivy_model.specs.declared.call.Call.TheVariants.{Load, Store, Advance, Await}
@@ -16,7 +17,7 @@ use Rattle.ivy_sync.specs.declared.error.SyncError.{SyncError}
 use Rattle.ivy_sync.specs.declared.error.SyncError.TheVariants as error
 use Rattle.ivy_sync.specs.declared.queue.Queue.{Queue}
 use Rattle.ivy_sync.specs.declared.reduction.Reduction.{Reduction}
-use Rattle.ivy_sync.specs.Broadcasts.{least_of}
+use Rattle.ivy_sync.specs.Barriers.{least_of}
 use Rattle.ivy_sync.specs.Doing.{Crosses, stores}
 use Rattle.ivy_sync.specs.Failing.{StopsIn, FailsToCross, FailsToGet, FailsToGive, FailsToSend}
 use Rattle.ivy_sync.specs.Failing.{FailsToTake}
@@ -64,19 +65,21 @@ third_stops can one two three calls reply reply' e old mid later new adds adds' 
     (second_stops can two three calls reply' e mid later new adds' fails)
 
 pub get_stops : (can : Fault → Type 0) (b : Broadcast) (e : CallError) (old mid new : List Answer)
-    → Crosses b.barrier.count (least_of b) old mid → Fails can (Load 8 b.addr) e mid new
+    → Crosses b.barrier.count (least_of b.barrier) old mid → Fails can (Load 8 b.addr) e mid new
     → FailsToGet can b (error.Call e) old new
 get_stops can b e old mid new crosses fails =
-    third_stops can (Advance b.barrier.count) (Await b.barrier.count (least_of b))
+    third_stops can (Advance b.barrier.count) (Await b.barrier.count (least_of b.barrier))
     (Load 8 b.addr) []
     Done (Value crosses.found) e old _ mid new refl crosses.whole fails
 
 pub give_stops : (can : Fault → Type 0) (b : Broadcast) (value : ℕ) (e : SyncError)
     (old mid new : List Answer) → mid ≡ old ++ stores b.addr value ∷ []
-    → FailsToCross can b.barrier.count (least_of b) e mid new → FailsToGive can b value e old new
+    → FailsToCross can b.barrier.count (least_of b.barrier) e mid new
+    → FailsToGive can b value e old new
 give_stops can b value (error.Call e) old mid new adds fails =
     stops_on can (Store 8 b.addr value)
-    (Advance b.barrier.count ∷ Await b.barrier.count (least_of b) ∷ []) Done e old mid new adds
+    (Advance b.barrier.count ∷ Await b.barrier.count (least_of b.barrier)
+    ∷ []) Done e old mid new adds
     fails
 give_stops can b value (error.Spent place) old mid new adds fails =
     (fails.0, fails.1, fails.2 ∙ adds)
@@ -87,7 +90,8 @@ pub gather_stops : (can : Fault → Type 0) (r : Reduction) (me value : ℕ) (e 
     → FailsToGather can r me value e old new
 gather_stops can r me value (error.Call e) old mid new adds fails =
     inl (stops_on can (Store 8 (r.addr + 8 * me) value)
-    (Advance r.barrier.count ∷ Await r.barrier.count (r.barrier.passed + r.barrier.nodes) ∷ []) Done e
+    (Advance r.barrier.count ∷ Await r.barrier.count (r.barrier.passed + r.barrier.nodes)
+    ∷ []) Done e
     old mid new adds fails)
 gather_stops can r me value (error.Spent place) old mid new adds fails =
     (fails.0, fails.1, fails.2 ∙ adds)

@@ -13,7 +13,7 @@ use Rattle.ivy_model.specs.Legal.{ServesAll}
 use Rattle.ivy_model.specs.Memory.{Memory, first}
 use Rattle.ivy_model.proofs.Limits.{page_has_words}
 use Rattle.ivy_model.proofs.Sizes.{first_sized}
-use Rattle.ivy_sync.specs.Words.{word, IsWord, Runs}
+use Rattle.ivy_sync.specs.Words.{word, IsHeapWord, LeadsThrough}
 
 zero_in : (k i : ℕ) → slice_index (replicate k 0) i ≡ 0
 zero_in zero i = refl
@@ -44,7 +44,7 @@ pub first_count : (c : Config) (k : ℕ) → k < count_len c
 first_count c k few = zero_at (count_len c) k few
 
 pub first_run : (c : Config) (rs : List Record) (new : Memory) → IsConfig c
-    → ServesAll c (first c) rs new → Runs c (first c) rs new
+    → ServesAll c (first c) rs new → LeadsThrough c (first c) rs new
 first_run c rs new h led = record { config = h; sized = first_sized c; led = led }
 
 -- from the first word of the heap on, each eighth address is that of a word
@@ -57,7 +57,7 @@ by_tests true false reserved p q r = absurd (cc)
 by_tests false below reserved p q r = absurd (cc)
 
 pub heap_word : (c : Config) (n : ℕ) → IsConfig c → c.page_size + 8 * n + 8 ≤ heap_end c
-    → IsWord c (c.page_size + 8 * n)
+    → IsHeapWord c (c.page_size + 8 * n)
 heap_word c n h fits =
     let words = page_has_words c.page_size h.page_size in
     let whole = words.words in

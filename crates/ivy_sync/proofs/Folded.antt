@@ -1,5 +1,6 @@
 -- What a reduction has folded so far.
-use Rattle.std.proofs.Common.{◌≡◌, ℕ, ◌+◌, ◌*◌, ◌%◌, ◌^◌, ◌<◌, List, [], ◌∷◌, ◌++◌, length, length-append}
+use Rattle.std.proofs.Common.{◌≡◌, ℕ, ◌+◌, ◌*◌, List, [], ◌∷◌, ◌++◌, length}
+use Rattle.std.proofs.Common.{length-append}
 use Rattle.std.proofs.Common.{inl, inr, refl, sym, ap, subst, ◌∙◌, append_assoc, append-nil, arith}
 use Rattle.std.specs.List.{FoldsTo}
 use Rattle.std.proofs.lemmas.Fn.{FoldsTo-push}
@@ -11,7 +12,7 @@ use Rattle.ivy_calls.specs.Fails.{Fails}
 use Rattle.ivy_sync.specs.declared.error.SyncError.TheVariants as error
 use Rattle.ivy_sync.specs.declared.reduction.Reduction.{Reduction}
 use Rattle.ivy_sync.specs.Doing.{Crosses, arrives, loads, passes, stores}
-use Rattle.ivy_sync.specs.Folds.{FailsToFind, FailsToGather, Folds}
+use Rattle.ivy_sync.specs.Folds.{FailsToGather, Folds}
 use Rattle.ivy_sync.specs.Reductions.{finds, gathered}
 use Rattle.ivy_sync.proofs.Reductions.{finds-append}
 
@@ -53,7 +54,8 @@ pub gathered_so : (r : Reduction) (me value : ℕ) (values : List ℕ) (h0 h1 h2
     → (crosses : Crosses r.barrier.count (r.barrier.passed + r.barrier.nodes) h1 h2)
     → h3 ≡ h2 ++ finds r.addr 0 values
     → h3
-    ≡ gathered r.addr r.barrier.count (r.barrier.passed + r.barrier.nodes) value me crosses.found values h0
+    ≡ gathered r.addr r.barrier.count (r.barrier.passed + r.barrier.nodes) value me crosses.found
+    values h0
 gathered_so r me value values h0 h1 h2 h3 e crosses found =
     let k = r.barrier.count in
     let pass = passes k (r.barrier.passed + r.barrier.nodes) crosses.found in
@@ -93,6 +95,7 @@ find_stops calls can r me value n first last e h0 h1 h2 h3 new stored crosses w 
       values = w.values;
       found = crosses.found;
       stops =
-          inl (subst (λ (h : List Answer). Fails can (Load 8 (r.addr + 8 * length w.values)) e h new) all
+          inl (subst (λ (h : List Answer). Fails can (Load 8
+          (r.addr + 8 * length w.values)) e h new) all
           (subst (λ k. Fails can (Load 8 (r.addr + 8 * k)) e h3 new) (sym w.long) fails));
     })

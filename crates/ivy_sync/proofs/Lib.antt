@@ -14,6 +14,10 @@ pub mod Reductions
 pub mod Tickets
 pub mod Broadcasts
 pub mod Pushing
+pub mod SharedCalls
+pub mod SharedPushing
+pub mod Merging
+pub mod Sharing
 pub mod First
 pub mod Locked
 pub mod TicketLocks

@@ -12,14 +12,15 @@ use Rattle.ivy_model.specs.declared.call.CallKind.TheVariants.{Word, Count, Adva
 use Rattle.ivy_model.specs.declared.call.CallKind.TheVariants.{Free}
 use Rattle.ivy_model.specs.Accesses.{kind_of_call}
 use Rattle.ivy_calls.specs.declared.answer.Answer.{Answer}
-use Rattle.ivy_sync.specs.Doing.{IsRefusal, asks, stores}
-use Rattle.ivy_sync.specs.Words.{is_in, puts, is_access, is_access_kind, is_write, is_write_kind}
+use Rattle.ivy_sync.specs.Doing.{AsksInVain, asks, stores}
+use Rattle.ivy_sync.specs.Words.{is_in, puts, is_access_in, is_access_in_kind, is_write_in}
+use Rattle.ivy_sync.specs.Words.{is_write_in_kind}
 use Rattle.ivy_sync.specs.Words.{NoWrite}
 use Rattle.ivy_sync.specs.Locks.{held_after, holds, MayWrite, KeepsLock}
 use Rattle.ivy_sync.specs.Sections.{KeepsGuard, onto_first, sections, turns_of}
 use Rattle.ivy_sync.proofs.Locks.{held_quiet, keeps_both, may_quiet}
-use Rattle.ivy_sync.specs.Sums.{total}
-use Rattle.ivy_sync.proofs.Totals.{total-add, total-same, total-zero, total_one}
+use Rattle.ivy_sync.specs.Sums.{sum_up_to}
+use Rattle.ivy_sync.proofs.Totals.{sum_up_to-add, sum_up_to-same, sum_up_to-zero, total_one}
 
 pub in_own : (a : ℕ) → is_in a a ≡ true
 in_own a = eq-eqb (a / 8) (a / 8) refl
@@ -28,8 +29,8 @@ pub in_other : (a s : ℕ) → (s / 8 ≡ a / 8 → ⊥) → is_in a s ≡ false
 in_other a s apart = ne_eqb (s / 8) (a / 8) apart
 
 -- a call that writes in one word is no access to another
-apart_kind : (a s : ℕ) (kind : CallKind) → (s / 8 ≡ a / 8 → ⊥) → is_write_kind a kind ≡ true
-    → is_access_kind s kind ≡ false
+apart_kind : (a s : ℕ) (kind : CallKind) → (s / 8 ≡ a / 8 → ⊥) → is_write_in_kind a kind ≡ true
+    → is_access_in_kind s kind ≡ false
 apart_kind a s (Word width addr does) apart w =
     ne_eqb (addr / 8) (s / 8) (λ e. apart (sym e ∙ eqb-true (addr / 8) (a / 8)
     (inside (puts does) (is_in a addr) w)))
@@ -43,8 +44,8 @@ apart_kind a s (Await j least) apart w = absurd (true≢false (sym w))
 apart_kind a s (Alloc size) apart w = absurd (true≢false (sym w))
 apart_kind a s (Free addr) apart w = absurd (true≢false (sym w))
 
-pub apart_access : (a s : ℕ) (call : Call) → (s / 8 ≡ a / 8 → ⊥) → IsTrue (is_write a call)
-    → is_access s call ≡ false
+pub apart_access : (a s : ℕ) (call : Call) → (s / 8 ≡ a / 8 → ⊥) → IsTrue (is_write_in a call)
+    → is_access_in s call ≡ false
 apart_access a s call apart w = apart_kind a s (kind_of_call call) apart w
 
 -- an answer other than 0 gives nobody the lock, and 0 does
@@ -65,22 +66,22 @@ pub after_other : (a s value : ℕ) (h : Bool) → (s / 8 ≡ a / 8 → ⊥)
 after_other a s value h apart = ap (λ b. if b then false else h) (in_other a s apart)
 
 pub by_refusals : (a : ℕ) (P : Answer → Type 0) → ((found : ℕ) → P (asks a found))
-    → (rs : List Answer) → Each (IsRefusal a) rs → Each P rs
+    → (rs : List Answer) → Each (AsksInVain a) rs → Each P rs
 by_refusals a P h [] each = tt
 by_refusals a P h (r ∷ rs) each =
     (subst P (sym each.0.is) (h each.0.found), by_refusals a P h rs each.1)
 
-refusal_after : (a : ℕ) (r : Answer) → IsRefusal a r → held_after a false r ≡ false
+refusal_after : (a : ℕ) (r : Answer) → AsksInVain a r → held_after a false r ≡ false
 refusal_after a r h =
     ap (held_after a false) h.is ∙ after_refusal a h.found h.taken
 
-pub refusals_hold : (a : ℕ) (rs : List Answer) → Each (IsRefusal a) rs
+pub refusals_hold : (a : ℕ) (rs : List Answer) → Each (AsksInVain a) rs
     → holds a false rs ≡ false
 refusals_hold a [] each = refl
 refusals_hold a (r ∷ rs) each =
     ap (λ h. holds a h rs) (refusal_after a r each.0) ∙ refusals_hold a rs each.1
 
-pub refusals_keep : (a : ℕ) (rs : List Answer) → Each (IsRefusal a) rs → KeepsLock a false rs
+pub refusals_keep : (a : ℕ) (rs : List Answer) → Each (AsksInVain a) rs → KeepsLock a false rs
 refusals_keep a [] each = tt
 refusals_keep a (r ∷ rs) each = (
   subst (λ (q : Answer). MayWrite a false q.call) (sym each.0.is) (λ t. (refl, refl, refl)),
@@ -120,7 +121,7 @@ sections-cons a guarded h later is r rs e f =
     e f
 
 pub sections-refusals : (a : ℕ) (guarded : Call → Bool) (rs ys : List Answer)
-    → Each (IsRefusal a) rs
+    → Each (AsksInVain a) rs
     → sections a guarded false (rs ++ ys) ≡ sections a guarded false ys
 sections-refusals a guarded [] ys each = refl
 sections-refusals a guarded (r ∷ rs) ys each =
@@ -170,17 +171,17 @@ one_turn f i t ts true is =
     ts)) (sym same)
 one_turn f i t ts false is = omega arith
 
-pub turn_sum-total : (f : ℕ → ℕ) (n : ℕ) (turns : List (ℕ × List Answer))
+pub turn_sum-sum_up_to : (f : ℕ → ℕ) (n : ℕ) (turns : List (ℕ × List Answer))
     → Each (λ (t : ℕ × List Answer). t.0 < n) turns
-    → turn_sum f turns ≡ total (λ i. f i * length (turns_of i turns)) n
-turn_sum-total f n [] h =
-    sym (total-same (λ i. f i * 0) (λ _. 0) n (λ i _. grind arith) ∙ total-zero n)
-turn_sum-total f n (t ∷ ts) h =
-    sym (total-same (λ i. f i * length (turns_of i (t ∷ ts)))
+    → turn_sum f turns ≡ sum_up_to (λ i. f i * length (turns_of i turns)) n
+turn_sum-sum_up_to f n [] h =
+    sym (sum_up_to-same (λ i. f i * 0) (λ _. 0) n (λ i _. grind arith) ∙ sum_up_to-zero n)
+turn_sum-sum_up_to f n (t ∷ ts) h =
+    sym (sum_up_to-same (λ i. f i * length (turns_of i (t ∷ ts)))
     (λ i. cond (t.0 == i) (f t.0) 0 + f i * length (turns_of i ts)) n
     (λ i _. one_turn f i t (filter (λ (u : ℕ × List Answer). u.0 == i) ts) (t.0 == i) refl)
-    ∙ total-add (λ i. cond (t.0 == i) (f t.0) 0) (λ i. f i * length (turns_of i ts)) n
-    ∙ ap₂ (λ (x : ℕ) (y : ℕ). x + y) (total_one t.0 (f t.0) n h.0) (sym (turn_sum-total f n ts
+    ∙ sum_up_to-add (λ i. cond (t.0 == i) (f t.0) 0) (λ i. f i * length (turns_of i ts)) n
+    ∙ ap₂ (λ (x : ℕ) (y : ℕ). x + y) (total_one t.0 (f t.0) n h.0) (sym (turn_sum-sum_up_to f n ts
     h.1)))
 
 -- what a node does that takes the lock at a, does this, and leaves the lock
@@ -228,7 +229,7 @@ inside_sections a guarded (r ∷ body) rest quiet none =
     (inside_sections a guarded body rest quiet.1 none)
     ∙ one_more_in guarded r body (sections a guarded false rest) (guarded r.call)
 
-module _ (a : ℕ) (refusals : List Answer) (each : Each (IsRefusal a) refusals)
+module _ (a : ℕ) (refusals : List Answer) (each : Each (AsksInVain a) refusals)
     (body rest : List Answer) (quiet : NoWrite a body) where
   -- it keeps the rules of the lock
   pub locked_keeps : KeepsLock a false rest → KeepsLock a false (locked a refusals body rest)
@@ -246,7 +247,7 @@ module _ (a : ℕ) (refusals : List Answer) (each : Each (IsRefusal a) refusals)
       ))
 
   module _ (guarded : Call → Bool)
-      (apart : (call : Call) → IsTrue (is_write a call) → guarded call ≡ false) where
+      (apart : (call : Call) → IsTrue (is_write_in a call) → guarded call ≡ false) where
     unguarded : Each (λ (r : Answer). guarded r.call ≡ false) refusals
     unguarded =
         by_refusals a (λ (r : Answer). guarded r.call ≡ false) (λ _. apart (Swap 8 a 1)

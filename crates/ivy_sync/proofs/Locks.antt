@@ -2,10 +2,8 @@
 use Rattle.std.proofs.Common.{◌≡◌, ℕ, ◌%◌, ◌^◌, ◌<◌, ◌⊎◌, inl, inr, Bool, true, false, IsTrue}
 use Rattle.std.proofs.Common.{if◌then◌else◌, List, [], ◌∷◌, ◌++◌, refl, sym, ap, ap₂, subst, ◌∙◌}
 use Rattle.std.proofs.Common.{append-nil, true≢false}
-use Rattle.std.specs.Prelude.{◌==◌}
 use Rattle.std.proofs.lemmas.Bool.{both_ways, cases_eq, cases_lt}
 use Rattle.ivy_model.specs.declared.config.Config.{Config}
-use Rattle.ivy_model.specs.declared.call.Act.{Act}
 use Rattle.ivy_model.specs.declared.call.Act.TheVariants as act
 use Rattle.ivy_model.specs.declared.call.Call.{Call}
 use Rattle.ivy_model.specs.declared.call.CallKind.{CallKind}
@@ -14,7 +12,7 @@ use Rattle.ivy_model.specs.declared.call.CallKind.TheVariants.{Free}
 use Rattle.ivy_model.specs.declared.call.Record.{Record}
 use Rattle.ivy_model.specs.declared.call.Reply.{Reply}
 use Rattle.ivy_model.specs.declared.call.Reply.TheVariants.{Value}
-use Rattle.ivy_model.specs.Accesses.{kind_of_call, gives_number}
+use Rattle.ivy_model.specs.Accesses.{kind_of_call}
 use Rattle.ivy_model.specs.Config.{IsConfig}
 use Rattle.ivy_model.specs.Legal.{HasWidth, ServesAll}
 use Rattle.ivy_model.specs.Memory.{Memory, IsSized}
@@ -24,14 +22,15 @@ use Rattle.ivy_calls.specs.declared.answer.Answer.{Answer}
 use Rattle.ivy_calls.specs.Answers.{answer, answers_of}
 use Rattle.ivy_calls.proofs.Answers.{answers_of-append, answers_of-push_own, answers_of-push_other}
 use Rattle.ivy_calls.proofs.Answers.{answers_of-at, answers_of-nobody}
-use Rattle.ivy_sync.specs.Words.{word, IsWord, is_write, is_write_kind, IsAt, IsWhole, ReadsKind}
-use Rattle.ivy_sync.specs.Words.{put_by}
-use Rattle.ivy_sync.specs.Words.{written, Runs}
+use Rattle.ivy_sync.specs.Words.{word, IsHeapWord, is_write_in, is_write_in_kind, IsAtWord, IsWhole}
+use Rattle.ivy_sync.specs.Words.{ReadsKind}
+use Rattle.ivy_sync.specs.Words.{put_after}
+use Rattle.ivy_sync.specs.Words.{word_after, LeadsThrough}
 use Rattle.ivy_sync.specs.Locks.{held_by, held_after, holds, MayWrite, MayWriteKind, KeepsLock}
 use Rattle.ivy_sync.specs.Locks.{MutualExclusion, LeftLocksAreFree}
 use Rattle.ivy_sync.proofs.Cuts.{leads_cut, nodes_there}
 use Rattle.ivy_sync.proofs.Lists.{one_more}
-use Rattle.ivy_sync.proofs.Words.{word_step, read_step, written_quiet, whole_quiet}
+use Rattle.ivy_sync.proofs.Words.{word_step, read_step, written_quiet}
 
 pub holds-append : (a : ℕ) (h : Bool) (xs ys : List Answer)
     → holds a h (xs ++ ys) ≡ holds a (holds a h xs) ys
@@ -54,12 +53,12 @@ keeps_both a h [] ys k l = l
 keeps_both a h (x ∷ xs) ys k l = (k.0, keeps_both a (held_after a h x) xs ys k.1 l)
 
 -- a call that does not write in the word leaves all as it was
-pub held_quiet : (a : ℕ) (h : Bool) (r : Answer) → is_write a r.call ≡ false
+pub held_quiet : (a : ℕ) (h : Bool) (r : Answer) → is_write_in a r.call ≡ false
     → held_after a h r ≡ h
 held_quiet a h r q = ap (λ b. if b then held_by h (kind_of_call r.call) r.reply else h) q
 
-pub may_quiet : (a : ℕ) (h : Bool) (call : Call) → is_write a call ≡ false → MayWrite a h call
-may_quiet a h call q = λ t. absurd (both_ways (is_write a call) q t)
+pub may_quiet : (a : ℕ) (h : Bool) (call : Call) → is_write_in a call ≡ false → MayWrite a h call
+may_quiet a h call q = λ t. absurd (both_ways (is_write_in a call) q t)
 
 -- the lock is free: nobody holds it
 pub record IsFree (c : Config) (a : ℕ) (m : Memory) (rs : List Record) : Type 0 where
@@ -78,19 +77,19 @@ IsHeldOnce c a m rs = IsFree c a m rs ⊎ ((j : ℕ) × IsHeldBy c a m rs j)
 -- who asks for the lock takes it where it is free
 record Asks (a : ℕ) (kind : CallKind) : Type 0 where
   reads : ReadsKind a kind
-  put : put_by 0 kind ≡ 1
-  still : put_by 1 kind ≡ 1
+  put : put_after 0 kind ≡ 1
+  still : put_after 1 kind ≡ 1
   got : (h : Bool) → held_by h kind (Value 0) ≡ true
   not_got : (h : Bool) → held_by h kind (Value 1) ≡ h
 
 -- who leaves it held it
 record Leaves (was_held : Bool) (kind : CallKind) : Type 0 where
-  put : (v : ℕ) → put_by v kind ≡ 0
+  put : (v : ℕ) → put_after v kind ≡ 0
   out : (h : Bool) (reply : Reply) → held_by h kind reply ≡ false
   held : IsTrue was_held
 
 -- nothing else is written in its word
-asks_or_leaves : (a : ℕ) (held : Bool) (kind : CallKind) → is_write_kind a kind ≡ true
+asks_or_leaves : (a : ℕ) (held : Bool) (kind : CallKind) → is_write_in_kind a kind ≡ true
     → MayWriteKind a held kind → Asks a kind ⊎ Leaves held kind
 asks_or_leaves a held (Word width addr act.Load) q may = absurd (true≢false (sym q))
 asks_or_leaves a held (Word width addr (act.Store value)) q may =
@@ -110,8 +109,8 @@ asks_or_leaves a held (Word width addr (act.Swap value)) q may =
 asks_or_leaves a held (Word width addr (act.Cas expected value)) q may =
     inl (record {
       reads = (may.0, may.1, refl);
-      put = ap₂ (λ (x : ℕ) (y : ℕ). put_by 0 (Word 8 a (act.Cas x y))) may.2.0 may.2.1;
-      still = ap₂ (λ (x : ℕ) (y : ℕ). put_by 1 (Word 8 a (act.Cas x y))) may.2.0 may.2.1;
+      put = ap₂ (λ (x : ℕ) (y : ℕ). put_after 0 (Word 8 a (act.Cas x y))) may.2.0 may.2.1;
+      still = ap₂ (λ (x : ℕ) (y : ℕ). put_after 1 (Word 8 a (act.Cas x y))) may.2.0 may.2.1;
       got = λ h. refl;
       not_got = λ h. refl;
     })
@@ -122,7 +121,7 @@ asks_or_leaves a held (Await j least) q may = absurd may
 asks_or_leaves a held (Alloc size) q may = absurd may
 asks_or_leaves a held (Free addr) q may = absurd may
 
-at_of : (a : ℕ) (held : Bool) (kind : CallKind) → MayWriteKind a held kind → IsAt a kind
+at_of : (a : ℕ) (held : Bool) (kind : CallKind) → MayWriteKind a held kind → IsAtWord a kind
 at_of a held (Word width addr does) may = (may.0, may.1)
 at_of a held (Count j) may = may
 at_of a held (Advance j) may = may
@@ -135,7 +134,7 @@ may_whole a held call may = λ t. at_of a held (kind_of_call call) (may t)
 
 -- one record more
 module _ (c : Config) (a : ℕ) (old new : Memory) (rs : List Record) (r : Record) (h : IsConfig c)
-    (s : IsSized c old) (at : IsWord c a) (w : HasWidth r.call)
+    (s : IsSized c old) (at : IsHeapWord c a) (w : HasWidth r.call)
     (served : Serves c old r.call r.reply new)
     (may : MayWrite a (holds a false (answers_of r.node rs)) r.call) where
   -- whether its node held the lock before it
@@ -163,7 +162,7 @@ module _ (c : Config) (a : ℕ) (old new : Memory) (rs : List Record) (r : Recor
         | inr ne ↦ other_after i ne
       ]
 
-  word_now : word c new a ≡ written a (word c old a) r.call
+  word_now : word c new a ≡ word_after a (word c old a) r.call
   word_now =
       word_step c old new a r.call r.reply h s at w
       (may_whole a before r.call may) served
@@ -182,16 +181,17 @@ module _ (c : Config) (a : ℕ) (old new : Memory) (rs : List Record) (r : Recor
         },
       )
 
-  quiet : is_write a r.call ≡ false → IsHeldOnce c a old rs → IsHeldOnce c a new (rs ++ r ∷ [])
+  quiet : is_write_in a r.call ≡ false → IsHeldOnce c a old rs → IsHeldOnce c a new (rs ++ r ∷ [])
   quiet q =
       keeps_state (held_quiet a before (answer r) q)
       (word_now ∙ written_quiet a (word c old a) r.call q)
 
-  module _ (inside : is_write a r.call ≡ true) where
-    put_now : word c new a ≡ put_by (word c old a) (kind_of_call r.call)
+  module _ (inside : is_write_in a r.call ≡ true) where
+    put_now : word c new a ≡ put_after (word c old a) (kind_of_call r.call)
     put_now =
         word_now
-        ∙ ap (λ b. if b then put_by (word c old a) (kind_of_call r.call) else word c old a) inside
+        ∙ ap (λ b. if b then put_after (word c old a) (kind_of_call r.call) else word c old a)
+        inside
 
     held_now : held_after a before (answer r) ≡ held_by before (kind_of_call r.call) r.reply
     held_now = ap (λ b. if b then held_by before (kind_of_call r.call) r.reply else before) inside
@@ -229,7 +229,7 @@ module _ (c : Config) (a : ℕ) (old new : Memory) (rs : List Record) (r : Recor
         inr (
           r.node,
           record {
-            one = put_now ∙ ap (λ v. put_by v (kind_of_call r.call)) free.zero ∙ k.put;
+            one = put_now ∙ ap (λ v. put_after v (kind_of_call r.call)) free.zero ∙ k.put;
             here =
                 own_after ∙ held_now
                 ∙ ap (held_by before (kind_of_call r.call)) (found k 0 free.zero) ∙ k.got before;
@@ -240,11 +240,11 @@ module _ (c : Config) (a : ℕ) (old new : Memory) (rs : List Record) (r : Recor
         keeps_state
         (held_now ∙ ap (held_by before (kind_of_call r.call)) (found k 1 held.1.one)
         ∙ k.not_got before)
-        (put_now ∙ ap (λ v. put_by v (kind_of_call r.call)) held.1.one ∙ k.still
+        (put_now ∙ ap (λ v. put_after v (kind_of_call r.call)) held.1.one ∙ k.still
         ∙ sym held.1.one)
         (inr held)
 
-  step : (b : Bool) → is_write a r.call ≡ b → IsHeldOnce c a old rs
+  step : (b : Bool) → is_write_in a r.call ≡ b → IsHeldOnce c a old rs
       → IsHeldOnce c a new (rs ++ r ∷ [])
   step false q = quiet q
   step true q =
@@ -254,7 +254,7 @@ module _ (c : Config) (a : ℕ) (old new : Memory) (rs : List Record) (r : Recor
       ]
 
   pub lock_step : IsHeldOnce c a old rs → IsHeldOnce c a new (rs ++ r ∷ [])
-  lock_step = step (is_write a r.call) refl
+  lock_step = step (is_write_in a r.call) refl
 
 -- the rule at a record, from what its node was answered in the order
 pub may_write : (a : ℕ) (xs : List Record) (r : Record) (ys : List Record)
@@ -264,8 +264,9 @@ may_write a xs r ys k =
     keeps_at a false (answers_of r.node xs) (answer r) (answers_of r.node ys)
     (subst (KeepsLock a false) (answers_of-at xs r ys) k)
 
-pub held_on : (c : Config) (a : ℕ) (old new : Memory) (xs ys : List Record) → Runs c old ys new
-    → IsWord c a
+pub held_on : (c : Config) (a : ℕ) (old new : Memory) (xs ys : List Record)
+    → LeadsThrough c old ys new
+    → IsHeapWord c a
     → ((i : ℕ) → i < c.nodes → KeepsLock a false (answers_of i (xs ++ ys)))
     → IsHeldOnce c a old xs → IsHeldOnce c a new (xs ++ ys)
 held_on c a old new xs [] run at rules here =
@@ -286,7 +287,7 @@ held_on c a old new xs (r ∷ rs) run at rules here =
 
 -- at each point the lock is free or held by one
 pub held_once : (c : Config) (old new : Memory) (before after : List Record) (a : ℕ)
-    → Runs c old (before ++ after) new → IsWord c a → word c old a ≡ 0
+    → LeadsThrough c old (before ++ after) new → IsHeapWord c a → word c old a ≡ 0
     → ((i : ℕ) → i < c.nodes → KeepsLock a false (answers_of i (before ++ after)))
     → (mid : Memory) × ServesAll c old before mid × ServesAll c mid after new
     × IsHeldOnce c a mid before

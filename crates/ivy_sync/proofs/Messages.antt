@@ -1,6 +1,5 @@
 -- What was stored before an advance is loaded after its await.
-use Rattle.std.proofs.Common.{◌≡◌, ℕ, ◌+◌, ◌<◌, ◌≤◌, ◌⊎◌, inl, inr, false, List, [], ◌∷◌, ◌++◌}
-use Rattle.std.proofs.Common.{Some}
+use Rattle.std.proofs.Common.{◌≡◌, ℕ, ◌+◌, ◌<◌, ◌⊎◌, inl, inr, false, List, [], ◌∷◌, ◌++◌}
 use Rattle.std.proofs.Common.{refl, sym, ap, subst, ◌∙◌, append-nil, append_assoc, arith}
 use Rattle.std.specs.List.{AllByRecursion as Each}
 use Rattle.ivy_model.specs.declared.config.Config.{Config}
@@ -11,11 +10,12 @@ use Rattle.ivy_model.specs.Legal.{ServesAll}
 use Rattle.ivy_calls.specs.declared.answer.Answer.{Answer}
 use Rattle.ivy_calls.specs.Answers.{by, answers, answers_of}
 use Rattle.ivy_calls.proofs.Answers.{answers_of-append}
-use Rattle.ivy_sync.specs.Counts.{is_advance, raised, advances}
+use Rattle.ivy_sync.specs.Counts.{is_advance_of, raised, times_advanced}
 use Rattle.ivy_sync.specs.Doing.{arrives, passes}
-use Rattle.ivy_sync.specs.Words.{word, IsWord, is_write, NoWrite, IsWhole, Reads, last, Runs}
+use Rattle.ivy_sync.specs.Words.{word, IsHeapWord, is_write_in, NoWrite, IsWhole, Reads, last}
+use Rattle.ivy_sync.specs.Words.{LeadsThrough}
 use Rattle.ivy_sync.specs.Messages.{AdvancesAlone, WritesAlone, AwaitsMore, MessagesPass}
-use Rattle.ivy_sync.proofs.Counting.{tally-advances, reached}
+use Rattle.ivy_sync.proofs.Counting.{tally-times_advanced, reached}
 use Rattle.ivy_sync.proofs.Cuts.{OwnOr, part_cut, leads_cut, nodes_there, own_or, all_from}
 use Rattle.ivy_sync.proofs.Lists.{two_cuts, short_prefix, All-append, All-both}
 use Rattle.ivy_sync.proofs.Totals.{tally, tally-append}
@@ -25,10 +25,10 @@ use Rattle.ivy_sync.proofs.Phases.{no_write_whole}
 
 -- each advance of k is node i's, and each write to d
 abbrev pub Advancer : ℕ → ℕ → Record → Type 0
-Advancer k i = OwnOr i (λ (r : Answer). is_advance k r.call ≡ false)
+Advancer k i = OwnOr i (λ (r : Answer). is_advance_of k r.call ≡ false)
 
 abbrev pub Writer : ℕ → ℕ → Record → Type 0
-Writer d i = OwnOr i (λ (r : Answer). is_write d r.call ≡ false)
+Writer d i = OwnOr i (λ (r : Answer). is_write_in d r.call ≡ false)
 
 -- the list begins with what stands up to the advance, as the count tells
 reaches : (k : ℕ) (before ps qs later : List Answer)
@@ -56,13 +56,14 @@ reaches k before ps qs later e less =
 
 module _ (c : Config) (old new : Memory) (order : List Record) (d k count i j : ℕ)
     (before during later start so_far rest : List Answer) (r : Answer) (least found : ℕ)
-    (run : Runs c old order new) (place : IsWord c d) (sends : AdvancesAlone c old order k count i)
+    (run : LeadsThrough c old order new) (place : IsHeapWord c d)
+    (sends : AdvancesAlone c old order k count i)
     (writes : WritesAlone c order d i)
     (sender : answers_of i order ≡ (before ++ arrives k ∷ []) ++ (during ++ later))
     (front back : List Record)
     (cut : order ≡ front ++ by j r ∷ back)
     (mine : answers_of j front ≡ start ++ passes k least found ∷ so_far)
-    (enough : count + advances k before < least)
+    (enough : count + times_advanced k before < least)
     (whole : Each (λ (s : Answer). IsWhole d s.call) before) (quiet : NoWrite d during)
     (waits : (later ≡ []) ⊎ AwaitsMore c old order j (start ++ passes k least found ∷ so_far) later)
   where
@@ -92,13 +93,13 @@ module _ (c : Config) (old new : Memory) (order : List Record) (d k count i j : 
         reached c old leads.0 w.front (by j pass) w.back k count least found i refl
         (subst (λ rs. ServesAll c old rs leads.0) w.whole leads.1) sends.first
         (subst (Each (Advancer k i)) w.whole
-        (of_front (λ (q : Answer). is_advance k q.call ≡ false) sends.alone)) in
+        (of_front (λ (q : Answer). is_advance_of k q.call ≡ false) sends.alone)) in
         let sum = tally-append (raised k) (answers_of i w.front) (answers_of i (by j pass ∷
         w.back)) in
         let parts : answers_of i front ≡ answers_of i w.front ++ answers_of i (by j pass ∷ w.back) =
         ap (answers_of i) w.whole ∙ answers_of-append i w.front (by j pass ∷ w.back) in
         let all = ap (tally (raised k)) parts in
-        let so_many = tally-advances k before in
+        let so_many = tally-times_advanced k before in
         omega (arith, wants, sum, all, so_many, enough)
 
     done : (ds : List Answer) × (answers_of i front ≡ (before ++ arrives k ∷ []) ++ ds)
@@ -118,7 +119,7 @@ module _ (c : Config) (old new : Memory) (order : List Record) (d k count i j : 
         let advancers =
         (All-append (Advancer w.back j) front (by j r ∷ back)
         (subst (Each (Advancer w.back j)) cut
-        (own_or (λ (q : Answer). is_advance w.back q.call ≡ false) j c.nodes order
+        (own_or (λ (q : Answer). is_advance_of w.back q.call ≡ false) j c.nodes order
         (nodes_there c old new order run.led) w.only.alone))).0 in
         let wants =
         reached c old leads.0 u.front (by i (passes w.back w.least w.found)) u.back w.back w.count
@@ -133,7 +134,7 @@ module _ (c : Config) (old new : Memory) (order : List Record) (d k count i j : 
         w.found) ∷ u.back) in
         let all = ap (tally (raised w.back)) parts in
         let history = ap (tally (raised w.back)) mine in
-        let so_many = tally-advances w.back (start ++ pass ∷ so_far) in
+        let so_many = tally-times_advanced w.back (start ++ pass ∷ so_far) in
         let more = w.more in
         absurd (omega (arith, wants, sum, all, history, so_many, more))
 
@@ -150,7 +151,7 @@ module _ (c : Config) (old new : Memory) (order : List Record) (d k count i j : 
         ⊎ ((es : List Answer) × (during ≡ ds ++ es) × (answers_of i (by j r ∷ back) ≡ es ++ later))
         → NoWrite d ds
     nothing_by ds at (inr w) =
-        (All-append (λ (q : Answer). is_write d q.call ≡ false) ds w.0 (subst (NoWrite d) w.1
+        (All-append (λ (q : Answer). is_write_in d q.call ≡ false) ds w.0 (subst (NoWrite d) w.1
         quiet)).0
     nothing_by ds at (inl w) = elim w.0 as (λ es. ds ≡ during ++ es → later ≡ es ++ answers_of i
         (by j r ∷ back) → NoWrite d ds) [
@@ -182,7 +183,7 @@ module _ (c : Config) (old new : Memory) (order : List Record) (d k count i j : 
         word_last c old leads.0 d front
         (record { config = run.config; sized = run.sized; led = leads.1 }) place front_whole
         ∙ last-part d i (word c old d) front
-        (of_front (λ (q : Answer). is_write d q.call ≡ false) writes)
+        (of_front (λ (q : Answer). is_write_in d q.call ≡ false) writes)
         ∙ ap (last d (word c old d)) done.1
         ∙ last-append d (word c old d) (before ++ arrives k ∷ []) done.0
         ∙ last-none d (last d (word c old d) (before ++ arrives k ∷ [])) done.0 nothing_since

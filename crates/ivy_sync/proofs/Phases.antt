@@ -12,10 +12,11 @@ use Rattle.ivy_model.specs.Memory.{Memory}
 use Rattle.ivy_model.proofs.Sizes.{leads_sized}
 use Rattle.ivy_calls.specs.declared.answer.Answer.{Answer}
 use Rattle.ivy_calls.specs.Answers.{answers, answers_of}
-use Rattle.ivy_sync.specs.Words.{word, IsWord, is_write, NoWrite, IsWhole, Reads, last, Runs}
+use Rattle.ivy_sync.specs.Words.{word, IsHeapWord, is_write_in, NoWrite, IsWhole, Reads, last}
+use Rattle.ivy_sync.specs.Words.{LeadsThrough}
 use Rattle.ivy_sync.specs.Barriers.{CrossesAt, IsCutAt}
 use Rattle.ivy_sync.specs.Doing.{arrives, passes}
-use Rattle.ivy_sync.specs.Phases.{PhasesShare}
+use Rattle.ivy_sync.specs.Phases.{PhasesShare, IsSetUp, SetUpIsThere}
 use Rattle.ivy_sync.proofs.Cuts.{nodes_there, all_parts, part_all, own_or}
 use Rattle.ivy_sync.proofs.Lists.{All-both, all_weaker}
 use Rattle.ivy_sync.proofs.Words.{word_last, whole_quiet}
@@ -26,22 +27,23 @@ abbrev Whole : ℕ → Answer → Type 0
 Whole a r = IsWhole a r.call
 
 abbrev Quiet : ℕ → Answer → Type 0
-Quiet a r = is_write a r.call ≡ false
+Quiet a r = is_write_in a r.call ≡ false
 
 pub no_write_whole : (a : ℕ) (rs : List Answer) → NoWrite a rs
     → Each (λ (r : Answer). IsWhole a r.call) rs
 no_write_whole a rs h =
-    all_weaker (λ (r : Answer). is_write a r.call ≡ false) (λ (r : Answer). IsWhole a r.call)
+    all_weaker (λ (r : Answer). is_write_in a r.call ≡ false) (λ (r : Answer). IsWhole a r.call)
     (λ r q. whole_quiet a r.call q) rs h
 
 -- a word that nobody writes after the barrier is read as it was there
 module _ (c : Config) (old new : Memory) (order : List Record) (k least : ℕ)
-    (before after : (i : ℕ) → i < c.nodes → List Answer) (a : ℕ) (run : Runs c old order new)
-    (cut : IsCutAt c old order new k least before after) (place : IsWord c a)
+    (before after : (i : ℕ) → i < c.nodes → List Answer) (a : ℕ)
+    (run : LeadsThrough c old order new)
+    (cut : IsCutAt c old order new k least before after) (place : IsHeapWord c a)
     (quiet : (j : ℕ) (m : j < c.nodes) → NoWrite a (after j m)) where
   rest_quiet : NoWrite a (answers cut.rest)
   rest_quiet =
-      all_parts (λ (r : Answer). is_write a r.call ≡ false) c.nodes cut.rest
+      all_parts (λ (r : Answer). is_write_in a r.call ≡ false) c.nodes cut.rest
       (nodes_there c cut.mid new cut.rest cut.leads_on)
       (λ j m. subst (NoWrite a) (sym (cut.rests j m).1) (refl, quiet j m))
 
@@ -64,14 +66,14 @@ module _ (c : Config) (old new : Memory) (order : List Record) (k least : ℕ)
       rest.1
 
 module _ (c : Config) (old new : Memory) (order : List Record) (k count : ℕ)
-    (before after : (i : ℕ) → i < c.nodes → List Answer) (a i : ℕ) (l : i < c.nodes) (run : Runs c
+    (before after : (i : ℕ) → i < c.nodes → List Answer) (a i : ℕ) (l : i < c.nodes)
+    (run : LeadsThrough c
     old order new)
     (at : slice_get old.counts k ≡ Some count)
     (cross : (j : ℕ) (m : j < c.nodes)
     → CrossesAt k (count + c.nodes) (before j m) (after j m) (answers_of j order))
-    (place : IsWord c a) (whole : Each (λ (r : Answer). IsWhole a r.call) (before i l))
-    (others : (j : ℕ) (m : j < c.nodes) → (j ≡ i → ⊥) → NoWrite a (before j m))
-    (quiet : (j : ℕ) (m : j < c.nodes) → NoWrite a (after j m)) where
+    (place : IsHeapWord c a) (whole : Each (λ (r : Answer). IsWhole a r.call) (before i l))
+    (others : (j : ℕ) (m : j < c.nodes) → (j ≡ i → ⊥) → NoWrite a (before j m)) where
   cut : IsCutAt c old order new k (count + c.nodes) before after
   cut = barrier-separates c old new order k count before after run.led at cross
 
@@ -109,10 +111,21 @@ module _ (c : Config) (old new : Memory) (order : List Record) (k count : ℕ)
       ∙ ap (last a (word c old a)) (cut.firsts i l)
       ∙ last-append a (word c old a) (before i l) (arrives k ∷ [])
 
-  pub shared : (j : ℕ) (m : j < c.nodes)
+  pub set_up : IsSetUp c old order new k (count + c.nodes) before after a i l
+  set_up = record {
+    cut = cut;
+    there = word_there;
+    leads = record {
+      config = run.config;
+      sized = leads_sized c old cut.mid cut.first run.config run.sized cut.leads;
+      led = cut.leads_on;
+    };
+  }
+
+  pub shared : ((j : ℕ) (m : j < c.nodes) → NoWrite a (after j m)) → (j : ℕ) (m : j < c.nodes)
       → Each (λ (r : Answer). Reads a r.call → r.reply ≡ Value (last a (word c old a) (before i l)))
       (after j m)
-  shared j m =
+  shared quiet j m =
       subst (λ (v : ℕ). Each (λ (r : Answer). Reads a r.call → r.reply ≡ Value v) (after j m))
       word_there
       (settled c old new order k (count + c.nodes) before after a run cut place quiet j m)
@@ -120,3 +133,7 @@ module _ (c : Config) (old new : Memory) (order : List Record) (k count : ℕ)
 pub phases-share : PhasesShare
 phases-share c old new order k count before after a i l run at cross place whole others quiet j m =
     shared c old new order k count before after a i l run at cross place whole others quiet j m
+
+pub set_up-is_there : SetUpIsThere
+set_up-is_there c old new order k count before after a i l run at cross place whole others =
+    set_up c old new order k count before after a i l run at cross place whole others

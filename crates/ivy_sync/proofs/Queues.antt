@@ -12,37 +12,58 @@ use Rattle.ivy_model.specs.declared.call.Reply.TheVariants.{Value}
 use Rattle.ivy_model.specs.Memory.{Memory}
 use Rattle.ivy_model.specs.Legal.{ServesAll}
 use Rattle.ivy_calls.specs.declared.answer.Answer.{Answer}
-use Rattle.ivy_calls.specs.Answers.{by, answers, answers_of}
+use Rattle.ivy_calls.specs.Answers.{by, answers_of}
 use Rattle.ivy_calls.proofs.Answers.{answers_of-append}
-use Rattle.ivy_sync.specs.Counts.{is_advance, raised, NoAdvance, advances}
+use Rattle.ivy_sync.specs.Counts.{is_advance_of, raised, NoAdvance, times_advanced}
 use Rattle.ivy_sync.specs.Doing.{arrives, passes, loads, stores}
 use Rattle.ivy_sync.specs.Messages.{AdvancesAlone}
-use Rattle.ivy_sync.specs.Queues.{slot, sends, takes, LeavesAlone, Sends, Takes, IsEmptyQueue}
+use Rattle.ivy_sync.specs.Queues.{slot, sends_value, takes_value, LeavesAlone, SendsAll, TakesAll}
+use Rattle.ivy_sync.specs.Queues.{IsEmptyQueue}
 use Rattle.ivy_sync.specs.Queues.{QueuesKeepOrder}
 use Rattle.ivy_sync.specs.declared.queue.Queue.{Queue}
-use Rattle.ivy_sync.specs.Words.{word, is_in, is_write, NoWrite, IsWhole, last, Runs}
-use Rattle.ivy_sync.proofs.Counting.{tally-advances, none_raised, reached}
+use Rattle.ivy_sync.specs.Words.{word, is_in, is_write_in, NoWrite, IsWhole, last, LeadsThrough}
+use Rattle.ivy_sync.proofs.Counting.{tally-times_advanced, none_raised, reached}
 use Rattle.ivy_sync.proofs.Cuts.{part_cut, nodes_there, own_or}
-use Rattle.ivy_sync.proofs.Lists.{none_at_end, All-both}
+use Rattle.ivy_sync.proofs.Lists.{none_at_end, All-append, All-both}
 use Rattle.ivy_sync.proofs.Messages.{Advancer, messages-pass}
 use Rattle.ivy_sync.proofs.Phases.{no_write_whole}
 use Rattle.ivy_sync.proofs.Registers.{last-append}
 use Rattle.ivy_sync.proofs.Totals.{tally, tally-append}
 use Rattle.ivy_sync.proofs.Words.{whole_quiet}
 
-pub advances-append : (k : ℕ) (xs ys : List Answer)
-    → advances k (xs ++ ys) ≡ advances k xs + advances k ys
-advances-append k [] ys = omega arith
-advances-append k (x ∷ xs) ys = let e = advances-append k xs ys in omega (arith, e)
+pub times_advanced-append : (k : ℕ) (xs ys : List Answer)
+    → times_advanced k (xs ++ ys) ≡ times_advanced k xs + times_advanced k ys
+times_advanced-append k [] ys = omega arith
+times_advanced-append k (x ∷ xs) ys = let e = times_advanced-append k xs ys in omega (arith, e)
 
-pub no_advances : (k : ℕ) (rs : List Answer) → NoAdvance k rs → advances k rs ≡ 0
-no_advances k rs h = sym (tally-advances k rs) ∙ none_raised k rs h
+pub no_advances : (k : ℕ) (rs : List Answer) → NoAdvance k rs → times_advanced k rs ≡ 0
+no_advances k rs h = sym (tally-times_advanced k rs) ∙ none_raised k rs h
 
 abbrev Quiet : ℕ → Answer → Type 0
-Quiet k r = is_advance k r.call ≡ false
+Quiet k r = is_advance_of k r.call ≡ false
 
 abbrev Unwritten : ℕ → Answer → Type 0
-Unwritten d r = is_write d r.call ≡ false
+Unwritten d r = is_write_in d r.call ≡ false
+
+-- the n-th value is sent in these answers, maybe with other things between its calls
+pub record IsSending (q : Queue) (n v : ℕ) (mid : List Answer) : Type 0 where
+  pub found : ℕ
+  pub tail : List Answer
+  pub begins : mid ≡ passes q.taken (n + 1 - q.size) found ∷ tail
+  pub pre : List Answer
+  pub ends : mid ≡ pre ++ arrives q.sent ∷ []
+  pub none : NoAdvance q.sent pre
+  pub quiet : NoAdvance q.taken mid
+  pub stored : (x : ℕ) → last (slot q n) x pre ≡ v
+  pub each : (k : ℕ) → Each (λ (r : Answer). IsWhole (slot q k) r.call) mid
+  pub elsewhere : (k : ℕ) → is_in (slot q k) (slot q n) ≡ false → NoWrite (slot q k) mid
+
+-- and so those after it
+abbrev pub Gapped : Queue → ℕ → List ℕ → List Answer → Type 0
+Gapped q n [] history = LeavesAlone q history
+Gapped q n (v ∷ vs) history =
+    (other : List Answer) × (mid : List Answer) × (rest : List Answer) × LeavesAlone q other
+    × IsSending q n v mid × (history ≡ other ++ (mid ++ rest)) × Gapped q (n + 1) vs rest
 
 -- values less than the queue's size apart lie in different words
 pub slots_differ : (size k t : ℕ) → 0 < size → 0 < t → t < size → k % size ≡ (k + t) % size → ⊥
@@ -67,7 +88,7 @@ slots_differ size k t some more less same =
     ]
 
 module _ (q : Queue) (some : 0 < q.size) (aligned : q.at % 8 ≡ 0) (two : q.sent ≡ q.taken → ⊥) where
-  same_slot : (n k : ℕ) → IsTrue (is_in (slot q k) (slot q n)) → slot q n ≡ slot q k
+  pub same_slot : (n k : ℕ) → IsTrue (is_in (slot q k) (slot q n)) → slot q n ≡ slot q k
   same_slot n k t =
       let e = eqb-true (slot q n / 8) (slot q k / 8) t in
       let there : n % q.size ≡ k % q.size = omega (arith, e, aligned) in
@@ -86,50 +107,54 @@ module _ (q : Queue) (some : 0 < q.size) (aligned : q.at % 8 ≡ 0) (two : q.sen
   apart' = ne_eqb q.sent q.taken two
 
   -- what a send adds
-  one_sent : (n v found : ℕ) → advances q.sent (sends q n v found) ≡ 1
-  one_sent n v found =
+  pub one_sent : (n v : ℕ) (mid : List Answer) → IsSending q n v mid
+      → times_advanced q.sent mid ≡ 1
+  one_sent n v mid w =
       let own : raised q.sent (arrives q.sent) ≡ 1 =
-      ap (λ b. if b then 1 else 0) (eq-eqb q.sent q.sent refl) in omega (arith, own)
+      ap (λ b. if b then 1 else 0) (eq-eqb q.sent q.sent refl) in
+      let none = no_advances q.sent w.pre w.none in
+      let sum = times_advanced-append q.sent w.pre (arrives q.sent ∷ []) in
+      ap (times_advanced q.sent) w.ends ∙ omega (arith, own, none, sum)
 
-  one_taken : (n v found : ℕ) → advances q.taken (takes q n v found) ≡ 1
+  one_taken : (n v found : ℕ) → times_advanced q.taken (takes_value q n v found) ≡ 1
   one_taken n v found =
       let own : raised q.taken (arrives q.taken) ≡ 1 =
       ap (λ b. if b then 1 else 0) (eq-eqb q.taken q.taken refl) in omega (arith, own)
 
-  all_sent : (n : ℕ) (vs : List ℕ) (h : List Answer) → Sends q n vs h
-      → advances q.sent h ≡ length vs
+  all_sent : (n : ℕ) (vs : List ℕ) (h : List Answer) → Gapped q n vs h
+      → times_advanced q.sent h ≡ length vs
   all_sent n [] h alone = no_advances q.sent h alone.sent
   all_sent n (v ∷ vs) h w =
       let none = no_advances q.sent w.0 w.3.sent in
       let rest = all_sent (n + 1) vs w.2 w.6 in
-      let one = one_sent n v w.1 in
-      let whole = ap (advances q.sent) w.5 in
-      let sum = advances-append q.sent w.0 (sends q n v w.1 ++ w.2) in
-      let sum' = advances-append q.sent (sends q n v w.1) w.2 in
+      let one = one_sent n v w.1 w.4 in
+      let whole = ap (times_advanced q.sent) w.5 in
+      let sum = times_advanced-append q.sent w.0 (w.1 ++ w.2) in
+      let sum' = times_advanced-append q.sent w.1 w.2 in
       omega (arith, none, rest, one, whole, sum, sum')
 
   -- the sender does not take
-  sender_quiet : (n : ℕ) (vs : List ℕ) (h : List Answer) → Sends q n vs h → NoAdvance q.taken h
+  sender_quiet : (n : ℕ) (vs : List ℕ) (h : List Answer) → Gapped q n vs h → NoAdvance q.taken h
   sender_quiet n [] h alone = alone.taken
   sender_quiet n (v ∷ vs) h w =
       subst (NoAdvance q.taken) (sym w.5)
-      (All-both (Quiet q.taken) w.0 (sends q n v w.1 ++ w.2) w.3.taken
-      (refl, (refl, (apart', sender_quiet (n + 1) vs w.2 w.6))))
+      (All-both (Quiet q.taken) w.0 (w.1 ++ w.2) w.3.taken
+      (All-both (Quiet q.taken) w.1 w.2 w.4.quiet (sender_quiet (n + 1) vs w.2 w.6)))
 
   -- the taker does not send
-  taker_quiet : (n : ℕ) (ws : List ℕ) (h : List Answer) → Takes q n ws h → NoAdvance q.sent h
+  pub taker_quiet : (n : ℕ) (ws : List ℕ) (h : List Answer) → TakesAll q n ws h → NoAdvance q.sent h
   taker_quiet n [] h alone = alone.sent
   taker_quiet n (v ∷ vs) h w =
       subst (NoAdvance q.sent) (sym w.4)
-      (All-both (Quiet q.sent) w.0 (takes q n v w.1 ++ w.2) w.3.sent
+      (All-both (Quiet q.sent) w.0 (takes_value q n v w.1 ++ w.2) w.3.sent
       (refl, (refl, (apart, taker_quiet (n + 1) vs w.2 w.5))))
 
-  taker_reads : (n : ℕ) (ws : List ℕ) (h : List Answer) → Takes q n ws h → (k : ℕ)
+  taker_reads : (n : ℕ) (ws : List ℕ) (h : List Answer) → TakesAll q n ws h → (k : ℕ)
       → NoWrite (slot q k) h
   taker_reads n [] h alone k = alone.slots k
   taker_reads n (v ∷ vs) h w k =
       subst (NoWrite (slot q k)) (sym w.4)
-      (All-both (Unwritten (slot q k)) w.0 (takes q n v w.1 ++ w.2) (w.3.slots k)
+      (All-both (Unwritten (slot q k)) w.0 (takes_value q n v w.1 ++ w.2) (w.3.slots k)
       (refl, (refl, (refl, taker_reads (n + 1) vs w.2 w.5 k))))
 
   -- the sender's history up to the store of the k-th value, and after its advance
@@ -137,67 +162,56 @@ module _ (q : Queue) (some : 0 < q.size) (aligned : q.at % 8 ≡ 0) (two : q.sen
     before : List Answer
     rest : List Answer
     whole : h ≡ (before ++ arrives q.sent ∷ []) ++ rest
-    sent : advances q.sent before ≡ n
+    sent : times_advanced q.sent before ≡ n
     stored : (x : ℕ) → last (slot q k) x before ≡ v
     each : Each (λ (r : Answer). IsWhole (slot q k) r.call) before
-    later : Sends q (k + 1) vs rest
+    later : Gapped q (k + 1) vs rest
 
-  stored_here : (n v found : ℕ) (other : List Answer) → v < 2 ^ 64 → (x : ℕ)
-      → last (slot q n) x (other ++ (passes q.taken (n + 1 - q.size) found ∷ stores (slot q n) v
-      ∷ []))
-      ≡ v
-  stored_here n v found other fits x =
-      last-append (slot q n) x other
-      (passes q.taken (n + 1 - q.size) found ∷ stores (slot q n) v ∷ [])
-      ∙ ap (λ b. if b then v % 2 ^ 64 else last (slot q n) x other)
-      (eq-eqb (slot q n / 8) (slot q n / 8) refl) ∙ mod-eq_of_lt fits
-
-  sent_here : (n v found : ℕ) (other rest h : List Answer) (vs : List ℕ) → LeavesAlone q other
-      → v < 2 ^ 64 → h ≡ other ++ (sends q n v found ++ rest) → Sends q (n + 1) vs rest
+  sent_here : (n v : ℕ) (other mid rest h : List Answer) (vs : List ℕ) → LeavesAlone q other
+      → IsSending q n v mid → h ≡ other ++ (mid ++ rest) → Gapped q (n + 1) vs rest
       → IsSent n 0 v vs h
-  sent_here n v found other rest h vs alone fits whole later =
-      let tail : List Answer = passes q.taken (n + 1 - q.size) found ∷ stores (slot q n) v ∷ [] in
-      record {
-        before = other ++ tail;
-        rest = rest;
-        whole =
-            whole
-            ∙ sym (ap (λ (l : List Answer). l ++ rest) (append_assoc other tail (arrives q.sent
-            ∷ []))
-            ∙ append_assoc other (tail ++ arrives q.sent ∷ []) rest);
-        sent =
-            advances-append q.sent other tail
-            ∙ ap (λ x. x + 0) (no_advances q.sent other alone.sent);
-        stored = stored_here n v found other fits;
-        each =
-            All-both (λ (r : Answer). IsWhole (slot q n) r.call) other tail
-            (no_write_whole (slot q n) other (alone.slots n)) (
-              whole_quiet (slot q n) (passes q.taken (n + 1 - q.size) found).call refl,
-              (λ t. (refl, refl), tt),
-            );
-        later = later;
-      }
+  sent_here n v other mid rest h vs alone w whole later = record {
+    before = other ++ w.pre;
+    rest = rest;
+    whole =
+        whole
+        ∙ ap (λ (l : List Answer). other ++ (l ++ rest)) w.ends
+        ∙ sym (ap (λ (l : List Answer). l ++ rest) (append_assoc other w.pre (arrives q.sent ∷ []))
+        ∙ append_assoc other (w.pre ++ arrives q.sent ∷ []) rest);
+    sent =
+        (let sum = times_advanced-append q.sent other w.pre in
+        let none = no_advances q.sent other alone.sent in
+        let none' = no_advances q.sent w.pre w.none in
+        omega (arith, sum, none, none'));
+    stored = λ x. last-append (slot q n) x other w.pre ∙ w.stored (last (slot q n) x other);
+    each =
+        All-both (λ (r : Answer). IsWhole (slot q n) r.call) other w.pre
+        (no_write_whole (slot q n) other (alone.slots n))
+        (All-append (λ (r : Answer). IsWhole (slot q n) r.call) w.pre (arrives q.sent ∷ [])
+        (subst (Each (λ (r : Answer). IsWhole (slot q n) r.call)) w.ends (w.each n))).0;
+    later = later;
+  }
 
   -- the value at a place in what is sent
   sent_at : (n k : ℕ) (vs1 : List ℕ) (v : ℕ) (vs2 : List ℕ) (h : List Answer)
-      → n + length vs1 ≡ k → Sends q n (vs1 ++ v ∷ vs2) h → IsSent k (length vs1) v vs2 h
+      → n + length vs1 ≡ k → Gapped q n (vs1 ++ v ∷ vs2) h → IsSent k (length vs1) v vs2 h
   sent_at n k [] v vs2 h e w =
       let same : n ≡ k = omega (arith, e) in
-      subst (λ m. IsSent m 0 v vs2 h) same (sent_here n v w.1 w.0 w.2 h vs2 w.3 w.4 w.5 w.6)
+      subst (λ m. IsSent m 0 v vs2 h) same (sent_here n v w.0 w.1 w.2 h vs2 w.3 w.4 w.5 w.6)
   sent_at n k (x ∷ xs) v vs2 h e w =
       let u = sent_at (n + 1) k xs v vs2 w.2 (omega (arith, e)) w.6 in
-      let front : List Answer = w.0 ++ sends q n x w.1 in
+      let front : List Answer = w.0 ++ w.1 in
       let none = no_advances q.sent w.0 w.3.sent in
-      let one = one_sent n x w.1 in
-      let sum = advances-append q.sent front u.before in
-      let sum' = advances-append q.sent w.0 (sends q n x w.1) in
+      let one = one_sent n x w.1 w.4 in
+      let sum = times_advanced-append q.sent front u.before in
+      let sum' = times_advanced-append q.sent w.0 w.1 in
       let more = u.sent in
       record {
         before = front ++ u.before;
         rest = u.rest;
         whole =
             w.5
-            ∙ sym (append_assoc w.0 (sends q n x w.1) w.2)
+            ∙ sym (append_assoc w.0 w.1 w.2)
             ∙ ap (λ (l : List Answer). front ++ l) u.whole
             ∙ sym (append_assoc front (u.before ++ arrives q.sent ∷ []) u.rest)
             ∙ ap (λ (l : List Answer). l ++ u.rest) (sym (append_assoc front u.before
@@ -206,14 +220,8 @@ module _ (q : Queue) (some : 0 < q.size) (aligned : q.at % 8 ≡ 0) (two : q.sen
         stored = λ y. last-append (slot q k) y front u.before ∙ u.stored (last (slot q k) y front);
         each =
             All-both (λ (r : Answer). IsWhole (slot q k) r.call) front u.before
-            (All-both (λ (r : Answer). IsWhole (slot q k) r.call) w.0 (sends q n x w.1)
-            (no_write_whole (slot q k) w.0 (w.3.slots k)) (
-              whole_quiet (slot q k) (passes q.taken (n + 1 - q.size) w.1).call refl,
-              (
-                λ t. (refl, same_slot n k t),
-                (whole_quiet (slot q k) (arrives q.sent).call refl, tt),
-              ),
-            ))
+            (All-both (λ (r : Answer). IsWhole (slot q k) r.call) w.0 w.1
+            (no_write_whole (slot q k) w.0 (w.3.slots k)) (w.4.each k))
             u.each;
         later = u.later;
       }
@@ -228,7 +236,7 @@ module _ (q : Queue) (some : 0 < q.size) (aligned : q.at % 8 ≡ 0) (two : q.sen
         ⊎ ((found : ℕ) × (more : List Answer) × (later ≡ passes q.taken (k + 1) found ∷ more))
 
   left_at : (k room m t : ℕ) (vs : List ℕ) (rest : List Answer) → m ≡ k + t → 0 < t
-      → t + room ≡ q.size → Sends q m vs rest → IsLeft k rest
+      → t + room ≡ q.size → Gapped q m vs rest → IsLeft k rest
   left_at k room m t [] rest e more sum w = record {
     during = rest;
     later = [];
@@ -238,32 +246,38 @@ module _ (q : Queue) (some : 0 < q.size) (aligned : q.at % 8 ≡ 0) (two : q.sen
   }
   left_at k zero m t (v ∷ vs) rest e more sum w =
       let least : m + 1 - q.size ≡ k + 1 = omega (arith, e, sum) in
-      let tail : List Answer = stores (slot q m) v ∷ arrives q.sent ∷ w.2 in
+      let tail : List Answer = w.4.tail ++ w.2 in
       record {
         during = w.0;
-        later = sends q m v w.1 ++ w.2;
+        later = w.1 ++ w.2;
         whole = w.5;
         quiet = w.3.slots k;
-        waits = inr (w.1, tail, ap (λ n. passes q.taken n w.1 ∷ tail) least);
+        waits =
+            inr (
+              w.4.found,
+              tail,
+              ap (λ (l : List Answer). l ++ w.2) w.4.begins
+                  ∙ ap (λ n. passes q.taken n w.4.found ∷ tail) least,
+            );
       }
   left_at k (suc room) m t (v ∷ vs) rest e more sum w =
       let u =
       left_at k room (m + 1) (t + 1) vs w.2 (omega (arith, e)) (omega arith) (omega (arith, sum))
       w.6 in
-      let front : List Answer = w.0 ++ sends q m v w.1 in
+      let front : List Answer = w.0 ++ w.1 in
       let other : is_in (slot q k) (slot q m) ≡ false =
       ap (λ x. is_in (slot q k) (slot q x)) e ∙ other_slot k t more (omega (arith, sum)) in
       record {
         during = front ++ u.during;
         later = u.later;
         whole =
-            w.5 ∙ sym (append_assoc w.0 (sends q m v w.1) w.2)
+            w.5 ∙ sym (append_assoc w.0 w.1 w.2)
             ∙ ap (λ (l : List Answer). front ++ l) u.whole
             ∙ sym (append_assoc front u.during u.later);
         quiet =
             All-both (Unwritten (slot q k)) front u.during
-            (All-both (Unwritten (slot q k)) w.0 (sends q m v w.1) (w.3.slots k)
-            (refl, (other, (refl, tt)))) u.quiet;
+            (All-both (Unwritten (slot q k)) w.0 w.1 (w.3.slots k) (w.4.elsewhere k other))
+            u.quiet;
         waits = u.waits;
       }
 
@@ -273,10 +287,10 @@ module _ (q : Queue) (some : 0 < q.size) (aligned : q.at % 8 ≡ 0) (two : q.sen
     found : ℕ
     rest : List Answer
     whole : h ≡ (start ++ passes q.sent (k + 1) found ∷ []) ++ loads (slot q k) v ∷ rest
-    taken : advances q.taken (start ++ passes q.sent (k + 1) found ∷ []) ≡ n
+    taken : times_advanced q.taken (start ++ passes q.sent (k + 1) found ∷ []) ≡ n
 
   taken_at : (n k : ℕ) (ws1 : List ℕ) (v : ℕ) (ws2 : List ℕ) (h : List Answer)
-      → n + length ws1 ≡ k → Takes q n (ws1 ++ v ∷ ws2) h → IsTaken k (length ws1) v h
+      → n + length ws1 ≡ k → TakesAll q n (ws1 ++ v ∷ ws2) h → IsTaken k (length ws1) v h
   taken_at n k [] v ws2 h e w =
       let same : n ≡ k = omega (arith, e) in
       let pass : Answer = passes q.sent (n + 1) w.1 in
@@ -288,17 +302,17 @@ module _ (q : Queue) (some : 0 < q.size) (aligned : q.at % 8 ≡ 0) (two : q.sen
         whole = w.4 ∙ sym (append_assoc w.0 (pass ∷ []) (loads (slot q n) v ∷ arrives q.taken ∷
             w.2));
         taken =
-            advances-append q.taken w.0 (pass ∷ [])
+            times_advanced-append q.taken w.0 (pass ∷ [])
             ∙ ap (λ x. x + 0) (no_advances q.taken w.0 w.3.taken);
       })
   taken_at n k (x ∷ xs) v ws2 h e w =
       let u = taken_at (n + 1) k xs v ws2 w.2 (omega (arith, e)) w.5 in
-      let front : List Answer = w.0 ++ takes q n x w.1 in
+      let front : List Answer = w.0 ++ takes_value q n x w.1 in
       let pass : Answer = passes q.sent (k + 1) u.found in
       let none = no_advances q.taken w.0 w.3.taken in
       let one = one_taken n x w.1 in
-      let sum = advances-append q.taken front (u.start ++ pass ∷ []) in
-      let sum' = advances-append q.taken w.0 (takes q n x w.1) in
+      let sum = times_advanced-append q.taken front (u.start ++ pass ∷ []) in
+      let sum' = times_advanced-append q.taken w.0 (takes_value q n x w.1) in
       let more = u.taken in
       record {
         start = front ++ u.start;
@@ -306,15 +320,47 @@ module _ (q : Queue) (some : 0 < q.size) (aligned : q.at % 8 ≡ 0) (two : q.sen
         rest = u.rest;
         whole =
             w.4
-            ∙ sym (append_assoc w.0 (takes q n x w.1) w.2)
+            ∙ sym (append_assoc w.0 (takes_value q n x w.1) w.2)
             ∙ ap (λ (l : List Answer). front ++ l) u.whole
             ∙ sym (append_assoc front (u.start ++ pass ∷ []) (loads (slot q k) v ∷ u.rest))
             ∙ ap (λ (l : List Answer). l ++ loads (slot q k) v ∷ u.rest) (sym (append_assoc front
             u.start (pass ∷ [])));
         taken =
-            ap (advances q.taken) (append_assoc front u.start (pass ∷ []))
+            ap (times_advanced q.taken) (append_assoc front u.start (pass ∷ []))
             ∙ omega (arith, none, one, sum, sum', more);
       }
+
+  -- a send with nothing between its calls
+  sending_plain : (n v found : ℕ) → v < 2 ^ 64 → IsSending q n v (sends_value q n v found)
+  sending_plain n v found fits = record {
+    found = found;
+    tail = stores (slot q n) v ∷ arrives q.sent ∷ [];
+    begins = refl;
+    pre = passes q.taken (n + 1 - q.size) found ∷ stores (slot q n) v ∷ [];
+    ends = refl;
+    none = (refl, (refl, tt));
+    quiet = (refl, (refl, (apart', tt)));
+    stored = λ x.
+        ap (λ b. if b then v % 2 ^ 64 else x) (eq-eqb (slot q n / 8) (slot q n / 8) refl)
+        ∙ mod-eq_of_lt fits;
+    each = λ k. (
+      whole_quiet (slot q k) (passes q.taken (n + 1 - q.size) found).call refl,
+      (λ t. (refl, same_slot n k t), (whole_quiet (slot q k) (arrives q.sent).call refl, tt)),
+    );
+    elsewhere = λ k out. (refl, (out, (refl, tt)));
+  }
+
+  gapped_plain : (n : ℕ) (vs : List ℕ) (h : List Answer) → SendsAll q n vs h → Gapped q n vs h
+  gapped_plain n [] h alone = alone
+  gapped_plain n (v ∷ vs) h w = (
+    w.0,
+    sends_value q n v w.1,
+    w.2,
+    w.3,
+    sending_plain n v w.1 w.4,
+    w.5,
+    gapped_plain (n + 1) vs w.2 w.6,
+  )
 
 -- the place of a value in a list, if it has so many
 value_at : (vs : List ℕ) (k : ℕ)
@@ -361,8 +407,8 @@ begins_with (v ∷ vs) (w ∷ ws) h =
         by (y ∷ f) b e len = (f, b, (cc e), (omega (arith, len)))
 
 module _ (c : Config) (old new : Memory) (order : List Record) (q : Queue) (i j : ℕ)
-    (vs ws : List ℕ) (run : Runs c old order new) (empty : IsEmptyQueue c old q)
-    (sender : Sends q 0 vs (answers_of i order)) (taker : Takes q 0 ws (answers_of j order))
+    (vs ws : List ℕ) (run : LeadsThrough c old order new) (empty : IsEmptyQueue c old q)
+    (sender : Gapped q 0 vs (answers_of i order)) (taker : TakesAll q 0 ws (answers_of j order))
     (others : (m : ℕ) → m < c.nodes → (m ≡ i → ⊥) → (m ≡ j → ⊥) → LeavesAlone q (answers_of m
     order))
   where
@@ -422,7 +468,7 @@ module _ (c : Config) (old new : Memory) (order : List Record) (q : Queue) (i j 
         let sum = tally-append (raised q.sent) (answers_of i cut.front) (answers_of i (by j pass ∷
         cut.back)) in
         let all = ap (tally (raised q.sent)) parts in
-        let many = tally-advances q.sent (answers_of i order) in
+        let many = tally-times_advanced q.sent (answers_of i order) in
         let sent = all_sent q empty.some empty.aligned empty.two 0 vs (answers_of i order) sender in
         absurd (omega (arith, wants, sum, all, many, sent, le))
 
@@ -434,7 +480,7 @@ module _ (c : Config) (old new : Memory) (order : List Record) (q : Queue) (i j 
         let s =
         sent_at q empty.some empty.aligned empty.two 0 k f v b (answers_of i order)
         (omega (arith, len))
-        (subst (λ xs. Sends q 0 xs (answers_of i order)) e sender) in
+        (subst (λ xs. Gapped q 0 xs (answers_of i order)) e sender) in
         let some = empty.some in
         let u =
         left_at q empty.some empty.aligned empty.two k (q.size - 1) (k + 1) 1 b s.rest refl
@@ -469,7 +515,7 @@ module _ (c : Config) (old new : Memory) (order : List Record) (q : Queue) (i j 
         let t =
         taken_at q empty.some empty.aligned empty.two 0 (length front) front w back (answers_of j
         order)
-        (omega arith) (subst (λ xs. Takes q 0 xs (answers_of j order)) e taker) in
+        (omega arith) (subst (λ xs. TakesAll q 0 xs (answers_of j order)) e taker) in
         elim (value_at vs (length front)) [
           | inl x ↦
               let same = is_sent (length front) (length front) w refl t x.0 x.1 x.2 x.3 x.4 in
@@ -482,4 +528,6 @@ module _ (c : Config) (old new : Memory) (order : List Record) (q : Queue) (i j 
 
 pub queues-keep_order : QueuesKeepOrder
 queues-keep_order c old new order q i j vs ws run empty sender taker others =
-    in_order c old new order q i j vs ws run empty sender taker others
+    in_order c old new order q i j vs ws run empty
+    (gapped_plain q empty.some empty.aligned empty.two 0 vs (answers_of i order) sender) taker
+    others

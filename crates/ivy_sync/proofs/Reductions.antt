@@ -12,10 +12,11 @@ use Rattle.ivy_model.specs.Memory.{Memory}
 use Rattle.ivy_calls.specs.declared.answer.Answer.{Answer}
 use Rattle.ivy_calls.specs.Answers.{answers_of}
 use Rattle.ivy_sync.specs.Barriers.{CrossesAt}
-use Rattle.ivy_sync.specs.Counts.{is_advance}
+use Rattle.ivy_sync.specs.Counts.{is_advance_of}
 use Rattle.ivy_sync.specs.Doing.{arrives, passes, loads, stores}
 use Rattle.ivy_sync.specs.Reductions.{finds, Reduces, ReductionsAgree}
-use Rattle.ivy_sync.specs.Words.{word, IsWord, is_write, NoWrite, IsWhole, Reads, last, Runs}
+use Rattle.ivy_sync.specs.Words.{word, IsHeapWord, is_write_in, NoWrite, IsWhole, Reads, last}
+use Rattle.ivy_sync.specs.Words.{LeadsThrough}
 use Rattle.ivy_sync.proofs.Lists.{All-append, All-both}
 use Rattle.ivy_sync.proofs.Phases.{no_write_whole, phases-share}
 use Rattle.ivy_sync.proofs.Registers.{last-append}
@@ -29,12 +30,12 @@ finds-append at n (x ∷ vs) v =
     ∙ ap (λ m. finds at (n + 1) vs ++ loads (at + 8 * m) v ∷ [])
     (let e : n + 1 + length vs ≡ n + suc (length vs) = omega arith in e))
 
-finds_quiet : (at d n : ℕ) (vs : List ℕ) → NoWrite d (finds at n vs)
+pub finds_quiet : (at d n : ℕ) (vs : List ℕ) → NoWrite d (finds at n vs)
 finds_quiet at d n [] = tt
 finds_quiet at d n (v ∷ vs) = (refl, finds_quiet at d (n + 1) vs)
 
 -- what holds of each load holds of that of a place
-find_at : (P : Answer → Type 0) (at m n : ℕ) (vs : List ℕ) (v : ℕ) → Each P (finds at m vs)
+pub find_at : (P : Answer → Type 0) (at m n : ℕ) (vs : List ℕ) (v : ℕ) → Each P (finds at m vs)
     → slice_get vs n ≡ Some v → P (loads (at + 8 * (m + n)) v)
 find_at P at m n [] v h e = absurd (cc)
 find_at P at m zero (x ∷ vs) v h e =
@@ -46,15 +47,15 @@ find_at P at m (suc n) (x ∷ vs) v h e =
     let there : m + 1 + n ≡ m + suc n = omega arith in
     subst (λ k. P (loads (at + 8 * k) v)) there (find_at P at (m + 1) n vs v h.1 e)
 
-some_there : (vs : List ℕ) (n : ℕ) → n < length vs → (v : ℕ) × (slice_get vs n ≡ Some v)
+pub some_there : (vs : List ℕ) (n : ℕ) → n < length vs → (v : ℕ) × (slice_get vs n ≡ Some v)
 some_there [] n h = absurd (omega (arith, h))
 some_there (x ∷ vs) zero h = (x, refl)
 some_there (x ∷ vs) (suc n) h = some_there vs n (omega (arith, h))
 
 module _ (c : Config) (old new : Memory) (order : List Record) (at k count : ℕ) (value : ℕ → ℕ)
-    (values : ℕ → List ℕ) (run : Runs c old order new)
+    (values : ℕ → List ℕ) (run : LeadsThrough c old order new)
     (first : slice_get old.counts k ≡ Some count) (aligned : at % 8 ≡ 0)
-    (words : (n : ℕ) → n < c.nodes → IsWord c (at + 8 * n))
+    (words : (n : ℕ) → n < c.nodes → IsHeapWord c (at + 8 * n))
     (reduces : (i : ℕ) → i < c.nodes
     → Reduces at k (count + c.nodes) c.nodes (value i) i (values i) (answers_of i order)) where
   abbrev before : (i : ℕ) → i < c.nodes → List Answer
@@ -74,13 +75,13 @@ module _ (c : Config) (old new : Memory) (order : List Record) (at k count : ℕ
             ∙ append_assoc (before i l ++ arrives k ∷ [])
             (passes k (count + c.nodes) w.gathers.found ∷ finds at 0 (values i)) w.after;
         alone =
-            All-both (λ (r : Answer). is_advance k r.call ≡ false) w.before
+            All-both (λ (r : Answer). is_advance_of k r.call ≡ false) w.before
             (stores (at + 8 * i) (value i) ∷ []) w.alone (refl, tt);
       }
 
   unwritten : (n j : ℕ) (m : j < c.nodes) → (j ≡ n → ⊥) → NoWrite (at + 8 * n) (before j m)
   unwritten n j m ne =
-      All-both (λ (r : Answer). is_write (at + 8 * n) r.call ≡ false) (reduces j m).before
+      All-both (λ (r : Answer). is_write_in (at + 8 * n) r.call ≡ false) (reduces j m).before
       (stores (at + 8 * j) (value j) ∷ []) ((reduces j m).unwritten n) (
         ne_eqb ((at + 8 * j) / 8) ((at + 8 * n) / 8)
             (λ e. ne (let same : j ≡ n = omega (arith, e, aligned) in same)),
@@ -89,7 +90,7 @@ module _ (c : Config) (old new : Memory) (order : List Record) (at k count : ℕ
 
   left : (n j : ℕ) (m : j < c.nodes) → NoWrite (at + 8 * n) (after j m)
   left n j m =
-      All-both (λ (r : Answer). is_write (at + 8 * n) r.call ≡ false) (finds at 0 (values j))
+      All-both (λ (r : Answer). is_write_in (at + 8 * n) r.call ≡ false) (finds at 0 (values j))
       (reduces j m).after (finds_quiet at (at + 8 * n) 0 (values j)) ((reduces j m).left n)
 
   stored : (n : ℕ) (l : n < c.nodes) → last (at + 8 * n) (word c old (at + 8 * n)) (before n l) ≡

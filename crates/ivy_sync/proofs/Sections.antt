@@ -13,7 +13,7 @@ use Rattle.ivy_calls.specs.declared.answer.Answer.{Answer}
 use Rattle.ivy_calls.specs.Answers.{answer, answers, answers_of}
 use Rattle.ivy_calls.proofs.Answers.{answers_of-at, answers_of-first, answers_of-skip}
 use Rattle.ivy_calls.proofs.Answers.{answers_of-push_own, answers_of-push_other}
-use Rattle.ivy_sync.specs.Words.{IsWord, is_write, Runs}
+use Rattle.ivy_sync.specs.Words.{IsHeapWord, is_write_in, LeadsThrough}
 use Rattle.ivy_sync.specs.Locks.{held_after, holds, KeepsLock}
 use Rattle.ivy_sync.specs.Sections.{KeepsGuard, onto_first, sections, turns_of, SectionsAreSerial}
 use Rattle.ivy_sync.proofs.Lists.{one_more}
@@ -78,7 +78,7 @@ serial_end c a guarded m xs (inr held) = record {
 }
 
 module _ (a : ℕ) (guarded : Call → Bool) (xs : List Record) (r : Record) (rs : List Record)
-    (apart : IsTrue (is_write a r.call) → guarded r.call ≡ false)
+    (apart : IsTrue (is_write_in a r.call) → guarded r.call ≡ false)
     (guard : IsTrue (guarded r.call) → IsTrue (holds a false (answers_of r.node xs)))
     (alone : (i : ℕ) → IsTrue (holds a false (answers_of i xs))
     → IsTrue (holds a false (answers_of r.node xs)) → r.node ≡ i)
@@ -217,7 +217,7 @@ module _ (a : ℕ) (guarded : Call → Bool) (xs : List Record) (r : Record) (rs
   leaving : before ≡ true → later ≡ false → IsSerialFrom a guarded xs (r ∷ rs)
   leaving p q =
       let none : guarded r.call ≡ false =
-      elim (cases_Bool (is_write a r.call)) [
+      elim (cases_Bool (is_write_in a r.call)) [
         | inl is ↦ apart is
         | inr not ↦
             absurd (both_ways before (sym (held_quiet a before (answer r) not) ∙ q) p)
@@ -242,8 +242,8 @@ module _ (a : ℕ) (guarded : Call → Bool) (xs : List Record) (r : Record) (rs
   serial_step true false p q = leaving p q
 
 pub serial_from : (c : Config) (a : ℕ) (guarded : Call → Bool) (old new : Memory)
-    (xs ys : List Record) → Runs c old ys new → IsWord c a
-    → ((call : Call) → IsTrue (is_write a call) → guarded call ≡ false)
+    (xs ys : List Record) → LeadsThrough c old ys new → IsHeapWord c a
+    → ((call : Call) → IsTrue (is_write_in a call) → guarded call ≡ false)
     → ((i : ℕ) → i < c.nodes → KeepsLock a false (answers_of i (xs ++ ys)))
     → ((i : ℕ) → i < c.nodes → KeepsGuard a guarded false (answers_of i (xs ++ ys)))
     → IsHeldOnce c a old xs → IsSerialFrom a guarded xs ys

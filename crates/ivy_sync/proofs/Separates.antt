@@ -1,5 +1,5 @@
 -- A barrier separates.
-use Rattle.std.proofs.Common.{◌≡◌, ℕ, ◌+◌, ◌<◌, ◌≤◌, inl, inr, List, [], ◌∷◌, ◌++◌, Some, refl, sym}
+use Rattle.std.proofs.Common.{◌≡◌, ℕ, ◌+◌, ◌<◌, ◌≤◌, inl, inr, List, [], ◌∷◌, ◌++◌, Some, sym}
 use Rattle.std.proofs.Common.{ap, subst, ◌∙◌, append-nil, arith}
 use Rattle.std.specs.Prelude.{slice_get}
 use Rattle.ivy_model.specs.declared.config.Config.{Config}
@@ -48,7 +48,8 @@ module _ (c : Config) (old new : Memory) (order : List Record) (k count : ℕ)
   cut = sum_cut (raised k) (raised_most k) c.nodes order enough
 
   leads : (mid : Memory) × ServesAll c old cut.front mid × ServesAll c mid cut.back new
-  leads = leads_cut c old new cut.front cut.back (subst (λ rs. ServesAll c old rs new) cut.whole led)
+  leads = leads_cut c old new cut.front cut.back (subst (λ rs. ServesAll c old rs new) cut.whole
+      led)
 
   -- before the cut no await of all advances has its value
   no_pass : (us vs : List Record) (found i : ℕ)
@@ -58,7 +59,8 @@ module _ (c : Config) (old new : Memory) (order : List Record) (k count : ℕ)
       let w = leads_cut c old leads.0 us (pass ∷ vs)
       (subst (λ rs. ServesAll c old rs leads.0) e leads.1) in
       let count_there = counted c old w.0 k count us w.1 at in
-      let reached = awaited c w.0 w.2.0 k (count + tally (raised k) (answers us)) (count + c.nodes) found
+      let reached = awaited c w.0 w.2.0 k (count + tally (raised k) (answers us))
+      (count + c.nodes) found
       w.2.1.served count_there in
       let less = cut.first us vs pass e in
       absurd (omega (arith, reached, less))
@@ -68,7 +70,8 @@ module _ (c : Config) (old new : Memory) (order : List Record) (k count : ℕ)
   Near i l = (ds : List Answer) × (firsts i l ≡ answers_of i cut.front ++ ds)
       × (answers_of i cut.back ≡ ds ++ rests i l)
 
-  near_end : (i : ℕ) (l : i < c.nodes) (ds : List Answer) → answers_of i cut.front ≡ firsts i l ++ ds
+  near_end : (i : ℕ) (l : i < c.nodes) (ds : List Answer) → answers_of i cut.front ≡ firsts i l
+      ++ ds
       → rests i l ≡ ds ++ answers_of i cut.back → Near i l
   near_end i l [] front back = (
     [],
@@ -85,8 +88,10 @@ module _ (c : Config) (old new : Memory) (order : List Record) (k count : ℕ)
   near : (i : ℕ) (l : i < c.nodes) → Near i l
   near i l =
       let whole : answers_of i cut.front ++ answers_of i cut.back ≡ firsts i l ++ rests i l =
-      sym (answers_of-append i cut.front cut.back) ∙ ap (answers_of i) (sym cut.whole) ∙ (cross i l).whole in
-      elim (two_cuts (answers_of i cut.front) (answers_of i cut.back) (firsts i l) (rests i l) whole) [
+      sym (answers_of-append i cut.front cut.back) ∙ ap (answers_of i) (sym cut.whole) ∙
+      (cross i l).whole in
+      elim (two_cuts (answers_of i cut.front) (answers_of i cut.back) (firsts i l)
+      (rests i l) whole) [
         | inl w ↦ w
         | inr w ↦ near_end i l w.0 w.1 w.2
       ]
@@ -125,7 +130,8 @@ module _ (c : Config) (old new : Memory) (order : List Record) (k count : ℕ)
     whole = cut.whole;
     leads = leads.1;
     leads_on = leads.2;
-    counted = counted c old leads.0 k count cut.front leads.1 at ∙ ap (λ n. Some (count + n)) cut.sum;
+    counted = counted c old leads.0 k count cut.front leads.1 at ∙ ap (λ n. Some
+        (count + n)) cut.sum;
     firsts = λ i l. let w = near i l in (exact i l w.0 w.1 w.2).0;
     rests = λ i l. let w = near i l in ((cross i l).found, (exact i l w.0 w.1 w.2).1);
   }

@@ -15,31 +15,35 @@ use Rattle.ivy_calls.specs.declared.answer.Answer.{Answer}
 use Rattle.ivy_calls.specs.Answers.{answers, answers_of}
 use Rattle.ivy_calls.proofs.Answers.{answers_of-nobody}
 use Rattle.ivy_sync.specs.Barriers.{CrossesAt, IsCutAt}
-use Rattle.ivy_sync.specs.Counts.{is_advance, NoAdvance}
-use Rattle.ivy_sync.specs.Doing.{arrives, asks, loads, passes, stores}
+use Rattle.ivy_sync.specs.Counts.{is_advance_of, NoAdvance}
+use Rattle.ivy_sync.specs.Doing.{arrives, asks, loads, stores}
 use Rattle.ivy_sync.specs.Locks.{KeepsLock}
-use Rattle.ivy_sync.specs.Registers.{ReadsTheLast, accesses}
+use Rattle.ivy_sync.specs.Registers.{ReadsTheLast}
 use Rattle.ivy_sync.specs.Sections.{KeepsGuard, sections, turns_of, IsSerial}
-use Rattle.ivy_sync.specs.Sums.{total, adding, AddsOnce, SumsAreWhole}
-use Rattle.ivy_sync.specs.Words.{word, IsWord, is_in, is_access, is_write, IsWhole, NoWrite, written, last, Runs}
+use Rattle.ivy_sync.specs.Sums.{sum_up_to, adding, AddsOnce, SumsAreWhole}
+use Rattle.ivy_sync.specs.Words.{word, IsHeapWord, is_in, is_access_in, is_write_in, IsWhole}
+use Rattle.ivy_sync.specs.Words.{NoWrite, word_after, last, LeadsThrough}
 use Rattle.ivy_sync.proofs.Cuts.{all_parts, nodes_there}
 use Rattle.ivy_sync.proofs.Lists.{All-both}
 use Rattle.ivy_sync.proofs.Locks.{may_quiet}
-use Rattle.ivy_sync.proofs.Locked.{in_own, in_other, apart_access, by_refusals, unguarded_keep, locked}
-use Rattle.ivy_sync.proofs.Locked.{locked_keeps, locked_guards, locked_sections, all_turns, turn_sum}
-use Rattle.ivy_sync.proofs.Locked.{turn_sum-total}
+use Rattle.ivy_sync.proofs.Locked.{in_own, in_other, apart_access, by_refusals, unguarded_keep}
+use Rattle.ivy_sync.proofs.Locked.{locked}
+use Rattle.ivy_sync.proofs.Locked.{locked_keeps, locked_guards, locked_sections, all_turns}
+use Rattle.ivy_sync.proofs.Locked.{turn_sum}
+use Rattle.ivy_sync.proofs.Locked.{turn_sum-sum_up_to}
 use Rattle.ivy_sync.proofs.Phases.{settled}
 use Rattle.ivy_sync.proofs.Registers.{words-are_registers}
 use Rattle.ivy_sync.proofs.Sections.{sections-are_serial}
 use Rattle.ivy_sync.proofs.Separates.{barrier-separates}
-use Rattle.ivy_sync.proofs.Totals.{total-same}
+use Rattle.ivy_sync.proofs.Totals.{sum_up_to-same}
 use Rattle.ivy_sync.proofs.Words.{whole_quiet}
 
 one_times : (n : ℕ) → n * 1 ≡ n
 one_times n = omega arith
 
 module _ (c : Config) (old new : Memory) (order : List Record) (a s k count : ℕ)
-    (value out : ℕ → ℕ) (run : Runs c old order new) (lock_at : IsWord c a) (sum_at : IsWord c s)
+    (value out : ℕ → ℕ) (run : LeadsThrough c old order new) (lock_at : IsHeapWord c a)
+    (sum_at : IsHeapWord c s)
     (apart : s / 8 ≡ a / 8 → ⊥) (free : word c old a ≡ 0) (counted : slice_get old.counts k ≡ Some
     count)
     (adds : (i : ℕ) → i < c.nodes
@@ -55,9 +59,10 @@ module _ (c : Config) (old new : Memory) (order : List Record) (a s k count : �
 
   alone : (i : ℕ) (l : i < c.nodes) → NoAdvance k (before i l)
   alone i l =
-      All-both (λ (r : Answer). is_advance k r.call ≡ false) (adds i l).refusals
+      All-both (λ (r : Answer). is_advance_of k r.call ≡ false) (adds i l).refusals
       (adding a s (adds i l).sum (value i))
-      (by_refusals a (λ (r : Answer). is_advance k r.call ≡ false) (λ _. refl) (adds i l).refusals
+      (by_refusals a (λ (r : Answer). is_advance_of k r.call ≡ false) (λ _. refl)
+      (adds i l).refusals
       (adds i l).each)
       (refl, (refl, (refl, (refl, tt))))
 
@@ -69,7 +74,7 @@ module _ (c : Config) (old new : Memory) (order : List Record) (a s k count : �
   cut : IsCutAt c old order new k (count + c.nodes) before after
   cut = barrier-separates c old new order k count before after run.led counted cross
 
-  first_run : Runs c old cut.first cut.mid
+  first_run : LeadsThrough c old cut.first cut.mid
   first_run = record { config = run.config; sized = run.sized; led = cut.leads }
 
   -- what a node does while it holds the lock
@@ -85,7 +90,7 @@ module _ (c : Config) (old new : Memory) (order : List Record) (a s k count : �
   quiet : (i : ℕ) (l : i < c.nodes) → NoWrite a (section i l)
   quiet i l = (refl, (in_other a s apart, tt))
 
-  apart_calls : (call : Call) → IsTrue (is_write a call) → is_access s call ≡ false
+  apart_calls : (call : Call) → IsTrue (is_write_in a call) → is_access_in s call ≡ false
   apart_calls call w = apart_access a s call apart w
 
   keeps : (i : ℕ) → i < c.nodes → KeepsLock a false (answers_of i cut.first)
@@ -94,30 +99,30 @@ module _ (c : Config) (old new : Memory) (order : List Record) (a s k count : �
       (locked_keeps a (adds i l).refusals (adds i l).each (section i l) (arrives k ∷ []) (quiet i l)
       (may_quiet a false (arrives k).call refl, tt))
 
-  guards : (i : ℕ) → i < c.nodes → KeepsGuard a (is_access s) false (answers_of i cut.first)
+  guards : (i : ℕ) → i < c.nodes → KeepsGuard a (is_access_in s) false (answers_of i cut.first)
   guards i l =
-      subst (KeepsGuard a (is_access s) false) (sym (split i l))
+      subst (KeepsGuard a (is_access_in s) false) (sym (split i l))
       (locked_guards a (adds i l).refusals (adds i l).each (section i l) (arrives k ∷ [])
       (quiet i l)
-      (is_access s) apart_calls
-      (unguarded_keep a (is_access s) false (arrives k ∷ []) (refl, tt)))
+      (is_access_in s) apart_calls
+      (unguarded_keep a (is_access_in s) false (arrives k ∷ []) (refl, tt)))
 
   -- its one critical section
   one_section : (i : ℕ) (l : i < c.nodes)
-      → sections a (is_access s) false (answers_of i cut.first) ≡ section i l ∷ []
+      → sections a (is_access_in s) false (answers_of i cut.first) ≡ section i l ∷ []
   one_section i l =
-      ap (sections a (is_access s) false) (split i l)
+      ap (sections a (is_access_in s) false) (split i l)
       ∙ locked_sections a (adds i l).refusals (adds i l).each (section i l) (arrives k ∷ [])
       (quiet i l)
-      (is_access s) apart_calls
+      (is_access_in s) apart_calls
       ∙ ap
       (λ b. (if b then loads s (adds i l).sum ∷ (if b then stores s ((adds i l).sum + value i)
       ∷ [] else []) else (if b then stores s ((adds i l).sum + value i) ∷ [] else [])) ∷ [])
       (in_own s)
 
-  serial : (turns : List (ℕ × List Answer)) × IsSerial a (is_access s) cut.first turns
+  serial : (turns : List (ℕ × List Answer)) × IsSerial a (is_access_in s) cut.first turns
   serial =
-      sections-are_serial c old cut.mid cut.first a (is_access s) first_run lock_at free
+      sections-are_serial c old cut.mid cut.first a (is_access_in s) first_run lock_at free
       apart_calls keeps guards
 
   -- a turn is the section of a node that is there
@@ -132,7 +137,7 @@ module _ (c : Config) (old new : Memory) (order : List Record) (a s k count : �
         | inr past ↦
             subst (Each (IsTurn i))
             (sym (serial.1.each i
-            ∙ ap (sections a (is_access s) false)
+            ∙ ap (sections a (is_access_in s) false)
             (answers_of-nobody i c.nodes cut.first past (nodes_there c old cut.mid cut.first
             cut.leads)))) tt
       ]
@@ -148,7 +153,7 @@ module _ (c : Config) (old new : Memory) (order : List Record) (a s k count : �
 
   -- what a section leaves: as much more as the number of its node
   left_by : (i : ℕ) (l : i < c.nodes) (v : ℕ) → (adds i l).sum ≡ v
-      → written s v (Store 8 s ((adds i l).sum + value i)) ≡ v + value i
+      → word_after s v (Store 8 s ((adds i l).sum + value i)) ≡ v + value i
   left_by i l v e =
       let fits = (adds i l).fits in
       ap (λ b. if b then ((adds i l).sum + value i) % 2 ^ 64 else v) (in_own s)
@@ -178,7 +183,7 @@ module _ (c : Config) (old new : Memory) (order : List Record) (a s k count : �
   Whole r = IsWhole s r.call
 
   -- a call on the lock's word is none on the sum's
-  other_whole : (call : Call) → is_write s call ≡ is_in s a → IsWhole s call
+  other_whole : (call : Call) → is_write_in s call ≡ is_in s a → IsWhole s call
   other_whole call e = whole_quiet s call (e ∙ in_other s a not_there)
 
   whole : Each Whole (answers cut.first)
@@ -202,7 +207,7 @@ module _ (c : Config) (old new : Memory) (order : List Record) (a s k count : �
         ),
       )))
 
-  sum_there : word c cut.mid s ≡ word c old s + total value c.nodes
+  sum_there : word c cut.mid s ≡ word c old s + sum_up_to value c.nodes
   sum_there =
       let registers = words-are_registers c old cut.mid cut.first s first_run sum_at whole in
       let reads : ReadsTheLast s (word c old s) (flat_map (λ (t : ℕ × List Answer). t.1) serial.0) =
@@ -211,13 +216,13 @@ module _ (c : Config) (old new : Memory) (order : List Record) (a s k count : �
       ∙ ap (last s (word c old s)) serial.1.whole
       ∙ adds_up serial.0 each_turn (word c old s) reads
       ∙ ap (λ n. word c old s + n)
-      (turn_sum-total value c.nodes serial.0 (there_turn serial.0 each_turn)
-      ∙ total-same (λ i. value i * length (turns_of i serial.0)) value c.nodes
+      (turn_sum-sum_up_to value c.nodes serial.0 (there_turn serial.0 each_turn)
+      ∙ sum_up_to-same (λ i. value i * length (turns_of i serial.0)) value c.nodes
       (λ i l. ap (λ (ss : List (List Answer)). value i * length ss) (serial.1.each i ∙ one_section
       i l)
       ∙ one_times (value i)))
 
-  pub all_read : (i : ℕ) → i < c.nodes → out i ≡ word c old s + total value c.nodes
+  pub all_read : (i : ℕ) → i < c.nodes → out i ≡ word c old s + sum_up_to value c.nodes
   all_read i l =
       let reads =
       settled c old new order k (count + c.nodes) before after s run cut sum_at

@@ -1,10 +1,10 @@
 -- At no point has the turn of two tickets come.
-use Rattle.std.proofs.Common.{◌≡◌, ℕ, ◌+◌, ◌*◌, ◌%◌, ◌^◌, ◌<◌, ◌≤◌, inl, inr, Bool, true, false}
+use Rattle.std.proofs.Common.{◌≡◌, ℕ, ◌+◌, ◌%◌, ◌^◌, ◌<◌, ◌≤◌, inl, inr, Bool, true, false}
 use Rattle.std.proofs.Common.{List, []}
-use Rattle.std.proofs.Common.{if◌then◌else◌, cond, ◌∷◌, ◌++◌, IsTrue, Option, Some, None, refl, sym}
+use Rattle.std.proofs.Common.{if◌then◌else◌, cond, ◌∷◌, ◌++◌, IsTrue, Some, None, refl, sym}
 use Rattle.std.proofs.Common.{ap, subst}
-use Rattle.std.proofs.Common.{◌∙◌, append-nil, mod-eq_of_lt, arith, true≢false}
-use Rattle.std.specs.Prelude.{slice_get, ◌==◌, count_by}
+use Rattle.std.proofs.Common.{◌∙◌, append-nil, mod-eq_of_lt, arith}
+use Rattle.std.specs.Prelude.{slice_get, ◌==◌}
 use Rattle.std.proofs.lemmas.Bool.{cases_eq, eq-eqb, ne_eqb, false≢true}
 use Rattle.std.proofs.lemmas.List.Sums.{sum_by-append}
 use Rattle.std.proofs.lemmas.Option.{same_Some, none-some}
@@ -28,10 +28,11 @@ use Rattle.ivy_calls.specs.Answers.{answer, answers, answers_of}
 use Rattle.ivy_calls.proofs.Answers.{answers-append, answers_of-append, answers_of-at}
 use Rattle.ivy_calls.proofs.Answers.{answers_of-push_own, answers_of-push_other}
 use Rattle.ivy_sync.specs.Counts.{raised, raised_kind}
-use Rattle.ivy_sync.specs.TicketLocks.{Turn, idle, drawn_by, moved_by, turn_after, turn, IsDraw}
+use Rattle.ivy_sync.specs.TicketLocks.{Turn, idle, with_drawn, with_moved, turn_after, turn, IsDraw}
 use Rattle.ivy_sync.specs.TicketLocks.{MayMove, KeepsTurns, draws_of, TicketLocksExclude}
-use Rattle.ivy_sync.specs.Words.{word, IsWord, is_write, is_write_kind, IsAt, IsWhole, ReadsKind}
-use Rattle.ivy_sync.specs.Words.{put_by, put_over, Runs}
+use Rattle.ivy_sync.specs.Words.{word, IsHeapWord, is_write_in, IsAtWord}
+use Rattle.ivy_sync.specs.Words.{ReadsKind}
+use Rattle.ivy_sync.specs.Words.{put_after, put_over, LeadsThrough}
 use Rattle.ivy_sync.proofs.Counting.{count_step, awaited}
 use Rattle.ivy_sync.proofs.Cuts.{leads_cut}
 use Rattle.ivy_sync.proofs.Lists.{one_more}
@@ -53,7 +54,7 @@ turns_at a k t [] r ys h = h
 turns_at a k t (x ∷ xs) r ys h = turns_at a k (turn_after a k t x) xs r ys h.2
 
 -- what a draw does
-draw_at : (a : ℕ) (kind : CallKind) → IsDraw a kind → IsAt a kind
+draw_at : (a : ℕ) (kind : CallKind) → IsDraw a kind → IsAtWord a kind
 draw_at a (Word width addr does) d = (d.0, d.1)
 draw_at a (Count j) d = d
 draw_at a (Advance j) d = d
@@ -69,7 +70,7 @@ draw_reads a (Await j least) d = d
 draw_reads a (Alloc size) d = d
 draw_reads a (Free addr) d = d
 
-draw_puts : (a v : ℕ) (kind : CallKind) → IsDraw a kind → v + 1 < 2 ^ 64 → put_by v kind ≡ v + 1
+draw_puts : (a v : ℕ) (kind : CallKind) → IsDraw a kind → v + 1 < 2 ^ 64 → put_after v kind ≡ v + 1
 draw_puts a v (Word width addr does) d small =
     ap (λ (x : Act). put_over v (next_number 8 x v)) d.2
     ∙ ap (λ n. n % 2 ^ 64) (mod-eq_of_lt small) ∙ mod-eq_of_lt small
@@ -105,10 +106,10 @@ pub record AreTurns (c : Config) (a k : ℕ) (m : Memory) (rs : List Record) : T
 
 draws-append : (a : ℕ) (xs ys : List Answer)
     → draws_of a (xs ++ ys) ≡ draws_of a xs + draws_of a ys
-draws-append a xs ys = sum_by-append (λ (r : Answer). cond (is_write a r.call) 1 0) xs ys
+draws-append a xs ys = sum_by-append (λ (r : Answer). cond (is_write_in a r.call) 1 0) xs ys
 
 module _ (c : Config) (a k : ℕ) (old new : Memory) (rs : List Record) (r : Record) (h : IsConfig c)
-    (s : IsSized c old) (at : IsWord c a) (w : HasWidth r.call)
+    (s : IsSized c old) (at : IsHeapWord c a) (w : HasWidth r.call)
     (served : Serves c old r.call r.reply new) (here : AreTurns c a k old rs) where
   abbrev mine : Turn
   mine = turn a k idle (answers_of r.node rs)
@@ -116,7 +117,7 @@ module _ (c : Config) (a k : ℕ) (old new : Memory) (rs : List Record) (r : Rec
   abbrev longer : List Record
   longer = rs ++ r ∷ []
 
-  drawn_on : (b : Bool) → is_write a r.call ≡ b
+  drawn_on : (b : Bool) → is_write_in a r.call ≡ b
       → draws_of a (answers longer) ≡ here.number + cond b 1 0
   drawn_on b e =
       let sum = draws-append a (answers rs) (answer r ∷ []) in
@@ -125,7 +126,7 @@ module _ (c : Config) (a k : ℕ) (old new : Memory) (rs : List Record) (r : Rec
       let before = here.drawn in
       ap (draws_of a) (answers-append rs (r ∷ [])) ∙ omega (arith, sum, one, before)
     where
-      one_draw : (q : Answer) → draws_of a (q ∷ []) ≡ cond (is_write a q.call) 1 0
+      one_draw : (q : Answer) → draws_of a (q ∷ []) ≡ cond (is_write_in a q.call) 1 0
       one_draw q = omega arith
 
   -- the turns after the record, where its node's own is this
@@ -156,7 +157,7 @@ module _ (c : Config) (a k : ℕ) (old new : Memory) (rs : List Record) (r : Rec
       x)) e
 
   -- a call that is no write in the word
-  module _ (quiet : is_write a r.call ≡ false) where
+  module _ (quiet : is_write_in a r.call ≡ false) where
     word_same : word c new a ≡ here.number
     word_same =
         word_step c old new a r.call r.reply h s at w (whole_quiet a r.call quiet) served
@@ -165,9 +166,10 @@ module _ (c : Config) (a k : ℕ) (old new : Memory) (rs : List Record) (r : Rec
     drawn_same : here.number ≡ draws_of a (answers longer)
     drawn_same = let more = drawn_on false quiet in omega (arith, more)
 
-    moves : turn_after a k mine (answer r) ≡ moved_by k mine (kind_of_call r.call) r.reply
+    moves : turn_after a k mine (answer r) ≡ with_moved k mine (kind_of_call r.call) r.reply
     moves =
-        ap (λ b. if b then drawn_by mine r.reply else moved_by k mine (kind_of_call r.call) r.reply)
+        ap (λ b. if b then with_drawn mine r.reply else with_moved k mine
+        (kind_of_call r.call) r.reply)
         quiet
 
     -- the count is as it was
@@ -237,7 +239,7 @@ module _ (c : Config) (a k : ℕ) (old new : Memory) (rs : List Record) (r : Rec
         }
 
     moved : (kind : CallKind) (reply : Reply)
-        → turn_after a k mine (answer r) ≡ moved_by k mine kind reply
+        → turn_after a k mine (answer r) ≡ with_moved k mine kind reply
         → raised k (answer r) ≡ raised_kind k kind reply → ServesKind c old kind reply new
         → MayMove k mine kind reply → AreTurns c a k new longer
     moved (Await j least) (Value found) t n by may =
@@ -273,7 +275,7 @@ module _ (c : Config) (a k : ℕ) (old new : Memory) (rs : List Record) (r : Rec
     moved (Free addr) reply t n by may = stays t n
 
   -- a ticket is drawn
-  draws : is_write a r.call ≡ true → IsDraw a (kind_of_call r.call)
+  draws : is_write_in a r.call ≡ true → IsDraw a (kind_of_call r.call)
       → draws_of a (answers longer) < 2 ^ 64 → AreTurns c a k new longer
   draws write draw few =
       let more = drawn_on true write in
@@ -286,14 +288,15 @@ module _ (c : Config) (a k : ℕ) (old new : Memory) (rs : List Record) (r : Rec
         ticket = Some here.number;
         inside = false;
       } =
-      ap (λ b. if b then drawn_by mine r.reply else moved_by k mine (kind_of_call r.call) r.reply)
+      ap (λ b. if b then with_drawn mine r.reply else with_moved k mine
+      (kind_of_call r.call) r.reply)
       write
-      ∙ ap (drawn_by mine) answered in
+      ∙ ap (with_drawn mine) answered in
       let put : word c new a ≡ here.number + 1 =
       word_step c old new a r.call r.reply h s at w (λ _. draw_at a (kind_of_call r.call) draw)
       served
-      ∙ ap (λ b. if b then put_by (word c old a) (kind_of_call r.call) else word c old a) write
-      ∙ ap (λ v. put_by v (kind_of_call r.call)) here.holds
+      ∙ ap (λ b. if b then put_after (word c old a) (kind_of_call r.call) else word c old a) write
+      ∙ ap (λ v. put_after v (kind_of_call r.call)) here.holds
       ∙ draw_puts a here.number (kind_of_call r.call) draw small in
       let owner : ℕ → ℕ = λ t. if t == here.number then r.node else here.owner t in
       record {
@@ -331,16 +334,17 @@ module _ (c : Config) (a k : ℕ) (old new : Memory) (rs : List Record) (r : Rec
             });
       }
 
-  step : (b : Bool) → is_write a r.call ≡ b
-      → (IsTrue (is_write a r.call) → IsDraw a (kind_of_call r.call) × (mine.ticket ≡ None))
+  step : (b : Bool) → is_write_in a r.call ≡ b
+      → (IsTrue (is_write_in a r.call) → IsDraw a (kind_of_call r.call) × (mine.ticket ≡ None))
       → MayMove k mine (kind_of_call r.call) r.reply → draws_of a (answers longer) < 2 ^ 64
       → AreTurns c a k new longer
   step false e draw may few =
       moved e (kind_of_call r.call) r.reply (moves e) refl served may
   step true e draw may few = draws e (draw e).0 few
 
-pub turns_on : (c : Config) (a k : ℕ) (old new : Memory) (xs ys : List Record) → Runs c old ys new
-    → IsWord c a → draws_of a (answers (xs ++ ys)) < 2 ^ 64
+pub turns_on : (c : Config) (a k : ℕ) (old new : Memory) (xs ys : List Record)
+    → LeadsThrough c old ys new
+    → IsHeapWord c a → draws_of a (answers (xs ++ ys)) < 2 ^ 64
     → ((i : ℕ) → i < c.nodes → KeepsTurns a k idle (answers_of i (xs ++ ys)))
     → AreTurns c a k old xs → AreTurns c a k new (xs ++ ys)
 turns_on c a k old new xs [] run at few rules here =
@@ -360,7 +364,7 @@ turns_on c a k old new xs (r ∷ rs) run at few rules here =
     ap (draws_of a) (answers-append longer rs) ∙ draws-append a (answers longer) (answers rs) in
     let next : AreTurns c a k run.led.0 longer =
     step c a k old run.led.0 xs r run.config run.sized at made.width made.served here
-    (is_write a r.call) refl rule.0 rule.1 (omega (arith, few', sum)) in
+    (is_write_in a r.call) refl rule.0 rule.1 (omega (arith, few', sum)) in
     subst (AreTurns c a k new) (sym (one_more xs r rs))
     (turns_on c a k run.led.0 new longer rs
     (record { config = run.config; sized = sized; led = run.led.2 }) at few'

@@ -8,7 +8,7 @@ use Rattle.ivy_model.specs.declared.call.Record.{Record}
 use Rattle.ivy_model.specs.Explains.{part}
 use Rattle.ivy_calls.specs.declared.answer.Answer.{Answer}
 use Rattle.ivy_calls.specs.Answers.{answer, answers, answers_of}
-use Rattle.ivy_sync.specs.Sums.{total}
+use Rattle.ivy_sync.specs.Sums.{sum_up_to}
 use Rattle.ivy_sync.proofs.Lists.{none_at_end}
 
 -- the sum over the items of a list
@@ -21,21 +21,23 @@ pub tally-append : {A : Type 0} (f : A → ℕ) (xs ys : List A)
 tally-append f [] ys = omega arith
 tally-append f (x ∷ xs) ys = let e = tally-append f xs ys in omega (arith, e)
 
-pub total-add : (f g : ℕ → ℕ) (n : ℕ) → total (λ i. f i + g i) n ≡ total f n + total g n
-total-add f g zero = refl
-total-add f g (suc n) = let e = total-add f g n in omega (arith, e)
+pub sum_up_to-add : (f g : ℕ → ℕ) (n : ℕ) → sum_up_to (λ i. f i + g i) n
+    ≡ sum_up_to f n + sum_up_to g n
+sum_up_to-add f g zero = refl
+sum_up_to-add f g (suc n) = let e = sum_up_to-add f g n in omega (arith, e)
 
-pub total-zero : (n : ℕ) → total (λ _. 0) n ≡ 0
-total-zero zero = refl
-total-zero (suc n) = let e = total-zero n in omega (arith, e)
+pub sum_up_to-zero : (n : ℕ) → sum_up_to (λ _. 0) n ≡ 0
+sum_up_to-zero zero = refl
+sum_up_to-zero (suc n) = let e = sum_up_to-zero n in omega (arith, e)
 
-pub total-same : (f g : ℕ → ℕ) (n : ℕ) → ((i : ℕ) → i < n → f i ≡ g i) → total f n ≡ total g n
-total-same f g zero h = refl
-total-same f g (suc n) h =
-    ap₂ (λ a b. a + b) (total-same f g n (λ i l. h i (omega arith))) (h n (omega arith))
+pub sum_up_to-same : (f g : ℕ → ℕ) (n : ℕ) → ((i : ℕ) → i < n → f i ≡ g i) → sum_up_to f n
+    ≡ sum_up_to g n
+sum_up_to-same f g zero h = refl
+sum_up_to-same f g (suc n) h =
+    ap₂ (λ a b. a + b) (sum_up_to-same f g n (λ i l. h i (omega arith))) (h n (omega arith))
 
 -- what stands at one number alone
-total_past : (j x n : ℕ) → n ≤ j → total (λ i. cond (j == i) x 0) n ≡ 0
+total_past : (j x n : ℕ) → n ≤ j → sum_up_to (λ i. cond (j == i) x 0) n ≡ 0
 total_past j x zero h = refl
 total_past j x (suc n) h =
     let e = total_past j x n (omega arith) in
@@ -43,7 +45,7 @@ total_past j x (suc n) h =
     ap (λ b. cond b x 0) (ne_eqb j n (λ same. omega (arith, same, h))) in
     omega (arith, e, none)
 
-pub total_one : (j x n : ℕ) → j < n → total (λ i. cond (j == i) x 0) n ≡ x
+pub total_one : (j x n : ℕ) → j < n → sum_up_to (λ i. cond (j == i) x 0) n ≡ x
 total_one j x zero h = absurd (omega arith)
 total_one j x (suc n) h =
     elim (cases_order j n) [
@@ -69,35 +71,36 @@ tally_own f r rs false = omega arith
 
 pub parts_tally : (f : Answer → ℕ) (n : ℕ) (rs : List Record)
     → Each (λ (r : Record). r.node < n) rs
-    → total (λ i. tally f (answers_of i rs)) n ≡ tally f (answers rs)
-parts_tally f n [] h = total-zero n
+    → sum_up_to (λ i. tally f (answers_of i rs)) n ≡ tally f (answers rs)
+parts_tally f n [] h = sum_up_to-zero n
 parts_tally f n (r ∷ rs) h =
-    total-same (λ i. tally f (answers_of i (r ∷ rs)))
+    sum_up_to-same (λ i. tally f (answers_of i (r ∷ rs)))
     (λ i. cond (r.node == i) (f (answer r)) 0 + tally f (answers_of i rs)) n
     (λ i _. tally_own f r (part i rs) (r.node == i))
-    ∙ total-add (λ i. cond (r.node == i) (f (answer r)) 0) (λ i. tally f (answers_of i rs)) n
+    ∙ sum_up_to-add (λ i. cond (r.node == i) (f (answer r)) 0) (λ i. tally f (answers_of i rs)) n
     ∙ ap₂ (λ a b. a + b) (total_one r.node (f (answer r)) n h.0) (parts_tally f n rs h.1)
 
-pub total_least : (f : ℕ → ℕ) (n : ℕ) → ((i : ℕ) → i < n → 1 ≤ f i) → n ≤ total f n
+pub total_least : (f : ℕ → ℕ) (n : ℕ) → ((i : ℕ) → i < n → 1 ≤ f i) → n ≤ sum_up_to f n
 total_least f zero h = omega arith
 total_least f (suc n) h =
     let e = total_least f n (λ i l. h i (omega arith)) in
     let last = h n (omega arith) in omega (arith, e, last)
 
-total_most : (f : ℕ → ℕ) (n : ℕ) → ((i : ℕ) → i < n → f i ≤ 1) → total f n ≤ n
+total_most : (f : ℕ → ℕ) (n : ℕ) → ((i : ℕ) → i < n → f i ≤ 1) → sum_up_to f n ≤ n
 total_most f zero h = omega arith
 total_most f (suc n) h =
     let e = total_most f n (λ i l. h i (omega arith)) in
     let last = h n (omega arith) in omega (arith, e, last)
 
 -- where n numbers of at most 1 make n, each is 1
-pub each_one : (f : ℕ → ℕ) (n : ℕ) → ((i : ℕ) → i < n → f i ≤ 1) → total f n ≡ n → (i : ℕ) → i < n
+pub each_one : (f : ℕ → ℕ) (n : ℕ) → ((i : ℕ) → i < n → f i ≤ 1) → sum_up_to f n ≡ n → (i : ℕ)
+    → i < n
     → f i ≡ 1
 each_one f zero h e i l = absurd (omega arith)
 each_one f (suc n) h e i l =
     let most = total_most f n (λ j m. h j (omega arith)) in
     let last = h n (omega arith) in
-    let rest : total f n ≡ n = omega (arith, e, most, last) in
+    let rest : sum_up_to f n ≡ n = omega (arith, e, most, last) in
     let here : f n ≡ 1 = omega (arith, e, most, last) in
     elim (cases_order i n) [
       | inl same ↦ ap f same ∙ here

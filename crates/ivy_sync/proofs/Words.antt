@@ -1,13 +1,13 @@
 -- A word of the heap after a call.
 use Rattle.std.proofs.Common.{◌≡◌, ℕ, ◌+◌, ◌-◌, ◌*◌, ◌/◌, ◌%◌, ◌^◌, ◌<◌, ◌≤◌, inl, inr, Bool, true}
-use Rattle.std.proofs.Common.{false, cond, IsTrue, List, [], ◌∷◌, ◌++◌, length, take, drop, Option}
+use Rattle.std.proofs.Common.{false, IsTrue, List, [], ◌∷◌, ◌++◌, length, take, drop, Option}
 use Rattle.std.proofs.Common.{Some, None, refl, sym, ap, ap₂, ◌∙◌, arith, length-take-le}
 use Rattle.std.proofs.Common.{if◌then◌else◌, true≢false}
 use Rattle.std.proofs.Math.Seq.{drop-append_seam}
 use Rattle.std.specs.List.{AllByRecursion as Each}
 use Rattle.std.specs.FinMap as map
-use Rattle.std.specs.Prelude.{MatchOption, slice_get, ◌==◌, nat_lt}
-use Rattle.std.proofs.lemmas.Bool.{both_ways, eqb-true, eqb-false, cases_Bool, cases_order}
+use Rattle.std.specs.Prelude.{slice_get, ◌==◌, nat_lt}
+use Rattle.std.proofs.lemmas.Bool.{both_ways, eqb-true, eqb-false, cases_order}
 use Rattle.std.proofs.lemmas.Bool.{ltb-true}
 use Rattle.std.proofs.lemmas.Bool.{ltb-false}
 use Rattle.std.proofs.lemmas.Option.{none-some}
@@ -35,9 +35,11 @@ use Rattle.ivy_model.proofs.Limits.{heap_words, word_fits}
 use Rattle.ivy_model.proofs.Words.{with_word}
 use Rattle.ivy_model.proofs.Sizes.{by_option, by_bool, none_refused, serves_sized}
 use Rattle.ivy_calls.specs.declared.answer.Answer.{Answer}
-use Rattle.ivy_calls.specs.Answers.{answer, answers}
-use Rattle.ivy_sync.specs.Words.{word, IsWord, is_in, puts, is_write, is_write_kind, IsAt, IsWhole}
-use Rattle.ivy_sync.specs.Words.{Reads, ReadsKind, put_by, put_over, written, last, Runs}
+use Rattle.ivy_calls.specs.Answers.{answers}
+use Rattle.ivy_sync.specs.Words.{word, IsHeapWord, is_in, puts, is_write_in, is_write_in_kind}
+use Rattle.ivy_sync.specs.Words.{IsAtWord, IsWhole}
+use Rattle.ivy_sync.specs.Words.{Reads, ReadsKind, put_after, put_over, word_after, last}
+use Rattle.ivy_sync.specs.Words.{LeadsThrough}
 
 -- a word of the heap, of some width
 pub record IsPlace (c : Config) (width addr : ℕ) : Type 0 where
@@ -125,19 +127,20 @@ same_by : (c : Config) (old new : Memory) (a : ℕ) → new ≡ old → word c n
 same_by c old new a e = ap (λ m. word c m a) e
 
 -- a call that does not write in the word leaves it
-pub written_quiet : (a v : ℕ) (call : Call) → is_write a call ≡ false → written a v call ≡ v
-written_quiet a v call q = ap (λ b. if b then put_by v (kind_of_call call) else v) q
+pub written_quiet : (a v : ℕ) (call : Call) → is_write_in a call ≡ false → word_after a v call ≡ v
+written_quiet a v call q = ap (λ b. if b then put_after v (kind_of_call call) else v) q
 
-pub whole_quiet : (a : ℕ) (call : Call) → is_write a call ≡ false → IsWhole a call
-whole_quiet a call q = λ t. absurd (both_ways (is_write a call) q t)
+pub whole_quiet : (a : ℕ) (call : Call) → is_write_in a call ≡ false → IsWhole a call
+whole_quiet a call q = λ t. absurd (both_ways (is_write_in a call) q t)
 
 -- what a call of this kind leaves in the word, by whether it may write there
 abbrev Leaves : Config → Memory → Memory → ℕ → CallKind → Bool → Type 0
-Leaves c old new a kind b = word c new a ≡ (if b then put_by (word c old a) kind else word c old a)
+Leaves c old new a kind b = word c new a ≡ (if b then put_after
+    (word c old a) kind else word c old a)
 
 -- what an access leaves, where it is served
 module _ (c : Config) (old new : Memory) (width addr : ℕ) (does : Act) (a : ℕ) (h : IsConfig c)
-    (s : IsSized c old) (at : IsWord c a) (w : IsWidth width) where
+    (s : IsSized c old) (at : IsHeapWord c a) (w : IsWidth width) where
   a_place : IsPlace c 8 a
   a_place = is_place c 8 a h (let k : IsWidth 8 = (3, omega arith, refl) in k) at
 
@@ -179,7 +182,7 @@ module _ (c : Config) (old new : Memory) (width addr : ℕ) (does : Act) (a : �
   access_served : access_refusal c width addr ≡ None
       → new ≡ with_written c old width addr (next_number width does (number_in_word c old width
       addr))
-      → (b : Bool) → is_write_kind a (Word width addr does) ≡ b
+      → (b : Bool) → is_write_in_kind a (Word width addr does) ≡ b
       → (IsTrue b → (width ≡ 8) × (addr ≡ a)) → Leaves c old new a (Word width addr does) b
   access_served e is false q whole =
       same_by c (with_written c old width addr (next_number width does (number_in_word c old width
@@ -204,14 +207,15 @@ module _ (c : Config) (old new : Memory) (width addr : ℕ) (does : Act) (a : �
       ∙ sym (ap₂ (λ (x : ℕ) (y : ℕ). access_refusal c x y) (whole refl).0 (whole refl).1) ∙ e))
 
 kind_step : (c : Config) (old new : Memory) (a : ℕ) (kind : CallKind) (reply : Reply) → IsConfig c
-    → IsSized c old → IsWord c a → HasKindWidth kind → (IsTrue (is_write_kind a kind) → IsAt a kind)
-    → ServesKind c old kind reply new → Leaves c old new a kind (is_write_kind a kind)
+    → IsSized c old → IsHeapWord c a → HasKindWidth kind → (IsTrue (is_write_in_kind a kind)
+    → IsAtWord a kind)
+    → ServesKind c old kind reply new → Leaves c old new a kind (is_write_in_kind a kind)
 kind_step c old new a (Word width addr does) reply h s at w whole p =
     by_option (access_refusal c width addr) p
     (λ e x. access_served c old new width addr does a h s at w e x.1
-    (is_write_kind a (Word width addr does)) refl whole)
+    (is_write_in_kind a (Word width addr does)) refl whole)
     (λ code e x. access_refused c old new width addr does a h s at w code e x.1
-    (is_write_kind a (Word width addr does)) whole)
+    (is_write_in_kind a (Word width addr does)) whole)
 kind_step c old new a (Count j) reply h s at w whole p =
     by_option (slice_get old.counts j) p (λ _ x. same_by c old new a x.1)
     (λ _ _ x. same_by c old new a x.1)
@@ -234,8 +238,8 @@ kind_step c old new a (Free addr) reply h s at w whole p =
     (λ _ _ x. same_word c old new a (ap (λ m. m.bytes) x.1))
 
 pub word_step : (c : Config) (old new : Memory) (a : ℕ) (call : Call) (reply : Reply) → IsConfig c
-    → IsSized c old → IsWord c a → HasWidth call → IsWhole a call → Serves c old call reply new
-    → word c new a ≡ written a (word c old a) call
+    → IsSized c old → IsHeapWord c a → HasWidth call → IsWhole a call → Serves c old call reply new
+    → word c new a ≡ word_after a (word c old a) call
 word_step c old new a call reply h s at w whole p =
     kind_step c old new a (kind_of_call call) reply h s at w whole p
 
@@ -246,7 +250,8 @@ unfolding word
 found_by c old a width addr does w e =
     ap₂ (λ (x : ℕ) (y : ℕ). access_reply does (number_in_word c old x y)) w e
 
-read_kind : (c : Config) (old new : Memory) (a : ℕ) (kind : CallKind) (reply : Reply) → IsWord c a
+read_kind : (c : Config) (old new : Memory) (a : ℕ) (kind : CallKind) (reply : Reply)
+    → IsHeapWord c a
     → ReadsKind a kind → ServesKind c old kind reply new → reply ≡ Value (word c old a)
 read_kind c old new a (Word width addr does) reply at reads p =
     by_option (access_refusal c width addr) p
@@ -260,14 +265,16 @@ read_kind c old new a (Await j least) reply at reads p = absurd reads
 read_kind c old new a (Alloc size) reply at reads p = absurd reads
 read_kind c old new a (Free addr) reply at reads p = absurd reads
 
-pub read_step : (c : Config) (old new : Memory) (a : ℕ) (call : Call) (reply : Reply) → IsWord c a
+pub read_step : (c : Config) (old new : Memory) (a : ℕ) (call : Call) (reply : Reply)
+    → IsHeapWord c a
     → Reads a call → Serves c old call reply new → reply ≡ Value (word c old a)
 read_step c old new a call reply at reads p =
     read_kind c old new a (kind_of_call call) reply at reads p
 
 -- the word after some records is what the last of them left
-pub word_last : (c : Config) (old new : Memory) (a : ℕ) (rs : List Record) → Runs c old rs new
-    → IsWord c a → Each (λ (r : Answer). IsWhole a r.call) (answers rs)
+pub word_last : (c : Config) (old new : Memory) (a : ℕ) (rs : List Record)
+    → LeadsThrough c old rs new
+    → IsHeapWord c a → Each (λ (r : Answer). IsWhole a r.call) (answers rs)
     → word c new a ≡ last a (word c old a) (answers rs)
 word_last c old new a [] run at whole = same_by c old new a run.led
 word_last c old new a (r ∷ rs) run at whole =

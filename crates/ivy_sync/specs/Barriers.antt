@@ -6,8 +6,17 @@ use Rattle.ivy_model.specs.Memory.{Memory}
 use Rattle.ivy_model.specs.Legal.{ServesAll}
 use Rattle.ivy_calls.specs.declared.answer.Answer.{Answer}
 use Rattle.ivy_calls.specs.Answers.{answers_of}
+use Rattle.ivy_sync.specs.declared.barrier.Barrier.{Barrier}
 use Rattle.ivy_sync.specs.Counts.{NoAdvance}
 use Rattle.ivy_sync.specs.Doing.{arrives, passes}
+
+-- what the next phase of a barrier waits for
+abbrev pub least_of : Barrier → ℕ
+least_of b = b.passed + b.nodes
+
+-- the barrier after that phase
+abbrev pub passed_on : Barrier → Barrier
+passed_on b = record b { passed = least_of b }
 
 -- the barrier stands in a node's history: what was before it, in which k is not advanced, and after
 pub record CrossesAt (k least : ℕ) (before after history : List Answer) : Type 0 where

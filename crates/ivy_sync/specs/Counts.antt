@@ -10,16 +10,16 @@ use Rattle.ivy_model.specs.Accesses.{kind_of_call}
 use Rattle.ivy_calls.specs.declared.answer.Answer.{Answer}
 
 -- the call advances eventcount k
-abbrev pub is_advance_kind : ℕ → CallKind → Bool
-is_advance_kind k (Advance j) = j == k
-is_advance_kind k _ = false
+abbrev pub is_advance_of_kind : ℕ → CallKind → Bool
+is_advance_of_kind k (Advance j) = j == k
+is_advance_of_kind k _ = false
 
-abbrev pub is_advance : ℕ → Call → Bool
-is_advance k call = is_advance_kind k (kind_of_call call)
+abbrev pub is_advance_of : ℕ → Call → Bool
+is_advance_of k call = is_advance_of_kind k (kind_of_call call)
 
 -- no answer is of an advance of eventcount k
 abbrev pub NoAdvance : ℕ → List Answer → Type 0
-NoAdvance k rs = Each (λ r. is_advance k r.call ≡ false) rs
+NoAdvance k rs = Each (λ r. is_advance_of k r.call ≡ false) rs
 
 -- how much the call, so answered, adds to eventcount k
 abbrev pub raised_kind : ℕ → CallKind → Reply → ℕ
@@ -30,6 +30,6 @@ abbrev pub raised : ℕ → Answer → ℕ
 raised k r = raised_kind k (kind_of_call r.call) r.reply
 
 -- how often eventcount k was advanced
-abbrev pub advances : ℕ → List Answer → ℕ
-advances k [] = 0
-advances k (r ∷ rs) = raised k r + advances k rs
+abbrev pub times_advanced : ℕ → List Answer → ℕ
+times_advanced k [] = 0
+times_advanced k (r ∷ rs) = raised k r + times_advanced k rs

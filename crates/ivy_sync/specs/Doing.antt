@@ -2,7 +2,7 @@
 use Rattle.std.specs.Prelude.{◌≡◌, ◌≢◌, ℕ, Bool, true, false, List, [], ◌∷◌, ◌++◌}
 use Rattle.std.specs.List.{AllByRecursion as Each}
 use Rattle.ivy_model.specs.declared.call.Call.TheVariants.{Load, Store, Swap, Cas, FetchAdd}
-use Rattle.ivy_model.specs.declared.call.Call.TheVariants.{Advance, Await}
+use Rattle.ivy_model.specs.declared.call.Call.TheVariants.{Advance, Await, Alloc}
 use Rattle.ivy_model.specs.declared.call.Reply.TheVariants.{Value, Done}
 use Rattle.ivy_calls.specs.declared.answer.Answer.{Answer}
 
@@ -26,8 +26,16 @@ arrives k = record { call = Advance k; reply = Done }
 abbrev pub passes : ℕ → ℕ → ℕ → Answer
 passes k least found = record { call = Await k least; reply = Value found }
 
+-- a block of so many bytes was given, at this address
+abbrev pub allots : ℕ → ℕ → Answer
+allots size addr = record { call = Alloc size; reply = Value addr }
+
+-- a word of 8 bytes was given, and set to 0
+abbrev pub clears : ℕ → List Answer
+clears addr = allots 8 addr ∷ stores addr 0 ∷ []
+
 -- the lock was asked for in vain
-pub record IsRefusal (a : ℕ) (r : Answer) : Type 0 where
+pub record AsksInVain (a : ℕ) (r : Answer) : Type 0 where
   pub found : ℕ
   pub is : r ≡ asks a found
   pub taken : found ≢ 0
@@ -35,7 +43,7 @@ pub record IsRefusal (a : ℕ) (r : Answer) : Type 0 where
 -- the lock was asked for until it was got
 pub record Locks (a : ℕ) (old new : List Answer) : Type 0 where
   pub refusals : List Answer
-  pub each : Each (IsRefusal a) refusals
+  pub each : Each (AsksInVain a) refusals
   pub whole : new ≡ old ++ (refusals ++ asks a 0 ∷ [])
 
 -- eventcount k was advanced, and awaited to be at least this
@@ -53,17 +61,17 @@ pub record Enters (a k ticket : ℕ) (old new : List Answer) : Type 0 where
   pub whole : new ≡ (old ++ draws a ticket ∷ []) ++ passes k ticket found ∷ []
 
 -- the word at a was claimed, and this was there: 0 gave it to who claimed it
-abbrev pub claims : ℕ → ℕ → Answer
-claims a found = record { call = Cas 8 a 0 1; reply = Value found }
+abbrev pub claims_word : ℕ → ℕ → Answer
+claims_word a found = record { call = Cas 8 a 0 1; reply = Value found }
 
 -- the claim was in vain, and eventcount k was awaited
 pub record Yields (a k : ℕ) (old new : List Answer) : Type 0 where
   pub claimed : ℕ
   pub taken : claimed ≢ 0
   pub found : ℕ
-  pub whole : new ≡ (old ++ claims a claimed ∷ []) ++ passes k 1 found ∷ []
+  pub whole : new ≡ (old ++ claims_word a claimed ∷ []) ++ passes k 1 found ∷ []
 
 -- whether the turn is one's own
 abbrev pub IsTurn : ℕ → ℕ → Bool → List Answer → List Answer → Type 0
-IsTurn a k true old new = new ≡ old ++ claims a 0 ∷ []
+IsTurn a k true old new = new ≡ old ++ claims_word a 0 ∷ []
 IsTurn a k false old new = Yields a k old new

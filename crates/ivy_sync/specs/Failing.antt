@@ -3,7 +3,7 @@ use Rattle.std.specs.Prelude.{◌≡◌, ℕ, ◌+◌, ◌-◌, ◌^◌, ◌≤�
 use Rattle.std.specs.List.{AllByRecursion as Each}
 use Rattle.ivy_model.specs.declared.call.Call.{Call}
 use Rattle.ivy_model.specs.declared.call.Call.TheVariants.{Load, Store, Swap, Cas, FetchAdd}
-use Rattle.ivy_model.specs.declared.call.Call.TheVariants.{Advance, Await}
+use Rattle.ivy_model.specs.declared.call.Call.TheVariants.{Advance, Await, Alloc}
 use Rattle.ivy_model.specs.declared.call.Reply.{Reply}
 use Rattle.ivy_model.specs.declared.fault.Fault.{Fault}
 use Rattle.ivy_model.specs.declared.fault.Fault.TheVariants.{CountFull}
@@ -14,9 +14,13 @@ use Rattle.ivy_sync.specs.declared.error.SyncError.{SyncError}
 use Rattle.ivy_sync.specs.declared.error.SyncError.TheVariants as error
 use Rattle.ivy_sync.specs.declared.broadcast.Broadcast.{Broadcast}
 use Rattle.ivy_sync.specs.declared.queue.Queue.{Queue}
-use Rattle.ivy_sync.specs.Broadcasts.{Gives, least_of}
-use Rattle.ivy_sync.specs.Doing.{IsRefusal, Crosses, claims, draws, stores}
+use Rattle.ivy_sync.specs.Barriers.{least_of}
+use Rattle.ivy_sync.specs.Doing.{AsksInVain, allots, claims_word, draws, stores}
 use Rattle.ivy_sync.specs.Queues.{slot}
+
+-- in some state of the memory a call may fail so
+abbrev pub AtSome : {State : Type 0} → (State → Fault → Type 0) → Fault → Type 0
+AtSome {State} can_fail fault = (state : State) × can_fail state fault
 
 -- one of these calls fails, and those before it were answered
 abbrev pub StopsIn : (Fault → Type 0) → List Call → SyncError → List Answer → List Answer → Type 0
@@ -30,7 +34,7 @@ StopsIn can_fail (call ∷ calls) (error.Spent place) old new = ⊥
 -- the lock at a was asked for in vain, so far
 pub record HasAsked (a : ℕ) (old new : List Answer) : Type 0 where
   pub refusals : List Answer
-  pub each : Each (IsRefusal a) refusals
+  pub each : Each (AsksInVain a) refusals
   pub whole : new ≡ old ++ refusals
 
 -- and then the next try failed, or there was none
@@ -46,6 +50,12 @@ FailsToCross can_fail k least (error.Call e) old new =
 FailsToCross can_fail k least (error.Spent place) old new =
     (place ≡ k) × (2 ^ 64 ≤ least) × (new ≡ old)
 
+-- no word was given, or it was not set to 0
+abbrev pub FailsToClear : (Fault → Type 0) → CallError → List Answer → List Answer → Type 0
+FailsToClear can_fail e old new =
+    Fails can_fail (Alloc 8) e old new
+    ⊎ ((addr : ℕ) × Fails can_fail (Store 8 addr 0) e (old ++ allots 8 addr ∷ []) new)
+
 -- no ticket was drawn, or its turn was not answered
 abbrev pub FailsToEnter : (Fault → Type 0) → ℕ → ℕ → CallError → List Answer → List Answer → Type 0
 FailsToEnter can_fail a k e old new =
@@ -56,7 +66,8 @@ FailsToEnter can_fail a k e old new =
 abbrev pub FailsToBegin : (Fault → Type 0) → ℕ → ℕ → CallError → List Answer → List Answer → Type 0
 FailsToBegin can_fail a k e old new =
     Fails can_fail (Cas 8 a 0 1) e old new
-    ⊎ ((found : ℕ) × (found ≢ 0) × Fails can_fail (Await k 1) e (old ++ claims a found ∷ []) new)
+    ⊎ ((found : ℕ) × (found ≢ 0) × Fails can_fail (Await k 1) e (old ++ claims_word a found
+    ∷ []) new)
 
 -- the n-th value was not sent, or not taken: so many can't be counted, or a call failed
 abbrev pub FailsToSend : (Fault → Type 0) → Queue → ℕ → ℕ → SyncError → List Answer → List Answer
@@ -71,7 +82,8 @@ FailsToSend can_fail q n value (error.Spent place) old new =
 abbrev pub FailsToTake : (Fault → Type 0) → Queue → ℕ → SyncError → List Answer → List Answer
     → Type 0
 FailsToTake can_fail q n (error.Call e) old new =
-    StopsIn can_fail (Await q.sent (n + 1) ∷ Load 8 (slot q n) ∷ Advance q.taken ∷ []) (error.Call e)
+    StopsIn can_fail (Await q.sent (n + 1) ∷ Load 8 (slot q n) ∷ Advance q.taken ∷ [])
+    (error.Call e)
     old new
 FailsToTake can_fail q n (error.Spent place) old new =
     (place ≡ q.sent) × (2 ^ 64 ≤ n + 1) × (new ≡ old)
@@ -81,19 +93,22 @@ abbrev pub FailsToGive : (Fault → Type 0) → Broadcast → ℕ → SyncError 
     → Type 0
 FailsToGive can_fail b value (error.Call e) old new =
     StopsIn can_fail
-    (Store 8 b.addr value ∷ Advance b.barrier.count ∷ Await b.barrier.count (least_of b) ∷ [])
+    (Store 8 b.addr value ∷ Advance b.barrier.count ∷ Await b.barrier.count (least_of b.barrier)
+    ∷ [])
     (error.Call e) old new
 FailsToGive can_fail b value (error.Spent place) old new =
-    (place ≡ b.barrier.count) × (2 ^ 64 ≤ least_of b) × (new ≡ old ++ stores b.addr value ∷ [])
+    (place ≡ b.barrier.count) × (2 ^ 64 ≤ least_of b.barrier) × (new ≡ old ++ stores b.addr value
+    ∷ [])
 
 -- the number was not got: the barrier was not passed, or the load failed
-abbrev pub FailsToGet : (Fault → Type 0) → Broadcast → SyncError → List Answer → List Answer → Type 0
+abbrev pub FailsToGet : (Fault → Type 0) → Broadcast → SyncError → List Answer → List Answer
+    → Type 0
 FailsToGet can_fail b (error.Call e) old new =
     StopsIn can_fail
-    (Advance b.barrier.count ∷ Await b.barrier.count (least_of b) ∷ Load 8 b.addr ∷ [])
+    (Advance b.barrier.count ∷ Await b.barrier.count (least_of b.barrier) ∷ Load 8 b.addr ∷ [])
     (error.Call e) old new
 FailsToGet can_fail b (error.Spent place) old new =
-    (place ≡ b.barrier.count) × (2 ^ 64 ≤ least_of b) × (new ≡ old)
+    (place ≡ b.barrier.count) × (2 ^ 64 ≤ least_of b.barrier) × (new ≡ old)
 
 -- the fault with which a program gives up that has this error
 abbrev pub fault_by : SyncError → Fault

@@ -8,6 +8,7 @@ pub mod Locks
 pub mod Sections
 pub mod Messages
 pub mod Queues
+pub mod SharedQueues
 pub mod Reductions
 pub mod Broadcasts
 pub mod Tickets

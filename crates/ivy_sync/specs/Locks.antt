@@ -15,7 +15,7 @@ use Rattle.ivy_model.specs.Accesses.{kind_of_call}
 use Rattle.ivy_model.specs.Memory.{Memory}
 use Rattle.ivy_calls.specs.declared.answer.Answer.{Answer}
 use Rattle.ivy_calls.specs.Answers.{answers_of}
-use Rattle.ivy_sync.specs.Words.{word, IsWord, is_write, Runs}
+use Rattle.ivy_sync.specs.Words.{word, IsHeapWord, is_write_in, LeadsThrough}
 
 -- whether a node holds the lock after it has written in its word, where it held it before or not
 abbrev pub held_by_act : Bool → Act → Reply → Bool
@@ -29,7 +29,8 @@ held_by held _ reply = held
 
 -- whether a node holds the lock at a after a call, where it held it before or not
 abbrev pub held_after : ℕ → Bool → Answer → Bool
-held_after a held r = if is_write a r.call then held_by held (kind_of_call r.call) r.reply else held
+held_after a held r = if is_write_in a r.call then held_by held
+    (kind_of_call r.call) r.reply else held
 
 -- and after these answers of the node
 abbrev pub holds : ℕ → Bool → List Answer → Bool
@@ -50,7 +51,7 @@ MayWriteKind a held _ = ⊥
 
 -- what a node may write in the lock's word
 abbrev pub MayWrite : ℕ → Bool → Call → Type 0
-MayWrite a held call = IsTrue (is_write a call) → MayWriteKind a held (kind_of_call call)
+MayWrite a held call = IsTrue (is_write_in a call) → MayWriteKind a held (kind_of_call call)
 
 -- in these answers of the node it writes no more than that
 abbrev pub KeepsLock : ℕ → Bool → List Answer → Type 0
@@ -60,7 +61,7 @@ KeepsLock a held (r ∷ rs) = MayWrite a held r.call × KeepsLock a (held_after 
 -- In every order of records that a flat memory makes, at no point do two nodes hold the lock.
 abbrev pub MutualExclusion : Type 0
 MutualExclusion = (c : Config) (old new : Memory) (before after : List Record) (a : ℕ)
-    → Runs c old (before ++ after) new → IsWord c a → word c old a ≡ 0
+    → LeadsThrough c old (before ++ after) new → IsHeapWord c a → word c old a ≡ 0
     → ((i : ℕ) → i < c.nodes → KeepsLock a false (answers_of i (before ++ after))) → (i j : ℕ)
     → IsTrue (holds a false (answers_of i before)) → IsTrue (holds a false (answers_of j before))
     → i ≡ j
@@ -68,7 +69,7 @@ MutualExclusion = (c : Config) (old new : Memory) (before after : List Record) (
 -- A lock that all nodes have left is free.
 abbrev pub LeftLocksAreFree : Type 0
 LeftLocksAreFree = (c : Config) (old new : Memory) (order : List Record) (a : ℕ)
-    → Runs c old order new → IsWord c a → word c old a ≡ 0
+    → LeadsThrough c old order new → IsHeapWord c a → word c old a ≡ 0
     → ((i : ℕ) → i < c.nodes → KeepsLock a false (answers_of i order))
     → ((i : ℕ) → i < c.nodes → holds a false (answers_of i order) ≡ false)
     → word c new a ≡ 0

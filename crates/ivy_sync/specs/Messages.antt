@@ -7,9 +7,9 @@ use Rattle.ivy_model.specs.declared.call.Reply.TheVariants.{Value}
 use Rattle.ivy_model.specs.Memory.{Memory}
 use Rattle.ivy_calls.specs.declared.answer.Answer.{Answer}
 use Rattle.ivy_calls.specs.Answers.{answers_of}
-use Rattle.ivy_sync.specs.Counts.{NoAdvance, advances}
+use Rattle.ivy_sync.specs.Counts.{NoAdvance, times_advanced}
 use Rattle.ivy_sync.specs.Doing.{arrives, passes}
-use Rattle.ivy_sync.specs.Words.{word, IsWord, NoWrite, IsWhole, Reads, last, Runs}
+use Rattle.ivy_sync.specs.Words.{word, IsHeapWord, NoWrite, IsWhole, Reads, last, LeadsThrough}
 
 -- node i alone advances eventcount k, which is at this at first
 pub record AdvancesAlone (c : Config) (old : Memory) (order : List Record) (k count i : ℕ) : Type 0
@@ -32,20 +32,21 @@ pub record AwaitsMore (c : Config) (old : Memory) (order : List Record) (j : ℕ
   pub found : ℕ
   pub rest : List Answer
   pub whole : later ≡ passes back least found ∷ rest
-  pub more : count + advances back so_far < least
+  pub more : count + times_advanced back so_far < least
 
 -- In every order of records that a flat memory makes: node i stores to a word that it alone writes,
 -- and then advances an eventcount that it alone advances. Node j awaits that advance, and reads the
--- word. It finds what node i stored, unless node i has written there again; and it has not, where it
--- first awaits what node j has not yet done.
+-- word. It finds what node i stored, unless node i has written there again; and it has not, where
+-- it first awaits what node j has not yet done.
 abbrev pub MessagesPass : Type 0
 MessagesPass = (c : Config) (old new : Memory) (order : List Record) (d k count i j : ℕ)
     (before during later start so_far rest : List Answer) (r : Answer) (least found : ℕ)
-    → Runs c old order new → IsWord c d → AdvancesAlone c old order k count i
+    → LeadsThrough c old order new → IsHeapWord c d → AdvancesAlone c old order k count i
     → WritesAlone c order d i
     → answers_of i order ≡ (before ++ arrives k ∷ []) ++ (during ++ later)
     → answers_of j order ≡ (start ++ passes k least found ∷ so_far) ++ r ∷ rest
-    → count + advances k before < least → Each (λ s. IsWhole d s.call) before → NoWrite d during
+    → count + times_advanced k before < least → Each (λ s. IsWhole d s.call) before
+    → NoWrite d during
     → (later ≡ []) ⊎ AwaitsMore c old order j (start ++ passes k least found ∷ so_far) later
     → Reads d r.call
     → r.reply ≡ Value (last d (word c old d) before)

@@ -1,5 +1,5 @@
 -- A queue of one sender and one receiver: some words of 8 bytes, and two eventcounts.
-use Rattle.std.specs.Prelude.{◌≡◌, ℕ, ◌+◌, ◌-◌, ◌*◌, ◌%◌, ◌^◌, ◌<◌, List, [], ◌∷◌, ◌++◌}
+use Rattle.std.specs.Prelude.{◌≡◌, ◌≢◌, ◌≤◌, ℕ, ◌+◌, ◌-◌, ◌*◌, ◌%◌, ◌^◌, ◌<◌, List, [], ◌∷◌, ◌++◌}
 use Rattle.std.specs.Prelude.{slice_get, Some}
 use Rattle.ivy_model.specs.declared.config.Config.{Config}
 use Rattle.ivy_model.specs.declared.call.Record.{Record}
@@ -8,7 +8,7 @@ use Rattle.ivy_calls.specs.declared.answer.Answer.{Answer}
 use Rattle.ivy_calls.specs.Answers.{answers_of}
 use Rattle.ivy_sync.specs.Counts.{NoAdvance}
 use Rattle.ivy_sync.specs.Doing.{arrives, passes, loads, stores}
-use Rattle.ivy_sync.specs.Words.{IsWord, NoWrite, Runs}
+use Rattle.ivy_sync.specs.Words.{IsHeapWord, NoWrite, LeadsThrough}
 use Rattle.ivy_sync.specs.declared.queue.Queue.{Queue}
 
 -- the queue has words, and their addresses are numbers of 64 bits
@@ -21,13 +21,13 @@ abbrev pub slot : Queue → ℕ → ℕ
 slot q n = q.at + 8 * (n % q.size)
 
 -- there was room, and the n-th value was sent
-abbrev pub sends : Queue → ℕ → ℕ → ℕ → List Answer
-sends q n value found =
+abbrev pub sends_value : Queue → ℕ → ℕ → ℕ → List Answer
+sends_value q n value found =
     passes q.taken (n + 1 - q.size) found ∷ stores (slot q n) value ∷ arrives q.sent ∷ []
 
 -- it was there, and was taken
-abbrev pub takes : Queue → ℕ → ℕ → ℕ → List Answer
-takes q n value found =
+abbrev pub takes_value : Queue → ℕ → ℕ → ℕ → List Answer
+takes_value q n value found =
     passes q.sent (n + 1) found ∷ loads (slot q n) value ∷ arrives q.taken ∷ []
 
 -- these answers leave the queue alone
@@ -37,43 +37,53 @@ pub record LeavesAlone (q : Queue) (rs : List Answer) : Type 0 where
   pub slots : (n : ℕ) → NoWrite (slot q n) rs
 
 -- the n-th value and those after it are sent, with other things before, between and after
-abbrev pub Sends : Queue → ℕ → List ℕ → List Answer → Type 0
-Sends q n [] history = LeavesAlone q history
-Sends q n (v ∷ vs) history =
+abbrev pub SendsAll : Queue → ℕ → List ℕ → List Answer → Type 0
+SendsAll q n [] history = LeavesAlone q history
+SendsAll q n (v ∷ vs) history =
     (other : List Answer) × (found : ℕ) × (rest : List Answer) × LeavesAlone q other × (v < 2 ^ 64)
-    × (history ≡ other ++ (sends q n v found ++ rest)) × Sends q (n + 1) vs rest
+    × (history ≡ other ++ (sends_value q n v found ++ rest)) × SendsAll q (n + 1) vs rest
 
 -- they are taken
-abbrev pub Takes : Queue → ℕ → List ℕ → List Answer → Type 0
-Takes q n [] history = LeavesAlone q history
-Takes q n (v ∷ vs) history =
+abbrev pub TakesAll : Queue → ℕ → List ℕ → List Answer → Type 0
+TakesAll q n [] history = LeavesAlone q history
+TakesAll q n (v ∷ vs) history =
     (other : List Answer) × (found : ℕ) × (rest : List Answer) × LeavesAlone q other
-    × (history ≡ other ++ (takes q n v found ++ rest)) × Takes q (n + 1) vs rest
+    × (history ≡ other ++ (takes_value q n v found ++ rest)) × TakesAll q (n + 1) vs rest
 
 -- the queue is empty, in whole words of the heap
 pub record IsEmptyQueue (c : Config) (m : Memory) (q : Queue) : Type 0 where
   pub some : 0 < q.size
-  pub words : (n : ℕ) → IsWord c (slot q n)
+  pub words : (n : ℕ) → IsHeapWord c (slot q n)
   pub aligned : q.at % 8 ≡ 0
   pub two : q.sent ≡ q.taken → ⊥
   pub sent : slice_get m.counts q.sent ≡ Some 0
   pub taken : slice_get m.counts q.taken ≡ Some 0
 
--- In every order of records that a flat memory makes, what is taken from a queue is what was sent, in
--- the order in which it was sent.
+-- two queues, of which one lies behind the other, have no word and no eventcount in common
+pub record AreApart (p q : Queue) : Type 0 where
+  pub first : p.at % 8 ≡ 0
+  pub second : q.at % 8 ≡ 0
+  pub behind : p.at + 8 * p.size ≤ q.at
+  pub sent : p.sent ≢ q.sent
+  pub sent_taken : p.sent ≢ q.taken
+  pub taken_sent : p.taken ≢ q.sent
+  pub taken : p.taken ≢ q.taken
+
+-- In every order of records that a flat memory makes, what is taken from a queue is what was sent,
+-- in the order in which it was sent.
 abbrev pub QueuesKeepOrder : Type 0
 QueuesKeepOrder = (c : Config) (old new : Memory) (order : List Record) (q : Queue) (i j : ℕ)
-    (vs ws : List ℕ) → Runs c old order new → IsEmptyQueue c old q
-    → Sends q 0 vs (answers_of i order) → Takes q 0 ws (answers_of j order)
+    (vs ws : List ℕ) → LeadsThrough c old order new → IsEmptyQueue c old q
+    → SendsAll q 0 vs (answers_of i order) → TakesAll q 0 ws (answers_of j order)
     → ((m : ℕ) → m < c.nodes → (m ≡ i → ⊥) → (m ≡ j → ⊥) → LeavesAlone q (answers_of m order))
     → (rest : List ℕ) × (vs ≡ ws ++ rest)
 
 -- a value was sent, as the n-th
 pub record AddsSend (q : Queue) (n value : ℕ) (old new : List Answer) : Type 0 where
   pub found : ℕ
-  pub whole : new ≡ old ++ sends q n value found
+  pub whole : new ≡ old ++ sends_value q n value found
 
 -- the n-th value was taken
 pub record AddsTake (q : Queue) (n value : ℕ) (old new : List Answer) : Type 0 where
   pub found : ℕ
-  pub whole : new ≡ old ++ takes q n value found
+  pub whole : new ≡ old ++ takes_value q n value found

@@ -1,4 +1,5 @@
--- A reduction: each node stores a number in a word of its own, and after a barrier finds those of all.
+-- A reduction: each node stores a number in a word of its own, and after a barrier finds those of
+-- all.
 use Rattle.std.specs.Prelude.{◌≡◌, ℕ, ◌+◌, ◌*◌, ◌%◌, ◌^◌, ◌<◌, List, [], ◌∷◌, ◌++◌}
 use Rattle.std.specs.Prelude.{length, slice_get, Some}
 use Rattle.ivy_model.specs.declared.config.Config.{Config}
@@ -8,7 +9,7 @@ use Rattle.ivy_calls.specs.declared.answer.Answer.{Answer}
 use Rattle.ivy_calls.specs.Answers.{answers_of}
 use Rattle.ivy_sync.specs.Counts.{NoAdvance}
 use Rattle.ivy_sync.specs.Doing.{arrives, passes, loads, stores}
-use Rattle.ivy_sync.specs.Words.{IsWord, NoWrite, Runs}
+use Rattle.ivy_sync.specs.Words.{IsHeapWord, NoWrite, LeadsThrough}
 
 -- these numbers were found in the words from the n-th on
 abbrev pub finds : ℕ → ℕ → List ℕ → List Answer
@@ -43,9 +44,9 @@ pub record Reduces (at k least nodes value i : ℕ) (values : List ℕ) (history
 -- In every order of records that a flat memory makes, each node finds what each other one stored.
 abbrev pub ReductionsAgree : Type 0
 ReductionsAgree = (c : Config) (old new : Memory) (order : List Record) (at k count : ℕ)
-    (value : ℕ → ℕ) (values : ℕ → List ℕ) → Runs c old order new
+    (value : ℕ → ℕ) (values : ℕ → List ℕ) → LeadsThrough c old order new
     → slice_get old.counts k ≡ Some count → at % 8 ≡ 0
-    → ((n : ℕ) → n < c.nodes → IsWord c (at + 8 * n))
+    → ((n : ℕ) → n < c.nodes → IsHeapWord c (at + 8 * n))
     → ((i : ℕ) → i < c.nodes
     → Reduces at k (count + c.nodes) c.nodes (value i) i (values i) (answers_of i order))
     → (i n : ℕ) → i < c.nodes → n < c.nodes

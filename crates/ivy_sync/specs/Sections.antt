@@ -8,7 +8,7 @@ use Rattle.ivy_model.specs.declared.call.Record.{Record}
 use Rattle.ivy_model.specs.Memory.{Memory}
 use Rattle.ivy_calls.specs.declared.answer.Answer.{Answer}
 use Rattle.ivy_calls.specs.Answers.{answers, answers_of}
-use Rattle.ivy_sync.specs.Words.{word, IsWord, is_write, Runs}
+use Rattle.ivy_sync.specs.Words.{word, IsHeapWord, is_write_in, LeadsThrough}
 use Rattle.ivy_sync.specs.Locks.{held_after, KeepsLock}
 
 -- in these answers of a node it makes each guarded call while it holds the lock at a
@@ -42,12 +42,12 @@ pub record IsSerial (a : ℕ) (guarded : Call → Bool) (order : List Record)
   pub whole : filter (λ r. guarded r.call) (answers order) ≡ flat_map (λ t. t.1) turns
   pub each : (i : ℕ) → turns_of i turns ≡ sections a guarded false (answers_of i order)
 
--- In every order of records that a flat memory makes, what is guarded by a lock is done in one whole
--- critical section after another.
+-- In every order of records that a flat memory makes, what is guarded by a lock is done in one
+-- whole critical section after another.
 abbrev pub SectionsAreSerial : Type 0
 SectionsAreSerial = (c : Config) (old new : Memory) (order : List Record) (a : ℕ)
-    (guarded : Call → Bool) → Runs c old order new → IsWord c a → word c old a ≡ 0
-    → ((call : Call) → IsTrue (is_write a call) → guarded call ≡ false)
+    (guarded : Call → Bool) → LeadsThrough c old order new → IsHeapWord c a → word c old a ≡ 0
+    → ((call : Call) → IsTrue (is_write_in a call) → guarded call ≡ false)
     → ((i : ℕ) → i < c.nodes → KeepsLock a false (answers_of i order))
     → ((i : ℕ) → i < c.nodes → KeepsGuard a guarded false (answers_of i order))
     → (turns : List (ℕ × List Answer)) × IsSerial a guarded order turns

@@ -53,8 +53,8 @@ KeepsTickets k owner i t [] = Unit {0}
 KeepsTickets k owner i t (r ∷ rs) =
     MayTurn k owner i t r × KeepsTickets k owner i (ticket_after k t r) rs
 
--- In every order of records that a flat memory makes, at no point are two nodes inside by tickets of
--- their own.
+-- In every order of records that a flat memory makes, at no point are two nodes inside by tickets
+-- of their own.
 abbrev pub TicketsExclude : Type 0
 TicketsExclude = (c : Config) (old new : Memory) (before after : List Record) (k : ℕ)
     (owner : ℕ → ℕ) → ServesAll c old (before ++ after) new → slice_get old.counts k ≡ Some 0

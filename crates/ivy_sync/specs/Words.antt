@@ -21,8 +21,8 @@ unfoldable pub word : Config → Memory → ℕ → ℕ
 word c m a = number_in_word c m 8 a
 
 -- at the address lies a word of 8 bytes of the heap
-abbrev pub IsWord : Config → ℕ → Type 0
-IsWord c a = access_refusal c 8 a ≡ None
+abbrev pub IsHeapWord : Config → ℕ → Type 0
+IsHeapWord c a = access_refusal c 8 a ≡ None
 
 -- the address lies in the word of 8 bytes at a
 abbrev pub is_in : ℕ → ℕ → Bool
@@ -34,33 +34,33 @@ puts act.Load = false
 puts _ = true
 
 -- the call is an access in the word at a
-abbrev pub is_access_kind : ℕ → CallKind → Bool
-is_access_kind a (Word width addr does) = is_in a addr
-is_access_kind a _ = false
+abbrev pub is_access_in_kind : ℕ → CallKind → Bool
+is_access_in_kind a (Word width addr does) = is_in a addr
+is_access_in_kind a _ = false
 
-abbrev pub is_access : ℕ → Call → Bool
-is_access a call = is_access_kind a (kind_of_call call)
+abbrev pub is_access_in : ℕ → Call → Bool
+is_access_in a call = is_access_in_kind a (kind_of_call call)
 
 -- the call is one that may write in the word at a
-abbrev pub is_write_kind : ℕ → CallKind → Bool
-is_write_kind a (Word width addr does) = if puts does then is_in a addr else false
-is_write_kind a _ = false
+abbrev pub is_write_in_kind : ℕ → CallKind → Bool
+is_write_in_kind a (Word width addr does) = if puts does then is_in a addr else false
+is_write_in_kind a _ = false
 
-abbrev pub is_write : ℕ → Call → Bool
-is_write a call = is_write_kind a (kind_of_call call)
+abbrev pub is_write_in : ℕ → Call → Bool
+is_write_in a call = is_write_in_kind a (kind_of_call call)
 
 -- no answer is of a call that may write in the word at a
 abbrev pub NoWrite : ℕ → List Answer → Type 0
-NoWrite a rs = Each (λ r. is_write a r.call ≡ false) rs
+NoWrite a rs = Each (λ r. is_write_in a r.call ≡ false) rs
 
 -- the access is to exactly the 8 bytes at a
-abbrev pub IsAt : ℕ → CallKind → Type 0
-IsAt a (Word width addr does) = (width ≡ 8) × (addr ≡ a)
-IsAt a _ = ⊥
+abbrev pub IsAtWord : ℕ → CallKind → Type 0
+IsAtWord a (Word width addr does) = (width ≡ 8) × (addr ≡ a)
+IsAtWord a _ = ⊥
 
 -- where the call may write in the word at a, it writes all of it
 abbrev pub IsWhole : ℕ → Call → Type 0
-IsWhole a call = IsTrue (is_write a call) → IsAt a (kind_of_call call)
+IsWhole a call = IsTrue (is_write_in a call) → IsAtWord a (kind_of_call call)
 
 -- the access gives the number that stands in the word at a
 abbrev pub ReadsKind : ℕ → CallKind → Type 0
@@ -75,21 +75,21 @@ abbrev pub put_over : ℕ → Option ℕ → ℕ
 put_over v None = v
 put_over v (Some value) = value % 2 ^ 64
 
-abbrev pub put_by : ℕ → CallKind → ℕ
-put_by v (Word width addr does) = put_over v (next_number 8 does v)
-put_by v _ = v
+abbrev pub put_after : ℕ → CallKind → ℕ
+put_after v (Word width addr does) = put_over v (next_number 8 does v)
+put_after v _ = v
 
 -- what the word at a holds after a call, where it held v
-abbrev pub written : ℕ → ℕ → Call → ℕ
-written a v call = if is_write a call then put_by v (kind_of_call call) else v
+abbrev pub word_after : ℕ → ℕ → Call → ℕ
+word_after a v call = if is_write_in a call then put_after v (kind_of_call call) else v
 
 -- what it holds after these answers, where it held v
 abbrev pub last : ℕ → ℕ → List Answer → ℕ
 last a v [] = v
-last a v (r ∷ rs) = last a (written a v r.call) rs
+last a v (r ∷ rs) = last a (word_after a v r.call) rs
 
 -- the memory, of the configuration's size, leads through the records
-pub record Runs (c : Config) (old : Memory) (rs : List Record) (new : Memory) : Type 0 where
+pub record LeadsThrough (c : Config) (old : Memory) (rs : List Record) (new : Memory) : Type 0 where
   pub config : IsConfig c
   pub sized : IsSized c old
   pub led : ServesAll c old rs new

@@ -1,6 +1,5 @@
 ghost use Rattle.std.specs.Prelude.{◌≡◌, ◌+◌, IfErr, IfOk, OnErr};
 ghost use Rattle.ivy_sync.specs.Doing.{Crosses};
-ghost use Rattle.ivy_sync.specs.Failing.{FailsToCross};
 
 use crate::error::SyncError;
 use ivy_calls::{SharedMemory, advance, await_};
@@ -19,12 +18,19 @@ pub struct Barrier {
 }
 
 impl Barrier {
+    ghost use Rattle.ivy_sync.specs.Barriers.{least_of, passed_on};
+    ghost use Rattle.ivy_sync.specs.Failing.{AtSome, FailsToCross};
+
     /// Waits for the others. After an `Err` the barrier is as it was.
     pub fn wait<M: SharedMemory>(&mut self, memory: &mut M) -> Result<(), SyncError>
-        ensures crosses { IfOk result (λ _. Crosses self.old.count (self.old.passed + self.old.nodes) (M.answers memory.old) (M.answers memory.new)) }
-        ensures next { IfOk result (λ _. self.new ≡ record self.old { passed = self.old.passed + self.old.nodes }) }
+        ensures crosses { IfOk result (λ _.
+            Crosses self.old.count (least_of self.old)
+            (M.answers memory.old) (M.answers memory.new)) }
+        ensures next { IfOk result (λ _. self.new ≡ passed_on self.old) }
         ensures same { OnErr result (self.new ≡ self.old) }
-        ensures fails { IfErr result (λ error. FailsToCross (λ fault. (state : M) × M.can_fail state fault) self.old.count (self.old.passed + self.old.nodes) error (M.answers memory.old) (M.answers memory.new)) }
+        ensures fails { IfErr result (λ error.
+            FailsToCross (AtSome M.can_fail) self.old.count (least_of self.old) error
+            (M.answers memory.old) (M.answers memory.new)) }
     {
         let Some(all) = self.passed.checked_add(u64::from(self.nodes)) else {
             return Err(SyncError::Spent { place: self.count });

@@ -4,11 +4,12 @@ ghost use Rattle.ivy_sync.specs.Barriers.{BarrierSeparates};
 ghost use Rattle.ivy_sync.specs.Broadcasts.{BroadcastsArrive};
 ghost use Rattle.ivy_sync.specs.Locks.{LeftLocksAreFree, MutualExclusion};
 ghost use Rattle.ivy_sync.specs.Messages.{MessagesPass};
-ghost use Rattle.ivy_sync.specs.Phases.{PhasesShare};
+ghost use Rattle.ivy_sync.specs.Phases.{PhasesShare, SetUpIsThere};
 ghost use Rattle.ivy_sync.specs.Queues.{QueuesKeepOrder};
 ghost use Rattle.ivy_sync.specs.Reductions.{ReductionsAgree};
 ghost use Rattle.ivy_sync.specs.Registers.{WordsAreRegisters};
 ghost use Rattle.ivy_sync.specs.Sections.{SectionsAreSerial};
+ghost use Rattle.ivy_sync.specs.SharedQueues.{SharedQueuesKeepOrder};
 ghost use Rattle.ivy_sync.specs.Sums.{SumsAreWhole};
 ghost use Rattle.ivy_sync.specs.TicketLocks.{TicketLocksExclude};
 ghost use Rattle.ivy_sync.specs.Tickets.{TicketsExclude};
@@ -27,6 +28,11 @@ pub fn barrier_separates()
 /// node left it.
 pub fn phases_share()
     ensures { PhasesShare }
+{}
+
+/// A word that one node alone writes before a barrier is after it as that node left it.
+pub fn set_up_is_there()
+    ensures { SetUpIsThere }
 {}
 
 /// At no point do two nodes hold a lock.
@@ -62,6 +68,12 @@ pub fn messages_pass()
 /// What is taken from a queue is what was sent, in the order in which it was sent.
 pub fn queues_keep_order()
     ensures { QueuesKeepOrder }
+{}
+
+/// What one node takes from a queue into which all others send under a lock is what they sent, one value
+/// after another, in the order of each.
+pub fn shared_queues_keep_order()
+    ensures { SharedQueuesKeepOrder }
 {}
 
 /// In a reduction each node finds what each other one stored.

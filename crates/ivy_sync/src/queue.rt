@@ -1,7 +1,9 @@
-ghost use Rattle.std.specs.Prelude.{◌≡◌, ◌+◌, ◌*◌, ◌<◌, ◌^◌, ◌≤◌, ℕ, List, IfErr, IfOk, OnErr};
+ghost use Rattle.std.specs.Prelude.{◌∷◌, ◌++◌, [], ◌↔◌, IsTrue, ◌≡◌, ◌+◌, ◌*◌, ◌<◌, ◌^◌, ◌≤◌, ℕ, List, IfErr, IfOk, OnErr};
+ghost use Rattle.ivy_model.specs.declared.call.Call.TheVariants.{Alloc};
+ghost use Rattle.ivy_calls.specs.Fails.{Fails};
 
 use crate::error::SyncError;
-use ivy_calls::{SharedMemory, advance, await_, load, store};
+use ivy_calls::{CallError, SharedMemory, advance, alloc, await_, load, store};
 
 /// Where a queue of one sender and one receiver lies: `size` words of 8 bytes from `at` on, and two eventcounts,
 /// 0 at first, that say how many values were sent and taken.
@@ -14,6 +16,40 @@ pub struct Queue {
 }
 
 impl Queue {
+    ghost use Rattle.ivy_sync.specs.Doing.{allots};
+
+    /// An empty queue in a new block, by two eventcounts that are 0. One node makes it, before a
+    /// barrier, and tells the others where it lies.
+    pub fn alloc<M: SharedMemory>(
+        memory: &mut M,
+        size: u64,
+        sent: u64,
+        taken: u64,
+    ) -> Result<Self, CallError>
+        requires { 8 * size < 2 ^ 64 }
+        ensures allots { IfOk result (λ queue.
+            M.answers memory.new ≡ M.answers memory.old ++ allots (8 * size) queue.at ∷ []) }
+        ensures is { IfOk result (λ queue.
+            queue ≡ record { at = queue.at; size = size; sent = sent; taken = taken }) }
+        ensures fails { IfErr result (λ error.
+            Fails (M.can_fail memory.old) (Alloc (8 * size)) error
+            (M.answers memory.old) (M.answers memory.new)) }
+    {
+        Ok(Queue {
+            at: alloc(memory, 8 * size)?,
+            size,
+            sent,
+            taken,
+        })
+    }
+
+    /// Whether it has a place: words, whose addresses are numbers of 64 bits.
+    pub fn has_place(&self) -> bool
+        ensures { IsTrue result ↔ IsPlace self.now }
+    {
+        self.size > 0 && self.size <= u64::MAX / 8 && self.at.checked_add(8 * self.size).is_some()
+    }
+
     ghost use Rattle.ivy_sync.specs.Queues.{IsPlace, slot};
 
     /// Where the `n`-th value lies.
@@ -35,15 +71,19 @@ pub struct Sender {
 
 impl Sender {
     ghost use Rattle.ivy_sync.specs.Queues.{AddsSend, IsPlace};
-    ghost use Rattle.ivy_sync.specs.Failing.{FailsToSend};
+    ghost use Rattle.ivy_sync.specs.Failing.{AtSome, FailsToSend};
 
     /// Waits for room, and sends the value. After an `Err` the sender is as it was.
     pub fn send<M: SharedMemory>(&mut self, memory: &mut M, value: u64) -> Result<(), SyncError>
         requires { IsPlace self.old.queue }
-        ensures sends { IfOk result (λ _. AddsSend self.old.queue self.old.next value (M.answers memory.old) (M.answers memory.new)) }
+        ensures sends { IfOk result (λ _.
+            AddsSend self.old.queue self.old.next value
+            (M.answers memory.old) (M.answers memory.new)) }
         ensures next { IfOk result (λ _. self.new ≡ record self.old { next = self.old.next + 1 }) }
         ensures same { OnErr result (self.new ≡ self.old) }
-        ensures fails { IfErr result (λ error. FailsToSend (λ fault. (state : M) × M.can_fail state fault) self.old.queue self.old.next value error (M.answers memory.old) (M.answers memory.new)) }
+        ensures fails { IfErr result (λ error.
+            FailsToSend (AtSome M.can_fail) self.old.queue self.old.next value error
+            (M.answers memory.old) (M.answers memory.new)) }
     {
         let queue = self.queue;
         let Some(after) = self.next.checked_add(1) else {
@@ -67,15 +107,19 @@ pub struct Receiver {
 
 impl Receiver {
     ghost use Rattle.ivy_sync.specs.Queues.{AddsTake, IsPlace};
-    ghost use Rattle.ivy_sync.specs.Failing.{FailsToTake};
+    ghost use Rattle.ivy_sync.specs.Failing.{AtSome, FailsToTake};
 
     /// Waits for the next value, and takes it. After an `Err` the receiver is as it was.
     pub fn take<M: SharedMemory>(&mut self, memory: &mut M) -> Result<u64, SyncError>
         requires { IsPlace self.old.queue }
-        ensures takes { IfOk result (λ value. AddsTake self.old.queue self.old.next value (M.answers memory.old) (M.answers memory.new)) }
+        ensures takes { IfOk result (λ value.
+            AddsTake self.old.queue self.old.next value
+            (M.answers memory.old) (M.answers memory.new)) }
         ensures next { IfOk result (λ _. self.new ≡ record self.old { next = self.old.next + 1 }) }
         ensures same { OnErr result (self.new ≡ self.old) }
-        ensures fails { IfErr result (λ error. FailsToTake (λ fault. (state : M) × M.can_fail state fault) self.old.queue self.old.next error (M.answers memory.old) (M.answers memory.new)) }
+        ensures fails { IfErr result (λ error.
+            FailsToTake (AtSome M.can_fail) self.old.queue self.old.next error
+            (M.answers memory.old) (M.answers memory.new)) }
     {
         let queue = self.queue;
         let Some(after) = self.next.checked_add(1) else {

@@ -4,7 +4,7 @@
 use ivy_model::Fault;
 use ivy_scope::ivy_commands::FilesOf;
 use ivy_scope::ivy_replay::Progress;
-use ivy_scope::{Failure, perform};
+use ivy_scope::{Failure, Misuse, perform};
 use std::env;
 use std::io::{self, BufWriter, ErrorKind, IsTerminal, Write};
 use std::process::ExitCode;
@@ -34,7 +34,7 @@ fn seconds<R: Clock>(rt: &R) -> u64 {
 }
 
 impl<R: Clock + Eprint> Progress for Teller<'_, R> {
-    fn tell(&mut self, done: u64) {
+    fn tell(&mut self, done: u64, what: &str) {
         if !self.is_terminal {
             return;
         }
@@ -42,7 +42,7 @@ impl<R: Clock + Eprint> Progress for Teller<'_, R> {
         if now > self.began.saturating_add(SILENT) && now > self.told {
             self.told = now;
             // Nothing else is said where standard error takes nothing.
-            let _ = eprintln!(self.runtime; "ivyscope: {done} so far");
+            let _ = eprintln!(self.runtime; "ivyscope: {done} {what} so far");
         }
     }
 }
@@ -70,7 +70,7 @@ where
 fn failure_of(error: &io::Error) -> Failure<'static> {
     match error.kind() {
         ErrorKind::OutOfMemory => Failure::Refused(Fault::Memory),
-        _ => Failure::BadCommandLine,
+        _ => Failure::BadCommandLine(Misuse::NoText),
     }
 }
 

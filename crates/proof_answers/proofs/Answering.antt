@@ -46,12 +46,12 @@ use Rattle.proof_answers.proofs.Counts.{due_later, no_answer_due}
 
 -- moves that follow one another, taken apart
 module _ {C : Type 0} (rules : Core C) (c : Config) where
-  record Apart (xs ys : List Move) (w v : World C) : Type 0 where
-    mid : World C
-    before : Leads rules c w xs mid
-    after : Leads rules c mid ys v
+  pub record Apart (xs ys : List Move) (w v : World C) : Type 0 where
+    pub mid : World C
+    pub before : Leads rules c w xs mid
+    pub after : Leads rules c mid ys v
 
-  leads_apart : (xs ys : List Move) (w v : World C) → Leads rules c w (xs ++ ys) v
+  pub leads_apart : (xs ys : List Move) (w v : World C) → Leads rules c w (xs ++ ys) v
       → Apart xs ys w v
   leads_apart [] ys w v led = record { mid = w; before = refl; after = led }
   leads_apart (x ∷ xs) ys w v led =
@@ -162,7 +162,7 @@ module _ (c : Config) (limits : IsConfig c) (programs : List (List Instruction))
   turn_made w v i eq =
       (guarded (is_named w (Turn i)) (made_by (host_rules managed_ops) c w (Turn i)) v eq).1
 
-  turn_leads : (w v : World (Host Managed)) (i : ℕ) (n : Node (Host Managed))
+  pub turn_leads : (w v : World (Host Managed)) (i : ℕ) (n : Node (Host Managed))
       → slice_get w.nodes i ≡ Some n → (out : Outcome (Host Managed))
       → turn_of managed_ops n.core ≡ Some out → Moves (host_rules managed_ops) c w (Turn i) v
       → (m : Node (Host Managed)) × (slice_get v.nodes i ≡ Some m) × (m.core ≡ out.after)

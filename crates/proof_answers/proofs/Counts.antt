@@ -1,7 +1,7 @@
 -- A count has come at least to as many as the nodes were told that they had advanced it, by every
 -- order that explains what they were answered.
 use Rattle.std.proofs.Common.{◌≡◌, ◌≤◌, ◌<◌, ◌+◌, ◌-◌, ◌^◌, ◌==◌, ℕ, Bool, true, false, List, [], ◌∷◌, ◌++◌, length}
-use Rattle.std.proofs.Common.{slice_get, slice_set, Option, Some, None, MatchBool, MatchOption, if◌then◌else◌, refl, sym, ap, ◌∙◌, subst, arith, inl, inr}
+use Rattle.std.proofs.Common.{slice_get, slice_set, append-nil, Option, Some, None, MatchBool, MatchOption, if◌then◌else◌, refl, sym, ap, ◌∙◌, subst, arith, inl, inr}
 use Rattle.std.specs.FinMap.{get}
 use Rattle.std.specs.Prelude.{count_by}
 use Rattle.std.proofs.lemmas.Bool.{cases_eq, eq-eqb, ne_eqb}
@@ -205,58 +205,57 @@ part_ticks k nodes (r ∷ rs) =
     either i true = ticks_cons k r (part i rs)
     either i false = omega arith
 
+-- by an order in whose parts the histories come first, no more advances were told than it counts
+module _ (c : Config) (limits : IsConfig c) (w : World (Host Managed)) (order : List Record)
+    (last : Memory) (legal : ServesAll c (first c) order last)
+    (parts : (i : ℕ) (n : Node (Host Managed)) → slice_get w.nodes i ≡ Some n
+    → (more : List Record) × (part i order ≡ n.core.history ++ more)) (k : ℕ) where
+  node_ticks : (i : ℕ) → advanced_by k (slice_get w.nodes i) ≤ ticks k (part i order)
+  node_ticks i = elim (slice_get_cases w.nodes i).1 [
+    | inl there ↦
+        (let rest = parts i there.0 there.2 in
+        let a : ticks k (part i order) ≡ ticks k there.0.core.history + ticks k rest.0 =
+        ap (ticks k) rest.1 ∙ ticks_append k there.0.core.history rest.0 in
+        let b : advanced_by k (slice_get w.nodes i) ≡ ticks k there.0.core.history =
+        ap (advanced_by k) there.2 in
+        omega (arith, a, b))
+    | inr past ↦
+        (let b : advanced_by k (slice_get w.nodes i) ≡ 0 = ap (advanced_by k) past.1 in
+        omega (arith, b))
+  ]
+
+  pub advances_in : (count : ℕ) → slice_get last.counts k ≡ Some count → advances k w ≤ count
+  advances_in count at =
+      let a : advances k w ≤ sum_below (length w.nodes) (λ i. ticks k (part i order)) =
+      sum_le (length w.nodes) (λ i. advanced_by k (slice_get w.nodes i)) _
+      (λ i lt. node_ticks i) in
+      let b = part_ticks k (length w.nodes) order in
+      let sized : IsSized c last =
+      leads_sized c (first c) last order limits (first_sized c) legal in
+      let within : k < length last.counts = slice_get_within last.counts k count at in
+      let many = sized.counts in
+      let zeros = (first_sized c).counts in
+      let rises =
+      rises_all c k _ order (first c) last
+      (slice_get-get_or (first c).counts k 0 (omega (arith, within, many, zeros))) legal in
+      let same : rises.count ≡ count = same_Some rises.count count (sym rises.there ∙ at) in
+      let least = rises.least in
+      omega (arith, a, b, same, least)
+
 module _ (c : Config) (limits : IsConfig c) (programs : List (List Instruction))
     (w : World (Host Managed)) (f : FollowsInOrder managed_ops c programs w) where
   -- what each node was told is in the order
   module _ (u : AreUnblocked managed_ops c (ordered_of w f.posted).cores) (k : ℕ) where
-    more_ticks : (rs more whole : List Record) → whole ≡ rs ++ more → ticks k rs ≤ ticks k whole
-    more_ticks rs more whole is =
-        (let a : ticks k whole ≡ ticks k rs + ticks k more =
-        ap (ticks k) is ∙ ticks_append k rs more in
-        omega (arith, a))
-
-    same_ticks : (rs whole : List Record) → whole ≡ rs → ticks k rs ≤ ticks k whole
-    same_ticks rs whole is = (let a : ticks k whole ≡ ticks k rs = ap (ticks k) is in
-        omega (arith, a))
-
-    told_ticks : (i : ℕ) (n : Host Managed) → Stands managed_ops i n u.order u.last
-        → ticks k n.history ≤ ticks k (part i u.order)
-    told_ticks i n (waits none is) = same_ticks n.history (part i u.order) is
-    told_ticks i n (replied called answer asked next is) =
-        more_ticks n.history _ (part i u.order) is
-    told_ticks i n (reached j least count asked at le next is) =
-        same_ticks n.history (part i u.order) is
-
-    node_ticks : (i : ℕ) → advanced_by k (slice_get w.nodes i) ≤ ticks k (part i u.order)
-    node_ticks i = elim (slice_get_cases w.nodes i).1 [
-      | inl there ↦
-          (let a = told_ticks i there.0.core (u.each i there.0.core
-          (core-of w.nodes i there.0 there.2)) in
-          let b : advanced_by k (slice_get w.nodes i) ≡ ticks k there.0.core.history =
-          ap (advanced_by k) there.2 in
-          omega (arith, a, b))
-      | inr past ↦
-          (let b : advanced_by k (slice_get w.nodes i) ≡ 0 = ap (advanced_by k) past.1 in
-          omega (arith, b))
-    ]
+    told_part : (i : ℕ) (n : Host Managed) → Stands managed_ops i n u.order u.last
+        → (more : List Record) × (part i u.order ≡ n.history ++ more)
+    told_part i n (waits none is) = ([], is ∙ sym (append-nil n.history))
+    told_part i n (replied called answer asked next is) = (_, is)
+    told_part i n (reached j least count asked at le next is) = ([], is ∙ sym (append-nil n.history))
 
     advances_few : (count : ℕ) → slice_get u.last.counts k ≡ Some count → advances k w ≤ count
-    advances_few count at =
-        let a : advances k w ≤ sum_below (length w.nodes) (λ i. ticks k (part i u.order)) =
-        sum_le (length w.nodes) (λ i. advanced_by k (slice_get w.nodes i)) _
-        (λ i lt. node_ticks i) in
-        let b = part_ticks k (length w.nodes) u.order in
-        let last : IsSized c u.last =
-        leads_sized c (first c) u.last u.order limits (first_sized c) u.legal in
-        let within : k < length u.last.counts = slice_get_within u.last.counts k count at in
-        let many = last.counts in
-        let zeros = (first_sized c).counts in
-        let rises =
-        rises_all c k _ u.order (first c) u.last
-        (slice_get-get_or (first c).counts k 0 (omega (arith, within, many, zeros))) u.legal in
-        let same : rises.count ≡ count = same_Some rises.count count (sym rises.there ∙ at) in
-        let least = rises.least in
-        omega (arith, a, b, same, least)
+    advances_few =
+        advances_in c limits w u.order u.last u.legal
+        (λ i n there. told_part i n.core (u.each i n.core (core-of w.nodes i n there))) k
 
   -- so a call that is due has an answer
   pub no_answer_due : (u : AreUnblocked managed_ops c (ordered_of w f.posted).cores)

@@ -23,7 +23,7 @@ use Rattle.ivy_moves.specs.Nodes.{Node, Effect, stays, posting, accepting, turne
 use Rattle.ivy_moves.proofs.of_ivy_link.Holds.{sends-delivered, offered-here, accepted-delivered}
 use Rattle.ivy_moves.proofs.of_ivy_link.Pairs.{offered-next}
 use Rattle.ivy_moves.proofs.of_ivy_link.Sending.{sends-me, sends-peers}
-use Rattle.proof_answers.proofs.LinkEvents.{IsLater, later_same, later_then, later_sends, later_accepts, later_pulse, accepts_acks, IsTelling, sends_tell, pulse_tells}
+use Rattle.proof_answers.proofs.LinkEvents.{IsLater, later_same, later_then, later_sends, later_accepts, later_pulse, accepts_acks, IsTelling, telling_all, sends_tell, pulse_tells}
 
 -- what is known of a node and its link
 pub record IsAt {C : Type 0} (c : Config) (Sound : ℕ → C → Type 0) (i : ℕ) (n : Node C) : Type 0
@@ -51,7 +51,7 @@ Acks n e f = f.dest ≡ n.link.me → f.ack ≤ (peer_at n.link f.source).sent
     → length (peer_at n.link f.source).kept ≤ (peer_at n.link f.source).sent
     → f.ack + length (peer_at e.after.link f.source).kept ≤ (peer_at e.after.link f.source).sent
 
-never_other : (a b : Bool) → (if a then verdict.Next else (if b then verdict.Repeat
+pub never_other : (a b : Bool) → (if a then verdict.Next else (if b then verdict.Repeat
     else verdict.Ahead)) ≡ verdict.NotMine → ⊥
 never_other true b is = cc
 never_other false true is = cc
@@ -65,7 +65,7 @@ module _ {C : Type 0} (rules : Core C) (c : Config) (Sound : ℕ → C → Type 
     strings = All-nil (IsTelling c i n.link);
   }
 
-  parcels : (ps : List Parcel) → All (FitsParcel c i) ps → All (IsParcelOf c.nodes i) ps
+  pub parcels : (ps : List Parcel) → All (FitsParcel c i) ps → All (IsParcelOf c.nodes i) ps
   parcels ps fit =
       All-weaker (FitsParcel c i) (IsParcelOf c.nodes i)
       (λ p f. record { source = f.source; dest = f.dest; apart = f.apart }) ps fit
@@ -94,7 +94,8 @@ module _ {C : Type 0} (rules : Core C) (c : Config) (Sound : ℕ → C → Type 
         later = later;
         strings =
             told_later n.link (after_sends n.link ps) later (map spelling (frames_of n.link ps))
-            (sends_tell c i n.link ps at.me fit has at.small);
+            (telling_all c i n.link (map spelling (frames_of n.link ps))
+            (sends_tell c i n.link ps at.me fit has at.small));
       }
 
   -- then the link accepts a frame
@@ -142,14 +143,15 @@ module _ {C : Type 0} (rules : Core C) (c : Config) (Sound : ℕ → C → Type 
         later = later;
         strings =
             told_later n.link (after_pulse n.link to) later (map spelling (frames_again n.link to))
+            (telling_all c i n.link (map spelling (frames_again n.link to))
             (pulse_tells c i n.link to at.me at.inside inside apart (at.small to inside) few within
-            fit);
+            fit));
       }
 
   -- a string that spells a frame
   module _ (f : Frame) (bytes : List ℕ) (spells : Spells c f bytes)
       (told : f.dest ≡ i → f.ack ≤ there f.source) where
-    received_is : delivered rules c n bytes ≡ received rules n f
+    pub received_is : delivered rules c n bytes ≡ received rules n f
     unfolding delivered
     received_is =
         let once : (checked c bytes ≡ Ok (frame_kind f.body))
@@ -164,7 +166,7 @@ module _ {C : Type 0} (rules : Core C) (c : Config) (Sound : ℕ → C → Type 
         (subst (λ b. MatchOption b (f.number ≡ 0) (λ x. (1 ≤ f.number) × FitsMessage c x)) is
         spells.fits.body).1
 
-    parcels_fit : offered n.link f ≡ verdict.Next → (m : Message) → f.body ≡ Some m
+    pub parcels_fit : offered n.link f ≡ verdict.Next → (m : Message) → f.body ≡ Some m
         → All (FitsParcel c i) (rules.serve n.core f.source m).posted
     parcels_fit next m is =
         (tame.serve i f.source n.core m at.sound spells.fits.source

@@ -6,3 +6,4 @@ pub mod Turning
 pub mod Falling
 pub mod Counts
 pub mod Answering
+pub use Rattle.proof_progress.proofs as of_proof_progress

@@ -200,30 +200,48 @@ pub record IsTelling (c : Config) (i : ℕ) (l : Linked) (s : List ℕ) : Type 0
   pub source : frame.source ≡ i
   pub ack : frame.ack ≤ (peer_at l frame.dest).delivered
 
+-- one that acknowledges all that was
+pub record IsTellingAll (c : Config) (i : ℕ) (l : Linked) (s : List ℕ) : Type 0 where
+  pub frame : Frame
+  pub spells : Spells c frame s
+  pub source : frame.source ≡ i
+  pub ack : frame.ack ≡ (peer_at l frame.dest).delivered
+
 module _ (c : Config) (i : ℕ) where
-  telling_on : (l k : Linked)
-      → ((j : ℕ) → (peer_at l j).delivered ≤ (peer_at k j).delivered) → (ss : List (List ℕ))
-      → All (IsTelling c i l) ss → All (IsTelling c i k) ss
-  telling_on l k more ss all =
-      All-weaker (IsTelling c i l) (IsTelling c i k)
+  pub telling_all : (l : Linked) (ss : List (List ℕ)) → All (IsTellingAll c i l) ss
+      → All (IsTelling c i l) ss
+  telling_all l ss all =
+      All-weaker (IsTellingAll c i l) (IsTelling c i l)
       (λ s t. record {
         frame = t.frame;
         spells = t.spells;
         source = t.source;
-        ack = (let a = t.ack in let b = more t.frame.dest in omega (arith, a, b));
+        ack = (let a = t.ack in omega (arith, a));
+      }) ss all
+
+  telling_on : (l k : Linked)
+      → ((j : ℕ) → (peer_at l j).delivered ≡ (peer_at k j).delivered) → (ss : List (List ℕ))
+      → All (IsTellingAll c i l) ss → All (IsTellingAll c i k) ss
+  telling_on l k same ss all =
+      All-weaker (IsTellingAll c i l) (IsTellingAll c i k)
+      (λ s t. record {
+        frame = t.frame;
+        spells = t.spells;
+        source = t.source;
+        ack = t.ack ∙ same t.frame.dest;
       }) ss all
 
   pub sends_tell : (l : Linked) (ps : List Parcel) → l.me ≡ i → All (FitsParcel c i) ps
       → has_numbers l ps ≡ true
       → ((j : ℕ) → j < c.nodes → (peer_at l j).delivered < 2 ^ 64)
-      → All (IsTelling c i l) (map spelling (frames_of l ps))
-  sends_tell l [] me fit has small = All-nil (IsTelling c i l)
+      → All (IsTellingAll c i l) (map spelling (frames_of l ps))
+  sends_tell l [] me fit has small = All-nil (IsTellingAll c i l)
   sends_tell l (p ∷ ps) me fit has small =
       let own : FitsParcel c i p = All-head (FitsParcel c i) p ps fit in
       let number = has-number l p ps has in
       let same : (j : ℕ) → (peer_at (sent_one l p) j).delivered ≡ (peer_at l j).delivered =
       λ j. sends-delivered l (p ∷ []) j in
-      All-cons (IsTelling c i l) (spelling (frame_of l p))
+      All-cons (IsTellingAll c i l) (spelling (frame_of l p))
       (map spelling (frames_of (sent_one l p) ps))
       (record {
         frame = frame_of l p;
@@ -239,16 +257,15 @@ module _ (c : Config) (i : ℕ) where
           text = refl;
         };
         source = me;
-        ack = omega arith;
+        ack = refl;
       })
-      (telling_on (sent_one l p) l (λ j. (let e = same j in omega (arith, e)))
-      (map spelling (frames_of (sent_one l p) ps))
+      (telling_on (sent_one l p) l same (map spelling (frames_of (sent_one l p) ps))
       (sends_tell (sent_one l p) ps me (All-tail (FitsParcel c i) p ps fit) number.1
       (λ j lt. (let e = same j in let s = small j lt in omega (arith, e, s)))))
 
   -- messages sent again
   module _ (l : Linked) (to ack : ℕ) (here : i < c.nodes) (there : to < c.nodes) (apart : i ≢ to)
-      (told : ack ≤ (peer_at l to).delivered) (small : ack < 2 ^ 64) where
+      (told : ack ≡ (peer_at l to).delivered) (small : ack < 2 ^ 64) where
     abbrev again : ℕ → Message → Frame
     again first m =
         record { source = i; dest = to; number = first; ack = ack; body = Some m }
@@ -268,7 +285,7 @@ module _ (c : Config) (i : ℕ) where
     }
 
     again_tells : (first : ℕ) (m : Message) → 1 ≤ first → first < 2 ^ 64 → FitsMessage c m
-        → IsTelling c i l (spelling (again first m))
+        → IsTellingAll c i l (spelling (again first m))
     again_tells first m some few fit = record {
       frame = again first m;
       spells = again_spells first m some few fit;
@@ -278,10 +295,10 @@ module _ (c : Config) (i : ℕ) where
 
     numbered_tell : (first : ℕ) (ms : List Message) → 1 ≤ first → first + length ms ≤ 2 ^ 64
         → All (FitsMessage c) ms
-        → All (IsTelling c i l) (map spelling (numbered i to ack first ms))
-    numbered_tell first [] some few fit = All-nil (IsTelling c i l)
+        → All (IsTellingAll c i l) (map spelling (numbered i to ack first ms))
+    numbered_tell first [] some few fit = All-nil (IsTellingAll c i l)
     numbered_tell first (m ∷ ms) some few fit =
-        All-cons (IsTelling c i l) _ (map spelling (numbered i to ack (first + 1) ms))
+        All-cons (IsTellingAll c i l) _ (map spelling (numbered i to ack (first + 1) ms))
         (again_tells first m some (omega (arith, few)) (All-head (FitsMessage c) m ms fit))
         (numbered_tell (first + 1) ms (omega arith) (omega (arith, few))
         (All-tail (FitsMessage c) m ms fit))
@@ -299,7 +316,7 @@ module _ (c : Config) (i : ℕ) where
       text = refl;
     }
 
-    alone_tells : IsTelling c i l (spelling (ack_alone i to ack))
+    alone_tells : IsTellingAll c i l (spelling (ack_alone i to ack))
     alone_tells = record {
       frame = ack_alone i to ack;
       spells = alone_spells;
@@ -308,11 +325,11 @@ module _ (c : Config) (i : ℕ) where
     }
 
     owed_tells : (owed : Bool)
-        → All (IsTelling c i l) (map spelling (if owed then ack_alone i to ack ∷ [] else []))
-    owed_tells false = All-nil (IsTelling c i l)
+        → All (IsTellingAll c i l) (map spelling (if owed then ack_alone i to ack ∷ [] else []))
+    owed_tells false = All-nil (IsTellingAll c i l)
     owed_tells true =
-        All-cons (IsTelling c i l) (spelling (ack_alone i to ack)) [] alone_tells
-        (All-nil (IsTelling c i l))
+        All-cons (IsTellingAll c i l) (spelling (ack_alone i to ack)) [] alone_tells
+        (All-nil (IsTellingAll c i l))
 
   pub all_taken : (k : ℕ) (ms : List Message) → All (FitsMessage c) ms
       → All (FitsMessage c) (take k ms)
@@ -325,19 +342,19 @@ module _ (c : Config) (i : ℕ) where
   pub pulse_tells : (l : Linked) (to : ℕ) → l.me ≡ i → i < c.nodes → to < c.nodes → i ≢ to
       → (peer_at l to).delivered < 2 ^ 64 → (peer_at l to).sent < 2 ^ 64
       → length (peer_at l to).kept ≤ (peer_at l to).sent → All (FitsMessage c) (peer_at l to).kept
-      → All (IsTelling c i l) (map spelling (frames_again l to))
+      → All (IsTellingAll c i l) (map spelling (frames_again l to))
   pulse_tells l to me here there apart small few within fit =
-      subst (λ k. All (IsTelling c i l) (map spelling (frames_of_pulse p.kept k to p))) (sym me)
+      subst (λ k. All (IsTellingAll c i l) (map spelling (frames_of_pulse p.kept k to p))) (sym me)
       (either p.kept)
     where
       p : Peer
       p = peer_at l to
 
       either : (ms : List Message)
-          → All (IsTelling c i l) (map spelling (frames_of_pulse ms i to p))
-      either [] = owed_tells l to p.delivered here there apart (omega arith) small p.owed
+          → All (IsTellingAll c i l) (map spelling (frames_of_pulse ms i to p))
+      either [] = owed_tells l to p.delivered here there apart refl small p.owed
       either (m ∷ ms) =
-          numbered_tell l to p.delivered here there apart (omega arith) small
+          numbered_tell l to p.delivered here there apart refl small
           (p.sent - length p.kept + 1) (take most_again p.kept) (omega arith)
           (let a = length-take most_again p.kept in omega (arith, a, within, few))
           (all_taken most_again p.kept fit)

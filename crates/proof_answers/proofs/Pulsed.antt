@@ -30,19 +30,19 @@ use Rattle.proof_answers.proofs.Told.{node_at, pulse_is, delivery_is, move_after
 use Rattle.proof_answers.proofs.LinkEvents.{all_taken, again_spells, alone_spells}
 
 -- the string spells a frame from one node to another, of this number
-record IsNumber (c : Config) (i to is : ℕ) (s : List ℕ) : Type 0 where
-  frame : Frame
-  spells : Spells c frame s
-  source : frame.source ≡ i
-  dest : frame.dest ≡ to
-  number : frame.number ≡ is
+pub record IsNumber (c : Config) (i to is : ℕ) (s : List ℕ) : Type 0 where
+  pub frame : Frame
+  pub spells : Spells c frame s
+  pub source : frame.source ≡ i
+  pub dest : frame.dest ≡ to
+  pub number : frame.number ≡ is
 
 -- a string of this place does
-record IsNumberAt (c : Config) (i to number : ℕ) (strings : List (List ℕ)) (place : ℕ) : Type 0
+pub record IsNumberAt (c : Config) (i to number : ℕ) (strings : List (List ℕ)) (place : ℕ) : Type 0
   where
-    string : List ℕ
-    there : slice_get strings place ≡ Some string
-    is : IsNumber c i to number string
+    pub string : List ℕ
+    pub there : slice_get strings place ≡ Some string
+    pub is : IsNumber c i to number string
 
 -- the string of this place spells a frame from one node to another that acknowledges so many
 record IsAckAt (c : Config) (i to told : ℕ) (strings : List (List ℕ)) (place : ℕ) : Type 0 where
@@ -71,13 +71,13 @@ acks_after c i to told (x ∷ xs) ys ack =
 
 module _ (c : Config) (i to : ℕ) where
   -- from a place on so many strings have the numbers that follow this one
-  abbrev AreNumbered : List (List ℕ) → ℕ → ℕ → ℕ → Type 0
+  abbrev pub AreNumbered : List (List ℕ) → ℕ → ℕ → ℕ → Type 0
   AreNumbered strings place base count =
       (k : ℕ) → k < count → IsNumberAt c i to (base + k + 1) strings (place + k)
 
   module _ (ack : ℕ) (here : i < c.nodes) (there : to < c.nodes) (apart : i ≢ to)
       (small : ack < 2 ^ 64) where
-    numbered_are : (base : ℕ) (ms : List Message) → base + length ms < 2 ^ 64
+    pub numbered_are : (base : ℕ) (ms : List Message) → base + length ms < 2 ^ 64
         → All (FitsMessage c) ms
         → AreNumbered (map spelling (numbered i to ack (base + 1) ms)) 0 base (length ms)
     numbered_are base [] few fit k lt = absurd (omega (arith, lt))
@@ -122,12 +122,12 @@ module _ (c : Config) (i to : ℕ) where
           is = subst (λ x. IsNumber c i to x rest.string) (omega arith) rest.is;
         }
 
-  numbered_many : (ack first : ℕ) (ms : List Message)
+  pub numbered_many : (ack first : ℕ) (ms : List Message)
       → length (numbered i to ack first ms) ≡ length ms
   numbered_many ack first [] = refl
   numbered_many ack first (m ∷ ms) = ap suc (numbered_many ack (first + 1) ms)
 
-  after_others : (xs ys : List (List ℕ)) (base count : ℕ) → AreNumbered ys 0 base count
+  pub after_others : (xs ys : List (List ℕ)) (base count : ℕ) → AreNumbered ys 0 base count
       → AreNumbered (xs ++ ys) (length xs) base count
   after_others [] ys base count are k lt = are k lt
   after_others (x ∷ xs) ys base count are k lt =
@@ -258,7 +258,7 @@ module _ {C : Type 0} (rules : Core C) (c : Config) (Sound : ℕ → C → Type 
     last : IsAfter rules c Sound config tame v end
     last = all_after rules c Sound config tame moves v end after.stands led
 
-    strings : (pulsing n j).sent ≡ map spelling (frames_of_pulse p.kept i j p)
+    pub strings : (pulsing n j).sent ≡ map spelling (frames_of_pulse p.kept i j p)
     unfolding pulsing
     strings =
         ap (λ k. map spelling (frames_of_pulse p.kept k j p))
@@ -398,13 +398,13 @@ module _ {C : Type 0} (rules : Core C) (c : Config) (Sound : ℕ → C → Type 
 -- under the manager of the configuration
 module _ (c : Config) (programs : List (List Instruction)) (w : World (Host Managed))
     (of : IsOfMoves c programs w) where
-  tamed : IsTame (host_rules managed_ops) c (IsSoundHost managed_ops c)
+  pub tamed : IsTame (host_rules managed_ops) c (IsSoundHost managed_ops c)
   tamed = tame managed_laws c
 
-  abbrev IsGood : World (Host Managed) → Type 0
+  abbrev pub IsGood : World (Host Managed) → Type 0
   IsGood v = Stands (host_rules managed_ops) c (IsSoundHost managed_ops c) of.limits tamed v
 
-  led_stands : IsGood w
+  pub led_stands : IsGood w
   led_stands =
       (all_after (host_rules managed_ops) c (IsSoundHost managed_ops c) of.limits tamed of.moves
       (opening managed_ops c programs) w

@@ -46,7 +46,7 @@ same_ok : {F : Type 0} (x y : FrameKind) → ◌≡◌ {A = Result FrameKind F} 
 same_ok x y e = cc
 
 -- a string spells one frame
-spelled_same : (c : Config) → IsConfig c → (f g : Frame) (bytes : List ℕ) → Spells c f bytes
+pub spelled_same : (c : Config) → IsConfig c → (f g : Frame) (bytes : List ℕ) → Spells c f bytes
     → Spells c g bytes → f ≡ g
 spelled_same c config f g bytes a b =
     let x = spelled_once c f bytes config a in
@@ -358,7 +358,7 @@ module _ {C : Type 0} (rules : Core C) (c : Config) (Sound : ℕ → C → Type 
             link_here near)
 
         -- what it acknowledges is kept no more
-        drops : tells.frame.dest ≡ i
+        pub drops : tells.frame.dest ≡ i
             → tells.frame.ack + length (peer_at e.after.link tells.frame.source).kept
             ≤ (peer_at e.after.link tells.frame.source).sent
         drops mine =
@@ -375,14 +375,14 @@ module _ {C : Type 0} (rules : Core C) (c : Config) (Sound : ℕ → C → Type 
             (omega (arith, told, few, count))) (kept_few from below)
 
   -- the world after a string came
-  record CameTo (w v : World C) (i : ℕ) (bytes : List ℕ) : Type 0 where
-    after : IsAfter w v
-    reached : (f : Frame) → Spells c f bytes → f.dest ≡ i → f.number ≤ come w f.source i + 1
+  pub record CameTo (w v : World C) (i : ℕ) (bytes : List ℕ) : Type 0 where
+    pub after : IsAfter w v
+    pub reached : (f : Frame) → Spells c f bytes → f.dest ≡ i → f.number ≤ come w f.source i + 1
         → f.number ≤ come v f.source i
-    dropped : (f : Frame) → Spells c f bytes → f.dest ≡ i
+    pub dropped : (f : Frame) → Spells c f bytes → f.dest ≡ i
         → f.ack + length (known v i f.source).kept ≤ (known v i f.source).sent
 
-  string_came : (w v : World C) (s : Stands w) (i : ℕ) (bytes : List ℕ) → Tells c w bytes
+  pub string_came : (w v : World C) (s : Stands w) (i : ℕ) (bytes : List ℕ) → Tells c w bytes
       → (o : Option (Node C)) → slice_get w.nodes i ≡ o
       → delivery_of rules c w i o (Some bytes) ≡ Some v → FollowsStep rules c Sound w s.posted v
       → CameTo w v i bytes
@@ -481,13 +481,13 @@ module _ {C : Type 0} (rules : Core C) (c : Config) (Sound : ℕ → C → Type 
       )
 
   -- what a move is
-  delivery_made : (w v : World C) (index to : ℕ) → moved rules c w (Deliver index to) ≡ Some v
+  pub delivery_made : (w v : World C) (index to : ℕ) → moved rules c w (Deliver index to) ≡ Some v
       → delivery_of rules c w to (slice_get w.nodes to) (slice_get w.sent index) ≡ Some v
   unfolding moved
   delivery_made w v index to eq =
       (guarded (is_named w (Deliver index to)) (made_by rules c w (Deliver index to)) v eq).1
 
-  turn_made : (w v : World C) (i : ℕ) → moved rules c w (Turn i) ≡ Some v
+  pub turn_made : (w v : World C) (i : ℕ) → moved rules c w (Turn i) ≡ Some v
       → turn_of rules c w i (slice_get w.nodes i) ≡ Some v
   unfolding moved
   turn_made w v i eq = (guarded (is_named w (Turn i)) (made_by rules c w (Turn i)) v eq).1
@@ -506,7 +506,7 @@ module _ {C : Type 0} (rules : Core C) (c : Config) (Sound : ℕ → C → Type 
       let both = and_parts (nat_lt to (length w.nodes)) (not (i == to)) more in
       (ltb-true to (length w.nodes) both.0, apart_of i to both.1, parts.1)
 
-  step_of : (w v : World C) (s : Stands w) (move : Move) → moved rules c w move ≡ Some v
+  pub step_of : (w v : World C) (s : Stands w) (move : Move) → moved rules c w move ≡ Some v
       → FollowsStep rules c Sound w s.posted v
   step_of w v s move made = follows rules c Sound config tame w v s.posted move s.follows made
 
@@ -522,6 +522,14 @@ module _ {C : Type 0} (rules : Core C) (c : Config) (Sound : ℕ → C → Type 
       (step_of w m.mid s (Pulse i to) m.made) in
       let same : v ≡ m.mid = m.goes_on.1 in
       (is.0, is.1, is.2 ∙ sym same, made.1, subst (IsAfter w) (sym same) is.3)
+
+  pub pulse_inside : (w v : World C) (s : Stands w) (i to : ℕ) → Moves rules c w (Pulse i to) v
+      → to < c.nodes
+  pulse_inside w v s i to m =
+      let made = pulse_made w m.mid i to m.made in
+      let a = made.0 in
+      let b = s.follows.nodes in
+      omega (arith, a, b)
 
   -- a delivery: a frame for the node whose number is the next one, or less, is delivered then, and
   -- what a frame for it acknowledges is kept no more

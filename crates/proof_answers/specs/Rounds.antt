@@ -9,6 +9,12 @@ use Rattle.ivy_moves.specs.Worlds.{World, Leads}
 use Rattle.proof_progress.specs.ivy_host.Hosts.{Host, host_rules}
 use Rattle.proof_progress.specs.ivy_host.Managers.{Managed, managed_ops}
 
+-- each message that a node had sent another one in the one world is delivered in the other
+abbrev pub IsDeliveredBy : World (Host Managed) → World (Host Managed) → Type 0
+IsDeliveredBy w end = (x y : ℕ) (n m : Node (Host Managed)) → x ≢ y → slice_get w.nodes x ≡ Some n
+    → slice_get end.nodes y ≡ Some m
+    → (peer_at n.link y).sent ≤ (peer_at m.link x).delivered
+
 module _ (c : Config) (i : ℕ) where
   -- Moves lead from one world to another, a turn of node i among them, and each message that a node
   -- had sent another one is delivered then. Any other moves may stand between; no other node need
@@ -17,9 +23,7 @@ module _ (c : Config) (i : ℕ) where
     pub before : List Move
     pub after : List Move
     pub led : Leads (host_rules managed_ops) c w (before ++ Turn i ∷ after) end
-    pub delivered : (x y : ℕ) (n m : Node (Host Managed)) → x ≢ y → slice_get w.nodes x ≡ Some n
-        → slice_get end.nodes y ≡ Some m
-        → (peer_at n.link y).sent ≤ (peer_at m.link x).delivered
+    pub delivered : IsDeliveredBy w end
 
   -- so many rounds lead from one world to another
   abbrev pub AreRounds : ℕ → World (Host Managed) → World (Host Managed) → Type 0

@@ -3,11 +3,12 @@ ghost use Rattle.ivy_pagetable.specs.Words.{IsWord};
 
 use crate::letters::{Bytes, Letter, Said, message, received};
 use crate::posted::Posted;
+use failing_alloc::Refusing;
 use ivy_host::ivy_coherence::{Coherence, Need};
 use ivy_host::ivy_fixed::FixedManager;
-use ivy_model::{Config, Kind};
+use ivy_model::{Config, Fault, Kind};
 use ivy_pagetable::{Out, Word};
-use std::alloc::Global;
+use std::alloc::{Allocator, Global};
 use std::marker::Model;
 use std::process::Abort;
 use std::test::Fail;
@@ -34,12 +35,12 @@ const STORE: Word = Word::Store {
 
 /// One of the three nodes, and what it posts.
 #[derive(Drop)]
-struct Node {
-    coherence: Coherence<FixedManager<Global>, Global>,
-    posted: Posted,
+struct Node<A: Allocator> {
+    coherence: Coherence<FixedManager<A>, A>,
+    posted: Posted<A>,
 }
 
-impl Model for Node {
+impl<A: Allocator> Model for Node<A> {
     ghost use Rattle.std.specs.Prelude.{◌≡◌, ℕ, List};
     ghost use Rattle.ivy_model.specs.declared.Config as declared;
     ghost use Rattle.ivy_wire.specs.Data as wire;
@@ -64,6 +65,9 @@ enum Step {
     /// its last answer was taken out. What that comes to.
     Loads(u32, u64, Need),
     Stores(u64, Need),
+    /// The same, refused with 1.
+    LoadsInVain(u32, u64),
+    StoresInVain(u64),
     /// A message about page 1 comes from a node, and is taken or refused.
     Comes(u8, Letter),
     Refuses(u8, Letter),
@@ -79,8 +83,8 @@ enum Step {
     Breaches(u64),
 }
 
-impl Node {
-    fn new(alloc: Global, me: u8) -> Result<Node, Fail> {
+impl<A: Allocator + Copy> Node<A> {
+    fn new(alloc: A, me: u8) -> Result<Node<A>, Fail> {
         TRIO.check()?;
         if me >= TRIO.nodes {
             return Err("no such node".into());
@@ -92,14 +96,23 @@ impl Node {
         })
     }
 
-    fn needs(&mut self, page: u32, word: Word, call: u64) -> Result<Need, Fail>
+    /// Whether an access comes to this.
+    fn needs(
+        &mut self,
+        page: u32,
+        word: Word,
+        call: u64,
+        outcome: Result<Need, Fault>,
+    ) -> Result<bool, Fail>
         requires { IsWord 64 word }
     {
         if page >= TRIO.pages || call == 0 || self.coherence.answer().is_some() {
             return Err("no such access".into());
         }
-        let need = self.coherence.need(page, word, call, &mut self.posted)?;
-        Ok(need)
+        match self.coherence.need(page, word, call, &mut self.posted) {
+            Ok(need) => Ok(outcome == Ok(need)),
+            Err(fault) => Ok(outcome == Err(fault)),
+        }
     }
 
     /// Whether a message of another node is taken.
@@ -124,8 +137,10 @@ impl Node {
     /// Whether the step goes as it says.
     fn goes(&mut self, step: &Step) -> Result<bool, Fail> {
         match step {
-            Step::Loads(page, call, need) => Ok(self.needs(*page, LOAD, *call)? == *need),
-            Step::Stores(call, need) => Ok(self.needs(1, STORE, *call)? == *need),
+            Step::Loads(page, call, need) => self.needs(*page, LOAD, *call, Ok(*need)),
+            Step::Stores(call, need) => self.needs(1, STORE, *call, Ok(*need)),
+            Step::LoadsInVain(page, call) => self.needs(*page, LOAD, *call, Err(Fault::Memory)),
+            Step::StoresInVain(call) => self.needs(1, STORE, *call, Err(Fault::Memory)),
             Step::Comes(from, letter) => Ok(self.takes(*from, *letter)?),
             Step::Refuses(from, letter) => Ok(!self.takes(*from, *letter)?),
             Step::Asks(calls) => self.takes_requests(*calls),
@@ -148,7 +163,11 @@ struct Scene<'a> {
     posted: &'a [(u8, Letter)],
 }
 
-fn check_node(rt: &impl Abort, node: &mut Node, scene: &Scene) -> Result<(), Fail> {
+fn check_node<A: Allocator + Copy>(
+    rt: &impl Abort,
+    node: &mut Node<A>,
+    scene: &Scene,
+) -> Result<(), Fail> {
     for (index, step) in scene.steps.iter().enumerate() {
         assert!(rt; node.goes(step)?, "step {index}");
     }
@@ -417,4 +436,143 @@ static REFUSED: Scene<'static> = Scene {
         (1, (Said::Order, 0, 1)),
         (2, (Said::Copy(Bytes::Stored), 2, 3)),
     ],
+};
+
+/// A step of a node whose growths are refused, what goes before it, and what comes after it.
+struct Growing<'a> {
+    before: &'a [Step],
+    refused: Step,
+    after: Scene<'a>,
+}
+
+/// More growths than a step here asks for.
+const MANY: u64 = 20;
+
+/// The step goes with the n-th growth refused. Whether that was asked for: the step is refused then, and only then.
+fn refused_of<A: Allocator + Copy>(
+    rt: &impl Abort,
+    (memory, n): (&Refusing<Global>, u64),
+    node: &mut Node<A>,
+    growing: &Growing,
+) -> Result<bool, Fail> {
+    for step in growing.before {
+        assert!(rt; node.goes(step)?);
+    }
+    memory.refuse(n);
+    let is_refused = node.goes(&growing.refused)?;
+    let is_met = memory.asked(n) >= n;
+    memory.refuse(0);
+    assert!(rt; is_refused == is_met, "growth {n}");
+    if is_met {
+        check_node(rt, node, &growing.after)?;
+    }
+    Ok(is_met)
+}
+
+fn refused_at(
+    rt: &impl Abort,
+    memory: &Refusing<Global>,
+    n: u64,
+    growing: &Growing,
+) -> Result<bool, Fail> {
+    let mut node = Node::new(memory, growing.after.me)?;
+    refused_of(rt, (memory, n), &mut node, growing)
+}
+
+/// Refuses each growth in turn, until one is not asked for.
+fn refuse_each<R: Abort + AllocGlobal>(rt: &R, growing: &Growing) -> Result<(), Fail> {
+    let memory = Refusing::new(rt.alloc());
+    for n in 1..MANY {
+        if !refused_at(rt, &memory, n, growing)? {
+            assert!(rt; n > 1);
+            return Ok(());
+        }
+    }
+    Err("no end of growths".into())
+}
+
+/// The request of a read fault is refused: the entry is not locked, and the next try asks.
+#[test]
+fn growths_of_a_read_fault(rt: HostRuntime) -> Result<(), Fail> {
+    refuse_each(&rt, &READ_REFUSED)
+}
+
+static READ_REFUSED: Growing<'static> = Growing {
+    before: &[],
+    refused: Step::LoadsInVain(1, 1),
+    after: Scene {
+        me: 2,
+        steps: &[
+            Step::Posted(0),
+            Step::Loads(1, 1, Need::Started),
+            Step::Comes(0, (Said::Copy(Bytes::Ones), 2, 1)),
+            Step::Returns(Some(Out::Value(u64::MAX))),
+            Step::Breaches(0),
+        ],
+        posted: &[(1, (Said::Request, 2, 1))],
+    },
+};
+
+/// One of the orders of an owner that is to store is refused: none was posted, and it reads on.
+#[test]
+fn growths_of_a_write_fault(rt: HostRuntime) -> Result<(), Fail> {
+    refuse_each(&rt, &WRITE_REFUSED)
+}
+
+static WRITE_REFUSED: Growing<'static> = Growing {
+    before: &[
+        Step::Comes(1, (Said::Request, 1, 7)),
+        Step::Comes(1, (Said::Request, 2, 7)),
+    ],
+    refused: Step::StoresInVain(1),
+    after: Scene {
+        me: 0,
+        steps: &[
+            Step::Posted(2),
+            Step::Loads(1, 1, Need::Have(Out::Value(0))),
+            Step::Stores(1, Need::Started),
+            Step::Posted(4),
+            Step::Comes(2, (Said::Acknowledgement, 0, 1)),
+            Step::Comes(1, (Said::Acknowledgement, 0, 1)),
+            Step::Returns(Some(Out::Done)),
+        ],
+        posted: &[
+            (1, (Said::Copy(Bytes::Zeros), 1, 7)),
+            (2, (Said::Copy(Bytes::Zeros), 2, 7)),
+            (1, (Said::Order, 0, 1)),
+            (2, (Said::Order, 0, 1)),
+        ],
+    },
+};
+
+/// The copy that the last acknowledgement brings about is refused: nothing was stored, and the acknowledgement is
+/// missing still.
+#[test]
+fn growths_of_the_last_acknowledgement(rt: HostRuntime) -> Result<(), Fail> {
+    refuse_each(&rt, &LAST_REFUSED)
+}
+
+static LAST_REFUSED: Growing<'static> = Growing {
+    before: &[
+        Step::Comes(1, (Said::Request, 1, 7)),
+        Step::Stores(1, Need::Started),
+        Step::Comes(2, (Said::Request, 2, 3)),
+    ],
+    refused: Step::Refuses(1, (Said::Acknowledgement, 0, 1)),
+    after: Scene {
+        me: 0,
+        steps: &[
+            Step::Shows(None),
+            Step::Posted(2),
+            Step::Comes(1, (Said::Acknowledgement, 0, 1)),
+            Step::Returns(Some(Out::Done)),
+            Step::Posted(3),
+            Step::Breaches(0),
+        ],
+        posted: &[
+            (1, (Said::Copy(Bytes::Zeros), 1, 7)),
+            (1, (Said::Order, 0, 1)),
+            (2, (Said::Copy(Bytes::Stored), 2, 3)),
+        ],
+    },
 };

@@ -1,11 +1,11 @@
 //! Calls of the heap at two nodes. Node 0 keeps the heap, and node 1 asks it.
 
+use crate::growths::{Growing, refuse_each};
 use crate::letters::{Letter, Said};
 use crate::memory::{Node, Outcome, Scene, Step, check, check_node};
-use failing_alloc::Refusing;
 use ivy_host::ivy_memory::Answer;
 use ivy_model::{Call, Fault, Reply};
-use std::alloc::{Allocator, Global};
+use std::alloc::Global;
 use std::process::Abort;
 use std::test::Fail;
 
@@ -67,12 +67,12 @@ fn check_rounds(
 
 /// Node 1 makes the calls of the rounds, with node 0.
 fn check_asking<R: Abort + AllocGlobal>(rt: &R, keeper: &mut Node<Global>) -> Result<(), Fail> {
-    let mut node = Node::new(rt.alloc(), rt.alloc(), 1)?;
+    let mut node = Node::new(rt.alloc(), 1)?;
     check_rounds(rt, keeper, &mut node)
 }
 
 fn check_keeper<R: Abort + AllocGlobal>(rt: &R) -> Result<(), Fail> {
-    let mut keeper = Node::new(rt.alloc(), rt.alloc(), 0)?;
+    let mut keeper = Node::new(rt.alloc(), 0)?;
     check_asking(rt, &mut keeper)
 }
 
@@ -298,58 +298,6 @@ static REFUSED_ANSWER: Scene<'static> = Scene {
     posted: &[(1, GETS_64), (1, (Said::End(0), 1, 2))],
 };
 
-/// What node 0 does while a growth is refused, and what it does after that.
-struct Growing<'a> {
-    refused: Step,
-    after: Scene<'a>,
-}
-
-/// The n-th growth is refused to a node. Whether it was asked for.
-fn refused_of<A: Allocator + Copy>(
-    rt: &impl Abort,
-    memory: &Refusing<Global>,
-    node: &mut Node<A>,
-    n: u64,
-    growing: &Growing,
-) -> Result<bool, Fail> {
-    memory.refuse(n);
-    let is_refused = node.goes(&growing.refused)?;
-    let is_met = memory.asked(n) >= n;
-    memory.refuse(0);
-    assert!(rt; is_refused == is_met, "growth {n}");
-    if is_met {
-        check_node(rt, node, &growing.after)?;
-    }
-    Ok(is_met)
-}
-
-/// The same of a new node.
-fn refused_at(
-    rt: &impl Abort,
-    memory: &Refusing<Global>,
-    alloc: Global,
-    n: u64,
-    growing: &Growing,
-) -> Result<bool, Fail> {
-    let mut node = Node::new(memory, alloc, 0)?;
-    refused_of(rt, memory, &mut node, n, growing)
-}
-
-/// Refuses each growth in turn, until one is not asked for.
-fn refuse_each<R: Abort + AllocGlobal>(rt: &R, growing: &Growing) -> Result<(), Fail> {
-    let memory = Refusing::new(rt.alloc());
-    for n in 1..MANY {
-        if !refused_at(rt, &memory, rt.alloc(), n, growing)? {
-            assert!(rt; n > 1);
-            return Ok(());
-        }
-    }
-    Err("no end of growths".into())
-}
-
-/// More growths than a call of the heap asks for.
-const MANY: u64 = 20;
-
 /// Node 1 asks for a block that the heap has no memory for: that is refused with 1, and is served when it comes again.
 #[test]
 fn growths_of_a_request(rt: HostRuntime) -> Result<(), Fail> {
@@ -357,6 +305,7 @@ fn growths_of_a_request(rt: HostRuntime) -> Result<(), Fail> {
 }
 
 static REQUEST_COMES: Growing<'static> = Growing {
+    before: &[],
     refused: Step::Refuses(1, WANTS_8),
     after: Scene {
         me: 0,
@@ -377,6 +326,7 @@ fn growths_of_a_call(rt: HostRuntime) -> Result<(), Fail> {
 }
 
 static NODE_0_CALLS: Growing<'static> = Growing {
+    before: &[],
     refused: Step::Allocates(8, 1, Err(Fault::Memory)),
     after: Scene {
         me: 0,

@@ -25,6 +25,8 @@ mod fixed;
 #[cfg(test)]
 mod foreign;
 #[cfg(test)]
+mod growths;
+#[cfg(test)]
 mod heap;
 #[cfg(test)]
 mod held;

@@ -7,7 +7,7 @@ use ivy_host::ivy_fixed::FixedManager;
 use ivy_host::ivy_memory::{Answer, Memory};
 use ivy_model::{Call, Config, Fault, Kind, Reply};
 use ivy_wire::Message;
-use std::alloc::{Allocator, Global};
+use std::alloc::Allocator;
 use std::marker::Model;
 use std::process::Abort;
 use std::test::Fail;
@@ -24,7 +24,7 @@ const PAIR: Config = Config {
 #[derive(Drop)]
 pub(crate) struct Node<A: Allocator> {
     memory: Memory<FixedManager<A>, A>,
-    posted: Posted,
+    posted: Posted<A>,
 }
 
 impl<A: Allocator> Model for Node<A> {
@@ -76,8 +76,8 @@ pub(crate) enum Step {
 }
 
 impl<A: Allocator + Copy> Node<A> {
-    /// Node `me`, with this memory. Its messages are kept in memory that refuses nothing.
-    pub(crate) fn new(alloc: A, kept: Global, me: u8) -> Result<Node<A>, Fail> {
+    /// Node `me`, with this memory, in which its messages are kept, too.
+    pub(crate) fn new(alloc: A, me: u8) -> Result<Node<A>, Fail> {
         PAIR.check()?;
         if me >= PAIR.nodes {
             return Err("no such node".into());
@@ -85,7 +85,7 @@ impl<A: Allocator + Copy> Node<A> {
         let manager = FixedManager::new(alloc, &PAIR, me)?;
         Ok(Node {
             memory: Memory::new(alloc, &PAIR, me, manager)?,
-            posted: Posted::new(kept, PAIR, me),
+            posted: Posted::new(alloc, PAIR, me),
         })
     }
 
@@ -125,7 +125,7 @@ impl<A: Allocator + Copy> Node<A> {
     }
 
     /// Whether the message that another node posted last is this letter to this node, and is taken.
-    pub(crate) fn takes_last(&mut self, other: &Posted, letter: Letter) -> Result<bool, Fail> {
+    pub(crate) fn takes_last(&mut self, other: &Posted<A>, letter: Letter) -> Result<bool, Fail> {
         match other.last_to(self.posted.node(), letter) {
             Some(parcel) => self.takes(parcel.source, parcel.message.lent(), Ok(())),
             None => Ok(false),
@@ -133,7 +133,7 @@ impl<A: Allocator + Copy> Node<A> {
     }
 
     /// All messages that it posted.
-    pub(crate) fn posts(&self) -> &Posted {
+    pub(crate) fn posts(&self) -> &Posted<A> {
         &self.posted
     }
 
@@ -197,7 +197,7 @@ pub(crate) fn check_node<A: Allocator + Copy>(
 }
 
 pub(crate) fn check<R: Abort + AllocGlobal>(rt: &R, scene: &Scene) -> Result<(), Fail> {
-    let mut node = Node::new(rt.alloc(), rt.alloc(), scene.me)?;
+    let mut node = Node::new(rt.alloc(), scene.me)?;
     check_node(rt, &mut node, scene)
 }
 

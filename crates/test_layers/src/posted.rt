@@ -4,20 +4,20 @@ ghost use Rattle.std.specs.Prelude.{◌≡◌, []};
 use crate::letters::{Letter, message};
 use ivy_model::{Config, Fault};
 use ivy_wire::{Message, Page, Parcel, Post};
-use std::alloc::Global;
+use std::alloc::Allocator;
 use std::marker::Model;
 
-/// Keeps the messages of a node, in order, or refuses them.
+/// Keeps the messages of a node, in order, or refuses them: all from now on, or those for which it has no memory.
 #[derive(Drop)]
-pub(crate) struct Posted {
-    alloc: Global,
+pub(crate) struct Posted<A: Allocator> {
+    alloc: A,
     config: Config,
     node: u8,
-    parcels: Vec<Parcel<Page<Global>>, Global>,
+    parcels: Vec<Parcel<Page<A>>, A>,
     is_full: bool,
 }
 
-impl Model for Posted {
+impl<A: Allocator> Model for Posted<A> {
     ghost use Rattle.std.specs.Prelude.{ℕ, List};
     ghost use Rattle.ivy_model.specs.declared.Config as declared;
     ghost use Rattle.ivy_wire.specs.Data as wire;
@@ -27,9 +27,9 @@ impl Model for Posted {
     ghost view = { λ p. (p.config, p.node, p.parcels.items) };
 }
 
-impl Posted {
+impl<A: Allocator + Copy> Posted<A> {
     /// None so far.
-    pub(crate) fn new(alloc: Global, config: Config, node: u8) -> Posted
+    pub(crate) fn new(alloc: A, config: Config, node: u8) -> Posted<A>
         ensures { result ≡ (config, node, []) }
     {
         Posted {
@@ -47,7 +47,7 @@ impl Posted {
         self.node
     }
 
-    pub(crate) fn parcels(&self) -> &[Parcel<Page<Global>>]
+    pub(crate) fn parcels(&self) -> &[Parcel<Page<A>>]
         ensures { result.now ≡ self.now.2 }
     {
         &self.parcels
@@ -61,7 +61,7 @@ impl Posted {
     }
 
     /// The message that was posted last, where it is this one, about page 0 or of the heap, and went to this node.
-    pub(crate) fn last_to(&self, dest: u8, letter: Letter) -> Option<&Parcel<Page<Global>>> {
+    pub(crate) fn last_to(&self, dest: u8, letter: Letter) -> Option<&Parcel<Page<A>>> {
         let parcel = self.parcels.last()?;
         if is_parcel(parcel, self.node, dest, message(0, letter)) {
             Some(parcel)
@@ -82,7 +82,7 @@ impl Posted {
     }
 }
 
-impl Post for Posted {
+impl<A: Allocator + Copy> Post for Posted<A> {
     ghost use Rattle.std.specs.Prelude.{◌≡◌, ◌≢◌, [], ◌++◌, refl};
     ghost use Rattle.std.proofs.Common.{ap, append-nil};
     ghost use Rattle.ivy_model.specs.declared.Fault.TheVariants.{Memory};
@@ -125,6 +125,11 @@ impl Post for Posted {
 }
 
 /// Whether a parcel is this message of a node to another.
-fn is_parcel(parcel: &Parcel<Page<Global>>, source: u8, dest: u8, wanted: Message<&[u8]>) -> bool {
+fn is_parcel<A: Allocator + Copy>(
+    parcel: &Parcel<Page<A>>,
+    source: u8,
+    dest: u8,
+    wanted: Message<&[u8]>,
+) -> bool {
     parcel.source == source && parcel.dest == dest && parcel.message.lent() == wanted
 }

@@ -1,4 +1,4 @@
-//! What the tests share: files that lie in memory, and the check of a command over them.
+//! What the tests share: files that lie in memory, and the check of commands over them.
 
 use example_texts::File;
 use ivy_model::Fault;
@@ -11,9 +11,19 @@ use std::sync::Wait;
 use std::test::Fail;
 use std::thread::Threads;
 
-/// A command line without the program's name, the words in order, with what it has to answer: its status, what it
-/// prints, and what standard error is told.
-pub(crate) type Case<'a> = (&'a [&'a str], (u8, &'a str, &'a str));
+/// What a stream has to be told.
+#[derive(Clone, Copy)]
+pub(crate) enum Told<'a> {
+    /// Exactly this.
+    Is(&'a str),
+    /// Each of these, among others.
+    Has(&'a [&'a str]),
+    /// The same, and not this.
+    HasBut(&'a [&'a str], &'a str),
+}
+
+/// The words of a command line behind the program's name, its status, and what both streams are told.
+pub(crate) type Case<'a> = (&'a [&'a str], u8, Told<'a>, Told<'a>);
 
 /// Files that lie in memory.
 #[derive(Drop)]
@@ -43,43 +53,52 @@ fn words_of(alloc: Global, line: &[&str]) -> Result<Vec<String>, AllocError> {
     Ok(words)
 }
 
-/// Performs a command line over files. Gives its status, what it prints and what standard error is told.
-pub(crate) fn answer_of<R: AllocGlobal + Threads + Wait + Sync>(
-    rt: &R,
-    files: &[File],
-    line: &[&str],
-) -> Result<(u8, String, String), Fail> {
-    let alloc = rt.alloc();
-    let words = words_of(alloc, line)?;
-    let mut out: Vec<u8> = Vec::new(alloc);
-    let mut told: Vec<u8> = Vec::new(alloc);
-    let shelf = Shelf { alloc, files };
-    let status = perform(rt, alloc, &words, &shelf, &mut out, &mut told, &mut Silence);
-    Ok((status, String::from_utf8(out)?, String::from_utf8(told)?))
+fn has_all(found: &str, parts: &[&str]) -> bool {
+    for part in parts {
+        if !found.contains(*part) {
+            return false;
+        }
+    }
+    true
 }
 
-fn expect_same(rt: &impl Abort, line: &[&str], found: &str, wanted: &str) {
-    assert_eq!(rt; found, wanted, "{line:?}");
+/// Whether a stream was told what it has to be.
+fn is_told(found: &str, wanted: Told<'_>) -> bool {
+    match wanted {
+        Told::Is(text) => found == text,
+        Told::Has(parts) => has_all(found, parts),
+        Told::HasBut(parts, none) => has_all(found, parts) && !found.contains(none),
+    }
 }
 
-/// Performs each command line over files. Asserts its status and what it prints on both streams.
+/// Performs each command line over files. Asserts its status, and what both streams are told.
 pub(crate) fn check_each<R: Abort + AllocGlobal + Threads + Wait + Sync>(
     rt: &R,
     files: &[File],
     cases: &[Case<'_>],
 ) -> Result<(), Fail> {
-    for (line, (status, out, err)) in cases {
-        let (found, printed, told) = answer_of(rt, files, line)?;
-        expect_same(rt, line, printed.as_str(), out);
-        expect_same(rt, line, told.as_str(), err);
+    let alloc = rt.alloc();
+    let shelf = Shelf { alloc, files };
+    for (line, status, out, err) in cases {
+        let words = words_of(alloc, line)?;
+        let mut printed: Vec<u8> = Vec::new(alloc);
+        let mut told: Vec<u8> = Vec::new(alloc);
+        let found = perform(
+            rt,
+            alloc,
+            &words,
+            &shelf,
+            &mut printed,
+            &mut told,
+            &mut Silence,
+        );
+        let (printed, told) = (String::from_utf8(printed)?, String::from_utf8(told)?);
+        assert!(rt;
+            is_told(printed.as_str(), *out),
+            "{line:?} prints {printed}"
+        );
+        assert!(rt; is_told(told.as_str(), *err), "{line:?} tells {told}");
         assert_eq!(rt; found, *status, "{line:?}");
     }
     Ok(())
-}
-
-/// Whether a text has each of these.
-pub(crate) fn expect_all(rt: &impl Abort, text: &str, parts: &[&str]) {
-    for part in parts {
-        assert!(rt; text.contains(*part), "{part}");
-    }
 }

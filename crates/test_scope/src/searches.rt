@@ -1,6 +1,6 @@
 //! What is found in all orders of moves, and at standstills.
 
-use crate::common::{Case, answer_of, check_each, expect_all};
+use crate::common::{Case, Told, check_each};
 use example_texts::{File, scheduled};
 use std::test::Fail;
 
@@ -17,65 +17,59 @@ const FILES: [File; 3] = [
     },
 ];
 
-const CASES: [Case<'static>; 4] = [
+const CASES: [Case<'static>; 6] = [
     (
         &["settle", "deadlock.ivy"],
-        (
-            5,
+        5,
+        Told::Is(
             "node 0, line 3: waits for count 0 to reach 1, and it is 0\n\
              node 1, line 7: waits for count 1 to reach 1, and it is 0\n",
-            "",
         ),
+        Told::Is(""),
     ),
     (
         &["settle", "prints.ivy"],
-        (0, "node 0: 7\nnode 0 ended\nnode 1 ended\n", ""),
+        0,
+        Told::Is("node 0: 7\nnode 0 ended\nnode 1 ended\n"),
+        Told::Is(""),
     ),
     (
         &["search", "prints.ivy", "--until", "node 0 prints 7"],
-        (
-            0,
-            "# what was looked for, by 2 moves:\nturn 0\nturn 0\n",
-            "",
-        ),
+        0,
+        Told::Is("# what was looked for, by 2 moves:\nturn 0\nturn 0\n"),
+        Told::Is(""),
     ),
     (
         &["search", "prints.ivy", "--until", "node 0 says 7"],
-        (
-            2,
-            "",
-            "ivyscope: `node 0 says 7` is not `node I prints X`\n",
+        2,
+        Told::Is(""),
+        Told::Is("ivyscope: `node 0 says 7` is not `node I prints X`\n"),
+    ),
+    // Of two nodes that store and load each other's word, at most one loads 0. Nobody waits at an end.
+    (
+        &["search", "store_buffering.ivy"],
+        0,
+        Told::HasBut(
+            &[
+                "outputs: node 0: 0, node 1: 1\n",
+                "outputs: node 0: 1, node 1: 0\n",
+                "outputs: node 0: 1, node 1: 1\n",
+                "at each of these ends all programs have ended\n",
+            ],
+            "node 0: 0, node 1: 0",
         ),
+        Told::Is(""),
+    ),
+    // A text that deadlocks has an end at which a node waits.
+    (
+        &["search", "deadlock.ivy"],
+        0,
+        Told::Has(&["outputs: none\n", "# an end at which a node waits, by"]),
+        Told::Is(""),
     ),
 ];
 
 #[test]
-fn standstills(rt: HostRuntime) -> Result<(), Fail> {
+fn searches(rt: HostRuntime) -> Result<(), Fail> {
     check_each(&rt, &FILES, &CASES)
-}
-
-/// Of two nodes that store and load each other's word, at most one loads 0. Nobody waits at an end.
-#[test]
-fn store_buffering(rt: HostRuntime) -> Result<(), Fail> {
-    let (status, printed, _told) = answer_of(&rt, &FILES, &["search", "store_buffering.ivy"])?;
-    assert_eq!(rt; status, 0);
-    let parts = [
-        "outputs: node 0: 0, node 1: 1\n",
-        "outputs: node 0: 1, node 1: 0\n",
-        "outputs: node 0: 1, node 1: 1\n",
-        "at each of these ends all programs have ended\n",
-    ];
-    expect_all(&rt, printed.as_str(), &parts);
-    assert!(rt; !printed.as_str().contains("node 0: 0, node 1: 0"));
-    Ok(())
-}
-
-/// A text that deadlocks has an end at which a node waits.
-#[test]
-fn deadlock(rt: HostRuntime) -> Result<(), Fail> {
-    let (status, printed, _told) = answer_of(&rt, &FILES, &["search", "deadlock.ivy"])?;
-    assert_eq!(rt; status, 0);
-    let parts = ["outputs: none\n", "# an end at which a node waits, by"];
-    expect_all(&rt, printed.as_str(), &parts);
-    Ok(())
 }

@@ -1,10 +1,11 @@
 //! Locks, barriers, queues, reductions, broadcasts, and what is done once. The other nodes' calls are made by
 //! hand, before those of the node that is tried.
 use crate::common::{expect_same, small};
-use ivy_calls::{CallError, SharedMemory, advance, load, store};
+use ivy_calls::{CallError, SharedMemory, advance, alloc, free, load, store};
 use ivy_model::{Call, Fault};
 use ivy_sync::{
-    Barrier, Broadcast, Lock, Once, Queue, Receiver, Reduction, Sender, SyncError, TicketLock,
+    Barrier, Broadcast, Lock, Once, Queue, Receiver, Reduction, Sender, SharedSender, SyncError,
+    TicketLock,
 };
 use std::process::Abort;
 
@@ -172,6 +173,91 @@ fn a_queue_that_is_full_or_empty(rt: HostRuntime) {
     let no_room = SyncError::Call(unanswered(5, 1));
     expect_same(&rt, full.send(&mut memory, 12), Err(no_room));
     expect_same(&rt, full.next, 1);
+}
+
+/// That a value is sent by one of several senders.
+fn expect_shared<M: SharedMemory>(
+    rt: &impl Abort,
+    memory: &mut M,
+    sender: SharedSender,
+    value: u64,
+) {
+    assert!(rt; sender.queue.has_place());
+    expect_same(rt, sender.send(memory, value), Ok(()));
+}
+
+#[test]
+fn a_queue_of_two_senders(rt: HostRuntime) {
+    let mut memory = small(&rt, rt.alloc());
+    let queue = Queue {
+        at: 64,
+        size: 2,
+        sent: 4,
+        taken: 5,
+    };
+    let lock = Lock { addr: 80 };
+    let one = SharedSender { queue, lock };
+    let other = one;
+    let mut receiver = Receiver { queue, next: 0 };
+    for values in [[11, 12], [13, 14]] {
+        expect_shared(&rt, &mut memory, one, values[0]);
+        expect_shared(&rt, &mut memory, other, values[1]);
+        expect_taken(&rt, &mut memory, &mut receiver, values);
+    }
+    expect_same(&rt, load(&mut memory, 80), Ok(0u64));
+}
+
+#[test]
+fn what_is_made_in_a_used_block(rt: HostRuntime) {
+    let mut memory = small(&rt, rt.alloc());
+    expect_same(&rt, alloc(&mut memory, 24), Ok(64));
+    for addr in [64, 72, 80] {
+        expect_same(&rt, store(&mut memory, addr, 7u64), Ok(()));
+    }
+    expect_same(&rt, free(&mut memory, 64), Ok(()));
+    expect_same(&rt, Lock::alloc(&mut memory), Ok(Lock { addr: 64 }));
+    expect_same(
+        &rt,
+        TicketLock::alloc(&mut memory, 3),
+        Ok(TicketLock { next: 72, turn: 3 }),
+    );
+    expect_same(
+        &rt,
+        Once::alloc(&mut memory, 6),
+        Ok(Once { word: 80, done: 6 }),
+    );
+    for addr in [64, 72, 80] {
+        expect_same(&rt, load(&mut memory, addr), Ok(0u64));
+    }
+}
+
+#[test]
+fn what_is_made_of_several_words(rt: HostRuntime) {
+    let mut memory = small(&rt, rt.alloc());
+    let queue = Queue {
+        at: 64,
+        size: 3,
+        sent: 1,
+        taken: 2,
+    };
+    expect_same(&rt, Queue::alloc(&mut memory, 3, 1, 2), Ok(queue));
+    expect_same(&rt, queue.has_place(), true);
+    expect_same(&rt, Queue { size: 0, ..queue }.has_place(), false);
+    let barrier = Barrier {
+        count: 0,
+        nodes: 4,
+        passed: 0,
+    };
+    expect_same(
+        &rt,
+        Reduction::alloc(&mut memory, barrier),
+        Ok(Reduction { addr: 88, barrier }),
+    );
+    expect_same(
+        &rt,
+        Broadcast::alloc(&mut memory, barrier),
+        Ok(Broadcast { addr: 120, barrier }),
+    );
 }
 
 #[test]

@@ -1,5 +1,5 @@
 use Rattle.std.proofs.Common.{◌≤◌, All, List, ℕ, length, subst, sym}
-use Rattle.ivy_texts.proofs.Drawing.{long_strings}
+use Rattle.ivy_log.proofs.of_ivy_texts.Drawing.{long_strings}
 use Rattle.ivy_replay.proofs.drawing.next_drawn.Goals as goal
 
 pub draw-requires-clause-strings : goal.draw-requires-clause-strings

@@ -16,7 +16,8 @@ use Rattle.ivy_sync.proofs.reduction.Reduction.fold.Goals as goal
 
 pub returns-in_err-wait-clause-fails : goal.returns-in_err-wait-clause-fails
 returns-in_err-wait-clause-fails g c =
-    let can : Fault → Type 0 = λ fault. (state : g.row.M.Denot) × g.M.SharedMemory.can_fail state fault in
+    let can : Fault → Type 0 = λ fault. (state : g.row.M.Denot)
+    × g.M.SharedMemory.can_fail state fault in
     let r = c.args.self.now in
     let e : SyncError = c.in_err-wait.field-0.0 in
     let old : List Answer = g.M.SharedMemory.answers c.args.memory.now in
@@ -25,7 +26,8 @@ returns-in_err-wait-clause-fails g c =
     let place : c.from.result ≡ c.args.me = search rules in
     let stored : mid ≡ old ++ stores (r.addr + 8 * c.args.me) c.args.value ∷ [] =
     c.in_ok-store.ensures.asks ∙ ap (λ n. old ++ stores (r.addr + 8 * n) c.args.value ∷ []) place in
-    fails_as c.from_residual-in_err-wait.result e (λ x. FailsToGather can r c.args.me c.args.value x old new)
+    fails_as c.from_residual-in_err-wait.result e (λ x. FailsToGather can r c.args.me c.args.value x
+    old new)
     c.from_residual-in_err-wait.ensures.1
     (gather_stops can r c.args.me c.args.value e old mid new stored c.in_err-wait.ensures.fails)
 
@@ -45,7 +47,8 @@ loop-node-preserved g c =
     let mid : List Answer = g.M.SharedMemory.answers c.loop-node.memory in
     let new : List Answer = g.M.SharedMemory.answers c.load.new.memory in
     let place : c.from-in-loop-node.result ≡ c.loop-node.node = search rules in
-    folded_more (calls g c.args.f) r.addr c.loop-node.node c.args.first c.loop-node.out c.f-out.result
+    folded_more (calls g c.args.f) r.addr c.loop-node.node c.args.first c.loop-node.out
+    c.f-out.result
     c.in_ok-found.found old mid new c.loop-node.invariant
     (c.in_ok-found.ensures.asks
     ∙ ap (λ n. mid ++ loads (r.addr + 8 * n) c.in_ok-found.found ∷ []) place)
@@ -66,14 +69,16 @@ returns-clause-folds g c =
     let least = c.loop-node-test.false in
     let most = c.loop-node.auto.node-end in
     let all : c.loop-node.node ≡ r.barrier.nodes = omega (arith, nodes, least, most) in
-    folds_all (calls g c.args.f) r c.args.me c.args.value c.args.first c.loop-node.out h0 h1 h2 h3 stored
+    folds_all (calls g c.args.f) r c.args.me c.args.value c.args.first c.loop-node.out h0 h1 h2 h3
+    stored
     c.in_ok-wait.ensures.crosses
     (subst (λ n. HasFolded (calls g c.args.f) r.addr n c.args.first c.loop-node.out h2 h3) all
     c.loop-node.invariant)
 
 pub returns-in_err-found-clause-fails : goal.returns-in_err-found-clause-fails
 returns-in_err-found-clause-fails g c =
-    let can : Fault → Type 0 = λ fault. (state : g.row.M.Denot) × g.M.SharedMemory.can_fail state fault in
+    let can : Fault → Type 0 = λ fault. (state : g.row.M.Denot)
+    × g.M.SharedMemory.can_fail state fault in
     let r = c.args.self.now in
     let e : CallError = c.in_err-found.field-0.0 in
     let h0 : List Answer = g.M.SharedMemory.answers c.args.memory.now in
@@ -86,10 +91,12 @@ returns-in_err-found-clause-fails g c =
     c.in_ok-store.ensures.asks ∙ ap (λ n. h0 ++ stores (r.addr + 8 * n) c.args.value ∷ []) place in
     let there : c.from-in-loop-node.result ≡ c.loop-node.node = search rules in
     fails_as c.from_residual-in_err-found.result (error.Call e)
-    (λ x. FailsToGather can r c.args.me c.args.value x h0 new) c.from_residual-in_err-found.ensures.1
+    (λ x. FailsToGather can r c.args.me c.args.value x h0 new)
+    c.from_residual-in_err-found.ensures.1
     (find_stops (calls g c.args.f) can r c.args.me c.args.value c.loop-node.node c.args.first
     c.loop-node.out e h0 h1 h2 h3 new stored c.in_ok-wait.ensures.crosses c.loop-node.invariant
     (subst (λ n. Fails can (Load 8 (r.addr + 8 * n)) e h3 new) there
     (fails_weaker (g.M.SharedMemory.can_fail c.loop-node.memory) can
-    (λ fault may. (c.loop-node.memory, may)) (Load 8 (r.addr + 8 * c.from-in-loop-node.result)) e h3 new
+    (λ fault may. (c.loop-node.memory, may)) (Load 8 (r.addr + 8 * c.from-in-loop-node.result)) e h3
+    new
     c.in_err-found.ensures.fails)))

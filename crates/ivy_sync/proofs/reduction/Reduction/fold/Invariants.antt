@@ -1,4 +1,3 @@
-use Rattle.std.proofs.Common.{ℕ}
 use Rattle.ivy_sync.proofs.Folded.{HasFolded}
 use Rattle.ivy_sync.proofs.reduction.Reduction.fold.Given as goal
 

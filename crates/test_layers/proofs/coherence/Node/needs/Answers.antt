@@ -2,12 +2,22 @@ use Rattle.std.proofs.Common.{ap, sym, ◌∙◌}
 use Rattle.ivy_host.specs.ivy_fixed.Fixed.{fixed_ops}
 use Rattle.ivy_host.proofs.of_ivy_coherence.Same.{begun-same}
 use Rattle.test_layers.proofs.coherence.Node.needs.Goals as goal
+use Rattle.test_layers.proofs.coherence.Node.needs.Goals.{in-Ok, in-Err}
 
-pub invariant_of-self-2 : goal.invariant_of-self-2
-invariant_of-self-2 c =
-    let same = begun-same fixed_ops c.self.inside.coherence c.args.page c.args.word c.args.call in (
-      ap (λ x. x.config) c.in_ok-need.ensures.ok ∙ same.config ∙ c.self.invariant.0,
-      ap (λ p. p.0) c.in_ok-need.ensures.posted ∙ c.self.invariant.1,
-      ap (λ p. p.1) c.in_ok-need.ensures.posted ∙ c.self.invariant.2 ∙ sym same.me
-          ∙ sym (ap (λ x. x.me) c.in_ok-need.ensures.ok),
-    )
+pub invariant_of-self : goal.invariant_of-self
+invariant_of-self g c =
+    let same = begun-same fixed_ops c.self.inside.coherence c.args.page c.args.word c.args.call in
+    elim c.match-need.branch [
+      | in-Ok w ↦ (
+        ap (λ x. x.config) w.in-Ok.ensures.ok ∙ same.config ∙ c.self.invariant.0,
+        ap (λ p. p.0) w.in-Ok.ensures.posted ∙ c.self.invariant.1,
+        ap (λ p. p.1) w.in-Ok.ensures.posted ∙ c.self.invariant.2 ∙ sym same.me
+            ∙ sym (ap (λ x. x.me) w.in-Ok.ensures.ok),
+      )
+      | in-Err w ↦ (
+        ap (λ x. x.config) w.in-Err.ensures.err ∙ c.self.invariant.0,
+        ap (λ p. p.0) w.in-Err.ensures.fault.1 ∙ c.self.invariant.1,
+        ap (λ p. p.1) w.in-Err.ensures.fault.1 ∙ c.self.invariant.2
+            ∙ sym (ap (λ x. x.me) w.in-Err.ensures.err),
+      )
+    ]

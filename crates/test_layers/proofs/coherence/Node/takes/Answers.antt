@@ -6,7 +6,7 @@ use Rattle.test_layers.proofs.coherence.Node.takes.Goals as goal
 use Rattle.test_layers.proofs.coherence.Node.takes.Goals.{in-Ok, in-Err}
 
 pub invariant_of-self : goal.invariant_of-self
-invariant_of-self c =
+invariant_of-self g c =
     let same =
     handled-same fixed_ops c.self.inside.coherence c.args.from
     (owned_message c.in_ok-message.message) in

@@ -1,0 +1,145 @@
+-- Sites that are played, and whose lists are those of the logs, are joined; and they are played as
+-- they begin.
+use Rattle.std.proofs.Common.{◌≡◌, ℕ, zero, suc, ◌+◌, ◌<◌, List, [], ◌∷◌, ◌++◌, length, map, slice_get, Contains, Option, Some, None, refl, sym, ap, subst, ◌∙◌, option_map, arith, take, get_or}
+use Rattle.std.proofs.lemmas.List.{length-map, length-take-le, map_push, take_more}
+use Rattle.std.proofs.lemmas.Option.{same_Some, slice_get-map, slice_get_within}
+use Rattle.ivy_model.specs.declared.Config.{Config}
+use Rattle.ivy_model.specs.Config.{IsConfig}
+use Rattle.ivy_moves.specs.Marks.{Mark}
+use Rattle.ivy_moves.specs.Nodes.{Node, Effect}
+use Rattle.ivy_moves.specs.Parts.{AllHappen, AllCanBeMade, AreParts}
+use Rattle.ivy_moves.specs.Worlds.{World}
+use Rattle.ivy_moves.proofs.Parts.{runs_are_their_parts}
+use Rattle.ivy_moves.proofs.Splitting.{same-effect}
+use Rattle.ivy_site.specs.ivy_host.Hosts.{Host, host_rules}
+use Rattle.ivy_site.specs.ivy_host.Managers.{Managed, managed_ops}
+use Rattle.ivy_site.specs.ivy_host.Openings.{first_node, opening}
+use Rattle.ivy_site.specs.Shown.{Shown}
+use Rattle.ivy_site.specs.Sites.{first_shown, IsMadeByEvents}
+use Rattle.ivy_world.specs.WorldSites.{programs_of, AreFirst, first_sites_from}
+use Rattle.proof_headline.proofs.Headline.{keeps-reached}
+use Rattle.proof_headline.specs.RunState.{Run}
+use Rattle.ivy_world.proofs.Worlds.{first_running-of, first_run-of}
+use Rattle.ivy_join.specs.Programs.{Program}
+use Rattle.ivy_join.specs.Joining.{program_in, events_at, listed, IsNode, ArePlayed}
+use Rattle.ivy_lines.specs.declared.log.Head.{Head}
+use Rattle.ivy_join.specs.Joined.{part_in, list_of, run_to, AreHeads, AreJoined}
+use Rattle.ivy_join.proofs.Played.{first_there}
+
+module _ (c : Config) (programs : List Program) (sites : List Shown) (sent : List (List ℕ))
+    (lists : List (List Mark)) (played : ArePlayed c sites sent)
+    (same : programs_of sites ≡ programs) (each : length lists ≡ length sites)
+    (are : (i : ℕ) → events_at sites i ≡ part_in lists i) where
+  run : AreParts (host_rules managed_ops) c (opening managed_ops c programs) (part_in lists) played.end
+  run =
+      subst (λ ps. AreParts (host_rules managed_ops) c (opening managed_ops c ps) (part_in lists)
+      played.end) same
+      (subst (λ l. AreParts (host_rules managed_ops) c (opening managed_ops c (programs_of sites)) l
+      played.end) (λ k j. are j k) played.run)
+
+  -- a site is the node of its place at the end
+  node : (i : ℕ) (s : Shown) → slice_get sites i ≡ Some s
+      → slice_get played.end.nodes i ≡ Some s.node
+  node i s there =
+      let own = played.each i s there in
+      let first : Node (Host Managed) = first_node managed_ops c i (program_in s) in
+      let first-is : slice_get (opening managed_ops c (programs_of sites)).nodes i ≡ Some first =
+      first_there c 0 i (programs_of sites) i (program_in s) (omega arith)
+      (slice_get-map program_in sites i ∙ ap (option_map program_in) there) in
+      let made = (runs_are_their_parts (host_rules managed_ops) c
+      (opening managed_ops c (programs_of sites)) played.end (events_at sites) played.run).each i first
+      first-is in
+      let happen : AllHappen (host_rules managed_ops) c first (events_at sites i) own.made.effect =
+      subst (λ l. AllHappen (host_rules managed_ops) c first l own.made.effect)
+      (sym (ap listed there))
+      (subst (λ k. AllHappen (host_rules managed_ops) k
+      (first_node managed_ops k i (program_in s)) s.events own.made.effect) own.config
+      (subst (λ j. AllHappen (host_rules managed_ops) s.config
+      (first_node managed_ops s.config j (program_in s)) s.events own.made.effect) own.me
+      own.made.happen)) in
+      let equal : made.0 ≡ own.made.effect =
+      same-effect (host_rules managed_ops) c first (events_at sites i) made.0 own.made.effect made.1
+      happen in
+      made.2 ∙ ap (λ (e : Effect (Host Managed)). Some e.after) equal ∙ ap Some (sym own.made.node)
+
+  pub joined : AreJoined c programs lists sites
+  joined = record {
+    each = each ∙ played.count;
+    count = played.count;
+    end = played.end;
+    run = run;
+    keeps = keeps-reached (run_to c programs played.end) played.limits
+        (ap length (sym same) ∙ length-map sites program_in ∙ played.count)
+        (run.moves, run.leads);
+    nodes = node;
+  }
+
+-- as they begin
+
+first-events : (c : Config) (me : ℕ) (ps : List Program) (i : ℕ)
+    → events_at (first_sites_from c me ps) i ≡ []
+first-events c me [] i = refl
+first-events c me (p ∷ ps) zero = refl
+first-events c me (p ∷ ps) (suc i) = first-events c (me + 1) ps i
+
+module _ (c : Config) (programs : List Program) (sites : List Shown) (limits : IsConfig c)
+    (each : length programs ≡ c.nodes) (first : AreFirst c programs sites) where
+  pub first-programs : programs_of sites ≡ programs
+  first-programs = ap (λ (r : Run). r.programs) (first_run-of c programs sites [] first refl)
+
+  nothing : (i : ℕ) → events_at sites i ≡ []
+  nothing i = ap (λ l. events_at l i) first ∙ first-events c 0 programs i
+
+  pub first-played : ArePlayed c sites []
+  first-played =
+      let running = first_running-of c programs sites [] limits each first refl in
+      record {
+        limits = limits;
+        count = running.count;
+        each = λ i s there. record {
+          config = running.nodes.config i s there;
+          me = running.nodes.me i s there;
+          made = running.nodes.made i s there;
+          took = subst (AllCanBeMade [] c.nodes i) (sym (sym (ap listed there) ∙ nothing i)) tt;
+        };
+        end = opening managed_ops c (programs_of sites);
+        run = record { moves = []; leads = refl; are = nothing };
+        all_sent = λ b there. there;
+      }
+
+-- what the lists of logs have
+
+pub part-at : {X : Type 0} (f : X → List Mark) (xs : List X) (i : ℕ) (x : X) → slice_get xs i ≡ Some x
+    → part_in (map f xs) i ≡ f x
+part-at f xs i x there = ap list_of (slice_get-map f xs i ∙ ap (option_map f) there)
+
+pub lists-all : {X : Type 0} (f : X → List Mark) (sites : List Shown) (xs : List X)
+    → length xs ≡ length sites
+    → ((i : ℕ) → i < length xs → events_at sites i ≡ part_in (map f xs) i) → (i : ℕ)
+    → events_at sites i ≡ part_in (map f xs) i
+lists-all f [] [] each h i = refl
+lists-all f [] (x ∷ xs) each h i = absurd (omega (arith, each))
+lists-all f (s ∷ ss) [] each h i = absurd (omega (arith, each))
+lists-all f (s ∷ ss) (x ∷ xs) each h zero = h 0 (omega arith)
+lists-all f (s ∷ ss) (x ∷ xs) each h (suc i) =
+    lists-all f ss xs (omega (arith, each)) (λ j below. h (suc j) (omega (arith, below))) i
+
+-- one head more
+heads-push : (c : Config) (n m : ℕ) (hs : List Head) (h : Head) → AreHeads c n hs → m ≡ n + length hs
+    → h ≡ record { me = m; config = c } → AreHeads c n (hs ++ h ∷ [])
+heads-push c n m [] h heads at is =
+    (is ∙ ap (λ k. record { me = k; config = c }) (omega (arith, at)), tt)
+heads-push c n m (x ∷ hs) h heads at is =
+    (heads.0, heads-push c (n + 1) m hs h heads.1 (omega (arith, at)) is)
+
+pub heads-more : {X : Type 0} (f : X → Head) (c : Config) (xs : List X) (i : ℕ) (x : X) → i < length xs
+    → x ≡ get_or xs i x → AreHeads c 0 (map f (take i xs)) → f x ≡ record { me = i; config = c }
+    → AreHeads c 0 (map f (take (i + 1) xs))
+heads-more f c xs i x below there heads is =
+    let longer : map f (take (i + 1) xs) ≡ map f (take i xs) ++ f x ∷ [] =
+    ap (map f) (take_more xs i x below ∙ ap (λ y. take i xs ++ y ∷ []) (sym there))
+    ∙ map_push f (take i xs) x in
+    let count : length (map f (take i xs)) ≡ i =
+    length-map (take i xs) f ∙ length-take-le i xs (omega (arith, below)) in
+    subst (AreHeads c 0) (sym longer)
+    (heads-push c 0 i (map f (take i xs)) (f x) heads (omega (arith, count)) is)

@@ -1,0 +1,14 @@
+use Rattle.std.proofs.Common.{◌≡◌, ℕ, List, [], length, Contains}
+use Rattle.ivy_join.specs.Joining.{AddsSent}
+use Rattle.ivy_join.proofs.making.collect.Given as goal
+
+-- nothing of the site changes but what waits, and each string that was added was sent by its events
+abbrev pub invariant-loop-string : goal.invariant-loop-string
+invariant-loop-string g l = record {
+  site : record l.site { waiting = [] } ≡ record l.initial.site { waiting = [] };
+  kept : (bytes : List ℕ) → Contains l.initial.sent bytes → Contains l.sent bytes;
+  added : AddsSent l.initial.site l.initial.sent l.sent;
+}
+
+abbrev pub decreases-loop-string : goal.decreases-loop-string
+decreases-loop-string g l = length l.site.waiting

@@ -1,0 +1,12 @@
+use Rattle.std.proofs.Common.{◌≡◌, length, vec_len}
+use Rattle.ivy_world.specs.WorldSites.{programs_of}
+use Rattle.ivy_join.specs.Joining.{ArePlayed}
+use Rattle.ivy_join.proofs.playing.play.Given as goal
+
+abbrev pub invariant-loop : goal.invariant-loop
+invariant-loop g l = record {
+  played : ArePlayed l.config l.sites.items l.sent;
+  programs : programs_of l.sites.items ≡ programs_of l.initial.sites.items;
+  count : length l.sites.items ≡ length l.initial.sites.items;
+  readers : vec_len l.readers ≡ length l.initial.sites.items;
+}

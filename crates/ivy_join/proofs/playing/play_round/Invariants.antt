@@ -1,0 +1,11 @@
+use Rattle.std.proofs.Common.{◌≡◌, length}
+use Rattle.ivy_world.specs.WorldSites.{programs_of}
+use Rattle.ivy_join.specs.Joining.{ArePlayed}
+use Rattle.ivy_join.proofs.playing.play_round.Given as goal
+
+abbrev pub invariant-loop-node : goal.invariant-loop-node
+invariant-loop-node g l = record {
+  played : ArePlayed l.config l.sites.items l.sent;
+  programs : programs_of l.sites.items ≡ programs_of l.initial.sites.items;
+  count : length l.sites.items ≡ length l.initial.sites.items;
+}

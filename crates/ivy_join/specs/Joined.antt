@@ -1,0 +1,43 @@
+-- What logs come to that are the parts of one run.
+use Rattle.std.specs.Prelude.{◌≡◌, ℕ, ◌+◌, List, [], ◌∷◌, length, slice_get, Option, Some, None}
+use Rattle.ivy_model.specs.declared.Config.{Config}
+use Rattle.ivy_lines.specs.declared.log.Head.{Head}
+use Rattle.ivy_moves.specs.Marks.{Mark}
+use Rattle.ivy_moves.specs.Parts.{AreParts}
+use Rattle.ivy_moves.specs.Worlds.{World}
+use Rattle.ivy_site.specs.ivy_host.Hosts.{Host, host_rules}
+use Rattle.ivy_site.specs.ivy_host.Managers.{Managed, managed_ops}
+use Rattle.ivy_site.specs.ivy_host.Openings.{opening}
+use Rattle.ivy_site.specs.Shown.{Shown}
+use Rattle.proof_headline.specs.Keeping.{Keeps}
+use Rattle.proof_headline.specs.RunState.{Run}
+use Rattle.ivy_join.specs.Programs.{Program}
+
+-- the events of node i, by the lists of all nodes
+abbrev pub list_of : Option (List Mark) → List Mark
+list_of None = []
+list_of (Some events) = events
+
+abbrev pub part_in : List (List Mark) → ℕ → List Mark
+part_in lists i = list_of (slice_get lists i)
+
+-- each log names this configuration and the node of its place, counted from here
+abbrev pub AreHeads : Config → ℕ → List Head → Type 0
+AreHeads c i [] = Unit {0}
+AreHeads c i (h ∷ hs) = (h ≡ record { me = i; config = c }) × AreHeads c (i + 1) hs
+
+module _ (c : Config) (programs : List Program) where
+  -- the end of the run, as contracts see it
+  abbrev pub run_to : World (Host Managed) → Run
+  run_to end = record { config = c; programs = programs; world = end }
+
+  -- the lists, one a node, are the parts of one run of these programs under this configuration; what
+  -- is promised of every run holds at its end; and the sites are its nodes there
+  pub record AreJoined (lists : List (List Mark)) (sites : List Shown) : Type 0 where
+    pub each : length lists ≡ c.nodes
+    pub count : length sites ≡ c.nodes
+    pub end : World (Host Managed)
+    pub run : AreParts (host_rules managed_ops) c (opening managed_ops c programs) (part_in lists) end
+    pub keeps : Keeps (run_to end)
+    pub nodes : (i : ℕ) (s : Shown) → slice_get sites i ≡ Some s
+        → slice_get end.nodes i ≡ Some s.node

@@ -1,0 +1,110 @@
+//! Whether logs are the parts of one run.
+ghost use Rattle.std.specs.Prelude.{◌≡◌, ◌+◌, ℕ, length, map, slice_get, IfOk, IfErr, OnOk, IsTrue};
+ghost use Rattle.ivy_model.specs.Config.{IsConfig};
+ghost use Rattle.ivy_moves.specs.Marks.{marks};
+ghost use Rattle.ivy_world.specs.WorldSites.{AreFirst, IsMemory};
+ghost use Rattle.ivy_join.specs.Joining.{events_at};
+ghost use Rattle.ivy_join.specs.Joined.{part_in, AreJoined, AreHeads};
+
+use crate::joined::Joined;
+use crate::playing::play;
+use crate::strings::Strings;
+use crate::unjoined::Unjoined;
+use ivy_lines::{Log, are_same};
+use ivy_model::{Config, Fault};
+use ivy_program::Program;
+use ivy_site::Site;
+use std::alloc::Allocator;
+
+/// The sites of the programs, in order [1].
+fn first_sites<A: Allocator + Copy>(
+    alloc: A,
+    config: &Config,
+    programs: Vec<Program<A>, A>,
+) -> Result<Vec<Site<A>, A>, Fault>
+    requires limits { IsConfig config.now }
+    requires each { length programs.items ≡ config.now.nodes }
+    ensures first { IfOk result (λ sites. AreFirst config.now programs.items sites.items) }
+    ensures memory { IfErr result IsMemory }
+{
+    let mut sites = Vec::with_capacity(alloc, programs.len())?;
+    let mut me = 0u8;
+    for program in programs {
+        sites.push(Site::new(alloc, config, me, program)?)?;
+        me += 1;
+    }
+    Ok(sites)
+}
+
+/// Whether the two are one configuration.
+fn is_same(a: &Config, b: &Config) -> bool
+    ensures { IsTrue result → a.now ≡ b.now }
+{
+    a.nodes == b.nodes && a.pages == b.pages && a.page_size == b.page_size && a.manager == b.manager
+}
+
+/// Whether each log is the one of the node of its place, and names this configuration.
+fn check_heads<A: Allocator>(config: &Config, logs: &[Log<A>]) -> Result<(), Unjoined>
+    ensures each { OnOk result (AreHeads config.now 0 (map (λ l. l.head) logs.now)) }
+    ensures count { OnOk result (length logs.now ≡ config.now.nodes) }
+{
+    let mut node = 0u64;
+    for log in logs {
+        let me = u64::from(log.head.me);
+        if me > node {
+            return Err(Unjoined::Missing(node));
+        }
+        if me < node {
+            return Err(Unjoined::Twice(me));
+        }
+        if !is_same(&log.head.config, config) {
+            return Err(Unjoined::Differs(node));
+        }
+        node += 1;
+    }
+    if node < u64::from(config.nodes) {
+        return Err(Unjoined::Missing(node));
+    }
+    if node > u64::from(config.nodes) {
+        return Err(Unjoined::Twice(node));
+    }
+    Ok(())
+}
+
+/// Whether each site's events are those of its log.
+fn check_lists<A: Allocator + Copy>(sites: &[Site<A>], logs: &[Log<A>]) -> Result<(), Unjoined>
+    requires { length logs.now ≡ length sites.now }
+    ensures { OnOk result ((i : ℕ) → events_at sites.now i ≡ part_in (map (λ l. marks l.events.items) logs.now) i) }
+{
+    for node in 0..logs.len() {
+        if !are_same(sites[node].events(), &logs[node].events) {
+            return Err(Unjoined::CutOff(node as u64));
+        }
+    }
+    Ok(())
+}
+
+/// Joins the logs of the nodes of these programs, the log of node 0 first.
+///
+/// Where it answers, the logs are the parts of one run of these programs under this configuration, whatever wire the
+/// nodes had: what `World::run` promises of every run holds of what happened, and the nodes at the end of it are given.
+pub fn join<A: Allocator + Copy>(
+    alloc: A,
+    config: Config,
+    programs: Vec<Program<A>, A>,
+    logs: &[Log<A>],
+) -> Result<Joined<A>, Unjoined>
+    ensures heads { OnOk result (AreHeads config 0 (map (λ l. l.head) logs.now)) }
+    ensures joined { IfOk result (λ joined. AreJoined config programs.items (map (λ l. marks l.events.items) logs.now) joined) }
+{
+    config.check()?;
+    if programs.len() != usize::from(config.nodes) {
+        return Err(Unjoined::Refused(Fault::BadConfig));
+    }
+    check_heads(&config, logs)?;
+    let mut sites = first_sites(alloc, &config, programs)?;
+    let mut sent = Strings::new(alloc);
+    play(alloc, &config, &mut sites, &mut sent, logs)?;
+    check_lists(&sites, logs)?;
+    Ok(Joined::new(sites))
+}

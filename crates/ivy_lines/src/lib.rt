@@ -1,0 +1,19 @@
+//! The lines that a node in a process of its own writes and reads: frames, one a line, and its log.
+//!
+//! A frame's line is `TO HEX`: the node that it is for, and its string of bytes. A log is a line
+//! `ivy log I N P S fixed` or `dynamic` of node I, and then the node's events: `turns N`, `took HEX` and `pulse J`.
+//! Every line ends in LF. What stands behind a log's last LF is no line yet: the node was killed while it wrote.
+//!
+//! Numbers in brackets, as `[1, 20]`, are those of the faults that a call may answer.
+#![tactic(auto)]
+
+mod cursor;
+mod frame;
+mod log;
+mod print;
+
+pub use cursor::{Cursor, are_same, behind_all};
+pub use frame::{FrameLine, parse_frame};
+pub use ivy_texts;
+pub use log::{Head, Log, parse_log};
+pub use print::{push_event, push_frame, push_head};

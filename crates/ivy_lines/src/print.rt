@@ -1,0 +1,74 @@
+//! What is written of frames and of logs.
+ghost use Rattle.std.specs.Prelude.{◌≡◌, ◌++◌, OnOk, string_bytes};
+ghost use Rattle.hex.specs.Hex.{encode_lower};
+ghost use Rattle.ivy_lines.specs.Printed.{event_line, frame_line, head_line};
+
+use crate::log::Head;
+use ivy_model::Kind;
+use ivy_moves::Event;
+use ivy_texts::Decimal;
+use ivy_wire::Bytes;
+use std::alloc::{AllocError, Allocator};
+use std::fmt::Write;
+
+/// Writes a string of bytes behind a text, as hexadecimal digits in lower case.
+fn push_hex<A: Allocator + Copy>(
+    alloc: A,
+    text: &mut String<A>,
+    bytes: &[u8],
+) -> Result<(), AllocError>
+    ensures { OnOk result (string_bytes text.new ≡ string_bytes text.old ++ encode_lower bytes.now) }
+{
+    let digits = hex::encode(alloc, bytes)?;
+    text.push_str(digits.as_str())
+}
+
+/// Writes the line of a frame for a node behind a text. Err only where the allocator has no memory.
+pub fn push_frame<A: Allocator + Copy>(
+    alloc: A,
+    text: &mut String<A>,
+    to: u8,
+    bytes: &[u8],
+) -> Result<(), AllocError>
+    ensures { OnOk result (string_bytes text.new ≡ string_bytes text.old ++ frame_line to bytes.now) }
+{
+    write!(text, "{} ", Decimal(u64::from(to)))?;
+    push_hex(alloc, text, bytes)?;
+    text.push('\n')
+}
+
+/// Writes the first line of a log behind a text. Err only where the allocator has no memory.
+pub fn push_head<A: Allocator>(text: &mut String<A>, head: &Head) -> Result<(), AllocError>
+    ensures { OnOk result (string_bytes text.new ≡ string_bytes text.old ++ head_line head.now) }
+{
+    let (me, nodes) = (
+        Decimal(u64::from(head.me)),
+        Decimal(u64::from(head.config.nodes)),
+    );
+    let pages = Decimal(u64::from(head.config.pages));
+    let page_size = Decimal(u64::from(head.config.page_size));
+    let manager = match head.config.manager {
+        Kind::Fixed => "fixed",
+        Kind::Dynamic => "dynamic",
+    };
+    writeln!(text, "ivy log {me} {nodes} {pages} {page_size} {manager}")
+}
+
+/// Writes the line of an event behind a text. Err only where the allocator has no memory.
+pub fn push_event<A: Allocator + Copy>(
+    alloc: A,
+    text: &mut String<A>,
+    event: &Event<Bytes<A>>,
+) -> Result<(), AllocError>
+    ensures { OnOk result (string_bytes text.new ≡ string_bytes text.old ++ event_line event.now) }
+{
+    match event {
+        Event::Turns(count) => writeln!(text, "turns {}", Decimal(*count)),
+        Event::Pulsed(to) => writeln!(text, "pulse {}", Decimal(u64::from(*to))),
+        Event::Delivered(bytes) => {
+            text.push_str("took ")?;
+            push_hex(alloc, text, bytes.bytes())?;
+            text.push('\n')
+        }
+    }
+}

@@ -1,0 +1,1 @@
+pub use Rattle.ivy_texts.proofs as of_ivy_texts

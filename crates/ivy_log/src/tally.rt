@@ -1,0 +1,104 @@
+//! What is counted of a node, of a page and in all.
+
+use ivy_wire::FrameKind;
+
+/// How many kinds of frames there are.
+const KINDS: usize = 11;
+
+/// How many numbers a tally has.
+pub const MEASURES: usize = KINDS + 6;
+
+/// What is counted.
+#[derive(Clone, Copy)]
+pub enum Measure {
+    /// A call waits for a copy of a page.
+    ReadFault,
+    /// A call waits for a page, or for copies of it to be given up.
+    WriteFault,
+    /// A call was answered in the turn that began it.
+    Hit,
+    /// A request was sent on for another node.
+    Forward,
+    /// A message was sent once more.
+    Again,
+    /// Bytes were sent.
+    Bytes,
+    /// A frame was sent for the first time.
+    Sent(FrameKind),
+}
+
+/// So many of each.
+#[derive(Clone, Copy)]
+pub struct Tally {
+    numbers: [u64; MEASURES],
+}
+
+/// The names of the measures, in the order of a tally.
+const NAMES: [&str; MEASURES] = [
+    "read faults",
+    "write faults",
+    "hits",
+    "ReadReq",
+    "WriteReq",
+    "ReadRep",
+    "WriteRep",
+    "Inval",
+    "InvalAck",
+    "AllocReq",
+    "AllocRep",
+    "FreeReq",
+    "FreeRep",
+    "Ack",
+    "forwards",
+    "sent again",
+    "bytes",
+];
+
+/// The place of a measure in a tally.
+fn place_of(measure: Measure) -> usize {
+    match measure {
+        Measure::ReadFault => 0,
+        Measure::WriteFault => 1,
+        Measure::Hit => 2,
+        Measure::Sent(FrameKind::ReadReq) => 3,
+        Measure::Sent(FrameKind::WriteReq) => 4,
+        Measure::Sent(FrameKind::ReadRep) => 5,
+        Measure::Sent(FrameKind::WriteRep) => 6,
+        Measure::Sent(FrameKind::Inval) => 7,
+        Measure::Sent(FrameKind::InvalAck) => 8,
+        Measure::Sent(FrameKind::AllocReq) => 9,
+        Measure::Sent(FrameKind::AllocRep) => 10,
+        Measure::Sent(FrameKind::FreeReq) => 11,
+        Measure::Sent(FrameKind::FreeRep) => 12,
+        Measure::Sent(FrameKind::Ack) => 13,
+        Measure::Forward => 14,
+        Measure::Again => 15,
+        Measure::Bytes => 16,
+    }
+}
+
+impl Tally {
+    /// None of each.
+    pub fn zero() -> Tally {
+        Tally {
+            numbers: [0; MEASURES],
+        }
+    }
+
+    /// So many more of a measure.
+    pub fn add(&mut self, measure: Measure, count: u64) {
+        if let Some(number) = self.numbers.get_mut(place_of(measure)) {
+            *number = number.saturating_add(count);
+        }
+    }
+
+    /// The numbers, in the order of their names.
+    pub fn numbers(&self) -> &[u64] {
+        &self.numbers
+    }
+
+    /// The names of the numbers.
+    pub fn names() -> &'static [&'static str] {
+        &NAMES
+    }
+}

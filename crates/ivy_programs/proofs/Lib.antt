@@ -1,0 +1,5 @@
+pub mod Summing
+pub mod Drawing
+pub mod Farming
+pub mod Piping
+pub mod Multiplying

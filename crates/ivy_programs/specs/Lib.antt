@@ -1,0 +1,5 @@
+pub mod AddsUp
+pub mod Farm
+pub mod Pipeline
+pub mod Matrices
+pub mod Product

@@ -1,0 +1,5 @@
+use Rattle.ivy_sync.proofs.Sharing.{shared_queues-keep_order}
+use Rattle.ivy_sync.proofs.law.shared_queues_keep_order.Goals as goal
+
+pub returns : goal.returns
+returns c = shared_queues-keep_order

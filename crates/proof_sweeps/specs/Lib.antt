@@ -1,0 +1,2 @@
+pub mod FewUnderWay
+pub mod Sweeps

@@ -1,0 +1,2 @@
+pub mod Readers
+pub use Rattle.proof_routing.specs as proof_routing

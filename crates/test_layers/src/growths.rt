@@ -1,0 +1,143 @@
+//! Each growth refused in turn in what a node does that has one call in progress: a call that begins, one that is asked
+//! for its reply, and a message that comes. The node is as it was then, and goes on when it is tried again.
+
+use crate::letters::{Bytes, Said};
+use crate::memory::{Node, Scene, Step, check_node};
+use failing_alloc::Refusing;
+use ivy_host::ivy_memory::Answer;
+use ivy_model::{Call, Fault, Reply};
+use std::alloc::{Allocator, Global};
+use std::process::Abort;
+use std::test::Fail;
+
+/// What a node does while a growth is refused, what goes before it, and what it does after that.
+pub(crate) struct Growing<'a> {
+    pub(crate) before: &'a [Step],
+    pub(crate) refused: Step,
+    pub(crate) after: Scene<'a>,
+}
+
+/// More growths than a step here asks for.
+const MANY: u64 = 20;
+
+/// The n-th growth is refused to a node. Whether it was asked for: the step is refused then, and only then.
+fn refused_of<A: Allocator + Copy>(
+    rt: &impl Abort,
+    (memory, n): (&Refusing<Global>, u64),
+    node: &mut Node<A>,
+    growing: &Growing,
+) -> Result<bool, Fail> {
+    for step in growing.before {
+        assert!(rt; node.goes(step)?);
+    }
+    memory.refuse(n);
+    let is_refused = node.goes(&growing.refused)?;
+    let is_met = memory.asked(n) >= n;
+    memory.refuse(0);
+    assert!(rt; is_refused == is_met, "growth {n}");
+    if is_met {
+        check_node(rt, node, &growing.after)?;
+    }
+    Ok(is_met)
+}
+
+/// The same of a new node.
+fn refused_at(
+    rt: &impl Abort,
+    memory: &Refusing<Global>,
+    n: u64,
+    growing: &Growing,
+) -> Result<bool, Fail> {
+    let mut node = Node::new(memory, growing.after.me)?;
+    refused_of(rt, (memory, n), &mut node, growing)
+}
+
+/// Refuses each growth in turn, until one is not asked for.
+pub(crate) fn refuse_each<R: Abort + AllocGlobal>(rt: &R, growing: &Growing) -> Result<(), Fail> {
+    let memory = Refusing::new(rt.alloc());
+    for n in 1..MANY {
+        if !refused_at(rt, &memory, n, growing)? {
+            assert!(rt; n > 1);
+            return Ok(());
+        }
+    }
+    Err("no end of growths".into())
+}
+
+/// A call that has to ask for a copy does not begin.
+#[test]
+fn growths_of_a_call_that_asks(rt: HostRuntime) -> Result<(), Fail> {
+    refuse_each(&rt, &CALL_ASKS)
+}
+
+static CALL_ASKS: Growing<'static> = Growing {
+    before: &[],
+    refused: Step::Awaits(1, 3, Err(Fault::Memory)),
+    after: Scene {
+        me: 1,
+        steps: &[
+            Step::Asked(None),
+            Step::Posted(0),
+            Step::Awaits(1, 3, Ok(Answer::Awaited)),
+            Step::Comes(0, (Said::Copy(Bytes::Ones), 1, 3)),
+            Step::Polls(Ok(Answer::Given(Reply::Value(u64::MAX)))),
+        ],
+        posted: &[(0, (Said::Request, 1, 3))],
+    },
+};
+
+/// An await whose copy was given up asks for another one when it is asked for its reply. Where that is refused the
+/// call is in progress still, under the same number.
+#[test]
+fn growths_of_a_reply_that_asks(rt: HostRuntime) -> Result<(), Fail> {
+    refuse_each(&rt, &REPLY_ASKS)
+}
+
+static REPLY_ASKS: Growing<'static> = Growing {
+    before: &[
+        Step::Awaits(1, 3, Ok(Answer::Awaited)),
+        Step::Comes(0, (Said::Copy(Bytes::Zeros), 1, 3)),
+        Step::Comes(0, (Said::Order, 0, 9)),
+    ],
+    refused: Step::Polls(Err(Fault::Memory)),
+    after: Scene {
+        me: 1,
+        steps: &[
+            Step::Asked(Some(Call::Await { k: 0, least: 1 })),
+            Step::Posted(2),
+            Step::Polls(Ok(Answer::Awaited)),
+            Step::Comes(0, (Said::Copy(Bytes::Ones), 1, 3)),
+            Step::Polls(Ok(Answer::Given(Reply::Value(u64::MAX)))),
+        ],
+        posted: &[
+            (0, (Said::Request, 1, 3)),
+            (0, (Said::Acknowledgement, 0, 9)),
+            (0, (Said::Request, 1, 3)),
+        ],
+    },
+};
+
+/// The page that a request asks for stays where it was, and is given when the request comes again.
+#[test]
+fn growths_of_a_request_for_the_page(rt: HostRuntime) -> Result<(), Fail> {
+    refuse_each(&rt, &REQUEST_FOR_THE_PAGE)
+}
+
+static REQUEST_FOR_THE_PAGE: Growing<'static> = Growing {
+    before: &[],
+    refused: Step::Refuses(1, (Said::WriteRequest, 1, 7)),
+    after: Scene {
+        me: 0,
+        steps: &[
+            Step::Posted(0),
+            Step::Reads(0, 1, Ok(Answer::Given(Reply::Value(0)))),
+            Step::Comes(1, (Said::WriteRequest, 1, 7)),
+            Step::Reads(0, 2, Ok(Answer::Awaited)),
+            Step::Breaches(0),
+        ],
+        posted: &[
+            (1, (Said::Whole(0, Bytes::Zeros), 1, 7)),
+            (1, (Said::Request, 0, 2)),
+        ],
+    },
+};
