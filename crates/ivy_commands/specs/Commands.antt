@@ -10,7 +10,7 @@ use Rattle.ivy_model.specs.declared.Fault.{Fault}
 use Rattle.ivy_model.specs.declared.Fault.TheVariants.{BadConfig, ProgramFault}
 use Rattle.ivy_model.specs.declared.Record.{Record}
 use Rattle.ivy_model.specs.Legal.{Legal}
-use Rattle.ivy_program.specs.declared.Instruction.{Instruction}
+use Rattle.ivy_program.specs.Programs.{Program}
 use Rattle.ivy_program.specs.Texts.{SpellsText}
 use Rattle.ivy_session.specs.Faults.{IsSessionFault}
 use Rattle.ivy_session.specs.Reports.{NodeReport, IsReport}
@@ -22,7 +22,7 @@ use Rattle.ivy_simulation.specs.Played.{PrintsDrawn, PrintsSchedule, config_of}
 use Rattle.ivy_commands.specs.declared.failure.Failure.{Failure}
 use Rattle.ivy_commands.specs.declared.failure.Failure.TheVariants.{BadCommandLine, CannotRead, Refused, Unwritten}
 
-module _ (c : Config) (programs : List (List Instruction)) (old new : Option (List ℕ)) where
+module _ (c : Config) (programs : List Program) (old new : Option (List ℕ)) where
   -- a session of these programs has ended, and what its report says that they printed was printed
   pub record PrintsSession : Type 0 where
     pub report : List NodeReport
@@ -43,12 +43,12 @@ pub record PrintsVerdict (text : List ℕ) (yes : Bool) (old new : Option (List 
   pub printed : Appends old new (verdict_line yes)
 
 -- some text spells these programs
-abbrev pub AreSpelled : List (List Instruction) → Type 0
+abbrev pub AreSpelled : List Program → Type 0
 AreSpelled programs = (text : List ℕ) × SpellsText text programs
 
 -- programs that some text spells have this
-abbrev pub SomeSpelled : (List (List Instruction) → Type 0) → Type 0
-SomeSpelled P = (programs : List (List Instruction)) × AreSpelled programs × P programs
+abbrev pub SomeSpelled : (List Program → Type 0) → Type 0
+SomeSpelled P = (programs : List Program) × AreSpelled programs × P programs
 
 -- the request was carried out with this status
 abbrev pub IsCarriedOut : Request → ℕ → Option (List ℕ) → Option (List ℕ) → Type 0

@@ -14,7 +14,7 @@ use ivy_arguments::Request;
 use ivy_arguments::ivy_texts::{Settings, parse_order, print_verdict};
 use ivy_model::{Config, Kind, Record, check_order};
 use ivy_program::{Program, parse};
-use ivy_session::{Limits, OpenGate, Session};
+use ivy_session::{Keep, Limits, OpenGate, Session};
 use ivy_simulation::{print_outputs, sim, step};
 use std::alloc::Global;
 use std::io::{self, Write};
@@ -55,7 +55,16 @@ fn run<'a, R: Threads + Wait + Sync, W: Write>(
     ensures failed { IfErr result IsSessionFailure }
 {
     let config = settings.config(programs.len())?;
-    let report = Session::run(rt, alloc, config, programs, limits, &OpenGate)?;
+    let ran = Session::run_keeping(
+        rt,
+        alloc,
+        config,
+        programs,
+        limits,
+        &OpenGate,
+        Keep::Nothing,
+    );
+    let report = ran?;
     print_outputs(&Reported(&report), out)?;
     Ok(())
 }

@@ -1,245 +1,72 @@
 -- Each step keeps the rule.
-use Rattle.std.proofs.Common.{◌≡◌, ◌≢◌, ◌⊎◌, inl, inr, ℕ, zero, suc, ◌+◌, ◌<◌, ◌==◌, Bool}
-use Rattle.std.proofs.Common.{true, false, true≢false, Option, Some, None, List, [], ◌∷◌, ◌++◌}
-use Rattle.std.proofs.Common.{length, set, Contains, refl, sym, ap, ◌∙◌, subst, arith}
-use Rattle.std.proofs.Common.{if◌then◌else◌, eq-eqb}
+use Rattle.std.proofs.Common.{◌≡◌, ◌≢◌, ◌⊎◌, inl, inr, ℕ, zero, suc, ◌+◌, ◌<◌, ◌==◌}
+use Rattle.std.proofs.Common.{true, false, true≢false, Some, None, List, [], ◌∷◌, ◌++◌}
+use Rattle.std.proofs.Common.{length, set, Contains, refl, sym, ap, ◌∙◌, subst, arith, eq-eqb}
 use mathlib.Core.Option.{some, some-injective, some-ne-none}
 use lib.ListN.{get_elem?}
 use Rattle.std.proofs.lemmas.Bool.{cases_eq, ne_eqb}
 use Rattle.std.proofs.lemmas.Option.{none-some, same_Some}
-use Rattle.std.proofs.lemmas.List.Elements.{Contains-append_right, Contains-append_cases, Contains-push_cases}
+use Rattle.std.proofs.lemmas.List.Elements.{Contains-append_cases, Contains-push_cases}
 use Rattle.crossbeam_queue.specs.Fifo.{Pushes, Pops, Forks, Learns}
-use Rattle.crossbeam_queue.proofs.Lists.{at_set, set_here, set_else, set_again, at_snoc, at_longer}
+use Rattle.crossbeam_queue.proofs.Lists.{set_here, set_again, at_snoc, at_longer}
+use Rattle.ivy_model.specs.declared.Call.{Call}
 use Rattle.ivy_model.specs.declared.Config.{Config}
 use Rattle.ivy_moves.specs.Cores.{Core}
 use Rattle.ivy_moves.specs.Marks.{Mark}
 use Rattle.ivy_moves.specs.Listed.{Listed}
-use Rattle.ivy_moves.specs.Parts.{AreParts}
+use Rattle.ivy_moves.specs.Nodes.{Node}
 use Rattle.ivy_moves.specs.Worlds.{World}
-use Rattle.ivy_moves.proofs.Splitting.{none-in, can-more}
+use Rattle.ivy_moves.proofs.Splitting.{none-in}
 use Rattle.ivy_ether.specs.Data.{Item}
 use Rattle.ivy_ether.specs.declared.item.Item.TheVariants.{Seat, Frame, Report}
-use Rattle.ivy_ether.specs.Views.{View, newcomer, beginner, with_put, with_taken, with_report, with_issued, with_seat, with_told, after_seat, view_after_told}
+use Rattle.ivy_ether.specs.Views.{View, newcomer, beginner, with_put, with_taken, with_report}
+use Rattle.ivy_ether.specs.Views.{with_issued, with_seat, with_given, with_told, after_seat}
+use Rattle.ivy_ether.specs.Views.{view_after_told}
 use Rattle.ivy_ether.specs.Items.{strings_in}
-use Rattle.ivy_ether.specs.Going.{ListGoesOn, Sends, AreFurther}
-use Rattle.ivy_ether.specs.Rule.{total, one_if, is_number, sits, seat_in, times, Reported, FitsRun, FitsItem, RuleHolds, RuleKept, RuleAllows, ListSends, RuleRuns, RuleTold}
-use Rattle.ivy_ether.proofs.Further.{lists_go_on}
-use Rattle.ivy_ether.proofs.Totals.{total_set, total-append, total_one, total_two, in_list}
-
--- what holds of each view after one changed
-fits_set : (F : ℕ → View → Type 0) (views : List View) (p : ℕ) (w : View)
-    → ((q : ℕ) (u : View) → q ≢ p → get_elem? views q ≡ some u → F q u) → F p w
-    → (q : ℕ) (u : View) → get_elem? (set views p w) q ≡ some u → F q u
-fits_set F views p w others mine q u e = elim (at_set views p q w u e) [
-  | inl x ↦ subst (λ (y : ℕ × View). F y.0 y.1) (λ i. (sym x.0 i, x.1 i)) mine
-  | inr x ↦ others q u x.0 x.1
-]
-
-same_at : (views : List View) (p q : ℕ) (v u : View) → q ≡ p → get_elem? views p ≡ some v
-    → get_elem? views q ≡ some u → v ≡ u
-same_at views p q v u e at at' =
-    some-injective v u (sym at ∙ ap (λ k. get_elem? views k) (sym e) ∙ at')
-
--- a view that reported stays so
-reported_set : (views : List View) (p : ℕ) (v w : View) (j : ℕ) (l : List Mark)
-    → get_elem? views p ≡ some v
-    → (v.node ≡ Some j → v.reported ≡ true → v.events ≡ l
-    → (w.node ≡ Some j) × (w.reported ≡ true) × (w.events ≡ l))
-    → Reported views j l → Reported (set views p w) j l
-reported_set views p v w j l at stays r = elim (cases_eq r.pass p) [
-  | inl e ↦
-      let same : v ≡ r.view = same_at views p r.pass v r.view e at r.there in
-      let s = stays (ap (λ (x : View). x.node) same ∙ r.node)
-      (ap (λ (x : View). x.reported) same ∙ r.reported)
-      (ap (λ (x : View). x.events) same ∙ r.events) in
-      record {
-        pass = p;
-        view = w;
-        there = set_here views p w (in_list views p v at);
-        node = s.0;
-        reported = s.1;
-        events = s.2;
-      }
-  | inr n ↦ record {
-    pass = r.pass;
-    view = r.view;
-    there = set_else views p r.pass w n ∙ r.there;
-    node = r.node;
-    reported = r.reported;
-    events = r.events;
-  }
-]
-
-contains_next : (x : Item) (items : List Item) (y : Item) → Contains items y
-    → Contains (x ∷ items) y
-contains_next x items y c = Contains-append_right (x ∷ []) items y c
-
-contains_first : {X : Type 0} (x : X) (items : List X) → Contains (x ∷ items) x
-contains_first x items = (0, omega arith, refl)
-
-sits_here : (i : ℕ) (o : Option ℕ) → o ≡ Some i → is_number i o ≡ 1
-sits_here i o e = ap (is_number i) e ∙ ap one_if (eq-eqb i i refl)
+use Rattle.ivy_ether.specs.Going.{Sends}
+use Rattle.ivy_ether.specs.Rule.{total, one_if, is_number, sits, seat_in, times, Reported, IsHanding}
+use Rattle.ivy_ether.specs.Rule.{IsStart, IsNode, FitsRun, FitsItem, RuleHolds, RuleKept, RuleAllows}
+use Rattle.ivy_ether.specs.Rule.{ListSends, RuleRuns, RuleTold}
+use Rattle.ivy_ether.proofs.Advancing.{fits_set, reported_set, contains_next, contains_first}
+use Rattle.ivy_ether.proofs.Advancing.{item_stays, same_start, list_over, Stepped, advance}
+use Rattle.ivy_ether.proofs.Totals.{total_set, total-append, in_list}
 
 off : false ≡ true → ⊥
 off e = true≢false (sym e)
 
--- what a pass knows after a step with a list
-abbrev gave : View → List Mark → List (List ℕ) → List (List ℕ) → List Item → Bool → View
-gave v es took put items rep =
-    record v { events = es; took = took; put = put; items = items; reported = rep }
-
--- the lists with this one for node i
-abbrev pub with_list : (ℕ → List Mark) → ℕ → List Mark → ℕ → List Mark
-with_list parts i es j = if i == j then es else parts j
-
-pub list_here : (parts : ℕ → List Mark) (i j : ℕ) (es : List Mark) → i ≡ j → with_list parts i es j ≡ es
-list_here parts i j es same = ap (λ b. if b then es else parts j) (eq-eqb i j same)
-
-pub list_else : (parts : ℕ → List Mark) (i j : ℕ) (es : List Mark) → i ≢ j
-    → with_list parts i es j ≡ parts j
-list_else parts i j es apart = ap (λ b. if b then es else parts j) (ne_eqb i j apart)
-
-module _ {C : Type 0} (rules : Core C) (c : Config) (opening : World C) where
-  item_stays : (end end' : World C) (views views' : List View)
-      → ((s : List ℕ) → Contains end.sent s → Contains end'.sent s)
-      → ((j : ℕ) (l : List Mark) → Reported views j l → Reported views' j l) → (x : Item)
-      → FitsItem rules c opening end views x → FitsItem rules c opening end' views' x
-  item_stays end end' views views' more stays (Seat i) h = h
-  item_stays end end' views views' more stays (Frame b) h = more b h
-  item_stays end end' views views' more stays (Report i es) h = stays i es.marks h
-
-  -- what a step with a list leaves
-  record Advanced (views : List View) (starter : ℕ) (issued : List ℕ) (old : World C) (p : ℕ)
-      (w : View) (i : ℕ) (es : List Mark) : Type 0 where
-    parts : ℕ → List Mark
-    end : World C
-    run : AreParts rules c opening parts end
-    more : (s : List ℕ) → Contains old.sent s → Contains end.sent s
-    own : (s : List ℕ) → Sends rules c opening i es s → Contains end.sent s
-    seats : (j : ℕ) → total (sits j) (set views p w) ≡ total (sits j) views
-    fresh : (j : ℕ) → total (sits j) (set views p w) ≡ 0 → parts j ≡ []
-    stays : (j : ℕ) (l : List Mark) → Reported views j l → Reported (set views p w) j l
-    fits : (q : ℕ) (u : View) → get_elem? (set views p w) q ≡ some u
-        → FitsRun rules c opening starter issued parts end (set views p w) q u
-
-  advance : (items : List Item) (views : List View) (starter : ℕ) (issued : List ℕ)
-      (parts : ℕ → List Mark) (end : World C) (p : ℕ) (v : View) (es : List Mark)
-      (took put : List (List ℕ)) (given : List Item) (rep : Bool)
-      (k : RuleHolds rules c opening items views starter issued parts end)
-      (at : get_elem? views p ≡ some v) (may : RuleAllows rules c opening v es)
-      → ((s : List ℕ) → Contains took s → Contains end.sent s)
-      → Advanced views starter issued end p (gave v es took put given rep) may.node es
-  advance items views starter issued parts end p v es took put given rep k at may took_sent =
+module _ {C : Type 0} (rules : Core C) (c : Config) (opening : World C)
+    (hand : List Call → C → C) where
+  -- what the events of the pass's node send, they send in the run
+  sends_there : (items : List Item) (views : List View) (starter : ℕ) (issued : List ℕ)
+      (parts : ℕ → List Mark) (end : World C) (p : ℕ) (v : View) (es : List Mark) (b : List ℕ)
+      (k : RuleHolds rules c opening hand items views starter issued parts end)
+      → get_elem? views p ≡ some v → (s : ListSends rules c opening hand v es b)
+      → Sends rules c k.run.start s.node es b
+  sends_there items views starter issued parts end p v es b k at s =
+      let own = (k.fits p v at).sitting s.node s.sits in
+      let there = same_start rules c opening hand s.at.calls k.calls s.at.start k.run.start s.node
+      s.at.starts k.run.starts (s.at.own ∙ sym own.handed) in
       record {
-        parts = parts_;
-        end = law.0;
-        run = law.1.run;
-        more = law.1.before;
-        own = λ s sends. law.1.sent i s
-            (subst (λ l. Sends rules c opening i l s) (sym (list_here parts i i es refl)) sends);
-        seats = seats_;
-        fresh = λ j none. list_else parts i j es (apart_from j none)
-            ∙ k.fresh j (sym (seats_ j) ∙ none);
-        stays = stays_;
-        fits = fits_set (λ q u. FitsRun rules c opening starter issued parts_ law.0 views' q u) views p w
-            (λ q u n e. let f = k.fits q u e in record {
-              starts = f.starts;
-              sitting = λ j node. (
-                (f.sitting j node).0,
-                list_else parts i j es (others q u j n e node) ∙ (f.sitting j node).1,
-              );
-              took = λ s contained. law.1.before s (f.took s contained);
-              reports = λ j l contained. stays_ j l (f.reports j l contained);
-            })
-            record {
-              starts = mine.starts;
-              sitting = λ j node.
-                  let same : i ≡ j = same_Some i j (sym may.sits ∙ node) in
-                  (subst (λ x. x < length opening.nodes) same sit.0, list_here parts i j es same);
-              took = λ s contained. law.1.before s (took_sent s contained);
-              reports = λ j l contained. stays_ j l (mine.reports j l contained);
-            };
+        effect = s.sends.effect;
+        list = list_over rules c opening hand s.at.start k.run.start s.node es s.sends.effect there
+            s.sends.list;
+        sent = s.sends.sent;
       }
-    where
-      i : ℕ
-      i = may.node
-
-      w : View
-      w = gave v es took put given rep
-
-      views' : List View
-      views' = set views p w
-
-      parts_ : ℕ → List Mark
-      parts_ = with_list parts i es
-
-      mine : FitsRun rules c opening starter issued parts end views p v
-      mine = k.fits p v at
-
-      sit : (i < length opening.nodes) × (parts i ≡ v.events)
-      sit = mine.sitting i may.sits
-
-      on : ListGoesOn rules c opening i v.events v.took es
-      on = may.goes_on
-
-      goes : ListGoesOn rules c opening i (parts i) end.sent es
-      goes = record {
-        more = on.more;
-        is = on.is ∙ ap (λ l. l ++ on.more) (sym sit.1);
-        effect = on.effect;
-        list = on.list;
-        can = can-more v.took end.sent (length opening.nodes) i on.more mine.took on.can;
-      }
-
-      each : (j : ℕ) → ListGoesOn rules c opening j (parts j) end.sent (parts_ j) ⊎ (parts_ j ≡ parts j)
-      each j = elim (cases_eq i j) [
-        | inl same ↦ inl (subst (λ x. ListGoesOn rules c opening x (parts x) end.sent (parts_ x)) same
-            (subst (λ l. ListGoesOn rules c opening i (parts i) end.sent l)
-            (sym (list_here parts i i es refl)) goes))
-        | inr apart ↦ inr (list_else parts i j es apart)
-      ]
-
-      law : (further : World C) × AreFurther rules c opening end parts_ further
-      law = lists_go_on rules c opening end parts parts_ k.run each
-
-      seats_ : (j : ℕ) → total (sits j) views' ≡ total (sits j) views
-      seats_ j = let t = total_set (sits j) views p v w at in omega arith
-
-      apart_from : (j : ℕ) → total (sits j) views' ≡ 0 → i ≢ j
-      apart_from j none e =
-          let one = sits_here i v.node may.sits in
-          let le = total_one (sits i) views p v at in
-          let z : total (sits i) views ≡ 0 =
-          subst (λ (x : ℕ). total (sits x) views ≡ 0) (sym e) (sym (seats_ j) ∙ none) in
-          omega arith
-
-      others : (q : ℕ) (u : View) (j : ℕ) → q ≢ p → get_elem? views q ≡ some u → u.node ≡ Some j
-          → i ≢ j
-      others q u j n e node same =
-          let a = sits_here i v.node may.sits in
-          let b = sits_here i u.node (node ∙ ap Some (sym same)) in
-          let two = total_two (sits i) views p q v u (λ x. n (sym x)) at e in
-          let s = k.seats i in
-          let o = k.once i in
-          omega arith
-
-      stays_ : (j : ℕ) (l : List Mark) → Reported views j l → Reported views' j l
-      stays_ j l = reported_set views p v w j l at
-          (λ _ yes _. absurd (true≢false (sym yes ∙ may.unreported)))
 
   -- a frame that the events send, or that the pass took, joins
   pub puts : (n p : ℕ) (v : View) (b : List ℕ) (es : List Mark)
-      → RuleAllows rules c opening v es → ListSends rules c opening v es b ⊎ Contains v.took b
-      → Pushes (RuleKept rules c opening) n p v (Frame b) (λ w. w ≡ with_put v es (b ∷ []))
+      → RuleAllows rules c opening hand v es → ListSends rules c opening hand v es b ⊎ Contains v.took b
+      → Pushes (RuleKept rules c opening hand) n p v (Frame b) (λ w. w ≡ with_put v es (b ∷ []))
   puts n p v b es may from items views room k at =
       let kept = k.4 in
       let mine = kept.fits p v at in
-      let a = advance items views k.0 k.1 k.2 k.3 p v es v.took (v.put ++ b ∷ []) v.items v.reported
+      let a = advance rules c opening hand items views k.0 k.1 k.2 k.3 p v es v.took (v.put ++ b ∷ []) v.items v.reported
       kept at may mine.took in
       let w = with_put v es (b ∷ []) in
       let there : Contains a.end.sent b = elim from [
-        | inl sends ↦ a.own b (subst (λ i. Sends rules c opening i es b)
-            (same_Some sends.node may.node (sym sends.sits ∙ may.sits)) sends.sends)
+        | inl sends ↦ a.own b (subst (λ i. Sends rules c kept.run.start i es b)
+            (same_Some sends.node may.node (sym sends.sits ∙ may.sits))
+            (sends_there items views k.0 k.1 k.2 k.3 p v es b kept at sends))
         | inr taken ↦ a.more b (mine.took b taken)
       ] in (
         w,
@@ -249,16 +76,17 @@ module _ {C : Type 0} (rules : Core C) (c : Config) (opening : World C) where
           a.parts,
           a.end,
           record {
+            calls = kept.calls;
             run = a.run;
-            seats = λ j. let x = a.seats j in let y = kept.seats j in
+            seats = λ j. let x = a.on.seats j in let y = kept.seats j in
                 let z = total-append (seat_in j) items (Frame b ∷ []) in omega arith;
             once = kept.once;
-            fresh = a.fresh;
-            fits = a.fits;
+            fresh = a.on.fresh;
+            fits = a.on.fits;
             holds = λ x contained. elim (Contains-push_cases items (Frame b) x contained) [
               | inl was ↦
-                  item_stays k.3 a.end views (set views p w) a.more a.stays x (kept.holds x was)
-              | inr is ↦ subst (FitsItem rules c opening a.end (set views p w)) is there
+                  item_stays rules c opening hand k.3 a.end views (set views p w) a.more a.on.stays x (kept.holds x was)
+              | inr is ↦ subst (FitsItem rules c opening hand a.end (set views p w)) is there
             ];
           },
         ),
@@ -266,7 +94,7 @@ module _ {C : Type 0} (rules : Core C) (c : Config) (opening : World C) where
       )
 
   string_sent : (end : World C) (views : List View) (x : Item)
-      → FitsItem rules c opening end views x
+      → FitsItem rules c opening hand end views x
       → (s : List ℕ) → Contains (strings_in x) s → Contains end.sent s
   string_sent end views (Seat i) h s contained = absurd (none-in s contained)
   string_sent end views (Frame b) h s contained = elim (Contains-push_cases [] b s contained) [
@@ -276,13 +104,13 @@ module _ {C : Type 0} (rules : Core C) (c : Config) (opening : World C) where
   string_sent end views (Report i es) h s contained = absurd (none-in s contained)
 
   -- an item leaves
-  pub takes : (p : ℕ) (v : View) (es : List Mark) → RuleAllows rules c opening v es
-      → Pops (RuleKept rules c opening) p v (λ x w. w ≡ with_taken v es x)
+  pub takes : (p : ℕ) (v : View) (es : List Mark) → RuleAllows rules c opening hand v es
+      → Pops (RuleKept rules c opening hand) p v (λ x w. w ≡ with_taken v es x)
   takes p v es may x items views k at =
       let kept = k.4 in
       let mine = kept.fits p v at in
       let first = kept.holds x (contains_first x items) in
-      let a = advance (x ∷ items) views k.0 k.1 k.2 k.3 p v es (v.took ++ strings_in x) v.put
+      let a = advance rules c opening hand (x ∷ items) views k.0 k.1 k.2 k.3 p v es (v.took ++ strings_in x) v.put
       (v.items ++ x ∷ []) v.reported kept at may
       (λ s contained. elim (Contains-append_cases v.took (strings_in x) s contained) [
         | inl was ↦ mine.took s was
@@ -296,12 +124,13 @@ module _ {C : Type 0} (rules : Core C) (c : Config) (opening : World C) where
           a.parts,
           a.end,
           record {
+            calls = kept.calls;
             run = a.run;
-            seats = λ j. let e = a.seats j in let y = kept.seats j in omega arith;
+            seats = λ j. let e = a.on.seats j in let y = kept.seats j in omega arith;
             once = kept.once;
-            fresh = a.fresh;
-            fits = a.fits;
-            holds = λ y contained. item_stays k.3 a.end views (set views p w) a.more a.stays y
+            fresh = a.on.fresh;
+            fits = a.on.fits;
+            holds = λ y contained. item_stays rules c opening hand k.3 a.end views (set views p w) a.more a.on.stays y
                 (kept.holds y (contains_next x items y contained));
           },
         ),
@@ -310,13 +139,13 @@ module _ {C : Type 0} (rules : Core C) (c : Config) (opening : World C) where
 
   -- a report joins
   pub reports : (n p : ℕ) (v : View) (i : ℕ) (es : Listed)
-      (may : RuleAllows rules c opening v es.marks)
+      (may : RuleAllows rules c opening hand v es.marks)
       → i ≡ may.node
-      → Pushes (RuleKept rules c opening) n p v (Report i es) (λ w. w ≡ with_report v es.marks)
+      → Pushes (RuleKept rules c opening hand) n p v (Report i es) (λ w. w ≡ with_report v es.marks)
   reports n p v i es may is items views room k at =
       let kept = k.4 in
       let mine = kept.fits p v at in
-      let a = advance items views k.0 k.1 k.2 k.3 p v es.marks v.took v.put v.items true kept at may
+      let a = advance rules c opening hand items views k.0 k.1 k.2 k.3 p v es.marks v.took v.put v.items true kept at may
       mine.took in
       let w = with_report v es.marks in
       let told : Reported (set views p w) i es.marks = record {
@@ -334,16 +163,17 @@ module _ {C : Type 0} (rules : Core C) (c : Config) (opening : World C) where
           a.parts,
           a.end,
           record {
+            calls = kept.calls;
             run = a.run;
-            seats = λ j. let x = a.seats j in let y = kept.seats j in
+            seats = λ j. let x = a.on.seats j in let y = kept.seats j in
                 let z = total-append (seat_in j) items (Report i es ∷ []) in omega arith;
             once = kept.once;
-            fresh = a.fresh;
-            fits = a.fits;
+            fresh = a.on.fresh;
+            fits = a.on.fits;
             holds = λ x contained. elim (Contains-push_cases items (Report i es) x contained) [
               | inl was ↦
-                  item_stays k.3 a.end views (set views p w) a.more a.stays x (kept.holds x was)
-              | inr same ↦ subst (FitsItem rules c opening a.end (set views p w)) same told
+                  item_stays rules c opening hand k.3 a.end views (set views p w) a.more a.on.stays x (kept.holds x was)
+              | inr same ↦ subst (FitsItem rules c opening hand a.end (set views p w)) same told
             ];
           },
         ),
@@ -353,7 +183,7 @@ module _ {C : Type 0} (rules : Core C) (c : Config) (opening : World C) where
   -- a seat is issued
   pub issues : (n p : ℕ) (v : View) (i : ℕ) → v.starts ≡ true → i < length opening.nodes
       → times i v.issued ≡ 0
-      → Pushes (RuleKept rules c opening) n p v (Seat i) (λ w. w ≡ with_issued v i)
+      → Pushes (RuleKept rules c opening hand) n p v (Seat i) (λ w. w ≡ with_issued v i)
   issues n p v i starts within new items views room k at =
       let kept = k.4 in
       let mine = kept.fits p v at in
@@ -375,6 +205,7 @@ module _ {C : Type 0} (rules : Core C) (c : Config) (opening : World C) where
           k.2,
           k.3,
           record {
+            calls = kept.calls;
             run = kept.run;
             seats = λ j. let x = same j in let y = kept.seats j in
                 let z = total-append (seat_in j) items (Seat i ∷ []) in let g = grows j in
@@ -386,22 +217,24 @@ module _ {C : Type 0} (rules : Core C) (c : Config) (opening : World C) where
               | inr d ↦ let b : one_if (i == j) ≡ 0 = ap one_if (ne_eqb i j d) in omega arith
             ];
             fresh = λ j z. kept.fresh j (sym (same j) ∙ z);
-            fits = fits_set (λ q u. FitsRun rules c opening k.0 issued' k.2 k.3 views' q u) views p w
+            fits = fits_set (λ q u. FitsRun rules c opening hand k.0 issued' kept.calls k.2 k.3 views' q u) views p w
                 (λ q u n e. let f = kept.fits q u e in record {
                   starts = λ s. absurd (n ((f.starts s).0 ∙ sym here.0));
                   sitting = f.sitting;
+                  closed = f.closed;
                   took = f.took;
                   reports = λ j l contained. stays j l (f.reports j l contained);
                 })
                 record {
                   starts = λ _. (here.0, ap (λ l. l ++ i ∷ []) here.1);
                   sitting = mine.sitting;
+                  closed = mine.closed;
                   took = mine.took;
                   reports = λ j l contained. stays j l (mine.reports j l contained);
                 };
             holds = λ x contained. elim (Contains-push_cases items (Seat i) x contained) [
-              | inl was ↦ item_stays k.3 k.3 views views' (λ s h. h) stays x (kept.holds x was)
-              | inr is ↦ subst (FitsItem rules c opening k.3 views') is within
+              | inl was ↦ item_stays rules c opening hand k.3 k.3 views views' (λ s h. h) stays x (kept.holds x was)
+              | inr is ↦ subst (FitsItem rules c opening hand k.3 views') is within
             ];
           },
         ),
@@ -410,16 +243,17 @@ module _ {C : Type 0} (rules : Core C) (c : Config) (opening : World C) where
 
   -- an item leaves and the view stays
   leaves : (p : ℕ) (v : View) (x : Item) (items : List Item) (views : List View)
-      → RuleKept rules c opening (x ∷ items) views → get_elem? views p ≡ some v
-      → RuleKept rules c opening items (set views p v)
+      → RuleKept rules c opening hand (x ∷ items) views → get_elem? views p ≡ some v
+      → RuleKept rules c opening hand items (set views p v)
   leaves p v x items views k at =
       let kept = k.4 in
-      subst (λ (l : List View). RuleKept rules c opening items l) (sym (set_again views p v at)) (
+      subst (λ (l : List View). RuleKept rules c opening hand items l) (sym (set_again views p v at)) (
         k.0,
         k.1,
         k.2,
         k.3,
         record {
+          calls = kept.calls;
           run = kept.run;
           seats = λ j. let y = kept.seats j in omega arith;
           once = kept.once;
@@ -431,7 +265,7 @@ module _ {C : Type 0} (rules : Core C) (c : Config) (opening : World C) where
 
   -- a seat is taken
   pub seats : (p : ℕ) (v : View) → v.node ≡ None
-      → Pops (RuleKept rules c opening) p v (λ x w. w ≡ after_seat v x)
+      → Pops (RuleKept rules c opening hand) p v (λ x w. w ≡ after_seat v x)
   seats p v none (Frame b) items views k at = (v, leaves p v (Frame b) items views k at, refl)
   seats p v none (Report i es) items views k at =
       (v, leaves p v (Report i es) items views k at, refl)
@@ -441,7 +275,7 @@ module _ {C : Type 0} (rules : Core C) (c : Config) (opening : World C) where
       let w = with_seat v i in
       let views' = set views p w in
       let within : i < length opening.nodes = kept.holds (Seat i) (contains_first (Seat i) items) in
-      let before : (j : ℕ) → sits j v ≡ 0 = (λ j. ap (is_number j) none) in
+      let before : (j : ℕ) → is_number j v.node ≡ 0 = (λ j. ap (is_number j) none) in
       let one : one_if (i == i) ≡ 1 = ap one_if (eq-eqb i i refl) in
       let changed : (j : ℕ) → total (sits j) views' ≡ total (sits j) views + one_if (i == j) =
       (λ j. let t = total_set (sits j) views p v w at in let z = before j in omega arith) in
@@ -456,26 +290,30 @@ module _ {C : Type 0} (rules : Core C) (c : Config) (opening : World C) where
           k.2,
           k.3,
           record {
+            calls = kept.calls;
             run = kept.run;
             seats = λ j. let y = kept.seats j in let d = changed j in omega arith;
             once = kept.once;
             fresh = λ j z. let d = changed j in kept.fresh j (omega arith);
-            fits = fits_set (λ q u. FitsRun rules c opening k.0 k.1 k.2 k.3 views' q u) views p w
+            fits = fits_set (λ q u. FitsRun rules c opening hand k.0 k.1 kept.calls k.2 k.3 views' q u) views p w
                 (λ q u n e. let f = kept.fits q u e in record {
                   starts = f.starts;
                   sitting = f.sitting;
+                  closed = f.closed;
                   took = f.took;
                   reports = λ j l contained. stays j l (f.reports j l contained);
                 })
                 record {
                   starts = mine.starts;
                   sitting = λ j node. let same : i ≡ j = same_Some i j node in
-                      subst (λ (y : ℕ). (y < length opening.nodes) × (k.2 y ≡ [])) same
-                      (within, kept.fresh i empty);
+                      subst (λ (y : ℕ). IsNode rules c opening hand kept.calls k.2 y [] []) same
+                      (let f = kept.fresh i empty in
+                      record { inside = within; part = f.0; handed = f.1 });
+                  closed = mine.closed;
                   took = λ s contained. absurd (none-in s contained);
                   reports = λ j l contained. stays j l (mine.reports j l contained);
                 };
-            holds = λ y contained. item_stays k.3 k.3 views views' (λ s h. h) stays y
+            holds = λ y contained. item_stays rules c opening hand k.3 k.3 views views' (λ s h. h) stays y
                 (kept.holds y (contains_next (Seat i) items y contained));
           },
         ),
@@ -483,7 +321,7 @@ module _ {C : Type 0} (rules : Core C) (c : Config) (opening : World C) where
       )
 
   -- the starter takes a report
-  pub tells : (p : ℕ) (v : View) → Pops (RuleKept rules c opening) p v (λ x w. w ≡ view_after_told v x)
+  pub tells : (p : ℕ) (v : View) → Pops (RuleKept rules c opening hand) p v (λ x w. w ≡ view_after_told v x)
   tells p v (Frame b) items views k at = (v, leaves p v (Frame b) items views k at, refl)
   tells p v (Seat i) items views k at = (v, leaves p v (Seat i) items views k at, refl)
   tells p v (Report i es) items views k at =
@@ -503,20 +341,23 @@ module _ {C : Type 0} (rules : Core C) (c : Config) (opening : World C) where
           k.2,
           k.3,
           record {
+            calls = kept.calls;
             run = kept.run;
             seats = λ j. let x = same j in let y = kept.seats j in omega arith;
             once = kept.once;
             fresh = λ j z. kept.fresh j (sym (same j) ∙ z);
-            fits = fits_set (λ q u. FitsRun rules c opening k.0 k.1 k.2 k.3 views' q u) views p w
+            fits = fits_set (λ q u. FitsRun rules c opening hand k.0 k.1 kept.calls k.2 k.3 views' q u) views p w
                 (λ q u n e. let f = kept.fits q u e in record {
                   starts = f.starts;
                   sitting = f.sitting;
+                  closed = f.closed;
                   took = f.took;
                   reports = λ j l contained. stays j l (f.reports j l contained);
                 })
                 record {
                   starts = mine.starts;
                   sitting = mine.sitting;
+                  closed = mine.closed;
                   took = mine.took;
                   reports = λ j l contained.
                       elim (Contains-push_cases v.reports (i, es.marks) (j, l) contained) [
@@ -525,7 +366,7 @@ module _ {C : Type 0} (rules : Core C) (c : Config) (opening : World C) where
                             (stays i es.marks told)
                       ];
                 };
-            holds = λ y contained. item_stays k.3 k.3 views views' (λ s h. h) stays y
+            holds = λ y contained. item_stays rules c opening hand k.3 k.3 views views' (λ s h. h) stays y
                 (kept.holds y (contains_next (Report i es) items y contained));
           },
         ),
@@ -534,8 +375,8 @@ module _ {C : Type 0} (rules : Core C) (c : Config) (opening : World C) where
 
   -- a pass notes what came of a step
   noted : (p : ℕ) (v : View) (refused : List (List ℕ)) (empty : ℕ) (items : List Item)
-      (views : List View) → RuleKept rules c opening items views → get_elem? views p ≡ some v
-      → RuleKept rules c opening items
+      (views : List View) → RuleKept rules c opening hand items views → get_elem? views p ≡ some v
+      → RuleKept rules c opening hand items
       (set views p (record v { refused = refused; empty = empty }))
   noted p v refused empty items views k at =
       let kept = k.4 in
@@ -551,34 +392,38 @@ module _ {C : Type 0} (rules : Core C) (c : Config) (opening : World C) where
         k.2,
         k.3,
         record {
+          calls = kept.calls;
           run = kept.run;
           seats = λ j. let x = same j in let y = kept.seats j in omega arith;
           once = kept.once;
           fresh = λ j z. kept.fresh j (sym (same j) ∙ z);
-          fits = fits_set (λ q u. FitsRun rules c opening k.0 k.1 k.2 k.3 views' q u) views p w
+          fits = fits_set (λ q u. FitsRun rules c opening hand k.0 k.1 kept.calls k.2 k.3 views' q u) views p w
               (λ q u n e. let f = kept.fits q u e in record {
                 starts = f.starts;
                 sitting = f.sitting;
+                closed = f.closed;
                 took = f.took;
                 reports = λ j l contained. stays j l (f.reports j l contained);
               })
               record {
                 starts = mine.starts;
                 sitting = mine.sitting;
+                closed = mine.closed;
                 took = mine.took;
                 reports = λ j l contained. stays j l (mine.reports j l contained);
               };
-          holds = λ y contained. item_stays k.3 k.3 views views' (λ s h. h) stays y
+          holds = λ y contained. item_stays rules c opening hand k.3 k.3 views views' (λ s h. h) stays y
               (kept.holds y contained);
         },
       )
 
   -- what the run so far is to a pass
   pub learns_run : (p : ℕ) (v : View)
-      → Learns (RuleKept rules c opening) p v (λ items. RuleRuns rules c opening v)
+      → Learns (RuleKept rules c opening hand) p v (λ items. RuleRuns rules c opening hand v)
   learns_run p v items views k at =
       let kept = k.4 in
       let mine = kept.fits p v at in record {
+        calls = kept.calls;
         parts = k.2;
         end = k.3;
         run = kept.run;
@@ -586,32 +431,62 @@ module _ {C : Type 0} (rules : Core C) (c : Config) (opening : World C) where
         took = mine.took;
       }
 
-  -- what the starter's reports tell
+  -- what the starter's reports tell, and the passes that it took in
   pub learns : (p : ℕ) (v : View)
-      → Learns (RuleKept rules c opening) p v (λ items. RuleTold rules c opening v)
+      → Learns (RuleKept rules c opening hand) p v (λ items. RuleTold rules c opening hand v)
   learns p v items views k at =
       let kept = k.4 in
       let mine = kept.fits p v at in
       record {
+        calls = kept.calls;
         parts = k.2;
         end = k.3;
         run = kept.run;
         told = λ i es contained.
             let r = mine.reports i es contained in
-            ((kept.fits r.pass r.view r.there).sitting i r.node).1 ∙ r.events;
+            ((kept.fits r.pass r.view r.there).sitting i r.node).part ∙ r.events;
+        closed = mine.closed;
       }
 
-  fits_newcomer : (starter : ℕ) (issued : List ℕ) (parts : ℕ → List Mark) (end : World C)
-      (views : List View) (q : ℕ) → FitsRun rules c opening starter issued parts end views q newcomer
-  fits_newcomer starter issued parts end views q = record {
+  pub fits_newcomer : (starter : ℕ) (issued : List ℕ) (calls : ℕ → List Call)
+      (parts : ℕ → List Mark) (end : World C) (views : List View) (q : ℕ)
+      → FitsRun rules c opening hand starter issued calls parts end views q newcomer
+  fits_newcomer starter issued calls parts end views q = record {
     starts = λ e. absurd (off e);
     sitting = λ i e. absurd (none-some i e);
+    closed = λ x contained. absurd (none-in x contained);
     took = λ s contained. absurd (none-in s contained);
     reports = λ i l contained. absurd (none-in (i, l) contained);
   }
 
+  -- a pass gives its site's list, and does nothing else
+  given : (p : ℕ) (v : View) (es : List Mark) (items : List Item) (views : List View)
+      → RuleAllows rules c opening hand v es → RuleKept rules c opening hand items views
+      → get_elem? views p ≡ some v
+      → RuleKept rules c opening hand items (set views p (with_given v es))
+  given p v es items views may k at =
+      let kept = k.4 in
+      let mine = kept.fits p v at in
+      let a = advance rules c opening hand items views k.0 k.1 k.2 k.3 p v es v.took v.put v.items
+      v.reported kept at may mine.took in (
+        k.0,
+        k.1,
+        a.parts,
+        a.end,
+        record {
+          calls = kept.calls;
+          run = a.run;
+          seats = λ j. let x = a.on.seats j in let y = kept.seats j in omega arith;
+          once = kept.once;
+          fresh = a.on.fresh;
+          fits = a.on.fits;
+          holds = λ x contained. item_stays rules c opening hand k.3 a.end views
+              (set views p (with_given v es)) a.more a.on.stays x (kept.holds x contained);
+        },
+      )
+
   -- a newcomer
-  pub forks : (p : ℕ) (v : View) → Forks (RuleKept rules c opening) p v v newcomer
+  pub forks : (p : ℕ) (v : View) → Forks (RuleKept rules c opening hand) p v v newcomer
   forks p v items views k at =
       let kept = k.4 in
       let now : List View = set views p v in
@@ -628,12 +503,13 @@ module _ {C : Type 0} (rules : Core C) (c : Config) (opening : World C) where
       }) in
       let sums : (j : ℕ) → total (sits j) views' ≡ total (sits j) views =
       (λ j. let t = total-append (sits j) views (newcomer ∷ []) in omega arith) in
-      subst (λ (l : List View). RuleKept rules c opening items (l ++ newcomer ∷ [])) (sym same) (
+      subst (λ (l : List View). RuleKept rules c opening hand items (l ++ newcomer ∷ [])) (sym same) (
         k.0,
         k.1,
         k.2,
         k.3,
         record {
+          calls = kept.calls;
           run = kept.run;
           seats = λ j. let y = kept.seats j in let s = sums j in omega arith;
           once = kept.once;
@@ -642,52 +518,81 @@ module _ {C : Type 0} (rules : Core C) (c : Config) (opening : World C) where
             | inl was ↦ let f = kept.fits q u was in record {
               starts = f.starts;
               sitting = f.sitting;
+              closed = f.closed;
               took = f.took;
               reports = λ j l contained. stays j l (f.reports j l contained);
             }
-            | inr is ↦ subst (λ (x : View). FitsRun rules c opening k.0 k.1 k.2 k.3 views' q x) is
-                (fits_newcomer k.0 k.1 k.2 k.3 views' q)
+            | inr is ↦ subst (λ (x : View). FitsRun rules c opening hand k.0 k.1 kept.calls k.2 k.3 views' q x) is
+                (fits_newcomer k.0 k.1 kept.calls k.2 k.3 views' q)
           ];
-          holds = λ x contained. item_stays k.3 k.3 views views' (λ s h. h) stays x
+          holds = λ x contained. item_stays rules c opening hand k.3 k.3 views views' (λ s h. h) stays x
               (kept.holds x contained);
         },
       )
 
   -- and one beside a pass that notes what came of a step
   pub notes : (p : ℕ) (v : View) (refused : List (List ℕ)) (empty : ℕ)
-      → Forks (RuleKept rules c opening) p v (record v { refused = refused; empty = empty })
+      → Forks (RuleKept rules c opening hand) p v (record v { refused = refused; empty = empty })
       newcomer
   notes p v refused empty items views k at =
       let w : View = record v { refused = refused; empty = empty } in
       let now : List View = set views p w in
       let here : get_elem? now p ≡ some w = set_here views p w (in_list views p v at) in
-      subst (λ (l : List View). RuleKept rules c opening items (l ++ newcomer ∷ []))
+      subst (λ (l : List View). RuleKept rules c opening hand items (l ++ newcomer ∷ []))
       (set_again now p w here)
       (forks p w items now (noted p v refused empty items views k at) here)
 
+  -- and one beside a pass that gives its list
+  pub gives : (p : ℕ) (v : View) (es : List Mark) → RuleAllows rules c opening hand v es
+      → Forks (RuleKept rules c opening hand) p v (with_given v es) newcomer
+  gives p v es may items views k at =
+      let w : View = with_given v es in
+      let now : List View = set views p w in
+      let here : get_elem? now p ≡ some w = set_here views p w (in_list views p v at) in
+      subst (λ (l : List View). RuleKept rules c opening hand items (l ++ newcomer ∷ []))
+      (set_again now p w here)
+      (forks p w items now (given p v es items views may k at) here)
+
   first_view : (q : ℕ) (u : View) → get_elem? (beginner ∷ []) q ≡ some u
-      → FitsRun rules c opening 0 [] (λ i. []) opening (beginner ∷ []) q u
-  first_view zero u e = subst (FitsRun rules c opening 0 [] (λ i. []) opening (beginner ∷ []) 0)
+      → FitsRun rules c opening hand 0 [] (λ i. []) (λ i. []) opening (beginner ∷ []) q u
+  first_view zero u e =
+      subst (FitsRun rules c opening hand 0 [] (λ i. []) (λ i. []) opening (beginner ∷ []) 0)
       (some-injective beginner u e)
       record {
         starts = λ _. (refl, refl);
         sitting = λ i e. absurd (none-some i e);
+        closed = λ x contained. absurd (none-in x contained);
         took = λ s contained. absurd (none-in s contained);
         reports = λ i l contained. absurd (none-in (i, l) contained);
       }
   first_view (suc q) u e = absurd (some-ne-none u (sym e))
 
-  pub begins : RuleKept rules c opening [] (beginner ∷ [])
-  begins = (
+  -- nothing was handed to any node yet
+  pub first_start : IsHanding rules hand → IsStart rules c opening hand (λ i. []) opening
+  first_start law = record {
+    there = λ i n at.
+        at ∙ ap (λ core. Some (record { core = core; link = n.link })) (sym (law.none n.core));
+    count = refl;
+    sent = refl;
+    early = refl;
+  }
+
+  pub begins : IsHanding rules hand → RuleKept rules c opening hand [] (beginner ∷ [])
+  begins law = (
     0,
     [],
     (λ i. []),
     opening,
     record {
-      run = record { moves = []; leads = refl; are = λ j. refl };
+      calls = λ i. [];
+      run = record {
+        start = opening;
+        starts = first_start law;
+        run = record { moves = []; leads = refl; are = λ j. refl };
+      };
       seats = λ i. omega arith;
       once = λ i. omega arith;
-      fresh = λ i z. refl;
+      fresh = λ i z. (refl, refl);
       fits = first_view;
       holds = λ x contained. absurd (none-in x contained);
     },

@@ -1,5 +1,5 @@
 -- Sums over lists.
-use Rattle.std.proofs.Common.{◌≡◌, ◌≢◌, ℕ, zero, suc, ◌+◌, ◌<◌, ◌≤◌, List, [], ◌∷◌, ◌++◌, length, set, refl, sym, ap, arith}
+use Rattle.std.proofs.Common.{◌≡◌, ◌≢◌, ℕ, zero, suc, ◌+◌, ◌<◌, ◌≤◌, List, [], ◌∷◌, ◌++◌, length, set, get_or, Contains, refl, sym, ap, arith}
 use mathlib.Core.Option.{some, some-injective, some-ne-none}
 use lib.ListN.{get_elem?}
 use Rattle.ivy_ether.specs.Rule.{total}
@@ -36,3 +36,13 @@ module _ {A : Type 0} where
   in_list [] i a e = absurd (some-ne-none a (sym e))
   in_list (x ∷ xs) zero a e = omega arith
   in_list (x ∷ xs) (suc i) a e = let h = in_list xs i a e in omega arith
+
+  total_at : (f : A → ℕ) (xs : List A) (x : A) (k : ℕ) → k < length xs → get_or xs k x ≡ x
+      → f x ≤ total f xs
+  total_at f [] x k lt is = absurd (omega (arith, lt))
+  total_at f (y ∷ ys) x zero lt is = let e = ap f is in omega arith
+  total_at f (y ∷ ys) x (suc k) lt is =
+      let h = total_at f ys x k (omega (arith, lt)) is in omega arith
+
+  pub total_in : (f : A → ℕ) (xs : List A) (x : A) → Contains xs x → f x ≤ total f xs
+  total_in f xs x there = total_at f xs x there.0 there.1 there.2

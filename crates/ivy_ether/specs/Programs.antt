@@ -1,10 +1,12 @@
 -- The rule, and what steps ask, for the ether of these programs under this configuration.
-use Rattle.std.specs.Prelude.{ℕ, List}
+use Rattle.std.specs.Prelude.{ℕ, ◌+◌, List, [], ◌∷◌}
+use Rattle.ivy_model.specs.declared.Call.{Call}
 use Rattle.ivy_model.specs.declared.Config.{Config}
 use Rattle.ivy_model.specs.declared.Kind.TheVariants.{Fixed}
-use Rattle.ivy_program.specs.declared.Instruction.{Instruction}
+use Rattle.ivy_program.specs.Programs.{Program, handed}
 use Rattle.ivy_moves.specs.Marks.{Mark}
 use Rattle.ivy_moves.specs.Worlds.{World}
+use Rattle.ivy_host.specs.Handing.{handing}
 use Rattle.ivy_host.specs.Hosts.{Host, host_rules}
 use Rattle.ivy_host.specs.Managers.{Managed, managed_ops}
 use Rattle.ivy_host.specs.Openings.{opening}
@@ -16,27 +18,35 @@ use Rattle.ivy_ether.specs.Rule as rule
 abbrev pub any_config : Config
 any_config = record { nodes = 0; pages = 0; page_size = 0; manager = Fixed }
 
-module _ (c : Config) (programs : List (List Instruction)) where
+-- the programs from this number on, where these calls were handed to each node
+abbrev pub all_handed_from : ℕ → (ℕ → List Call) → List Program → List Program
+all_handed_from i calls [] = []
+all_handed_from i calls (p ∷ ps) = handed (calls i) p ∷ all_handed_from (i + 1) calls ps
+
+abbrev pub all_handed : (ℕ → List Call) → List Program → List Program
+all_handed calls programs = all_handed_from 0 calls programs
+
+module _ (c : Config) (programs : List Program) where
   -- the world from which the programs run
   abbrev pub beginning : World (Host Managed)
   beginning = opening managed_ops c programs
 
   -- the rule, over these items of the ether and the views of its passes
   abbrev pub Kept : List Item → List View → Type 0
-  Kept = rule.RuleKept (host_rules managed_ops) c beginning
+  Kept = rule.RuleKept (host_rules managed_ops) c beginning handing
 
   -- a pass that knows this may make a step with this event list
   abbrev pub MayGive : View → List Mark → Type 0
-  MayGive = rule.RuleAllows (host_rules managed_ops) c beginning
+  MayGive = rule.RuleAllows (host_rules managed_ops) c beginning handing
 
   -- the pass's node sends the string by this event list
   abbrev pub SendsFrom : View → List Mark → List ℕ → Type 0
-  SendsFrom = rule.ListSends (host_rules managed_ops) c beginning
+  SendsFrom = rule.ListSends (host_rules managed_ops) c beginning handing
 
   -- the event lists that the starter was told are the parts of one run
   abbrev pub Told : View → Type 0
-  Told = rule.RuleTold (host_rules managed_ops) c beginning
+  Told = rule.RuleTold (host_rules managed_ops) c beginning handing
 
   -- the pass's event list is its node's part of some run, by which each string that it took was sent
   abbrev pub Runs : View → Type 0
-  Runs = rule.RuleRuns (host_rules managed_ops) c beginning
+  Runs = rule.RuleRuns (host_rules managed_ops) c beginning handing

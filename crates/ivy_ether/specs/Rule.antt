@@ -1,8 +1,10 @@
 -- The rule over what the ether holds and over what its passes know, and what a step asks of a pass.
-use Rattle.std.specs.Prelude.{◌≡◌, ℕ, ◌+◌, ◌<◌, ◌≤◌, ◌==◌, Bool, true, false, Option, Some, None, List, [], ◌∷◌, length, Contains, if◌then◌else◌}
+use Rattle.std.specs.Prelude.{◌≡◌, ℕ, ◌+◌, ◌<◌, ◌≤◌, ◌==◌, ◌++◌, Bool, true, false, Option, Some, None, List, [], ◌∷◌, length, Contains, if◌then◌else◌}
 use mathlib.Core.Option.{some}
 use lib.ListN.{get_elem?}
+use Rattle.ivy_model.specs.declared.Call.{Call}
 use Rattle.ivy_model.specs.declared.Config.{Config}
+use Rattle.ivy_moves.specs.Carrying.{IsUnseen, IsChangedBy}
 use Rattle.ivy_moves.specs.Cores.{Core}
 use Rattle.ivy_moves.specs.Marks.{Mark}
 use Rattle.ivy_moves.specs.Parts.{AreParts}
@@ -10,7 +12,7 @@ use Rattle.ivy_moves.specs.Worlds.{World}
 use Rattle.ivy_ether.specs.Data.{Item}
 use Rattle.ivy_ether.specs.declared.item.Item.TheVariants.{Seat, Frame, Report}
 use Rattle.ivy_ether.specs.Going.{ListGoesOn, Sends}
-use Rattle.ivy_ether.specs.Views.{View}
+use Rattle.ivy_ether.specs.Views.{Closing, View}
 
 -- the sum of f over a list
 abbrev pub total : {X : Type 0} → (X → ℕ) → List X → ℕ
@@ -26,9 +28,9 @@ abbrev pub is_number : ℕ → Option ℕ → ℕ
 is_number i None = 0
 is_number i (Some j) = one_if (j == i)
 
--- 1 where the pass took the seat of node i
+-- 1 where the pass took the seat of node i, and 1 for each pass with that seat that it took in
 abbrev pub sits : ℕ → View → ℕ
-sits i v = is_number i v.node
+sits i v = is_number i v.node + total (λ (x : Closing). one_if (x.node == i)) v.closed
 
 -- 1 where the item is the seat of node i
 abbrev pub seat_in : ℕ → Item → ℕ
@@ -49,13 +51,42 @@ pub record Reported (views : List View) (i : ℕ) (list : List Mark) : Type 0 wh
   pub reported : view.reported ≡ true
   pub events : view.events ≡ list
 
-module _ {C : Type 0} (rules : Core C) (c : Config) (opening : World C) where
-  -- what is known of one view: who is the starter, and what it issued; that a site's list is its
-  -- part of the run; that what the pass took was sent; that what the starter was told was reported
-  pub record FitsRun (starter : ℕ) (issued : List ℕ) (parts : ℕ → List Mark) (end : World C)
-      (views : List View) (pass : ℕ) (v : View) : Type 0 where
+-- What a way to hand calls to a node has to be: neither turns nor messages see it, none is no
+-- change, and some and then more are all of them.
+pub record IsHanding {C : Type 0} (rules : Core C) (hand : List Call → C → C) : Type 0 where
+  pub unseen : (calls : List Call) → IsUnseen rules (hand calls)
+  pub none : (core : C) → hand [] core ≡ core
+  pub more : (some more : List Call) (core : C) → hand (some ++ more) core ≡ hand more (hand some core)
+
+module _ {C : Type 0} (rules : Core C) (c : Config) (opening : World C)
+    (hand : List Call → C → C) where
+  -- the world as it begins, where these calls were handed to each node
+  abbrev pub IsStart : (ℕ → List Call) → World C → Type 0
+  IsStart calls start = IsChangedBy (λ i. hand (calls i)) opening start
+
+  -- these lists are the parts of a run of nodes to which these calls were handed
+  pub record AreRunParts (calls : ℕ → List Call) (parts : ℕ → List Mark)
+      (end : World C) : Type 0 where
+    pub start : World C
+    pub starts : IsStart calls start
+    pub run : AreParts rules c start parts end
+
+  -- of node i: this is its part, and these calls were handed to it
+  pub record IsNode (calls : ℕ → List Call) (parts : ℕ → List Mark) (i : ℕ) (own : List Call)
+      (events : List Mark) : Type 0 where
+    pub inside : i < length opening.nodes
+    pub part : parts i ≡ events
+    pub handed : calls i ≡ own
+
+  -- what is known of one view: who is the starter, and what it issued; what its site's list and calls
+  -- are, and those of the sites whose passes it took in; that what the pass took was sent; that what
+  -- the starter was told was reported
+  pub record FitsRun (starter : ℕ) (issued : List ℕ) (calls : ℕ → List Call)
+      (parts : ℕ → List Mark) (end : World C) (views : List View) (pass : ℕ)
+      (v : View) : Type 0 where
     pub starts : v.starts ≡ true → (pass ≡ starter) × (v.issued ≡ issued)
-    pub sitting : (i : ℕ) → v.node ≡ Some i → (i < length opening.nodes) × (parts i ≡ v.events)
+    pub sitting : (i : ℕ) → v.node ≡ Some i → IsNode calls parts i v.handed v.events
+    pub closed : (x : Closing) → Contains v.closed x → IsNode calls parts x.node x.handed x.events
     pub took : (bytes : List ℕ) → Contains v.took bytes → Contains end.sent bytes
     pub reports : (i : ℕ) (events : List Mark) → Contains v.reports (i, events)
         → Reported views i events
@@ -66,17 +97,19 @@ module _ {C : Type 0} (rules : Core C) (c : Config) (opening : World C) where
   FitsItem end views (Frame b) = Contains end.sent b
   FitsItem end views (Report i es) = Reported views i es.marks
 
-  -- the lists of all views, an empty one for a node that has none, are the parts of a run; the
-  -- seats of each node, in the ether and in views, are no more than were issued, which is one at
-  -- most; and each view and item fits
+  -- The lists of all views, an empty one for a node that has none, are the parts of a run of nodes to
+  -- which the calls of all views were handed, none to a node that has none. The seats of each node,
+  -- in the ether and in views, are no more than were issued, which is one at most; and each view and
+  -- item fits
   pub record RuleHolds (items : List Item) (views : List View) (starter : ℕ) (issued : List ℕ)
       (parts : ℕ → List Mark) (end : World C) : Type 0 where
-    pub run : AreParts rules c opening parts end
+    pub calls : ℕ → List Call
+    pub run : AreRunParts calls parts end
     pub seats : (i : ℕ) → total (seat_in i) items + total (sits i) views ≤ times i issued
     pub once : (i : ℕ) → times i issued ≤ 1
-    pub fresh : (i : ℕ) → total (sits i) views ≡ 0 → parts i ≡ []
+    pub fresh : (i : ℕ) → total (sits i) views ≡ 0 → (parts i ≡ []) × (calls i ≡ [])
     pub fits : (p : ℕ) (v : View) → get_elem? views p ≡ some v
-        → FitsRun starter issued parts end views p v
+        → FitsRun starter issued calls parts end views p v
     pub holds : (x : Item) → Contains items x → FitsItem end views x
 
   -- the rule
@@ -84,31 +117,43 @@ module _ {C : Type 0} (rules : Core C) (c : Config) (opening : World C) where
   RuleKept items views = (starter : ℕ) × (issued : List ℕ) × (parts : ℕ → List Mark) × (end : World C)
       × RuleHolds items views starter issued parts end
 
+  -- a world as it begins, where these calls were handed to this node, and any to the others
+  pub record StartsWith (node : ℕ) (handed : List Call) : Type 0 where
+    pub calls : ℕ → List Call
+    pub own : calls node ≡ handed
+    pub start : World C
+    pub starts : IsStart calls start
+
   -- a step with this list may be made: the pass took a seat and has not reported, and the list goes
   -- on from what it gave before, by deliveries of strings that it took
   pub record RuleAllows (v : View) (es : List Mark) : Type 0 where
     pub node : ℕ
     pub sits : v.node ≡ Some node
     pub unreported : v.reported ≡ false
-    pub goes_on : ListGoesOn rules c opening node v.events v.took es
+    pub at : StartsWith node v.handed
+    pub goes_on : ListGoesOn rules c at.start node v.events v.took es
 
   -- the events of the pass's node send the string
   pub record ListSends (v : View) (es : List Mark) (bytes : List ℕ) : Type 0 where
     pub node : ℕ
     pub sits : v.node ≡ Some node
-    pub sends : Sends rules c opening node es bytes
+    pub at : StartsWith node v.handed
+    pub sends : Sends rules c at.start node es bytes
 
   -- some run has the pass's list as its node's part, and each string that the pass took was sent
   pub record RuleRuns (v : View) : Type 0 where
+    pub calls : ℕ → List Call
     pub parts : ℕ → List Mark
     pub end : World C
-    pub run : AreParts rules c opening parts end
-    pub own : (i : ℕ) → v.node ≡ Some i → (i < length opening.nodes) × (parts i ≡ v.events)
+    pub run : AreRunParts calls parts end
+    pub own : (i : ℕ) → v.node ≡ Some i → IsNode calls parts i v.handed v.events
     pub took : (bytes : List ℕ) → Contains v.took bytes → Contains end.sent bytes
 
-  -- the reports that the starter took are of parts of one run
+  -- the reports that the starter took, and the passes, are of parts of one run
   pub record RuleTold (v : View) : Type 0 where
+    pub calls : ℕ → List Call
     pub parts : ℕ → List Mark
     pub end : World C
-    pub run : AreParts rules c opening parts end
+    pub run : AreRunParts calls parts end
     pub told : (i : ℕ) (events : List Mark) → Contains v.reports (i, events) → parts i ≡ events
+    pub closed : (x : Closing) → Contains v.closed x → IsNode calls parts x.node x.handed x.events

@@ -1,19 +1,34 @@
 -- What a pass knows, and how the steps of the ether change it.
-use Rattle.std.specs.Prelude.{ℕ, ◌+◌, Bool, true, false, Option, Some, None, List, [], ◌∷◌, ◌++◌}
+use Rattle.std.specs.Prelude.{ℕ, ◌+◌, Bool, true, false, Option, Some, None, List, [], ◌∷◌, ◌++◌, unwrap_or}
+use Rattle.ivy_model.specs.declared.Call.{Call}
+use Rattle.ivy_model.specs.declared.Call.TheVariants.{Free}
 use Rattle.ivy_moves.specs.Marks.{Mark}
 use Rattle.ivy_ether.specs.Data.{Item}
 use Rattle.ivy_ether.specs.declared.item.Item.TheVariants.{Seat, Frame, Report}
 use Rattle.ivy_ether.specs.Items.{strings_in}
 
+-- some call, where none is handed to any node
+abbrev pub any_call : Call
+any_call = Free 0
+
+-- of a node whose pass is at its end: the calls that were handed to it, and its event list
+pub record Closing : Type 0 where
+  pub node : ℕ
+  pub handed : List Call
+  pub events : List Mark
+
 -- what a pass knows
 pub record View : Type 0 where
-  -- of the starter: that it is the one, the seats that it issued, the reports that it took
+  -- of the starter: that it is the one, the seats that it issued, the reports that it took, and the
+  -- passes of sites that it took in
   pub starts : Bool
   pub issued : List ℕ
   pub reports : List (ℕ × List Mark)
-  -- of a site's pass: the node whose seat it took, that node's event list, the strings that the
-  -- pass took, those that it put, and whether it has reported
+  pub closed : List Closing
+  -- of a site's pass: the node whose seat it took, the calls that were handed to that node since,
+  -- its event list, the strings that the pass took, those that it put, and whether it has reported
   pub node : Option ℕ
+  pub handed : List Call
   pub events : List Mark
   pub took : List (List ℕ)
   pub put : List (List ℕ)
@@ -30,7 +45,9 @@ newcomer = record {
   starts = false;
   issued = [];
   reports = [];
+  closed = [];
   node = None;
+  handed = [];
   events = [];
   took = [];
   put = [];
@@ -50,7 +67,16 @@ with_issued v i = record v { issued = v.issued ++ i ∷ [] }
 
 -- a seat is taken
 abbrev pub with_seat : View → ℕ → View
-with_seat v i = record v { node = Some i; events = []; took = []; put = []; reported = false }
+with_seat v i =
+    record v { node = Some i; handed = []; events = []; took = []; put = []; reported = false }
+
+-- a call is handed to the pass's node
+abbrev pub with_handed : View → Call → View
+with_handed v call = record v { handed = v.handed ++ call ∷ [] }
+
+-- the pass gave its site's list, and did nothing else
+abbrev pub with_given : View → List Mark → View
+with_given v es = record v { events = es }
 
 -- the pass gave its site's list, and put these strings
 abbrev pub with_put : View → List Mark → List (List ℕ) → View
@@ -76,6 +102,14 @@ with_report v es = record v { events = es; reported = true }
 -- a report is taken
 abbrev pub with_told : View → ℕ → List Mark → View
 with_told v i es = record v { reports = v.reports ++ (i, es) ∷ [] }
+
+-- what a site's pass knows of its node
+abbrev pub closing_of : View → Closing
+closing_of v = record { node = unwrap_or v.node 0; handed = v.handed; events = v.events }
+
+-- the pass of a site that knows this is taken in, with those that it took in itself
+abbrev pub with_closed : View → View → View
+with_closed v site = record v { closed = v.closed ++ site.closed ++ closing_of site ∷ [] }
 
 -- it takes an item, where it hopes for a seat, or for a report
 abbrev pub after_seat : View → Item → View

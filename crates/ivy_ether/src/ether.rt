@@ -1,19 +1,21 @@
 //! The ether: a queue of seats, frames and reports, under the rule.
-ghost use Rattle.std.specs.Prelude.{◌≡◌, ◌⊎◌, ◌<◌, ℕ, List, Some, None, ◌∷◌, [], false, true, Contains, MatchOption, MatchResult, MatchBool, IfOk, IsOkUnless, length, vec_len};
+ghost use Rattle.std.specs.Prelude.{◌≡◌, ◌⊎◌, ◌<◌, ℕ, List, Some, None, ◌∷◌, [], false, true, Contains, MatchOption, MatchResult, MatchBool, IfOk, IsOkUnless, IsSome, length, replicate, vec_len};
 ghost use Rattle.crossbeam_queue.specs.Passes.{view, IsPassOf};
+ghost use Rattle.ivy_program.specs.Programs.{Called};
 ghost use Rattle.ivy_ether.specs.Programs.{MayGive, SendsFrom, Runs, Told};
 ghost use Rattle.ivy_ether.specs.Rule.{times};
-ghost use Rattle.ivy_ether.specs.Views.{with_put, with_refused, with_taken, with_empty, with_report, with_issued, with_seat, with_told};
+ghost use Rattle.ivy_ether.specs.Views.{with_put, with_refused, with_taken, with_empty, with_report, with_issued, with_seat, with_handed, with_given, with_closed, with_told};
 ghost use Rattle.ivy_ether.specs.Words.{MatchPut, AreFresh, room_of};
 
 use crate::item::{Item, View, Wired};
 use crate::law::{Law, Setup};
 use crate::pass::{Pass, unseated};
 use crate::steps::{
-    Beside, FindsNone, Given, Issues, Own, Parts, Puts, Refuses, Reports, Sits, Takes, Tells,
+    Beside, Closes, FindsNone, Given, Gives, Handed, Hands, Issues, Own, Parts, Puts, Refuses,
+    Reports, Sits, Takes, Tells,
 };
 use crossbeam_queue::RuledArrayQueue;
-use ivy_model::{Config, Fault};
+use ivy_model::{Call, Config, Fault};
 use ivy_moves::Events;
 use ivy_program::Program;
 use ivy_wire::Bytes;
@@ -68,6 +70,41 @@ impl<S: Setup, A: Allocator + Copy> Ether<S, A> {
     {
         let _ = config;
         let _ = programs;
+        Ether::laid(alloc, capacity, passes)
+    }
+
+    /// The same where each node has own code, which has made no call yet [1].
+    pub fn open(
+        alloc: A,
+        config: &Config,
+        capacity: usize,
+        passes: usize,
+    ) -> Result<(Self, Vec<Pass<Wired<A>>, A>), Fault>
+        requires config { config.now ≡ S.config }
+        requires programs { S.programs ≡ replicate S.config.nodes (Called []) }
+        requires capacity { 0 < capacity }
+        requires passes { 0 < passes }
+        ensures fresh { IfOk result (λ r. AreFresh r.0 r.1.items) }
+        ensures each { IfOk result (λ r. vec_len r.1 ≡ passes) }
+        ensures room { IfOk result (λ r. room_of r.0 ≡ capacity) }
+        ensures memory { IsOkUnless result Fault.Memory }
+    {
+        let _ = config;
+        Ether::laid(alloc, capacity, passes)
+    }
+
+    fn laid(
+        alloc: A,
+        capacity: usize,
+        passes: usize,
+    ) -> Result<(Self, Vec<Pass<Wired<A>>, A>), Fault>
+        requires capacity { 0 < capacity }
+        requires passes { 0 < passes }
+        ensures fresh { IfOk result (λ r. AreFresh r.0 r.1.items) }
+        ensures each { IfOk result (λ r. vec_len r.1 ≡ passes) }
+        ensures room { IfOk result (λ r. room_of r.0 ≡ capacity) }
+        ensures memory { IsOkUnless result Fault.Memory }
+    {
         let (queue, mut first) = RuledArrayQueue::<Wired<A>, View, Law<S>, A>::ruled(
             alloc, capacity,
         )?;
@@ -251,6 +288,67 @@ impl<S: Setup, A: Allocator + Copy> Ether<S, A> {
             Some(Item::Report(node, events)) => Some((node, events)),
             _ => None,
         }
+    }
+
+    fn hand_given<E: Handed>(&self, pass: &mut Pass<Wired<A>>, call: Call)
+        requires pass { pass.old.ether ≡ self.now }
+        requires given { E.call ≡ call }
+        requires seated { IsSome pass.old.known.node }
+        requires unreported { pass.old.known.reported ≡ false }
+        ensures pass { pass.new.ether ≡ pass.old.ether }
+        ensures known { pass.new.known ≡ with_handed pass.old.known E.call }
+    {
+        let _ = call;
+        self.queue.another::<Hands<E>>(&mut pass.token);
+    }
+
+    /// A call is handed to the pass's node: from now on the run is one of nodes to which it was handed, and all that
+    /// happened before could have happened so. It makes no step of the queue, and does not fail.
+    pub fn hand(&self, pass: &mut Pass<Wired<A>>, call: Call)
+        requires pass { pass.old.ether ≡ self.now }
+        requires seated { IsSome pass.old.known.node }
+        requires unreported { pass.old.known.reported ≡ false }
+        ensures pass { pass.new.ether ≡ pass.old.ether }
+        ensures known { pass.new.known ≡ with_handed pass.old.known call }
+    {
+        self.hand_given::<Brand>(pass, call)
+    }
+
+    fn give<E: Given>(&self, pass: &mut Pass<Wired<A>>, events: &Events<A>)
+        requires pass { pass.old.ether ≡ self.now }
+        requires given { E.events ≡ events.now.marks }
+        requires events { MayGive S.config S.programs pass.old.known E.events }
+        ensures pass { pass.new.ether ≡ pass.old.ether }
+        ensures known { pass.new.known ≡ with_given pass.old.known E.events }
+    {
+        let _ = events;
+        self.queue.another::<Gives<E>>(&mut pass.token);
+    }
+
+    fn take_in(&self, starter: &mut Pass<Wired<A>>, pass: Pass<Wired<A>>)
+        requires starter { starter.old.ether ≡ self.now }
+        requires pass { pass.ether ≡ self.now }
+        requires seated { IsSome pass.known.node }
+        requires unreported { pass.known.reported ≡ false }
+        ensures starter { starter.new.ether ≡ starter.old.ether }
+        ensures known { starter.new.known ≡ with_closed starter.old.known pass.known }
+    {
+        let Pass { node: _, token } = pass;
+        self.queue.absorb::<Closes>(&mut starter.token, token);
+    }
+
+    /// Takes in the pass of a site, whose whole event list this is: the starter's pass knows of that node's list and calls
+    /// from now on, and nobody makes a step for it any more. It makes no step of the queue, and does not fail.
+    pub fn close(&self, starter: &mut Pass<Wired<A>>, pass: Pass<Wired<A>>, events: &Events<A>)
+        requires starter { starter.old.ether ≡ self.now }
+        requires pass { pass.ether ≡ self.now }
+        requires events { MayGive S.config S.programs pass.known events.now.marks }
+        ensures starter { starter.new.ether ≡ starter.old.ether }
+        ensures known { starter.new.known ≡ with_closed starter.old.known (with_given pass.known events.now.marks) }
+    {
+        let mut pass = pass;
+        self.give::<Brand>(&mut pass, events);
+        self.take_in(starter, pass)
     }
 
     /// What the pass of a site tells at any moment: the list that it gave last is its node's part of some run, in which

@@ -10,11 +10,11 @@ use std::marker::{Brand, PhantomData};
 pub trait Setup {
     ghost use Rattle.std.specs.Prelude.{List};
     ghost use Rattle.ivy_model.specs.declared.Config.{Config};
-    ghost use Rattle.ivy_program.specs.declared.Instruction.{Instruction};
+    ghost use Rattle.ivy_program.specs.Programs.{Program};
 
     ghost config: { Config };
 
-    ghost programs: { List (List Instruction) };
+    ghost programs: { List Program };
 }
 
 impl Setup for Brand {

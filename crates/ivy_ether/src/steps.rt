@@ -1,7 +1,7 @@
 //! What each step tells the pass that makes it.
 use crate::item::{View, Wired};
 use crate::law::Setup;
-use crossbeam_queue::protocol::{Lesson, Outcome, Split};
+use crossbeam_queue::protocol::{Join, Lesson, Outcome, Split};
 use std::alloc::Allocator;
 use std::marker::{Brand, PhantomData};
 
@@ -21,6 +21,19 @@ impl Given for Brand {
     ghost events = { [] };
 
     ghost frame = { [] };
+}
+
+/// The call that is handed to a node. Each step picks it.
+pub trait Handed {
+    ghost use Rattle.ivy_model.specs.declared.Call.{Call};
+
+    ghost call: { Call };
+}
+
+impl Handed for Brand {
+    ghost use Rattle.ivy_ether.specs.Views.{any_call};
+
+    ghost call = { any_call };
 }
 
 /// A frame is put.
@@ -171,4 +184,37 @@ impl Split<View> for Beside {
     ghost left = { λ v. v };
 
     ghost right = { λ v. newcomer };
+}
+
+/// A call is handed to the pass's node.
+pub struct Hands<E: Handed>(PhantomData<E>);
+
+impl<E: Handed> Split<View> for Hands<E> {
+    ghost use Rattle.ivy_ether.specs.Views.{newcomer, with_handed};
+
+    ghost left = { λ v. with_handed v E.call };
+
+    ghost right = { λ v. newcomer };
+}
+
+/// A site's list is given.
+pub struct Gives<E: Given>(PhantomData<E>);
+
+impl<E: Given> Split<View> for Gives<E> {
+    ghost use Rattle.ivy_ether.specs.Views.{newcomer, with_given};
+
+    ghost left = { λ v. with_given v E.events };
+
+    ghost right = { λ v. newcomer };
+}
+
+/// The pass of a site is taken in.
+pub struct Closes;
+
+impl Join<View> for Closes {
+    ghost use Rattle.ivy_ether.specs.Views.{newcomer, with_closed};
+
+    ghost both = { with_closed };
+
+    ghost spent = { newcomer };
 }

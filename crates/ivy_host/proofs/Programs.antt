@@ -21,7 +21,7 @@ use Rattle.ivy_host.specs.Managers.{Managed, managed_ops}
 use Rattle.ivy_host.specs.Hosts.{Host, host_rules, turn_of, serving, turned_at, steps, begins, begins_as, begins_with, quietly, recorded}
 
 -- what a test guards
-guarded : {X : Type 0} (b : Bool) (o : Option X) (x : X) → (if b then o else None) ≡ Some x
+pub guarded : {X : Type 0} (b : Bool) (o : Option X) (x : X) → (if b then o else None) ≡ Some x
     → (b ≡ true) × (o ≡ Some x)
 guarded true o x e = (refl, e)
 guarded false o x e = absurd (none-some x e)
@@ -91,7 +91,7 @@ posting-link n core ps e is =
 
 -- a delivery keeps it
 
-accepting-core : (f : Frame) (o : Option (Effect (Host Managed))) (e : Effect (Host Managed))
+pub accepting-core : (f : Frame) (o : Option (Effect (Host Managed))) (e : Effect (Host Managed))
     → accepting f o ≡ Some e
     → (x : Effect (Host Managed)) × (o ≡ Some x) × (e.after.core ≡ x.after.core)
 accepting-core f None e is = absurd (none-some e is)

@@ -14,7 +14,7 @@ use Rattle.ivy_wire.specs.Data.{Message}
 use Rattle.ivy_wire.specs.Spelling.{FitsMessage, FitsParcel}
 use Rattle.ivy_pagetable.specs.Manager.{Ops, Laws}
 use Rattle.ivy_memory.proofs.of_ivy_coherence.IdleServing.{all_none}
-use Rattle.ivy_program.specs.declared.Instruction.{Instruction}
+use Rattle.ivy_program.specs.Programs.{Program}
 use Rattle.ivy_program.specs.Steps.{Step, Local, Asks, Ends, step_of, at_state}
 use Rattle.ivy_program.proofs.Running.{asked_legal}
 use Rattle.ivy_moves.specs.Cores.{Outcome}
@@ -93,7 +93,7 @@ module _ {S : Type 0} (ops : Ops S) where
   unfolding serving
   serve-asking n from m h k asked = h k (sym (told-asked ops n.memory from m) ∙ asked)
 
-  pub first-asking : (c : Config) (me : ℕ) (p : List Instruction)
+  pub first-asking : (c : Config) (me : ℕ) (p : Program)
       → IsAskingHost (first_host ops c me p)
   first-asking c me p j h = absurd (none-some j h)
 
@@ -208,14 +208,14 @@ module _ {S : Type 0} {ops : Ops S} (laws : Laws ops) where
     serve = λ i source n m s below foreign fits. serve-tame c i source n m s below foreign fits;
   }
 
-pub first_length : {S : Type 0} (ops : Ops S) (c : Config) (me : ℕ) (ps : List (List Instruction))
+pub first_length : {S : Type 0} (ops : Ops S) (c : Config) (me : ℕ) (ps : List Program)
     → length (first_nodes ops c me ps) ≡ length ps
 first_length ops c me [] = refl
 first_length ops c me (p ∷ ps) = ap suc (first_length ops c (me + 1) ps)
 
-first_at : {S : Type 0} (ops : Ops S) (c : Config) (me k : ℕ) (ps : List (List Instruction)) (i : ℕ)
+first_at : {S : Type 0} (ops : Ops S) (c : Config) (me k : ℕ) (ps : List Program) (i : ℕ)
     (n : Node (Host S)) → me + i ≡ k → slice_get (first_nodes ops c me ps) i ≡ Some n
-    → (p : List Instruction) × (n ≡ first_node ops c k p) × (i < length ps)
+    → (p : Program) × (n ≡ first_node ops c k p) × (i < length ps)
 first_at ops c me k [] i n at is = absurd (none-some n is)
 first_at ops c me k (p ∷ ps) zero n at is =
     (p, sym (same_Some _ n is) ∙ ap (λ j. first_node ops c j p) (omega (arith, at)), omega arith)
@@ -223,15 +223,15 @@ first_at ops c me k (p ∷ ps) (suc i) n at is =
     let rest = first_at ops c (me + 1) k ps i n (omega (arith, at)) is in
     (rest.0, rest.1, (let below = rest.2 in omega (arith, below)))
 
-none_early : (programs : List (List Instruction)) (i : ℕ)
-    → ◌≡◌ {A = List (List ℕ)} (get_or (map (λ (p : List Instruction). []) programs) i []) []
+none_early : (programs : List Program) (i : ℕ)
+    → ◌≡◌ {A = List (List ℕ)} (get_or (map (λ (p : Program). []) programs) i []) []
 none_early [] i = refl
 none_early (p ∷ ps) zero = refl
 none_early (p ∷ ps) (suc i) = none_early ps i
 
 -- the world as it begins
 pub opening_is : {S : Type 0} {ops : Ops S} → Laws ops
-    → (c : Config) (programs : List (List Instruction)) → IsConfig c → length programs ≡ c.nodes
+    → (c : Config) (programs : List Program) → IsConfig c → length programs ≡ c.nodes
     → IsOpening c (IsSoundHost ops c) (opening ops c programs)
 opening_is {S} {ops} laws c programs limits many = record {
   nodes = first_length ops c 0 programs ∙ many;

@@ -5,7 +5,7 @@ use Rattle.ivy_wire.specs.Data.{Frame}
 use Rattle.ivy_wire.specs.Spelling.{Spells}
 use Rattle.ivy_pagetable.specs.Entries.{readable, writable}
 use Rattle.ivy_pagetable.specs.Tables.{entry_at}
-use Rattle.ivy_program.specs.declared.Instruction.{Instruction}
+use Rattle.ivy_program.specs.Programs.{Program}
 use Rattle.ivy_program.specs.Runs.{IsRunTo}
 use Rattle.ivy_moves.specs.Nodes.{Node}
 use Rattle.ivy_moves.specs.Worlds.{World}
@@ -20,7 +20,7 @@ module _ {S : Type 0} where
       → readable (entry_at m.core.memory.coherence.table p) ≡ true → i ≡ j
 
   -- each history is a run of its program, whose output is what that run printed
-  abbrev pub AreRuns : List (List Instruction) → World (Host S) → Type 0
+  abbrev pub AreRuns : List Program → World (Host S) → Type 0
   AreRuns programs w = (i : ℕ) (n : Node (Host S)) → slice_get w.nodes i ≡ Some n
       → (slice_get programs i ≡ Some n.core.process.program)
       × IsRunTo n.core.process.program n.core.history n.core.process.state

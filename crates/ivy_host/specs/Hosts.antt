@@ -8,7 +8,7 @@ use Rattle.ivy_model.specs.declared.Reply.{Reply}
 use Rattle.ivy_model.specs.Explains.{Answered}
 use Rattle.ivy_wire.specs.Data.{Message}
 use Rattle.ivy_pagetable.specs.Manager.{Ops}
-use Rattle.ivy_program.specs.declared.Instruction.{Instruction}
+use Rattle.ivy_program.specs.Programs.{Program}
 use Rattle.ivy_program.specs.States.{first_state}
 use Rattle.ivy_program.specs.Steps.{Process, Step, Local, Asks, Ends, step_of, at_state, answered_with}
 use Rattle.ivy_moves.specs.Cores.{Core, Outcome}
@@ -90,7 +90,7 @@ module _ {S : Type 0} (ops : Ops S) where
   host_rules = record { turn = turn_of; serve = serving }
 
   -- no instruction was carried out, and no reply recorded
-  abbrev pub first_host : Config → ℕ → List Instruction → Host S
+  abbrev pub first_host : Config → ℕ → Program → Host S
   first_host c me program = record {
     memory = first_memory ops c me;
     process = record { program = program; state = first_state };

@@ -3,6 +3,7 @@ pub mod ManagedLaws
 pub mod Either
 pub mod Hosts
 pub mod Sound
+pub mod Handing
 pub mod Openings
 pub mod Holding
 pub use Rattle.ivy_fixed.specs as ivy_fixed

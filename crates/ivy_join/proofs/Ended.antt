@@ -1,8 +1,8 @@
 -- Sites that are played, and whose lists are those of the logs, are joined; and they are played as
 -- they begin.
-use Rattle.std.proofs.Common.{◌≡◌, ℕ, zero, suc, ◌+◌, ◌<◌, List, [], ◌∷◌, ◌++◌, length, map, slice_get, Contains, Option, Some, None, refl, sym, ap, subst, ◌∙◌, option_map, arith, take, get_or}
+use Rattle.std.proofs.Common.{◌≡◌, ℕ, zero, suc, ◌+◌, ◌<◌, List, [], ◌∷◌, ◌++◌, length, map, slice_get, Contains, Option, Some, None, refl, sym, ap, subst, ◌∙◌, append_assoc, option_map, arith, take, get_or}
 use Rattle.std.proofs.lemmas.List.{length-map, length-take-le, map_push, take_more}
-use Rattle.std.proofs.lemmas.Option.{same_Some, slice_get-map, slice_get_within}
+use Rattle.std.proofs.lemmas.Option.{same_Some, none-some, slice_get-map}
 use Rattle.ivy_model.specs.declared.Config.{Config}
 use Rattle.ivy_model.specs.Config.{IsConfig}
 use Rattle.ivy_moves.specs.Marks.{Mark}
@@ -16,12 +16,13 @@ use Rattle.ivy_site.specs.ivy_host.Managers.{Managed, managed_ops}
 use Rattle.ivy_site.specs.ivy_host.Openings.{first_node, opening}
 use Rattle.ivy_site.specs.Shown.{Shown}
 use Rattle.ivy_site.specs.Sites.{first_shown, IsMadeByEvents}
-use Rattle.ivy_world.specs.WorldSites.{programs_of, AreFirst, first_sites_from}
+use Rattle.ivy_world.specs.WorldSites.{programs_of}
 use Rattle.proof_headline.proofs.Headline.{keeps-reached}
 use Rattle.proof_headline.specs.RunState.{Run}
-use Rattle.ivy_world.proofs.Worlds.{first_running-of, first_run-of}
-use Rattle.ivy_join.specs.Programs.{Program}
-use Rattle.ivy_join.specs.Joining.{program_in, events_at, listed, IsNode, ArePlayed}
+use Rattle.ivy_moves.specs.declared.keep.Keep.TheVariants.{All}
+use Rattle.ivy_site.proofs.Made.{first_made}
+use Rattle.ivy_program.specs.Programs.{Program}
+use Rattle.ivy_join.specs.Joining.{program_in, events_at, listed, kept_from, IsNode, ArePlayed, AreKept}
 use Rattle.ivy_lines.specs.declared.log.Head.{Head}
 use Rattle.ivy_join.specs.Joined.{part_in, list_of, run_to, AreHeads, AreJoined}
 use Rattle.ivy_join.proofs.Played.{first_there}
@@ -74,38 +75,72 @@ module _ (c : Config) (programs : List Program) (sites : List Shown) (sent : Lis
     nodes = node;
   }
 
+pub are-kept : (c : Config) (sites : List Shown) (sent : List (List ℕ)) → ArePlayed c sites sent
+    → AreKept sites
+are-kept c sites sent played i s there = (played.each i s there).keep
+
 -- as they begin
 
-first-events : (c : Config) (me : ℕ) (ps : List Program) (i : ℕ)
-    → events_at (first_sites_from c me ps) i ≡ []
-first-events c me [] i = refl
-first-events c me (p ∷ ps) zero = refl
-first-events c me (p ∷ ps) (suc i) = first-events c (me + 1) ps i
+pub one_more_kept : (c : Config) (me : ℕ) (sites : List Shown) (p : Program) (left rest : List Program)
+    → left ≡ p ∷ rest → (site : Shown) → site ≡ first_shown c me p → (more : List Shown)
+    → more ≡ sites ++ site ∷ [] → more ++ kept_from c (me + 1) rest ≡ sites ++ kept_from c me left
+one_more_kept c me sites p left rest steps site is more added =
+    ap (λ l. l ++ kept_from c (me + 1) rest) added
+    ∙ append_assoc sites (site ∷ []) (kept_from c (me + 1) rest)
+    ∙ ap (λ s. sites ++ s ∷ kept_from c (me + 1) rest) is
+    ∙ ap (λ l. sites ++ kept_from c me l) (sym steps)
+
+module _ (c : Config) where
+  first-count : (me : ℕ) (ps : List Program) → length (kept_from c me ps) ≡ length ps
+  first-count me [] = refl
+  first-count me (p ∷ ps) = ap suc (first-count (me + 1) ps)
+
+  programs-from : (me : ℕ) (ps : List Program) → programs_of (kept_from c me ps) ≡ ps
+  programs-from me [] = refl
+  programs-from me (p ∷ ps) = ap (λ l. p ∷ l) (programs-from (me + 1) ps)
+
+  first-events : (me : ℕ) (ps : List Program) (i : ℕ) → events_at (kept_from c me ps) i ≡ []
+  first-events me [] i = refl
+  first-events me (p ∷ ps) zero = refl
+  first-events me (p ∷ ps) (suc i) = first-events (me + 1) ps i
+
+  first-at : (me : ℕ) (ps : List Program) (i k : ℕ) (s : Shown) → me + i ≡ k
+      → slice_get (kept_from c me ps) i ≡ Some s → (p : Program) × (s ≡ first_shown c k p)
+  first-at me [] i k s at e = absurd (none-some s e)
+  first-at me (p ∷ ps) zero k s at e =
+      let same : me ≡ k = omega (arith, at) in
+      (p, sym (same_Some (first_shown c me p) s e) ∙ ap (λ j. first_shown c j p) same)
+  first-at me (p ∷ ps) (suc i) k s at e = first-at (me + 1) ps i k s (omega (arith, at)) e
 
 module _ (c : Config) (programs : List Program) (sites : List Shown) (limits : IsConfig c)
-    (each : length programs ≡ c.nodes) (first : AreFirst c programs sites) where
+    (each : length programs ≡ c.nodes) (first : sites ≡ kept_from c 0 programs) where
   pub first-programs : programs_of sites ≡ programs
-  first-programs = ap (λ (r : Run). r.programs) (first_run-of c programs sites [] first refl)
+  first-programs = ap programs_of first ∙ programs-from c 0 programs
 
   nothing : (i : ℕ) → events_at sites i ≡ []
   nothing i = ap (λ l. events_at l i) first ∙ first-events c 0 programs i
 
-  pub first-played : ArePlayed c sites []
-  first-played =
-      let running = first_running-of c programs sites [] limits each first refl in
-      record {
-        limits = limits;
-        count = running.count;
-        each = λ i s there. record {
-          config = running.nodes.config i s there;
-          me = running.nodes.me i s there;
-          made = running.nodes.made i s there;
-          took = subst (AllCanBeMade [] c.nodes i) (sym (sym (ap listed there) ∙ nothing i)) tt;
-        };
-        end = opening managed_ops c (programs_of sites);
-        run = record { moves = []; leads = refl; are = nothing };
-        all_sent = λ b there. there;
+  first-node : (i : ℕ) (s : Shown) → slice_get sites i ≡ Some s → IsNode c [] i s
+  first-node i s there =
+      let own = first-at c 0 programs i i s (omega arith)
+      (subst (λ l. slice_get l i ≡ Some s) first there) in
+      let is : s ≡ first_shown c i own.0 = own.1 in record {
+        config = ap (λ (x : Shown). x.config) is;
+        me = ap (λ (x : Shown). x.me) is;
+        keep = ap (λ (x : Shown). x.keep) is;
+        made = subst IsMadeByEvents (sym is) (first_made All c i own.0);
+        took = subst (AllCanBeMade [] c.nodes i) (sym (ap (λ (x : Shown). x.events) is)) tt;
       }
+
+  pub first-played : ArePlayed c sites []
+  first-played = record {
+    limits = limits;
+    count = ap length first ∙ first-count c 0 programs ∙ each;
+    each = first-node;
+    end = opening managed_ops c (programs_of sites);
+    run = record { moves = []; leads = refl; are = nothing };
+    all_sent = λ b there. there;
+  }
 
 -- what the lists of logs have
 

@@ -3,3 +3,5 @@ pub mod Played
 pub mod Collected
 pub mod Ended
 pub mod Taken
+pub use Rattle.ivy_lines.proofs as of_ivy_lines
+pub use Rattle.ivy_site.proofs as of_ivy_site

@@ -19,11 +19,12 @@ use Rattle.ivy_site.specs.ivy_host.Hosts.{Host, host_rules}
 use Rattle.ivy_site.specs.ivy_host.Managers.{Managed, managed_ops}
 use Rattle.ivy_site.specs.ivy_host.Openings.{first_node, first_nodes, opening}
 use Rattle.ivy_site.proofs.of_ivy_host.Tame.{first_length}
+use Rattle.ivy_moves.specs.declared.keep.Keep.TheVariants.{All}
 use Rattle.ivy_site.specs.Shown.{Shown}
 use Rattle.ivy_site.specs.Sites.{IsMadeByEvents}
 use Rattle.ivy_world.specs.WorldSites.{programs_of, AreFirst}
 use Rattle.ivy_world.proofs.Making.{same_map}
-use Rattle.ivy_join.specs.Programs.{Program}
+use Rattle.ivy_program.specs.Programs.{Program}
 use Rattle.ivy_join.specs.Joining.{program_in, events_at, listed, GoesOnBy, Sends, AddsSent, IsNode, ArePlayed}
 
 -- one of the lists goes on
@@ -146,6 +147,9 @@ module _ (c : Config) (sites : List Shown) (sent more : List (List ℕ)) (i : �
   new-me : new.me ≡ i
   new-me = ap (λ (s : Shown). s.me) same ∙ me
 
+  new-keep : new.keep ≡ All
+  new-keep = ap (λ (s : Shown). s.keep) same ∙ on.keep ∙ was.keep
+
   new-events : new.events ≡ old.events ++ on.more
   new-events = ap (λ (s : Shown). s.events) same ∙ on.events
 
@@ -246,10 +250,17 @@ module _ (c : Config) (sites : List Shown) (sent more : List (List ℕ)) (i : �
       ⊎_elim
       (λ p. subst (IsNode c more j) (sym p.1)
       (subst (λ x. IsNode c more x new) (sym p.0)
-      (record { config = new-config; me = new-me; made = made'; took = took-here })))
+      (record {
+        config = new-config;
+        me = new-me;
+        keep = new-keep;
+        made = made';
+        took = took-here;
+      })))
       (λ q. let old-one = played.each j s q in record {
         config = old-one.config;
         me = old-one.me;
+        keep = old-one.keep;
         made = old-one.made;
         took = can-more sent more c.nodes j s.events kept old-one.took;
       })

@@ -1,16 +1,15 @@
 -- What one call of a site adds to its list of events.
-use Rattle.std.proofs.Common.{◌≡◌, ◌≢◌, ℕ, ◌<◌, List, [], ◌∷◌, ◌++◌, length, Contains, Option, refl, sym, ap, subst, ◌∙◌, append-nil, append_assoc}
-use Rattle.std.specs.Prelude.{MatchResult, Result, Ok, Err}
+use Rattle.std.proofs.Common.{◌≡◌, ◌≢◌, ℕ, ◌+◌, ◌<◌, List, [], ◌∷◌, ◌++◌, length, Contains, Option, refl, sym, ap, subst, ◌∙◌, append-nil, append_assoc}
+use Rattle.std.specs.Prelude.{MatchResult, Result, Ok, Err, IsTrue, Bool, true, false, ◌↔◌}
 use Rattle.ivy_model.specs.declared.Config.{Config}
 use Rattle.ivy_model.specs.declared.Fault.{Fault}
 use Rattle.ivy_model.specs.Config.{IsConfig}
 use Rattle.ivy_wire.specs.Data.{Frame}
 use Rattle.ivy_moves.specs.ivy_link.declared.Verdict.{Verdict}
 use Rattle.ivy_moves.specs.ivy_link.declared.Verdict.TheVariants as verdict
-use Rattle.ivy_moves.specs.Marks.{Turn, Delivery}
+use Rattle.ivy_moves.specs.Marks.{Mark, Turn, Delivery, Pulse, turns}
 use Rattle.ivy_moves.specs.Nodes.{pulsing}
 use Rattle.ivy_moves.specs.Parts.{AllCanBeMade, pulse_marks}
-use Rattle.ivy_moves.proofs.Early.{early-can}
 use Rattle.ivy_moves.proofs.Splitting.{can-append}
 use Rattle.ivy_site.specs.ivy_host.Hosts.{Host, host_rules}
 use Rattle.ivy_site.specs.ivy_host.Managers.{Managed, managed_ops}
@@ -18,9 +17,10 @@ use Rattle.ivy_site.specs.ivy_host.Openings.{first_node}
 use Rattle.ivy_site.specs.declared.turn.Turn as turn
 use Rattle.ivy_site.specs.declared.turn.Turn.TheVariants.{Idle, Moved, Ended}
 use Rattle.ivy_site.specs.Shown.{Shown, after_hearing, after_delivery, after_pulse_to}
-use Rattle.ivy_site.specs.Sites.{AfterTurn, AfterDelivery, DeliversWhole, SiteDelivers, without_ready, GoesOnOnce, FollowsDelivery}
-use Rattle.ivy_site.specs.Sites as sites
+use Rattle.ivy_site.specs.Inside.{Receives, Holds}
+use Rattle.ivy_site.specs.Sites.{AfterTurn, SiteDelivers}
 use Rattle.ivy_site.proofs.of_ivy_host.Programs.{turned-program, posting-core, delivered-program}
+use Rattle.ivy_lines.proofs.Cursors.{turns-more}
 use Rattle.ivy_join.specs.Joining.{program_in, GoesOnBy}
 
 module _ (sent : List (List ℕ)) where
@@ -29,6 +29,7 @@ module _ (sent : List (List ℕ)) where
     me = ap (λ (x : Shown). x.me) same;
     config = ap (λ (x : Shown). x.config) same;
     program = ap program_in same;
+    keep = ap (λ (x : Shown). x.keep) same;
     more = [];
     events = ap (λ (x : Shown). x.events) same ∙ sym (append-nil s.events);
     can = tt;
@@ -40,6 +41,7 @@ module _ (sent : List (List ℕ)) where
     me = y.me ∙ x.me;
     config = y.config ∙ x.config;
     program = y.program ∙ x.program;
+    keep = y.keep ∙ x.keep;
     more = x.more ++ y.more;
     events = y.events ∙ ap (λ l. l ++ y.more) x.events ∙ append_assoc a.events x.more y.more;
     can = can-append sent a.config.nodes a.me x.more y.more x.can
@@ -67,6 +69,7 @@ module _ (sent : List (List ℕ)) where
         ∙ ap (λ (k : Host Managed). k.process.program)
         (posting-core s.node after.outcome.after after.outcome.posted after.effect after.sent)
         ∙ turned-program s.node.core after.outcome after.turn;
+    keep = ap (λ (x : Shown). x.keep) after.after;
     more = Turn ∷ [];
     events = ap (λ (x : Shown). x.events) after.after;
     can = (tt, tt);
@@ -81,6 +84,7 @@ module _ (sent : List (List ℕ)) where
     config = ap (λ (x : Shown). x.config) after;
     program = ap program_in after
         ∙ delivered-program s.config limits s.node d.frame bytes d.effect d.spelled d.delivered;
+    keep = ap (λ (x : Shown). x.keep) after;
     more = Delivery bytes ∷ [];
     events = ap (λ (x : Shown). x.events) after;
     can = (there, tt);
@@ -100,72 +104,21 @@ module _ (sent : List (List ℕ)) where
       listed bytes v verdict.Ahead s s' limits there d
       (d.after ∙ ap (λ x. after_delivery s bytes x d.frame.source d.effect) is)
 
-  -- and of one that it held, which was delivered to it before
-  once-goes : (source : ℕ) (bytes : List ℕ) (s s' : Shown) → IsConfig s.config
-      → AllCanBeMade sent s.config.nodes s.me s.events → GoesOnOnce source bytes s s'
+  -- a string that came too early is held, which is no event
+  holds-go : (bytes : List ℕ) (v : Verdict) (f : Frame) (s s' : Shown) → Holds v f bytes s s'
       → GoesOnBy sent s s'
-  once-goes source bytes s s' limits before once =
-      let there : Contains sent bytes =
-      early-can (host_rules managed_ops) s.config sent s.config.nodes s.me
-      (first_node managed_ops s.config s.me (program_in s)) s.events bytes before once.early in
-      let x : GoesOnBy sent (without_ready s source) s' =
-      delivery-goes bytes verdict.Next verdict.Next (without_ready s source) s' refl limits there
-      once.next in
-      record {
-        me = x.me;
-        config = x.config;
-        program = x.program;
-        more = x.more;
-        events = x.events;
-        can = x.can;
-      }
-
-  all-go : (source : ℕ) (strings : List (List ℕ)) (s s' : Shown) → IsConfig s.config
-      → AllCanBeMade sent s.config.nodes s.me s.events → sites.SiteGoesOn source strings s s'
-      → GoesOnBy sent s s'
-  all-go source [] s s' limits before same = stays s s' same
-  all-go source (bytes ∷ strings) s s' limits before on =
-      let x : GoesOnBy sent s on.0 = once-goes source bytes s on.0 limits before on.1 in
-      goes-further s on.0 s' x
-      (all-go source strings on.0 s' (subst IsConfig (sym x.config) limits)
-      (took-further s on.0 before x) on.2)
-
-  holding-goes : (s s' : Shown) → s' ≡ record s { held = s'.held } → GoesOnBy sent s s'
-  holding-goes s s' same = record {
+  holds-go bytes verdict.NotMine f s s' same = stays s s' same
+  holds-go bytes verdict.Next f s s' same = stays s s' same
+  holds-go bytes verdict.Repeat f s s' same = stays s s' same
+  holds-go bytes verdict.Ahead f s s' same = record {
     me = ap (λ (x : Shown). x.me) same;
     config = ap (λ (x : Shown). x.config) same;
     program = ap program_in same;
+    keep = ap (λ (x : Shown). x.keep) same;
     more = [];
     events = ap (λ (x : Shown). x.events) same ∙ sym (append-nil s.events);
     can = tt;
   }
-
-  follows-go : (v : Verdict) (f : Frame) (bytes : List ℕ) (s s' : Shown) → IsConfig s.config
-      → AllCanBeMade sent s.config.nodes s.me s.events → FollowsDelivery v f bytes s s'
-      → GoesOnBy sent s s'
-  follows-go verdict.NotMine f bytes s s' limits before same = stays s s' same
-  follows-go verdict.Repeat f bytes s s' limits before same = stays s s' same
-  follows-go verdict.Ahead f bytes s s' limits before same =
-      holding-goes s s'
-      (same ∙ ap (λ h. record s { held = h }) (sym (ap (λ (x : Shown). x.held) same)))
-  follows-go verdict.Next f bytes s s' limits before on =
-      all-go f.source on.0 s s' limits before on.1
-
-  after-goes : (bytes : List ℕ) (v : Verdict) (s s' : Shown) → IsConfig s.config
-      → AllCanBeMade sent s.config.nodes s.me s.events → Contains sent bytes
-      → AfterDelivery bytes v s s' → GoesOnBy sent s s'
-  after-goes bytes v s s' limits before there d =
-      let x : GoesOnBy sent s d.mid = delivery-goes bytes v v s d.mid refl limits there d.first in
-      goes-further s d.mid s' x
-      (follows-go v d.first.frame bytes d.mid s' (subst IsConfig (sym x.config) limits)
-      (took-further s d.mid before x) d.follows)
-
-  whole-after : (v : Verdict) (refused : Option Fault) (bytes : List ℕ) (s s' : Shown)
-      → DeliversWhole v refused bytes s s' → AfterDelivery bytes v s s'
-  whole-after verdict.Next refused bytes s s' d = d.0
-  whole-after verdict.NotMine refused bytes s s' d = d.0
-  whole-after verdict.Repeat refused bytes s s' d = d.0
-  whole-after verdict.Ahead refused bytes s s' d = d.0
 
   -- as the calls of a site answer
   pub turned : (r : Result turn.Turn Fault) (s s' : Shown)
@@ -173,12 +126,13 @@ module _ (sent : List (List ℕ)) where
   turned (Ok t) s s' after = turn-goes t s s' after
   turned (Err fault) s s' same = stays s s' same
 
-  pub delivered : (r : Result (Verdict × Option Fault) Fault) (bytes : List ℕ) (s s' : Shown)
-      → MatchResult r (λ d. DeliversWhole d.0 d.1 bytes s s') (λ _. s' ≡ s) → IsConfig s.config
-      → AllCanBeMade sent s.config.nodes s.me s.events → Contains sent bytes → GoesOnBy sent s s'
-  delivered (Ok d) bytes s s' after limits before there =
-      after-goes bytes d.0 s s' limits before there (whole-after d.0 d.1 bytes s s' after)
-  delivered (Err fault) bytes s s' same limits before there = stays s s' same
+  pub delivered : (r : Result (Verdict × ℕ) Fault) (bytes : List ℕ) (s s' : Shown)
+      → MatchResult r (λ d. Receives bytes d.0 d.1 s s') (λ _. s' ≡ s) → IsConfig s.config
+      → Contains sent bytes → GoesOnBy sent s s'
+  delivered (Ok d) bytes s s' after limits there =
+      goes-further s after.mid s' (delivery-goes bytes d.0 d.0 s after.mid refl limits there after.first)
+      (holds-go bytes d.0 after.first.frame after.mid s' after.holds)
+  delivered (Err fault) bytes s s' same limits there = stays s s' same
 
   pulse-can : (to me nodes : ℕ) (strings : List (List ℕ)) → to < nodes → me ≢ to
       → AllCanBeMade sent nodes me (pulse_marks to strings)
@@ -192,6 +146,7 @@ module _ (sent : List (List ℕ)) where
     me = ap (λ (x : Shown). x.me) after;
     config = ap (λ (x : Shown). x.config) after;
     program = ap program_in after;
+    keep = ap (λ (x : Shown). x.keep) after;
     more = pulse_marks to (pulsing s.node to).sent;
     events = ap (λ (x : Shown). x.events) after;
     can = pulse-can to s.me s.config.nodes (pulsing s.node to).sent below
@@ -203,3 +158,75 @@ module _ (sent : List (List ℕ)) where
       → to < s.config.nodes → to ≢ s.me → GoesOnBy sent s s'
   pulsed (Ok done) to s s' after below apart = pulse-goes to s s' below apart after
   pulsed (Err fault) to s s' same below apart = stays s s' same
+
+-- what was listed
+
+pub turn-listed : (s s' : Shown) → AfterTurn Moved s s' → s'.events ≡ s.events ++ Turn ∷ []
+turn-listed s s' after = ap (λ (x : Shown). x.events) after.after
+
+delivery-listed : (bytes : List ℕ) (v w : Verdict) (s s' : Shown) → v ≡ w → w ≢ verdict.NotMine
+    → SiteDelivers bytes v s s' → s'.events ≡ s.events ++ Delivery bytes ∷ []
+delivery-listed bytes v verdict.NotMine s s' is mine d = absurd (mine refl)
+delivery-listed bytes v verdict.Next s s' is mine d =
+    ap (λ (x : Shown). x.events)
+    (d.after ∙ ap (λ x. after_delivery s bytes x d.frame.source d.effect) is)
+delivery-listed bytes v verdict.Repeat s s' is mine d =
+    ap (λ (x : Shown). x.events)
+    (d.after ∙ ap (λ x. after_delivery s bytes x d.frame.source d.effect) is)
+delivery-listed bytes v verdict.Ahead s s' is mine d =
+    ap (λ (x : Shown). x.events)
+    (d.after ∙ ap (λ x. after_delivery s bytes x d.frame.source d.effect) is)
+
+holds-listed : (bytes : List ℕ) (v : Verdict) (f : Frame) (s s' : Shown) → Holds v f bytes s s'
+    → s'.events ≡ s.events
+holds-listed bytes verdict.NotMine f s s' same = ap (λ (x : Shown). x.events) same
+holds-listed bytes verdict.Next f s s' same = ap (λ (x : Shown). x.events) same
+holds-listed bytes verdict.Repeat f s s' same = ap (λ (x : Shown). x.events) same
+holds-listed bytes verdict.Ahead f s s' same = ap (λ (x : Shown). x.events) same
+
+pub received-listed : (bytes : List ℕ) (v : Verdict) (source : ℕ) (s s' : Shown)
+    → Receives bytes v source s s' → v ≢ verdict.NotMine → s'.events ≡ s.events ++ Delivery bytes ∷ []
+received-listed bytes v source s s' r mine =
+    holds-listed bytes v r.first.frame r.mid s' r.holds
+    ∙ delivery-listed bytes v v s r.mid refl mine r.first
+
+-- a pulse that sent something, where nothing waited before
+pulse-listed : (to : ℕ) (sent : List (List ℕ)) → sent ≢ [] → pulse_marks to sent ≡ Pulse to ∷ []
+pulse-listed to [] some = absurd (some refl)
+pulse-listed to (x ∷ xs) some = refl
+
+pub pulsed-listed : (to : ℕ) (s s' : Shown) → s' ≡ after_pulse_to s to (pulsing s.node to)
+    → s.waiting ≡ [] → s'.waiting ≢ [] → s'.events ≡ s.events ++ Pulse to ∷ []
+pulsed-listed to s s' after none some =
+    ap (λ (x : Shown). x.events) after
+    ∙ ap (λ l. s.events ++ l)
+    (pulse-listed to (pulsing s.node to).sent
+    (λ empty. some (ap (λ (x : Shown). x.waiting) after
+    ∙ ap (λ l. l ++ (pulsing s.node to).sent) none ∙ empty)))
+
+-- one turn more
+pub one-more : (before : List Mark) (n : ℕ) (s s' : Shown) → s.events ≡ before ++ turns n
+    → AfterTurn Moved s s' → s'.events ≡ before ++ turns (n + 1)
+one-more before n s s' listed after =
+    turn-listed s s' after ∙ ap (λ l. l ++ Turn ∷ []) listed
+    ∙ append_assoc before (turns n) (Turn ∷ []) ∙ ap (λ l. before ++ l) (sym (turns-more n 1))
+
+-- what a site says of whether a string waits
+pub none-waits : (strings : List (List ℕ)) (waits : Bool) → (IsTrue waits ↔ (strings ≢ []))
+    → waits ≡ false → strings ≡ []
+none-waits [] waits says off = refl
+none-waits (x ∷ xs) waits says off =
+    let on : waits ≡ true = says.1 (λ none. (cc)) in absurd (cc)
+
+-- strings that wait are taken out
+pub emptied : (sent : List (List ℕ)) (s s' : Shown)
+    → record s' { waiting = [] } ≡ record s { waiting = [] } → GoesOnBy sent s s'
+emptied sent s s' same = record {
+  me = ap (λ (x : Shown). x.me) same;
+  config = ap (λ (x : Shown). x.config) same;
+  program = ap program_in same;
+  keep = ap (λ (x : Shown). x.keep) same;
+  more = [];
+  events = ap (λ (x : Shown). x.events) same ∙ sym (append-nil s.events);
+  can = tt;
+}

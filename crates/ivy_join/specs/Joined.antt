@@ -11,7 +11,7 @@ use Rattle.ivy_site.specs.ivy_host.Openings.{opening}
 use Rattle.ivy_site.specs.Shown.{Shown}
 use Rattle.proof_headline.specs.Keeping.{Keeps}
 use Rattle.proof_headline.specs.RunState.{Run}
-use Rattle.ivy_join.specs.Programs.{Program}
+use Rattle.ivy_program.specs.Programs.{Program}
 
 -- the events of node i, by the lists of all nodes
 abbrev pub list_of : Option (List Mark) → List Mark

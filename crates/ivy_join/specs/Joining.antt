@@ -1,5 +1,5 @@
 -- Sites that make the events of logs again, while they are joined.
-use Rattle.std.specs.Prelude.{◌≡◌, ◌⊎◌, ℕ, List, [], ◌∷◌, ◌++◌, length, slice_get, Option, Some, None, Contains, flat_map}
+use Rattle.std.specs.Prelude.{◌≡◌, ◌⊎◌, ℕ, ◌+◌, List, [], ◌∷◌, ◌++◌, length, slice_get, Option, Some, None, Contains, flat_map}
 use Rattle.ivy_model.specs.declared.Config.{Config}
 use Rattle.ivy_model.specs.Config.{IsConfig}
 use Rattle.ivy_moves.specs.Events.{Event}
@@ -12,9 +12,19 @@ use Rattle.ivy_site.specs.ivy_host.Hosts.{Host, host_rules}
 use Rattle.ivy_site.specs.ivy_host.Managers.{Managed, managed_ops}
 use Rattle.ivy_site.specs.ivy_host.Openings.{first_node, opening}
 use Rattle.ivy_site.specs.Shown.{Shown}
-use Rattle.ivy_site.specs.Sites.{IsMadeByEvents}
+use Rattle.ivy_moves.specs.declared.keep.Keep.TheVariants.{All}
+use Rattle.ivy_site.specs.Sites.{first_shown, IsMadeByEvents}
 use Rattle.ivy_world.specs.WorldSites.{programs_of}
-use Rattle.ivy_join.specs.Programs.{Program}
+use Rattle.ivy_program.specs.Programs.{Program}
+
+-- the sites of the programs as they begin, of which each keeps its lists
+abbrev pub kept_from : Config → ℕ → List Program → List Shown
+kept_from c me [] = []
+kept_from c me (p ∷ ps) = first_shown c me p ∷ kept_from c (me + 1) ps
+
+-- each of the sites keeps its lists
+abbrev pub AreKept : List Shown → Type 0
+AreKept sites = (i : ℕ) (s : Shown) → slice_get sites i ≡ Some s → s.keep ≡ All
 
 -- the program of a site
 abbrev pub program_in : Shown → Program
@@ -48,6 +58,7 @@ pub record GoesOnBy (sent : List (List ℕ)) (old new : Shown) : Type 0 where
   pub me : new.me ≡ old.me
   pub config : new.config ≡ old.config
   pub program : program_in new ≡ program_in old
+  pub keep : new.keep ≡ old.keep
   pub more : List Mark
   pub events : new.events ≡ old.events ++ more
   pub can : AllCanBeMade sent old.config.nodes old.me more
@@ -75,11 +86,12 @@ abbrev pub AddsSent : Shown → List (List ℕ) → List (List ℕ) → Type 0
 AddsSent s old new = (bytes : List ℕ) → Contains new bytes → Contains old bytes ⊎ Sends s bytes
 
 module _ (c : Config) where
-  -- the site is this node, what its events make of it, and each string that it was given is one of
-  -- these
+  -- the site is this node, what its events make of it, and keeps its lists; each string that it was given
+  -- is one of these
   pub record IsNode (sent : List (List ℕ)) (i : ℕ) (s : Shown) : Type 0 where
     pub config : s.config ≡ c
     pub me : s.me ≡ i
+    pub keep : s.keep ≡ All
     pub made : IsMadeByEvents s
     pub took : AllCanBeMade sent c.nodes i s.events
 
@@ -94,11 +106,11 @@ module _ (c : Config) where
         (events_at sites) end
     pub all_sent : (bytes : List ℕ) → Contains sent bytes → Contains end.sent bytes
 
--- the site went on from its first event by those of the log, and by some that it went on with by itself
+-- the site went on from its first event by those of the log, and by no other one, and is what they make of
+-- it
 pub record IsMadeByLog (log : List Event) (old new : Shown) : Type 0 where
   pub me : new.me ≡ old.me
   pub config : new.config ≡ old.config
   pub program : program_in new ≡ program_in old
-  pub more : List Mark
-  pub events : new.events ≡ marks log ++ more
+  pub events : new.events ≡ marks log
   pub made : IsMadeByEvents new

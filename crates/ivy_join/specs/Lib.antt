@@ -1,3 +1,5 @@
-pub mod Programs
 pub mod Joining
 pub mod Joined
+pub use Rattle.ivy_lines.specs as ivy_lines
+pub use Rattle.ivy_pagetable.specs as ivy_pagetable
+pub use Rattle.ivy_site.specs as ivy_site

@@ -1,6 +1,7 @@
 //! What logs come to that are the parts of one run.
 ghost use Rattle.std.specs.Prelude.{◌≡◌, ◌<◌, ◌↔◌, IfSome, IsTrue, length, slice_get};
 ghost use Rattle.ivy_program.specs.Steps.{HasEnded};
+ghost use Rattle.ivy_join.specs.Joining.{AreKept};
 
 use ivy_model::{Call, Record};
 use ivy_site::Site;
@@ -25,10 +26,15 @@ impl<A: Allocator> Model for Joined<A> {
     ghost coded = { Prim.hlevel (codes, nodes_code, heap_state_code) };
 
     ghost view = { λ j. j.sites.items };
+
+    ghost use Rattle.ivy_join.specs.Joining.{AreKept};
+
+    ghost invariant = { λ j. AreKept j.sites.items };
 }
 
 impl<A: Allocator + Copy> Joined<A> {
     pub(crate) fn new(sites: Vec<Site<A>, A>) -> Self
+        requires { AreKept sites.items }
         ensures { result ≡ sites.items }
     {
         Joined { sites }

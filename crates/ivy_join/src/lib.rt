@@ -17,6 +17,7 @@ mod unjoined;
 pub use ivy_lines;
 pub use ivy_site;
 pub use joined::Joined;
+pub use making::make;
 pub use merging::join;
 pub use remaking::{NotPlayed, replay};
 pub use unjoined::Unjoined;

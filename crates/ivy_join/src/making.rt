@@ -1,6 +1,7 @@
 //! One event of a log, made again.
-ghost use Rattle.std.specs.Prelude.{◌≡◌, ℕ, List, [], Contains};
+ghost use Rattle.std.specs.Prelude.{◌≡◌, ◌++◌, ℕ, List, [], ◌∷◌, Contains, IfOk, IsTrue};
 ghost use Rattle.ivy_model.specs.Config.{IsConfig};
+ghost use Rattle.ivy_moves.specs.Marks.{Delivery, Pulse, marks_of, turns};
 ghost use Rattle.ivy_moves.specs.Parts.{AllCanBeMade};
 ghost use Rattle.ivy_join.specs.Joining.{AddsSent, CanGoOnBy, GoesOnBy};
 
@@ -15,10 +16,12 @@ use std::alloc::{AllocError, Allocator};
 /// So many turns, one after another [1]. It says whether each of them did something.
 fn make_turns<A: Allocator + Copy>(site: &mut Site<A>, count: u64) -> Result<bool, Fault>
     ensures on { (sent : List (List ℕ)) → GoesOnBy sent site.old site.new }
+    ensures made { IfOk result (λ happens. IsTrue happens → site.new.events ≡ site.old.events ++ turns count) }
 {
-    for _ in 0..count {
+    let mut made = 0u64;
+    while made < count {
         match site.program_turn() {
-            Ok(Turn::Moved) => {}
+            Ok(Turn::Moved) => made += 1,
             Ok(_) | Err(Fault::NumbersSpent) => return Ok(false),
             Err(fault) => return Err(fault),
         }
@@ -26,40 +29,50 @@ fn make_turns<A: Allocator + Copy>(site: &mut Site<A>, count: u64) -> Result<boo
     Ok(true)
 }
 
-/// A string comes to a site [1]. It says whether it is a frame for it.
+/// A string comes to a site, which does not go on after it [1]. It says whether it is a frame for it.
 fn make_delivery<A: Allocator + Copy>(site: &mut Site<A>, string: &Bytes<A>) -> Result<bool, Fault>
-    ensures on { (sent : List (List ℕ)) → IsConfig site.old.config → AllCanBeMade sent site.old.config.nodes site.old.me site.old.events → Contains sent string.now → GoesOnBy sent site.old site.new }
+    ensures on { (sent : List (List ℕ)) → IsConfig site.old.config → Contains sent string.now → GoesOnBy sent site.old site.new }
+    ensures made { IfOk result (λ happens. IsTrue happens → site.new.events ≡ site.old.events ++ Delivery string.now ∷ []) }
 {
-    match site.deliver_telling(string) {
-        Ok((_, Some(Fault::Memory))) | Err(Fault::Memory) => Err(Fault::Memory),
+    match site.deliver_alone(string) {
         Ok((verdict, _)) => Ok(verdict != Verdict::NotMine),
+        Err(Fault::Memory) => Err(Fault::Memory),
         Err(_) => Ok(false),
     }
 }
 
-/// A pulse to a node [1]. It says whether there is such another node.
+/// A pulse to a node, from a site at which no string waits [1]. It says whether there is such another node, and it sent
+/// something: else the pulse is no event.
 fn make_pulse<A: Allocator + Copy>(site: &mut Site<A>, to: u8) -> Result<bool, Fault>
     ensures on { (sent : List (List ℕ)) → GoesOnBy sent site.old site.new }
+    ensures made { IfOk result (λ happens. IsTrue happens → site.new.events ≡ site.old.events ++ Pulse to ∷ []) }
 {
-    if to >= site.config().nodes || to == site.me() {
+    if to >= site.config().nodes || to == site.me() || site.has_frame() {
         return Ok(false);
     }
     site.pulse(to)?;
-    Ok(true)
+    Ok(site.has_frame())
 }
 
-/// Makes an event of a log at its site, where it happens there [1]. It says whether it did: of turns, whether all did,
-/// and of a pulse only that there is such a node.
-pub(crate) fn make<A: Allocator + Copy>(
-    site: &mut Site<A>,
-    event: &Event<Bytes<A>>,
-) -> Result<bool, Fault>
+/// Makes an event of a log at its site, at which no string waits [1]. It says whether it happens there: of turns, whether
+/// each did something, and of a pulse, whether it sent something. Then it is what the site's list has more.
+pub fn make<A: Allocator + Copy>(site: &mut Site<A>, event: &Event<Bytes<A>>) -> Result<bool, Fault>
     ensures on { CanGoOnBy event.now site.old site.new }
+    ensures made { IfOk result (λ happens. IsTrue happens → site.new.events ≡ site.old.events ++ marks_of event.now) }
 {
     match event {
         Event::Turns(count) => make_turns(site, *count),
         Event::Delivered(string) => make_delivery(site, string),
         Event::Pulsed(to) => make_pulse(site, *to),
+    }
+}
+
+/// Takes out all strings that wait at a site. It takes no memory.
+pub(crate) fn drop_frames<A: Allocator + Copy>(site: &mut Site<A>)
+    ensures { record site.new { waiting = [] } ≡ record site.old { waiting = [] } }
+{
+    while let Some(string) = site.take_frame() {
+        drop(string);
     }
 }
 

@@ -2,8 +2,8 @@
 ghost use Rattle.std.specs.Prelude.{◌≡◌, ◌+◌, ℕ, length, map, slice_get, IfOk, IfErr, OnOk, IsTrue};
 ghost use Rattle.ivy_model.specs.Config.{IsConfig};
 ghost use Rattle.ivy_moves.specs.Marks.{marks};
-ghost use Rattle.ivy_world.specs.WorldSites.{AreFirst, IsMemory};
-ghost use Rattle.ivy_join.specs.Joining.{events_at};
+ghost use Rattle.ivy_world.specs.WorldSites.{IsMemory};
+ghost use Rattle.ivy_join.specs.Joining.{events_at, kept_from, AreKept};
 ghost use Rattle.ivy_join.specs.Joined.{part_in, AreJoined, AreHeads};
 
 use crate::joined::Joined;
@@ -16,7 +16,7 @@ use ivy_program::Program;
 use ivy_site::Site;
 use std::alloc::Allocator;
 
-/// The sites of the programs, in order [1].
+/// The sites of the programs, in order, which keep their lists [1].
 fn first_sites<A: Allocator + Copy>(
     alloc: A,
     config: &Config,
@@ -24,7 +24,7 @@ fn first_sites<A: Allocator + Copy>(
 ) -> Result<Vec<Site<A>, A>, Fault>
     requires limits { IsConfig config.now }
     requires each { length programs.items ≡ config.now.nodes }
-    ensures first { IfOk result (λ sites. AreFirst config.now programs.items sites.items) }
+    ensures first { IfOk result (λ sites. sites.items ≡ kept_from config.now 0 programs.items) }
     ensures memory { IfErr result IsMemory }
 {
     let mut sites = Vec::with_capacity(alloc, programs.len())?;
@@ -73,12 +73,13 @@ fn check_heads<A: Allocator>(config: &Config, logs: &[Log<A>]) -> Result<(), Unj
 
 /// Whether each site's events are those of its log.
 fn check_lists<A: Allocator + Copy>(sites: &[Site<A>], logs: &[Log<A>]) -> Result<(), Unjoined>
-    requires { length logs.now ≡ length sites.now }
+    requires each { length logs.now ≡ length sites.now }
+    requires kept { AreKept sites.now }
     ensures { OnOk result ((i : ℕ) → events_at sites.now i ≡ part_in (map (λ l. marks l.events.items) logs.now) i) }
 {
     for node in 0..logs.len() {
         if !are_same(sites[node].events(), &logs[node].events) {
-            return Err(Unjoined::CutOff(node as u64));
+            return Err(Unjoined::OtherEvents(node as u64));
         }
     }
     Ok(())

@@ -6,21 +6,12 @@ ghost use Rattle.ivy_join.specs.Joining.{ArePlayed, CanBeTaken};
 use crate::making::{collect, make};
 use crate::strings::Strings;
 use crate::unjoined::Unjoined;
-use ivy_lines::{Cursor, Log};
+use ivy_lines::Log;
 use ivy_model::{Config, Fault};
 use ivy_moves::Event;
 use ivy_site::Site;
 use ivy_wire::Bytes;
 use std::alloc::Allocator;
-
-/// How far a log was made again.
-#[derive(Clone, Copy, Debug, PartialEq, Eq)]
-struct Reader {
-    /// So many of its events were made.
-    made: usize,
-    /// Where they end in the site's list, which has more where the site went on by itself.
-    cursor: Cursor,
-}
 
 /// What became of an event of a log.
 #[derive(Clone, Copy, Debug, PartialEq, Eq)]
@@ -72,7 +63,6 @@ fn play_event<A: Allocator + Copy>(
     sent: &mut Strings<A>,
     node: usize,
     event: &Event<Bytes<A>>,
-    cursor: &mut Cursor,
 ) -> Result<Outcome, Fault>
     requires played { ArePlayed config.now sites.old.items sent.old }
     requires node { node < length sites.old.items }
@@ -80,23 +70,13 @@ fn play_event<A: Allocator + Copy>(
     ensures programs { OnOk result (programs_of sites.new.items ≡ programs_of sites.old.items) }
     ensures count { length sites.new.items ≡ length sites.old.items }
 {
-    // The site made it already where it went on by itself.
-    if let Some(next) = cursor.after(sites[node].events(), event) {
-        *cursor = next;
-        return Ok(Outcome::Made);
-    }
     if !may_make(sent, event) {
         return Ok(Outcome::Waits);
     }
-    if !step(config, sites, sent, node, event)? {
-        return Ok(Outcome::Never);
-    }
-    match cursor.after(sites[node].events(), event) {
-        Some(next) => {
-            *cursor = next;
-            Ok(Outcome::Made)
-        }
-        None => Ok(Outcome::Never),
+    if step(config, sites, sent, node, event)? {
+        Ok(Outcome::Made)
+    } else {
+        Ok(Outcome::Never)
     }
 }
 
@@ -105,14 +85,15 @@ fn line_of<A: Allocator>(log: &Log<A>, place: usize) -> u64 {
     log.lines.get(place).copied().unwrap_or(0)
 }
 
-/// Goes on with a node's log as far as its next string was sent [1]. It says whether it went on at all.
+/// Goes on with a node's log, of which so many events were made, as far as its next string was sent [1]. It says whether
+/// it went on at all.
 fn play_log<A: Allocator + Copy>(
     config: &Config,
     sites: &mut Vec<Site<A>, A>,
     sent: &mut Strings<A>,
     node: usize,
     log: &Log<A>,
-    reader: &mut Reader,
+    made: &mut usize,
 ) -> Result<bool, Unjoined>
     requires played { ArePlayed config.now sites.old.items sent.old }
     requires node { node < length sites.old.items }
@@ -120,12 +101,12 @@ fn play_log<A: Allocator + Copy>(
     ensures programs { OnOk result (programs_of sites.new.items ≡ programs_of sites.old.items) }
     ensures count { length sites.new.items ≡ length sites.old.items }
 {
-    let began = reader.made;
+    let began = *made;
     for place in began..log.events.len() {
         let event = &log.events[place];
-        match play_event(config, sites, sent, node, event, &mut reader.cursor)? {
-            Outcome::Made => reader.made = place + 1,
-            Outcome::Waits => return Ok(reader.made != began),
+        match play_event(config, sites, sent, node, event)? {
+            Outcome::Made => *made = place + 1,
+            Outcome::Waits => return Ok(*made != began),
             Outcome::Never => {
                 let line = line_of(log, place);
                 return Err(Unjoined::NoSuchEvent {
@@ -135,7 +116,7 @@ fn play_log<A: Allocator + Copy>(
             }
         }
     }
-    Ok(reader.made != began)
+    Ok(*made != began)
 }
 
 /// Goes on with each log once [1]. It says whether one of them went on.
@@ -144,18 +125,18 @@ fn play_round<A: Allocator + Copy>(
     sites: &mut Vec<Site<A>, A>,
     sent: &mut Strings<A>,
     logs: &[Log<A>],
-    readers: &mut [Reader],
+    made: &mut [usize],
 ) -> Result<bool, Unjoined>
     requires played { ArePlayed config.now sites.old.items sent.old }
     requires logs { length logs.now ≡ length sites.old.items }
-    requires readers { length readers.old ≡ length sites.old.items }
+    requires made { length made.old ≡ length sites.old.items }
     ensures played { OnOk result (ArePlayed config.now sites.new.items sent.new) }
     ensures programs { OnOk result (programs_of sites.new.items ≡ programs_of sites.old.items) }
     ensures count { length sites.new.items ≡ length sites.old.items }
 {
     let mut went = false;
     for node in 0..logs.len() {
-        if play_log(config, sites, sent, node, &logs[node], &mut readers[node])? {
+        if play_log(config, sites, sent, node, &logs[node], &mut made[node])? {
             went = true;
         }
     }
@@ -163,12 +144,12 @@ fn play_round<A: Allocator + Copy>(
 }
 
 /// Whether each log was made to its end. Else the event is named that waits.
-fn check_ends<A: Allocator>(logs: &[Log<A>], readers: &[Reader]) -> Result<(), Unjoined> {
-    for (node, (log, reader)) in logs.iter().zip(readers).enumerate() {
-        if reader.made < log.events.len() {
+fn check_ends<A: Allocator>(logs: &[Log<A>], made: &[usize]) -> Result<(), Unjoined> {
+    for (node, (log, made)) in logs.iter().zip(made).enumerate() {
+        if *made < log.events.len() {
             return Err(Unjoined::NotSent {
                 node: node as u64,
-                line: line_of(log, reader.made),
+                line: line_of(log, *made),
             });
         }
     }
@@ -189,15 +170,11 @@ pub(crate) fn play<A: Allocator + Copy>(
     ensures programs { OnOk result (programs_of sites.new.items ≡ programs_of sites.old.items) }
     ensures count { length sites.new.items ≡ length sites.old.items }
 {
-    let first = Reader {
-        made: 0,
-        cursor: Cursor::first(),
-    };
-    let mut readers = vec![in alloc; first; logs.len()]?;
+    let mut made = vec![in alloc; 0usize; logs.len()]?;
     for _ in 0..u64::MAX {
-        if !play_round(config, sites, sent, logs, &mut readers)? {
+        if !play_round(config, sites, sent, logs, &mut made)? {
             break;
         }
     }
-    check_ends(logs, &readers)
+    check_ends(logs, &made)
 }

@@ -2,8 +2,7 @@
 ghost use Rattle.std.specs.Prelude.{◌≡◌, [], OnOk};
 ghost use Rattle.ivy_join.specs.Joining.{IsMadeByLog};
 
-use crate::making::make;
-use ivy_lines::{Cursor, behind_all};
+use crate::making::{drop_frames, make};
 use ivy_model::Fault;
 use ivy_moves::Event;
 use ivy_site::Site;
@@ -25,33 +24,27 @@ impl From<Fault> for NotPlayed {
     }
 }
 
-/// Makes the events of a log again at a site that made none yet.
+/// Makes the events of a log again at a site that made none yet, and none besides.
 ///
-/// The site is then what these events make of it, and those that it goes on with by itself after the last of them, which
-/// a node that was killed may not have listed any more: they stand behind the cursor that is given.
+/// The site is then what these events make of it. What they sent is dropped: it went out before the node was killed, or
+/// was lost with it.
 pub fn replay<A: Allocator + Copy>(
     site: &mut Site<A>,
     log: &[Event<Bytes<A>>],
-) -> Result<Cursor, NotPlayed>
+) -> Result<(), NotPlayed>
     requires fresh { site.old.events ≡ [] }
     ensures made { OnOk result (IsMadeByLog log.now site.old site.new) }
 {
     // It is within its limits.
     let _ = site.config();
-    let mut cursor = Cursor::first();
-    for (place, event) in log.iter().enumerate() {
-        // The site made it already where it went on by itself.
-        if let Some(next) = cursor.after(site.events(), event) {
-            cursor = next;
-            continue;
-        }
-        if !make(site, event)? {
+    drop_frames(site);
+    for place in 0..log.len() {
+        if !make(site, &log[place])? {
             return Err(NotPlayed::NoSuchEvent(place));
         }
-        let Some(next) = cursor.after(site.events(), event) else {
-            return Err(NotPlayed::NoSuchEvent(place));
-        };
-        cursor = next;
+        drop_frames(site);
     }
-    behind_all(site.events(), log).ok_or(NotPlayed::NoSuchEvent(log.len()))
+    // It is what its events make of it.
+    let _ = site.event_list();
+    Ok(())
 }

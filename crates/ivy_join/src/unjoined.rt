@@ -28,9 +28,9 @@ pub enum Unjoined {
     /// A node can't have made an event.
     #[error("node {node}, line {line}: no such event")]
     NoSuchEvent { node: u64, line: u64 },
-    /// A node goes on by itself, and its log ends before.
-    #[error("node {0}: the log ends where the node goes on by itself")]
-    CutOff(u64),
+    /// A node that is made again by its log lists other events.
+    #[error("node {0}: other events than the log has")]
+    OtherEvents(u64),
 }
 
 impl From<Fault> for Unjoined {

@@ -10,7 +10,7 @@ use std::alloc::Allocator;
 /// A place in a list of events: behind all entries before it, and so many turns of the one in it. A log may have turns in
 /// several entries that stand in one of a site's list.
 #[derive(Clone, Copy, Debug, PartialEq, Eq)]
-pub struct Cursor {
+pub(crate) struct Cursor {
     place: usize,
     turns: u64,
 }
@@ -28,7 +28,7 @@ fn is_same<A: Allocator>(a: &Event<Bytes<A>>, b: &Event<Bytes<A>>) -> bool
 
 impl Cursor {
     /// At the first event.
-    pub fn first() -> Cursor
+    fn first() -> Cursor
         ensures { (result.place ≡ 0) × (result.turns ≡ 0) }
     {
         Cursor { place: 0, turns: 0 }
@@ -82,7 +82,7 @@ impl Cursor {
     }
 
     /// Behind the event, or none where another one stands next.
-    pub fn after<A: Allocator>(
+    fn after<A: Allocator>(
         self,
         events: &[Event<Bytes<A>>],
         event: &Event<Bytes<A>>,
@@ -96,42 +96,8 @@ impl Cursor {
         }
     }
 
-    /// Behind all events.
-    pub fn behind<A: Allocator>(events: &[Event<Bytes<A>>]) -> Cursor
-        ensures { marks_to events.now result ≡ marks events.now }
-    {
-        match events.last() {
-            Some(Event::Turns(all)) => Cursor {
-                place: events.len() - 1,
-                turns: *all,
-            },
-            _ => Cursor {
-                place: events.len(),
-                turns: 0,
-            },
-        }
-    }
-
-    /// How many turns of the entry in the place stand behind the cursor, where that entry is turns.
-    pub fn turns_left<A: Allocator>(self, events: &[Event<Bytes<A>>]) -> Option<u64> {
-        match events.get(self.place)? {
-            Event::Turns(all) => Some(all.saturating_sub(self.turns)),
-            _ => None,
-        }
-    }
-
-    /// The entries behind the one in the place.
-    pub fn entries_after<A: Allocator>(self, events: &[Event<Bytes<A>>]) -> &[Event<Bytes<A>>] {
-        events.get(self.place.saturating_add(1)..).unwrap_or(&[])
-    }
-
-    /// The entries from the place on.
-    pub fn entries_from<A: Allocator>(self, events: &[Event<Bytes<A>>]) -> &[Event<Bytes<A>>] {
-        events.get(self.place..).unwrap_or(&[])
-    }
-
     /// Whether no event stands behind the cursor.
-    pub fn is_at_end<A: Allocator>(self, events: &[Event<Bytes<A>>]) -> bool
+    fn is_at_end<A: Allocator>(self, events: &[Event<Bytes<A>>]) -> bool
         ensures { IsTrue result → marks_to events.now self ≡ marks events.now }
     {
         let end = self.past(events);
@@ -140,10 +106,7 @@ impl Cursor {
 }
 
 /// The cursor behind all these events, or none where others stand first.
-pub fn behind_all<A: Allocator>(
-    events: &[Event<Bytes<A>>],
-    first: &[Event<Bytes<A>>],
-) -> Option<Cursor>
+fn behind_all<A: Allocator>(events: &[Event<Bytes<A>>], first: &[Event<Bytes<A>>]) -> Option<Cursor>
     ensures to { IfSome result (λ cursor. marks_to events.now cursor ≡ marks first.now) }
     ensures within { IfSome result (IsBefore events.now) }
 {

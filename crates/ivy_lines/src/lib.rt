@@ -12,7 +12,7 @@ mod frame;
 mod log;
 mod print;
 
-pub use cursor::{Cursor, are_same, behind_all};
+pub use cursor::are_same;
 pub use frame::{FrameLine, parse_frame};
 pub use ivy_texts;
 pub use log::{Head, Log, parse_log};

@@ -3,7 +3,7 @@ use Rattle.std.proofs.Common.{◌≡◌, ℕ, zero, suc, List, [], ◌∷◌, �
 use Rattle.std.proofs.lemmas.List.{take_more}
 use Rattle.ivy_moves.specs.Events.{Event}
 use Rattle.ivy_moves.specs.declared.event.Event.TheVariants.{Turns}
-use Rattle.ivy_moves.specs.Marks.{Turn, turns, marks_of, marks}
+use Rattle.ivy_moves.specs.Marks.{Mark, Turn, turns, marks_of, marks}
 
 marks-append : (a b : List Event) → marks (a ++ b) ≡ marks a ++ marks b
 marks-append [] b = refl
@@ -57,3 +57,9 @@ pub marks_both : (xs ys : List Event) (i : ℕ) (x y : Event) → i < length xs 
 marks_both xs ys i x y a b is is' same was =
     marks-take xs i x a is ∙ ap (λ l. l ++ marks_of x) was ∙ ap (λ l. marks (take i ys) ++ l) same
     ∙ sym (marks-take ys i y b is')
+
+pub marks_retold : (old new : List Mark) (xs : List Event) (i : ℕ) (x : Event) → i < length xs
+    → x ≡ get_or xs i x → new ≡ old ++ marks_of x → old ≡ marks (take i xs)
+    → new ≡ marks (take (i + 1) xs)
+marks_retold old new xs i x within is more was =
+    more ∙ ap (λ l. l ++ marks_of x) was ∙ sym (marks-take xs i x within is)

@@ -1,6 +1,8 @@
 pub mod Events
 pub mod Marks
 pub mod Listed
+pub mod Keeping
+pub mod Histories
 pub mod Cores
 pub mod Nodes
 pub mod Worlds

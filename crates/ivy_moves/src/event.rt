@@ -1,9 +1,11 @@
 //! The events of a node, as it lists them.
 ghost use Rattle.std.specs.Prelude.{◌≡◌, [], ◌∷◌, ◌++◌, true, IfOk, OnOk, IsTrue};
+ghost use Rattle.ivy_moves.specs.Keeping.{read_of};
 ghost use Rattle.ivy_moves.specs.Marks.{Turn, Delivery, Pulse, marks};
 
 use crate::note::note_turn;
-use crate::same::{are_same, copy_events};
+use crate::same::{are_same, copy_events, retold};
+use crate::story::Story;
 use ivy_wire::Bytes;
 use std::alloc::{AllocError, Allocator};
 use std::marker::Model;
@@ -20,35 +22,61 @@ pub enum Event<B> {
 }
 
 /// The event list of a node, in order. To make its turns, deliveries and pulses again makes the node again.
+///
+/// Its entries are there to be read where they are kept. Contracts see the events, whether they are kept or not.
 #[derive(Drop)]
 #[derive_where(Debug)]
 pub struct Events<A: Allocator> {
+    #[derive_where(skip)]
+    story: Story,
+    is_kept: bool,
     entries: Vec<Event<Bytes<A>>, A>,
 }
 
 impl<A: Allocator> Model for Events<A> {
-    ghost use Rattle.std.specs.Prelude.{nat_lt, vec_len, vec_capacity};
+    ghost use Rattle.std.specs.Prelude.{◌≡◌, vec_len, vec_capacity};
     ghost use Rattle.ivy_moves.specs.Marks.{marks};
     ghost use Rattle.ivy_moves.specs.Listed.{Listed};
+    ghost use Rattle.ivy_moves.specs.Keeping.{read_of, has_place};
 
     ghost Value = { Listed };
 
-    ghost view = { λ e. record { marks = marks e.entries.items; has_room = nat_lt (vec_len e.entries) (vec_capacity e.entries) } };
+    ghost view = { λ e. record { marks = e.story.events; kept = e.is_kept; has_room = has_place e.is_kept (vec_len e.entries) (vec_capacity e.entries) } };
+
+    ghost invariant = { λ e. marks e.entries.items ≡ read_of e.is_kept e.story.events };
 }
 
 impl<A: Allocator> Events<A> {
-    /// A list of no events. It takes no memory.
+    /// A list of no events, which is kept. It takes no memory.
     pub fn new(alloc: A) -> Self
-        ensures { result.marks ≡ [] }
+        ensures marks { result.marks ≡ [] }
+        ensures kept { IsTrue result.kept }
+    {
+        Events::keeping(alloc, true)
+    }
+
+    /// A list of no events, which will be kept or not. It takes no memory.
+    pub fn keeping(alloc: A, is_kept: bool) -> Self
+        ensures marks { result.marks ≡ [] }
+        ensures kept { result.kept ≡ is_kept }
     {
         Events {
+            story: Story::new(),
+            is_kept,
             entries: Vec::new(alloc),
         }
     }
 
-    /// The entries; turns in a row are one entry, up to the greatest number.
+    /// Whether the entries are kept.
+    pub fn is_kept(&self) -> bool
+        ensures { result ≡ self.now.kept }
+    {
+        self.is_kept
+    }
+
+    /// The entries where they are kept, else none; turns in a row are one entry, up to the greatest number.
     pub fn entries(&self) -> &[Event<Bytes<A>>]
-        ensures { marks result.now ≡ self.now.marks }
+        ensures { marks result.now ≡ read_of self.now.kept self.now.marks }
     {
         &self.entries
     }
@@ -57,50 +85,70 @@ impl<A: Allocator> Events<A> {
     pub fn reserve(&mut self) -> Result<(), AllocError>
         ensures room { OnOk result (IsTrue self.new.has_room) }
         ensures same { self.new.marks ≡ self.old.marks }
+        ensures kept { self.new.kept ≡ self.old.kept }
     {
-        self.entries.reserve(1)
+        if self.is_kept {
+            self.entries.reserve(1)?;
+        }
+        Ok(())
     }
 
     /// Lists one more turn, in the place that [`Events::reserve`] made.
     pub fn push_turn(&mut self)
         requires { IsTrue self.old.has_room }
-        ensures { self.new.marks ≡ self.old.marks ++ Turn ∷ [] }
+        ensures marks { self.new.marks ≡ self.old.marks ++ Turn ∷ [] }
+        ensures kept { self.new.kept ≡ self.old.kept }
     {
-        note_turn(&mut self.entries);
+        self.story.push_turns(1);
+        if self.is_kept {
+            note_turn(&mut self.entries);
+        }
     }
 
     /// Lists one more delivery, of a whole string, in the place that [`Events::reserve`] made.
     #[tactic(auto, using(crate::proofs::Noted::marks_push))]
     pub fn push_delivery(&mut self, bytes: Bytes<A>)
         requires { IsTrue self.old.has_room }
-        ensures { self.new.marks ≡ self.old.marks ++ Delivery bytes ∷ [] }
+        ensures marks { self.new.marks ≡ self.old.marks ++ Delivery bytes ∷ [] }
+        ensures kept { self.new.kept ≡ self.old.kept }
     {
-        self.entries.push_reserved(Event::Delivered(bytes));
+        self.story.push_delivery(bytes.bytes());
+        if self.is_kept {
+            self.entries.push_reserved(Event::Delivered(bytes));
+        }
     }
 
     /// Lists one more pulse, to a node by its number, in the place that [`Events::reserve`] made.
     #[tactic(auto, using(crate::proofs::Noted::marks_push))]
     pub fn push_pulse(&mut self, to: u8)
         requires { IsTrue self.old.has_room }
-        ensures { self.new.marks ≡ self.old.marks ++ Pulse to ∷ [] }
+        ensures marks { self.new.marks ≡ self.old.marks ++ Pulse to ∷ [] }
+        ensures kept { self.new.kept ≡ self.old.kept }
     {
-        self.entries.push_reserved(Event::Pulsed(to));
+        self.story.push_pulse(to);
+        if self.is_kept {
+            self.entries.push_reserved(Event::Pulsed(to));
+        }
     }
 
-    /// Whether the other list has the same entries.
+    /// Whether both lists are kept, and have the same entries.
     pub fn is_same(&self, other: &Events<A>) -> bool
         ensures { IsTrue result → self.now.marks ≡ other.now.marks }
     {
-        are_same(&self.entries, &other.entries)
+        self.is_kept && other.is_kept && are_same(&self.entries, &other.entries)
     }
 }
 
 impl<A: Allocator + Copy> Events<A> {
-    /// A copy of the list, which shares its strings. Err only where the allocator has no memory.
+    /// A copy of the entries, which shares their strings: the same list, where it is kept. Err only where the allocator has
+    /// no memory.
     pub fn copy(&self, alloc: A) -> Result<Events<A>, AllocError>
-        ensures { IfOk result (λ copy. copy.marks ≡ self.now.marks) }
+        ensures marks { IfOk result (λ copy. copy.marks ≡ read_of self.now.kept self.now.marks) }
+        ensures kept { IfOk result (λ copy. copy.kept ≡ true) }
     {
         Ok(Events {
+            story: retold(&self.entries),
+            is_kept: true,
             entries: copy_events(alloc, &self.entries)?,
         })
     }

@@ -1,8 +1,9 @@
 //! Lists of events, copied and compared.
-ghost use Rattle.std.specs.Prelude.{◌≡◌, IsTrue, IfOk};
+ghost use Rattle.std.specs.Prelude.{◌≡◌, ◌++◌, IsTrue, IfOk};
 ghost use Rattle.ivy_moves.specs.Marks.{marks, marks_of};
 
 use crate::event::Event;
+use crate::story::Story;
 use ivy_wire::Bytes;
 use std::alloc::{AllocError, Allocator};
 
@@ -31,6 +32,28 @@ pub(crate) fn copy_events<A: Allocator + Copy>(
         copy.push_reserved(one);
     }
     Ok(copy)
+}
+
+/// The story of these entries.
+pub(crate) fn retold<A: Allocator>(events: &[Event<Bytes<A>>]) -> Story
+    ensures { result.events ≡ marks events.now }
+{
+    let mut story = Story::new();
+    for event in events {
+        tell(&mut story, event);
+    }
+    story
+}
+
+/// One entry more.
+fn tell<A: Allocator>(story: &mut Story, event: &Event<Bytes<A>>)
+    ensures more { story.new.events ≡ story.old.events ++ marks_of event.now }
+{
+    match event {
+        Event::Turns(n) => story.push_turns(*n),
+        Event::Delivered(bytes) => story.push_delivery(bytes.bytes()),
+        Event::Pulsed(to) => story.push_pulse(*to),
+    }
 }
 
 /// Whether two entries are the same.

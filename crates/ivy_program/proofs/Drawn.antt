@@ -7,7 +7,8 @@ use Rattle.ivy_model.specs.declared.Fault.TheVariants.{ProgramFault}
 use Rattle.ivy_program.specs.declared.line.Line.{Line}
 use Rattle.ivy_program.specs.declared.parser.Numbered.{Numbered}
 use Rattle.ivy_program.specs.declared.instruction.Instruction.{Instruction}
-use Rattle.ivy_program.specs.Instructions.{IsProgram, NamesRegisters, JumpsWithin}
+use Rattle.ivy_program.specs.Instructions.{NamesRegisters, JumpsWithin}
+use Rattle.ivy_program.specs.Programs.{Program, IsWritten}
 use Rattle.ivy_program.specs.Names.{Label}
 use Rattle.ivy_program.specs.Parts.{Part}
 use Rattle.ivy_program.specs.Readings.{HasLost, IsAtFault, IsLeastOrNone, IsLost, IsOutOfOrder, IsReadAs, LosesIn, lesser, text_parts, program_of, resolved}
@@ -62,27 +63,27 @@ module _ (lines : List Numbered) (labels : List Label) (i : ℕ) (x : Numbered) 
   }
 
 -- the programs of so many parts, but for those that lose a jump
-pub record IsMade (parts : List Part) (first : Option ℕ) (i : ℕ) (items : List (List Instruction))
+pub record IsMade (parts : List Part) (first : Option ℕ) (i : ℕ) (items : List Program)
     (o : Option ℕ) : Type 0 where
   pub few : length items ≤ i
-  pub each : All IsProgram items
+  pub each : All IsWritten items
   pub same : o ≡ None → items ≡ map program_of (take i parts)
   pub fault : (lines : List (Option Line)) → IsReadAs lines parts first
       → IsLeastOrNone (λ n. IsOutOfOrder lines n ⊎ IsLost (take i parts) n) o
 
 module _ (parts : List Part) (first : Option ℕ) (i : ℕ) (x : Part) (l : i < length parts)
     (e : x ≡ get_or parts i x)
-    (items new : List (List Instruction)) (o p : Option ℕ) (d : IsMade parts first i items o) where
+    (items new : List Program) (o p : Option ℕ) (d : IsMade parts first i items o) where
   on : take (i + 1) parts ≡ take i parts ++ x ∷ []
   on = take_more parts i x l ∙ ap (λ y. take i parts ++ y ∷ []) (sym e)
 
-  pub made_found : (y : List Instruction) → y ≡ program_of x → ((n : ℕ) → ¬ HasLost x n)
-      → IsProgram y
+  pub made_found : (y : Program) → y ≡ program_of x → ((n : ℕ) → ¬ HasLost x n)
+      → IsWritten y
       → new ≡ items ++ y ∷ [] → p ≡ o → IsMade parts first (i + 1) new p
   made_found y r n s h q = record {
     few = (let k : length new ≡ length items + 1 = ap length h ∙ length_push items y in
         omega (arith, d.few, k));
-    each = subst (All IsProgram) (sym h) (All-push IsProgram items y d.each s);
+    each = subst (All IsWritten) (sym h) (All-push IsWritten items y d.each s);
     same = λ z. h ∙ (λ k. d.same (sym q ∙ z) k ++ r k ∷ [])
         ∙ sym (map_push program_of (take i parts) x) ∙ ap (map program_of) (sym on);
     fault = λ lines a. subst
@@ -95,7 +96,7 @@ module _ (parts : List Part) (first : Option ℕ) (i : ℕ) (x : Part) (l : i < 
       → IsMade parts first (i + 1) new p
   made_lost n k h q = record {
     few = (let t : length new ≡ length items = ap length h in omega (arith, d.few, t));
-    each = subst (All IsProgram) (sym h) d.each;
+    each = subst (All IsWritten) (sym h) d.each;
     same = λ z. cc;
     fault = λ lines a. subst
         (IsLeastOrNone (λ m. IsOutOfOrder lines m ⊎ IsLost (take (i + 1) parts) m)) (sym q)
@@ -108,7 +109,7 @@ module _ (parts : List Part) (first : Option ℕ) (i : ℕ) (x : Part) (l : i < 
 pub none_made : (parts : List Part) (first : Option ℕ) → IsMade parts first 0 [] first
 none_made parts first = record {
   few = omega arith;
-  each = All-nil IsProgram;
+  each = All-nil IsWritten;
   same = λ z. refl;
   fault = λ lines a. least_same (IsOutOfOrder lines) (λ n. IsOutOfOrder lines n ⊎ IsLost [] n) first
       a.1
@@ -117,7 +118,7 @@ none_made parts first = record {
 }
 
 module _ (parts : List Part) (first : Option ℕ) (i : ℕ) (end : length parts ≤ i)
-    (items : List (List Instruction)) (o : Option ℕ) (d : IsMade parts first i items o)
+    (items : List Program) (o : Option ℕ) (d : IsMade parts first i items o)
     (lines : List (Option Line)) (a : IsReadAs lines parts first) where
   whole : take i parts ≡ text_parts lines
   whole = take_all i parts end ∙ a.0

@@ -1,5 +1,8 @@
+pub mod Widths
+pub mod Handing
 pub mod Running
 pub mod Places
+pub mod Placed
 pub mod Drafts
 pub mod Cuts
 pub mod Ends

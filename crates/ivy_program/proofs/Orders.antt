@@ -28,7 +28,7 @@ abbrev pub known : Bool → Option ℕ → ℕ → Option ℕ
 known true first n = first
 known false first n = Some (lesser first n)
 
-get_front : {X : Type 0} (xs ys : List X) (k : ℕ) → k < length xs
+pub get_front : {X : Type 0} (xs ys : List X) (k : ℕ) → k < length xs
     → slice_get (xs ++ ys) k ≡ slice_get xs k
 get_front [] ys k l = absurd (omega (arith, l))
 get_front (x ∷ xs) ys zero l = refl

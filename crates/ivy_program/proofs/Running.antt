@@ -1,5 +1,5 @@
 -- Runs that grow at their end, and the calls that programs make.
-use Rattle.std.proofs.Common.{◌≡◌, ℕ, suc, zero, List, [], ◌∷◌, ◌++◌, Option, Some, None, refl, ap, subst, slice_get, length, lit<}
+use Rattle.std.proofs.Common.{◌≡◌, ℕ, suc, zero, List, [], ◌∷◌, ◌++◌, Bool, true, false, if◌then◌else◌, Option, Some, None, refl, ap, subst, slice_get, length, lit<}
 use Rattle.ivy_model.specs.declared.Call.{Call}
 use Rattle.ivy_model.specs.declared.Record.{Record}
 use Rattle.ivy_model.specs.Legal.{HasWidth, IsWidth}
@@ -9,23 +9,25 @@ use Rattle.ivy_program.specs.declared.instruction.Instruction.{Instruction}
 use Rattle.ivy_program.specs.declared.instruction.Instruction.TheVariants.{Set, Move, Compute, Status, Print, Jump, JumpIfZero, Stop}
 use Rattle.ivy_program.specs.Instructions.{bytes_in}
 use Rattle.ivy_program.specs.States.{State}
-use Rattle.ivy_program.specs.Steps.{Step, Local, Asks, Ends, step, step_at, after_reply}
+use Rattle.ivy_program.specs.Programs.{Program, Written, Called, has_width}
+use Rattle.ivy_program.specs.Steps.{Step, Local, Asks, Ends, step, step_at, called_at, after_reply}
 use Rattle.ivy_program.specs.Runs.{StepsTo, Runs}
+use Rattle.ivy_program.proofs.Widths.{has_width_found}
 
-leads_on : (p : List Instruction) (n : ℕ) (old mid new : State) → StepsTo p n old mid
+leads_on : (p : Program) (n : ℕ) (old mid new : State) → StepsTo p n old mid
     → step p mid ≡ Local new → StepsTo p (suc n) old new
 leads_on p zero old mid new e h = (new, subst (λ s. step p s ≡ Local new) e h, refl)
 leads_on p (suc n) old mid new l h = (l.0, l.1, leads_on p n l.0 mid new l.2 h)
 
 -- a run goes on by one instruction of its own
-pub runs_on : (p : List Instruction) (rs : List Record) (old mid new : State) → Runs p old rs mid
+pub runs_on : (p : Program) (rs : List Record) (old mid new : State) → Runs p old rs mid
     → step p mid ≡ Local new → Runs p old rs new
 runs_on p [] old mid new run h = (suc run.0, leads_on p run.0 old mid new run.1 h)
 runs_on p (r ∷ rs) old mid new run h =
     (run.0, run.1, run.2, runs_on p rs (after_reply p run.0 r.reply) mid new run.3 h)
 
 -- a run goes on by one call and its reply
-pub runs_answered : (p : List Instruction) (rs : List Record) (old mid : State) (r : Record)
+pub runs_answered : (p : Program) (rs : List Record) (old mid : State) (r : Record)
     → Runs p old rs mid → step p mid ≡ Asks r.call
     → Runs p old (rs ++ r ∷ []) (after_reply p mid r.reply)
 runs_answered p [] old mid r run h = (mid, run, h, (0, refl))
@@ -57,6 +59,16 @@ legal_at n s (Some Stop) c h = cc
 -- the others make a call
 legal_at n s (Some i) c h = subst HasWidth (ap (asked c) h) (search is_width)
 
+called_by : (b : Bool) (d c : Call) → has_width d ≡ b → (if b then Asks d else Ends) ≡ Asks c
+    → HasWidth c
+called_by true d c w h = subst HasWidth (ap (asked c) h) (has_width_found d w)
+called_by false d c w h = cc
+
+called_legal : (o : Option Call) (c : Call) → called_at o ≡ Asks c → HasWidth c
+called_legal None c h = cc
+called_legal (Some d) c h = called_by (has_width d) d c refl h
+
 -- an access that a program asks for has 1, 2, 4 or 8 bytes
-pub asked_legal : (p : List Instruction) (s : State) (c : Call) → step p s ≡ Asks c → HasWidth c
-asked_legal p s c h = legal_at (length p) s (slice_get p s.place) c h
+pub asked_legal : (p : Program) (s : State) (c : Call) → step p s ≡ Asks c → HasWidth c
+asked_legal (Written is) s c h = legal_at (length is) s (slice_get is s.place) c h
+asked_legal (Called calls) s c h = called_legal (slice_get calls s.place) c h

@@ -3,7 +3,7 @@ use Rattle.std.proofs.Common.{◌≡◌, ◌≢◌, ◌∙◌, inl, inr, ⊎_eli
 use Rattle.std.specs.Str.Lines.{lines}
 use Rattle.std.proofs.lemmas.List.{append-nil, take_all}
 use Rattle.ivy_model.specs.declared.Fault.{Fault}
-use Rattle.ivy_program.specs.declared.instruction.Instruction.{Instruction}
+use Rattle.ivy_program.specs.Programs.{Program}
 use Rattle.ivy_program.specs.declared.line.Line.{Line}
 use Rattle.ivy_program.specs.Parts.{Part}
 use Rattle.ivy_program.specs.Readings.{IsAtFault, IsLeastOrNone, IsOutOfOrder, IsReadAs}
@@ -20,7 +20,7 @@ no_fault : (read : List (Option Line)) (first : Option ℕ) → first ≢ None
 no_fault read None some least none = some refl
 no_fault read (Some n) some least none = none n (inl least.0)
 
-module _ {P : Type 0} (items : P → List (List Instruction)) (text : List ℕ) (parts : List Part)
+module _ {P : Type 0} (items : P → List Program) (text : List ℕ) (parts : List Part)
     (first : Option ℕ) (t : IsTextReadAs text parts first) where
   pub fault_of : (r : Result P Fault)
       → IfErr r (λ f. (read : List (Option Line)) → IsReadAs read parts first → IsFaultOf read f)

@@ -1,8 +1,11 @@
 pub mod Limits
 pub mod Instructions
+pub mod Programs
 pub mod States
 pub mod Steps
 pub mod Calls
+pub mod Owned
+pub mod Runners
 pub mod Runs
 pub mod Numbers
 pub mod Words

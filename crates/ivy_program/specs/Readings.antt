@@ -7,6 +7,7 @@ use Rattle.ivy_program.specs.declared.line.Line.{Line}
 use Rattle.ivy_program.specs.declared.parser.Numbered.{Numbered}
 use Rattle.ivy_program.specs.declared.instruction.Instruction.{Instruction}
 use Rattle.ivy_program.specs.declared.instruction.Instruction.TheVariants.{Jump, JumpIfZero}
+use Rattle.ivy_program.specs.Programs.{Program, Written}
 use Rattle.ivy_program.specs.Lines.{SpellsLine}
 use Rattle.ivy_program.specs.Names.{Label}
 use Rattle.ivy_program.specs.Parts.{Part, joined, label_place}
@@ -62,8 +63,8 @@ resolved labels (action.Jump name) = jump_to (label_place labels name)
 resolved labels (action.JumpIfZero from name) = jump_if_zero_to from (label_place labels name)
 
 -- the program of a part whose labels are all known
-abbrev pub program_of : Part → List Instruction
-program_of part = filter_map (λ line. resolved part.labels line.action) part.lines
+abbrev pub program_of : Part → Program
+program_of part = Written (filter_map (λ line. resolved part.labels line.action) part.lines)
 
 -- among these lines is one of this number that jumps to a name which the labels don't have
 abbrev pub LosesIn : List Label → List Numbered → ℕ → Type 0

@@ -1,5 +1,5 @@
 -- One instruction of a program, and what its reply changes.
-use Rattle.std.specs.Prelude.{◌≡◌, ◌==◌, ◌+◌, ℕ, List, Option, Some, None, slice_get, length, IsSomeAnd, if◌then◌else◌}
+use Rattle.std.specs.Prelude.{◌≡◌, ◌==◌, ◌+◌, ℕ, Option, Some, None, slice_get, length, IsSomeAnd, if◌then◌else◌}
 use Rattle.ivy_model.specs.declared.Call.{Call}
 use Rattle.ivy_model.specs.declared.Call.TheVariants as call
 use Rattle.ivy_model.specs.declared.Reply.{Reply}
@@ -9,6 +9,7 @@ use Rattle.ivy_program.specs.declared.instruction.Instruction.TheVariants.{Set, 
 use Rattle.ivy_program.specs.declared.machine.Next.{Next}
 use Rattle.ivy_program.specs.declared.machine.Next.TheVariants as next
 use Rattle.ivy_program.specs.Instructions.{bytes_in, result_of, receiver_of}
+use Rattle.ivy_program.specs.Programs.{Program, Written, Called, instructions_of, has_width}
 use Rattle.ivy_program.specs.States.{State, value_in, gone_to, moved_on, put, printed, with_status}
 
 -- what comes next: an instruction of its own and the state after it, a call of the memory, or the
@@ -68,9 +69,17 @@ abbrev pub step_at : ℕ → State → Option Instruction → Step
 step_at count s None = Ends
 step_at count s (Some i) = step_by count s i
 
--- the step of the program in this state: it ends past its last instruction
-abbrev pub step : List Instruction → State → Step
-step program s = step_at (length program) s (slice_get program s.place)
+-- own code makes its next call, if its width is one that a word can have; else it has ended
+abbrev pub called_at : Option Call → Step
+called_at (Some call) = if has_width call then Asks call else Ends
+called_at None = Ends
+
+-- the step of the program in this state: it ends past its last instruction, or past the last call
+-- that its owner has made
+abbrev pub step : Program → State → Step
+step (Written instructions) s =
+    step_at (length instructions) s (slice_get instructions s.place)
+step (Called calls) s = called_at (slice_get calls s.place)
 
 -- the value goes to the register, if there is one for it
 abbrev pub received : State → Option ℕ → ℕ → State
@@ -88,9 +97,11 @@ replied s i (Value value) = moved_on (with_status (received s (receiver i) value
 replied s i Done = moved_on (with_status s 0)
 replied s i (Refused code) = moved_on (with_status s code)
 
--- the state after the call that the program makes in this one, with this reply
-abbrev pub after_reply : List Instruction → State → Reply → State
-after_reply program s reply = replied s (slice_get program s.place) reply
+-- the state after the call that the program makes in this one, with this reply; own code keeps its
+-- replies itself
+abbrev pub after_reply : Program → State → Reply → State
+after_reply (Written instructions) s reply = replied s (slice_get instructions s.place) reply
+after_reply (Called calls) s reply = moved_on s
 
 -- the instruction adds to the output
 abbrev pub Prints : Instruction → Type 0
@@ -99,12 +110,12 @@ Prints _ = ⊥
 
 -- a program and how far it has come
 pub record Process : Type 0 where
-  pub program : List Instruction
+  pub program : Program
   pub state : State
 
 -- the next instruction of the program is one that prints
 abbrev pub PrintsNext : Process → Type 0
-PrintsNext p = IsSomeAnd (slice_get p.program p.state.place) Prints
+PrintsNext p = IsSomeAnd (slice_get (instructions_of p.program) p.state.place) Prints
 
 -- the next step of the program
 abbrev pub step_of : Process → Step

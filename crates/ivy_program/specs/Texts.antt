@@ -4,9 +4,8 @@ use Rattle.std.specs.List.{AllZip, list_all}
 use Rattle.std.specs.Str.Lines.{lines}
 use Rattle.ivy_model.specs.declared.Fault.{Fault}
 use Rattle.ivy_model.specs.declared.Fault.TheVariants.{Memory, ProgramFault}
-use Rattle.ivy_program.specs.declared.instruction.Instruction.{Instruction}
 use Rattle.ivy_program.specs.declared.line.Line.{Line}
-use Rattle.ivy_program.specs.Instructions.{IsProgram}
+use Rattle.ivy_program.specs.Programs.{Program, IsWritten}
 use Rattle.ivy_program.specs.Parts.{Part}
 use Rattle.ivy_program.specs.Readings.{finds_all, IsAtFault, IsLeastOrNone, IsReadAs, IsReading, text_parts, program_of}
 use Rattle.ivy_program.specs.Limits.{most_programs}
@@ -16,12 +15,12 @@ abbrev pub IsRefusal : Fault → Type 0
 IsRefusal f = (f ≡ Memory) ⊎ ((line : ℕ) × (1 ≤ line) × (f ≡ ProgramFault line))
 
 -- at most 32 programs
-pub record ArePrograms (programs : List (List Instruction)) : Type 0 where
+pub record ArePrograms (programs : List Program) : Type 0 where
   pub few : length programs ≤ most_programs
-  pub each : All IsProgram programs
+  pub each : All IsWritten programs
 
 -- no line is at fault, and these are the programs
-pub record SpellsPrograms (lines : List (Option Line)) (programs : List (List Instruction)) : Type 0
+pub record SpellsPrograms (lines : List (Option Line)) (programs : List Program) : Type 0
   where
     pub faultless : IsLeastOrNone (IsAtFault lines) None
     pub same : programs ≡ map program_of (text_parts lines)
@@ -51,7 +50,7 @@ pub record IsTextReadAs (text : List ℕ) (parts : List Part) (first : Option �
   pub ended : (length read ≡ length (lines text)) ⊎ IsFaultSettled parts first
 
 -- the programs that the text spells
-abbrev pub SpellsText : List ℕ → List (List Instruction) → Type 0
+abbrev pub SpellsText : List ℕ → List Program → Type 0
 SpellsText text programs = (read : List (Option Line)) × IsOnlyReading (lines text) read
     × SpellsPrograms read programs
 

@@ -3,7 +3,9 @@
 //! Numbers in brackets, as `[1, 20]`, are those of the faults that a call may answer.
 #![tactic(auto)]
 
+mod caller;
 mod instruction;
+mod interpreter;
 mod line;
 mod machine;
 mod parser;

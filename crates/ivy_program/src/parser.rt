@@ -3,7 +3,8 @@ ghost use Rattle.std.specs.List.{list_all};
 ghost use Rattle.ivy_program.specs.declared.line.Line.{Line};
 ghost use Rattle.ivy_model.specs.declared.Fault.TheVariants.{Memory};
 ghost use Rattle.ivy_program.specs.Drafts.{has_place, knows_place};
-ghost use Rattle.ivy_program.specs.Instructions.{IsProgram, NamesRegisters, JumpsWithin};
+ghost use Rattle.ivy_program.specs.Instructions.{NamesRegisters, JumpsWithin};
+ghost use Rattle.ivy_program.specs.Programs.{IsWritten};
 ghost use Rattle.ivy_program.specs.Parts.{joined, labelled, lengthened, label_place};
 ghost use Rattle.ivy_program.specs.Readings.{Changes, finds_all, HasLost, IsLeastOrNone, IsReadAs, TakesIn, lesser, program_of, resolved};
 ghost use Rattle.ivy_program.specs.Texts.{ArePrograms, IsFaultOf, IsFaultOfText, IsRefusal, IsTextReadAs, SpellsPrograms, SpellsText};
@@ -175,7 +176,7 @@ impl<A: Allocator + Copy> Draft<A> {
         ensures program { IfOk result (λ read. IfOk read (λ p. p ≡ program_of self.now)) }
         ensures whole { IfOk result (λ read. IfOk read (λ _. (n : ℕ) → ¬ HasLost self.now n)) }
         ensures lost { IfOk result (λ read. IfErr read (λ n. IsLeastOrNone (HasLost self.now) (Some n))) }
-        ensures sound { IfOk result (λ read. IfOk read IsProgram) }
+        ensures sound { IfOk result (λ read. IfOk read IsWritten) }
         ensures want { IsOkUnless result Memory }
     {
         let mut instructions = Vec::new(self.alloc);

@@ -4,7 +4,7 @@ use Rattle.ivy_model.specs.declared.Config.{Config}
 use Rattle.ivy_model.specs.declared.Call.{Call}
 use Rattle.ivy_model.specs.declared.Record.{Record}
 use Rattle.ivy_model.specs.Explains.{part, Answered, IsOwed, IsExplained}
-use Rattle.ivy_program.specs.declared.Instruction.{Instruction}
+use Rattle.ivy_program.specs.Programs.{Program}
 use Rattle.ivy_program.specs.Texts.{SpellsText}
 use Rattle.ivy_moves.specs.declared.Move.{Move}
 use Rattle.ivy_moves.specs.Nodes.{Node}
@@ -37,7 +37,7 @@ pub record BeginsText (c : Config) (text : List ℕ) (r : Run) : Type 0 where
 -- the moves lead from where the programs of a text begin to this world
 pub record IsPlayed (c : Config) (text : List ℕ) (moves : List Move) (end : World (Host Managed))
     : Type 0 where
-  pub programs : List (List Instruction)
+  pub programs : List Program
   pub spelled : SpellsText text programs
   pub led : IsLedTo c (opening managed_ops c programs) moves end
 

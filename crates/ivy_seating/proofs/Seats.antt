@@ -13,7 +13,8 @@ use Rattle.std.proofs.lemmas.Option.{none-some, same_Some}
 use Rattle.atomic_table.specs.Seated.{TableId}
 use Rattle.ivy_model.specs.declared.Config.{Config}
 use Rattle.ivy_model.specs.Config.{IsConfig}
-use Rattle.ivy_program.specs.declared.Instruction.{Instruction}
+use Rattle.ivy_program.specs.Programs.{Program, handed}
+use Rattle.ivy_model.specs.declared.Call.{Call}
 use Rattle.ivy_moves.specs.ivy_link.declared.Verdict.{Verdict}
 use Rattle.ivy_moves.specs.ivy_link.declared.Verdict.TheVariants as verdict
 use Rattle.ivy_moves.specs.Marks.{Mark, Turn, Delivery}
@@ -25,27 +26,29 @@ use Rattle.ivy_moves.proofs.Splitting.{can-append, can-more}
 use Rattle.ivy_ether.specs.ivy_host.Hosts.{Host, host_rules}
 use Rattle.ivy_ether.specs.ivy_host.Managers.{Managed, managed_ops}
 use Rattle.ivy_ether.specs.ivy_host.Openings.{first_node, first_nodes}
-use Rattle.ivy_ether.proofs.of_ivy_host.Tame.{first_length}
 use Rattle.ivy_ether.specs.Going.{IsListOf}
 use Rattle.ivy_ether.specs.Held.{Held, held}
-use Rattle.ivy_ether.specs.Programs.{beginning, MayGive, SendsFrom}
-use Rattle.ivy_ether.specs.Views.{View, with_put, with_refused, with_taken, with_empty}
+use Rattle.ivy_ether.specs.Programs.{beginning, all_handed, MayGive, SendsFrom}
+use Rattle.ivy_ether.proofs.Hosts.{handed-at, handed_count, handed_more, starts_with}
+use Rattle.ivy_ether.proofs.of_ivy_host.Handed.{handed_none}
+use Rattle.ivy_ether.specs.Views.{View, with_put, with_refused, with_taken, with_empty, with_handed}
 use Rattle.ivy_site.specs.declared.turn.Turn as turn
 use Rattle.ivy_site.specs.declared.turn.Turn.TheVariants.{Idle, Moved, Ended}
 use Rattle.ivy_site.specs.Shown.{Shown, after_hearing, after_delivery, after_pulse_to}
 use Rattle.ivy_site.specs.Sites.{first_shown, IsMadeByEvents, IsSentBy, AfterTurn, AfterDelivery, SiteDelivers, without_ready, GoesOnOnce, FollowsDelivery}
 use Rattle.ivy_site.specs.Sites as sites
+use Rattle.ivy_site.specs.Handed.{site_handed}
 use Rattle.ivy_ether.proofs.of_ivy_host.Programs.{turned-program, posting-core, delivered-program}
 use Rattle.ivy_program.specs.Steps.{HasEnded}
-use Rattle.ivy_seating.specs.Places.{IsSeated, IsFreshSeat}
+use Rattle.ivy_seating.specs.Places.{RunsProgram, IsSeated, IsFreshSeat}
 use Rattle.ivy_seating.specs.Reports.{report_of, IsDone}
 
-abbrev program_in : Shown → List Instruction
+abbrev program_in : Shown → Program
 program_in s = s.node.core.process.program
 
 -- the first node of a program
-first_there : (c : Config) (me k : ℕ) (programs : List (List Instruction)) (i : ℕ)
-    (program : List Instruction) → me + i ≡ k → slice_get programs i ≡ Some program
+first_there : (c : Config) (me k : ℕ) (programs : List Program) (i : ℕ)
+    (program : Program) → me + i ≡ k → slice_get programs i ≡ Some program
     → slice_get (first_nodes managed_ops c me programs) i
     ≡ Some (first_node managed_ops c k program)
 first_there c me k [] i program at is = absurd (none-some program is)
@@ -56,20 +59,27 @@ first_there c me k (p ∷ ps) zero program at is =
 first_there c me k (p ∷ ps) (suc i) program at is =
     first_there c (me + 1) k ps i program (omega (arith, at)) is
 
-module _ (c : Config) (programs : List (List Instruction)) where
-  -- the site's list is one of its node
-  pub its_list : (s : Shown) (made : IsMadeByEvents s) → s.config ≡ c
-      → slice_get programs s.me ≡ Some (program_in s)
-      → IsListOf (host_rules managed_ops) c (beginning c programs) s.me s.events made.effect
-  its_list s made config program = record {
-    node = first_node managed_ops c s.me (program_in s);
-    there = first_there c 0 s.me programs s.me (program_in s) (omega arith) program;
-    happen = subst
-        (λ k. AllHappen (host_rules managed_ops) k (first_node managed_ops k s.me (program_in s))
-        s.events made.effect)
-        config made.happen;
-  }
+-- the site's list is one of its node
+pub its_list : (c : Config) (programs : List Program) (s : Shown) (made : IsMadeByEvents s)
+    → s.config ≡ c → slice_get programs s.me ≡ Some (program_in s)
+    → IsListOf (host_rules managed_ops) c (beginning c programs) s.me s.events made.effect
+its_list c programs s made config program = record {
+  node = first_node managed_ops c s.me (program_in s);
+  there = first_there c 0 s.me programs s.me (program_in s) (omega arith) program;
+  happen = subst
+      (λ k. AllHappen (host_rules managed_ops) k (first_node managed_ops k s.me (program_in s))
+      s.events made.effect)
+      config made.happen;
+}
 
+-- where these calls were handed to all nodes, as to its own, its program is the one that it runs
+pub runs_there : (programs : List Program) (s : Shown) (calls : List Call)
+    → RunsProgram programs s calls
+    → slice_get (all_handed (λ _. calls) programs) s.me ≡ Some (program_in s)
+runs_there programs s calls r =
+    handed-at (λ _. calls) programs s.me r.first r.there ∙ ap Some (sym r.is)
+
+module _ (c : Config) (programs : List Program) where
   -- so it may be given
   pub may_give : (wire : TableId) (s : Shown) (p : Held) (es : List Mark) → es ≡ s.events
       → IsSeated wire c programs s p → IsMadeByEvents s → MayGive c programs p.known es
@@ -77,13 +87,15 @@ module _ (c : Config) (programs : List (List Instruction)) where
     node = s.me;
     sits = h.node;
     unreported = h.unreported;
+    at = starts_with c programs s.me p.known.handed;
     goes_on = record {
       more = h.given.more;
       is = h.given.is;
       effect = made.effect;
-      list = its_list s made h.config h.program;
+      list = its_list c (all_handed (λ _. p.known.handed) programs) s made h.config
+          (runs_there programs s p.known.handed h.program);
       can = subst (λ k. AllCanBeMade p.known.took k s.me h.given.more)
-          (sym (first_length managed_ops c 0 programs)) h.given.can;
+          (sym (handed_count c (λ _. p.known.handed) programs)) h.given.can;
     };
   })
 
@@ -96,9 +108,11 @@ module _ (c : Config) (programs : List (List Instruction)) where
       (sym (is ∙ ap (λ (x : Shown). x.events) same)) (record {
         node = s.me;
         sits = h.node;
+        at = starts_with c programs s.me p.known.handed;
         sends = record {
           effect = sent.made.effect;
-          list = its_list s sent.made h.config h.program;
+          list = its_list c (all_handed (λ _. p.known.handed) programs) s sent.made h.config
+              (runs_there programs s p.known.handed h.program);
           sent = sent.sent;
         };
       })
@@ -151,7 +165,11 @@ module _ (c : Config) (programs : List (List Instruction)) where
     node = h.node ∙ ap Some (sym on.me);
     unreported = h.unreported;
     config = on.config ∙ h.config;
-    program = ap (slice_get programs) on.me ∙ h.program ∙ ap Some (sym on.program);
+    program = record {
+      first = h.program.first;
+      there = ap (slice_get programs) on.me ∙ h.program.there;
+      is = on.program ∙ h.program.is;
+    };
     given = record {
       more = h.given.more ++ on.ms;
       is = on.events ∙ ap (λ l. l ++ on.ms) h.given.is
@@ -308,6 +326,7 @@ module _ (c : Config) (programs : List (List Instruction)) where
     ether : new.ether ≡ old.ether
     node : new.known.node ≡ old.known.node
     reported : new.known.reported ≡ old.known.reported
+    handed : new.known.handed ≡ old.known.handed
     events : new.known.events ≡ es
     took : (b : List ℕ) → Contains old.known.took b → Contains new.known.took b
 
@@ -320,7 +339,11 @@ module _ (c : Config) (programs : List (List Instruction)) where
     node = g.node ∙ h.node;
     unreported = g.reported ∙ h.unreported;
     config = h.config;
-    program = h.program;
+    program = record {
+      first = h.program.first;
+      there = h.program.there;
+      is = h.program.is ∙ ap (λ l. handed l h.program.first) (sym g.handed);
+    };
     given = record { more = []; is = sym (append-nil p'.known.events ∙ g.events); can = tt };
     took = can-more p.known.took p'.known.took (length programs) s.me s.events g.took h.took;
   }
@@ -333,6 +356,7 @@ module _ (c : Config) (programs : List (List Instruction)) where
     ether = ether;
     node = ap (λ (v : View). v.node) known;
     reported = ap (λ (v : View). v.reported) known;
+    handed = ap (λ (v : View). v.handed) known;
     events = ap (λ (v : View). v.events) known ∙ is;
     took = λ b there. subst (λ (v : View). Contains v.took b) (sym known) there;
   })
@@ -344,6 +368,7 @@ module _ (c : Config) (programs : List (List Instruction)) where
     ether = ether;
     node = ap (λ (v : View). v.node) known;
     reported = ap (λ (v : View). v.reported) known;
+    handed = ap (λ (v : View). v.handed) known;
     events = ap (λ (v : View). v.events) known ∙ is;
     took = λ b there. subst (λ (v : View). Contains v.took b) (sym known)
         (Contains-append_left p.known.took (strings_in x) b there);
@@ -390,7 +415,12 @@ module _ (c : Config) (programs : List (List Instruction)) where
     node = ap (λ (v : View). v.node) f.pass;
     unreported = ap (λ (v : View). v.reported) f.pass;
     config = ap (λ (x : Shown). x.config) f.site;
-    program = f.there ∙ ap Some (sym (ap program_in f.site));
+    program = record {
+      first = f.program;
+      there = f.there;
+      is = ap program_in f.site ∙ sym (handed_none f.program)
+          ∙ ap (λ (v : View). handed v.handed f.program) (sym f.pass);
+    };
     given = record {
       more = [];
       is = ap (λ (x : Shown). x.events) f.site ∙ sym (ap (λ (v : View). v.events) f.pass)
@@ -446,16 +476,44 @@ module _ (c : Config) (programs : List (List Instruction)) where
   take_seated wire (Some x) s p p' es is ether known h =
       taken_seated wire s p p' es x is ether known h
 
+  -- once a call was handed to its node
+  pub hand_seated : (wire : TableId) (s s' : Shown) (p p' : Held) (call : Call)
+      → s' ≡ site_handed (call ∷ []) s → p'.ether ≡ p.ether
+      → p'.known ≡ with_handed p.known call → IsSeated wire c programs s p
+      → IsSeated wire c programs s' p'
+  hand_seated wire s s' p p' call same ether known h =
+      subst (λ x. IsSeated wire c programs x p') (sym same)
+      (subst (IsSeated wire c programs (site_handed (call ∷ []) s))
+      (λ k. held (sym ether k) (sym known k)) (record {
+        limits = h.limits;
+        each = h.each;
+        ether = h.ether;
+        node = h.node;
+        unreported = h.unreported;
+        config = h.config;
+        program = record {
+          first = h.program.first;
+          there = h.program.there;
+          is = ap (handed (call ∷ [])) h.program.is
+              ∙ sym (handed_more p.known.handed (call ∷ []) h.program.first);
+        };
+        given = record { more = h.given.more; is = h.given.is; can = h.given.can };
+        took = h.took;
+      }))
+
   -- a site whose program has ended is done
   pub is_done : (wire : TableId) (s : Shown) (p : Held) (i : ℕ) → IsSeated wire c programs s p
       → IsMadeByEvents s → s.me ≡ i → HasEnded s.node.core.process
-      → IsDone c programs i (report_of s)
+      → IsDone c (all_handed (λ _. p.known.handed) programs) i (report_of s)
   is_done wire s p i h made at ended = record {
     of = record {
       effect = made.effect;
       list = subst
-          (λ j. IsListOf (host_rules managed_ops) c (beginning c programs) j s.events made.effect)
-          at (its_list s made h.config h.program);
+          (λ j. IsListOf (host_rules managed_ops) c
+          (beginning c (all_handed (λ _. p.known.handed) programs)) j s.events made.effect)
+          at
+          (its_list c (all_handed (λ _. p.known.handed) programs) s made h.config
+          (runs_there programs s p.known.handed h.program));
       history = ap (λ (n : Node (Host Managed)). n.core.history) made.node;
       output = ap (λ (n : Node (Host Managed)). n.core.process.state.output) made.node;
     };

@@ -7,15 +7,19 @@ use Rattle.std.proofs.lemmas.List.{same_from_push}
 use Rattle.std.proofs.lemmas.Option.{none-some, same_Some}
 use Rattle.std.proofs.lemmas.List.Elements.{Contains-push, Contains-append_left}
 use Rattle.ivy_model.specs.declared.Config.{Config}
-use Rattle.ivy_program.specs.declared.Instruction.{Instruction}
+use Rattle.ivy_program.specs.Programs.{Program}
 use Rattle.atomic_table.specs.Seated.{TableId}
 use Rattle.ivy_ether.specs.Held.{Held, held}
 use Rattle.ivy_ether.specs.Rule.{times, one_if}
-use Rattle.ivy_ether.specs.Views.{View, with_told, with_issued, beginner}
+use Rattle.ivy_ether.specs.Programs.{all_handed}
+use Rattle.ivy_ether.specs.Views.{Closing, View, with_issued, with_given, with_closed, closing_of, beginner}
+use Rattle.ivy_moves.specs.Marks.{Mark}
+use Rattle.ivy_site.specs.Shown.{Shown}
+use Rattle.std.specs.Prelude.{unwrap_or}
 use Rattle.ivy_ether.specs.Words.{IsNewcomer, AreFresh}
 use Rattle.ivy_ether.proofs.Totals.{total-append}
-use Rattle.ivy_seating.specs.Reports.{NodeReport, IsDone}
-use Rattle.ivy_seating.specs.Told.{AreTold}
+use Rattle.ivy_seating.specs.Reports.{NodeReport, report_of, IsDone}
+use Rattle.ivy_seating.specs.Told.{IsTold, TellsOf, AreTold}
 
 -- one more node
 get_push : {X : Type 0} (xs : List X) (y : X) (i : ℕ) (x : X) → slice_get (xs ++ y ∷ []) i ≡ Some x
@@ -28,30 +32,46 @@ get_push (z ∷ zs) y (suc i) x is = elim (get_push zs y i x is) [
   | inr last ↦ inr (ap suc last.0, last.1)
 ]
 
-pub told_more : (c : Config) (programs : List (List Instruction)) (v v' : View)
+pub told_more : (c : Config) (programs : List Program) (v v' : View)
     (nodes nodes' : List NodeReport) (n : NodeReport) (i : ℕ) → i ≡ length nodes
-    → nodes' ≡ nodes ++ n ∷ [] → v' ≡ with_told v i n.events → IsDone c programs i n
+    → nodes' ≡ nodes ++ n ∷ [] → TellsOf c programs v i n v'
     → AreTold c programs v nodes → AreTold c programs v' nodes'
-told_more c programs v v' nodes nodes' n i last more known done told j m there =
+told_more c programs v v' nodes nodes' n i last more tells told j m there =
     elim (get_push nodes n j m (subst (λ l. slice_get l j ≡ Some m) more there)) [
-      | inl was ↦
-          let old = told j m was in (
-            subst (λ (u : View). Contains u.reports (j, m.events)) (sym known)
-                (Contains-append_left v.reports ((i, n.events) ∷ []) (j, m.events) old.0),
-            old.1,
-          )
+      | inl was ↦ let old = told j m was in record {
+        calls = old.calls;
+        closed = tells.0 (record { node = j; handed = old.calls; events = m.events }) old.closed;
+        done = old.done;
+      }
       | inr new ↦
           let at : i ≡ j = last ∙ sym new.0 in
-          let own : Contains v'.reports (i, n.events) =
-          subst (λ (u : View). Contains u.reports (i, n.events)) (sym known)
-          (Contains-push v.reports (i, n.events)) in (
-            subst (λ (y : ℕ × NodeReport). Contains v'.reports (y.0, y.1.events))
-                (λ k. (at k, new.1 k)) own,
-            subst (λ (y : ℕ × NodeReport). IsDone c programs y.0 y.1) (λ k. (at k, new.1 k)) done,
-          )
+          subst (λ (y : ℕ × NodeReport). IsTold c programs v' y.0 y.1) (λ k. (at k, new.1 k)) tells.1
     ]
 
-pub told_none : (c : Config) (programs : List (List Instruction)) (v : View)
+-- the starter took in the pass of a node that is done
+pub tells_of : (c : Config) (programs : List Program) (v v' w : View) (es : List Mark) (s : Shown)
+    (i : ℕ) → v' ≡ with_closed v (with_given w es) → w.node ≡ Some i → es ≡ s.events
+    → IsDone c (all_handed (λ _. w.handed) programs) i (report_of s)
+    → TellsOf c programs v i (report_of s) v'
+tells_of c programs v v' w es s i known node is done =
+    let its : Closing = closing_of (with_given w es) in
+    let same : its ≡ record { node = i; handed = w.handed; events = s.events } =
+    (λ k. record { node = ap (λ o. unwrap_or o 0) node k; handed = w.handed; events = is k }) in (
+      λ x there. subst (λ (u : View). Contains u.closed x) (sym known)
+          (Contains-append_left (v.closed ++ w.closed) (its ∷ []) x
+          (Contains-append_left v.closed w.closed x there)),
+      record {
+        calls = w.handed;
+        closed = subst
+            (λ (u : View). Contains u.closed (record { node = i; handed = w.handed; events = s.events }))
+            (sym known)
+            (subst (λ (y : Closing). Contains ((v.closed ++ w.closed) ++ its ∷ []) y) same
+            (Contains-push (v.closed ++ w.closed) its));
+        done = done;
+      },
+    )
+
+pub told_none : (c : Config) (programs : List Program) (v : View)
     (nodes : List NodeReport) → nodes ≡ [] → AreTold c programs v nodes
 told_none c programs v nodes none i n there =
     absurd (none-some n (ap (λ l. slice_get l i) (sym none) ∙ there))

@@ -10,7 +10,7 @@ use Rattle.ivy_model.specs.Config.{IsConfig}
 use Rattle.ivy_model.specs.declared.Fault.{Fault}
 use Rattle.ivy_model.specs.declared.Fault.TheVariants as fault
 use Rattle.ivy_model.specs.Wants.{IsWant}
-use Rattle.ivy_program.specs.declared.Instruction.{Instruction}
+use Rattle.ivy_program.specs.Programs.{Program}
 use Rattle.ivy_wire.specs.declared.FrameKind.{FrameKind}
 use Rattle.ivy_wire.proofs.Frames.{spelled_once}
 use Rattle.ivy_moves.specs.ivy_link.declared.Verdict.{Verdict}
@@ -206,7 +206,7 @@ loses_string bytes old now mid new h d ether pass site refused =
     )
 
 -- what holds of a seated site
-pub keeps_seat : (wire : TableId) (c : Config) (programs : List (List Instruction)) (s : Shown)
+pub keeps_seat : (wire : TableId) (c : Config) (programs : List Program) (s : Shown)
     (p : Held) → IsSeated wire c programs s p → IsMadeByEvents s
     → KeepsSeat c programs (place wire s p)
 keeps_seat wire c programs s p h made = record { seated = h; made = made }

@@ -1,17 +1,19 @@
 -- What contracts see of a seated site: its ether, the site and its pass; and what holds of them.
-use Rattle.std.specs.Prelude.{◌≡◌, ℕ, false, List, ◌++◌, length, slice_get, Some, Contains}
+use Rattle.std.specs.Prelude.{◌≡◌, ℕ, false, List, [], ◌++◌, length, slice_get, Some, Contains}
 use Rattle.atomic_table.specs.Seated.{TableId}
 use Rattle.ivy_model.specs.declared.Config.{Config}
 use Rattle.ivy_model.specs.Config.{IsConfig}
-use Rattle.ivy_program.specs.declared.Instruction.{Instruction}
+use Rattle.ivy_program.specs.Programs.{Program, handed}
+use Rattle.ivy_moves.specs.declared.keep.Keep.{Keep}
+use Rattle.ivy_model.specs.declared.Call.{Call}
 use Rattle.ivy_moves.specs.Marks.{Mark}
 use Rattle.ivy_moves.specs.Parts.{AllCanBeMade, AreParts}
 use Rattle.ivy_moves.specs.Worlds.{World}
 use Rattle.ivy_ether.specs.ivy_host.Hosts.{Host, host_rules}
 use Rattle.ivy_ether.specs.ivy_host.Managers.{Managed, managed_ops}
-use Rattle.ivy_ether.specs.Programs.{beginning}
+use Rattle.ivy_ether.specs.Programs.{beginning, all_handed}
 use Rattle.ivy_site.specs.Shown.{Shown}
-use Rattle.ivy_site.specs.Sites.{first_shown, IsMadeByEvents}
+use Rattle.ivy_site.specs.Sites.{first_keeping, IsMadeByEvents}
 use Rattle.ivy_ether.specs.Held.{Held}
 use Rattle.ivy_ether.specs.Views.{newcomer, with_seat}
 
@@ -26,9 +28,20 @@ pub record HasGiven (nodes : ℕ) (s : Shown) (p : Held) : Type 0 where
   pub is : s.events ≡ p.known.events ++ more
   pub can : AllCanBeMade p.known.took nodes s.me more
 
+-- the name of no ether
+abbrev pub no_ether : TableId
+no_ether =
+    record { words = 0; slots = 0; views_name = 0; atom = 0; block = 0; offset = 0; slot_names = [] }
+
+-- the site runs its node's program, where these calls were handed to it
+pub record RunsProgram (programs : List Program) (s : Shown) (calls : List Call) : Type 0 where
+  pub first : Program
+  pub there : slice_get programs s.me ≡ Some first
+  pub is : s.node.core.process.program ≡ handed calls first
+
 -- the pass is of this ether, sits at the site's node and has not reported, and took each string
 -- that was delivered to the site; the site runs the node's program
-pub record IsSeated (wire : TableId) (c : Config) (programs : List (List Instruction))
+pub record IsSeated (wire : TableId) (c : Config) (programs : List Program)
     (s : Shown) (p : Held) : Type 0 where
   pub limits : IsConfig c
   pub each : length programs ≡ c.nodes
@@ -36,25 +49,27 @@ pub record IsSeated (wire : TableId) (c : Config) (programs : List (List Instruc
   pub node : p.known.node ≡ Some s.me
   pub unreported : p.known.reported ≡ false
   pub config : s.config ≡ c
-  pub program : slice_get programs s.me ≡ Some s.node.core.process.program
+  pub program : RunsProgram programs s p.known.handed
   pub given : HasGiven (length programs) s p
   pub took : AllCanBeMade p.known.took (length programs) s.me s.events
 
 -- what holds of a seated site at every moment: also that the node is what the site's events make of
 -- the first one of its program, and that they sent the strings that wait
-pub record KeepsSeat (c : Config) (programs : List (List Instruction)) (s : SeatedState) : Type 0
+pub record KeepsSeat (c : Config) (programs : List Program) (s : SeatedState) : Type 0
   where
     pub seated : IsSeated s.ether c programs s.site s.pass
     pub made : IsMadeByEvents s.site
 
--- what holds of it among all nodes: some run of the programs has exactly the site's events as its
--- part, and ends with this very node; in it each string that the pass took was sent, and each that
+-- what holds of it among all nodes: some run of the programs, where some calls were handed to each
+-- node and to the site's those that its pass knows of, has exactly the site's events as its part, and ends with this very node; in it each string that the pass took was sent, and each that
 -- waits to be put
-pub record IsInRun (c : Config) (programs : List (List Instruction)) (s : SeatedState) : Type 0
+pub record IsInRun (c : Config) (programs : List Program) (s : SeatedState) : Type 0
   where
+    pub calls : ℕ → List Call
     pub parts : ℕ → List Mark
     pub end : World (Host Managed)
-    pub run : AreParts (host_rules managed_ops) c (beginning c programs) parts end
+    pub run : AreParts (host_rules managed_ops) c (beginning c (all_handed calls programs)) parts end
+    pub handed : calls s.site.me ≡ s.pass.known.handed
     pub own : parts s.site.me ≡ s.site.events
     pub node : slice_get end.nodes s.site.me ≡ Some s.site.node
     pub took : (bytes : List ℕ) → Contains s.pass.known.took bytes → Contains end.sent bytes
@@ -64,13 +79,14 @@ pub record IsInRun (c : Config) (programs : List (List Instruction)) (s : Seated
 abbrev pub place : TableId → Shown → Held → SeatedState
 place e s p = record { ether = e; site = s; pass = p }
 
--- a site of the node's program as it begins, and a pass of this ether that took the node's seat
-pub record IsFreshSeat (wire : TableId) (c : Config) (programs : List (List Instruction))
+-- a site of the node's program as it begins, whatever it keeps, and a pass of this ether that took the node's seat
+pub record IsFreshSeat (wire : TableId) (c : Config) (programs : List Program)
     (s : Shown) (p : Held) : Type 0 where
   pub limits : IsConfig c
   pub each : length programs ≡ c.nodes
   pub ether : p.ether ≡ wire
   pub pass : p.known ≡ with_seat newcomer s.me
-  pub program : List Instruction
+  pub program : Program
   pub there : slice_get programs s.me ≡ Some program
-  pub site : s ≡ first_shown c s.me program
+  pub keep : Keep
+  pub site : s ≡ first_keeping keep c s.me program

@@ -1,12 +1,14 @@
 -- What a finished session says of its report.
-use Rattle.std.specs.Prelude.{◌≡◌, ℕ, List, length, slice_get, Some}
+use Rattle.std.specs.Prelude.{◌≡◌, ℕ, List, length, slice_get, Some, All}
+use Rattle.ivy_model.specs.declared.Call.{Call}
 use Rattle.ivy_model.specs.declared.Config.{Config}
 use Rattle.ivy_model.specs.declared.Record.{Record}
 use Rattle.ivy_model.specs.Explains.{part}
 use Rattle.ivy_model.specs.Legal.{Legal}
-use Rattle.ivy_program.specs.declared.Instruction.{Instruction}
+use Rattle.ivy_program.specs.Programs.{Program}
 use Rattle.ivy_program.specs.Runs.{IsWholeRun}
 use Rattle.ivy_program.specs.Steps.{HasEnded}
+use Rattle.ivy_moves.specs.declared.keep.Keep.{Keep}
 use Rattle.ivy_moves.specs.Marks.{Mark}
 use Rattle.ivy_moves.specs.Nodes.{Effect}
 use Rattle.ivy_moves.specs.Parts.{AreParts}
@@ -16,13 +18,15 @@ use Rattle.ivy_ether.specs.ivy_host.Hosts.{Host, host_rules}
 use Rattle.ivy_ether.specs.ivy_host.Managers.{Managed, managed_ops}
 use Rattle.ivy_site.specs.Shown.{Shown}
 use Rattle.ivy_ether.specs.Going.{IsListOf}
-use Rattle.ivy_ether.specs.Programs.{beginning}
+use Rattle.ivy_ether.specs.Programs.{beginning, all_handed}
 
--- of a node: what it was answered, what its program printed, and its event list
+-- of a node: what it was answered, what its program printed, and its event list; and which of these
+-- lists can be read
 pub record NodeReport : Type 0 where
   pub history : List Record
   pub output : List ℕ
   pub events : List Mark
+  pub keep : Keep
 
 -- what a report says of this site's node
 abbrev pub report_of : Shown → NodeReport
@@ -30,9 +34,14 @@ report_of s = record {
   history = s.node.core.history;
   output = s.node.core.process.state.output;
   events = s.events;
+  keep = s.keep;
 }
 
-module _ (c : Config) (programs : List (List Instruction)) where
+-- all nodes kept these lists
+abbrev pub AllKeep : Keep → List NodeReport → Type 0
+AllKeep keep nodes = All (λ (n : NodeReport). n.keep ≡ keep) nodes
+
+module _ (c : Config) (programs : List Program) where
   -- history and output are those that node i's events give, by the definitions, for this list
   pub record IsNodeReport (i : ℕ) (n : NodeReport) : Type 0 where
     pub effect : Effect (Host Managed)
@@ -62,9 +71,14 @@ module _ (c : Config) (programs : List (List Instruction)) where
     pub end : World (Host Managed)
     pub run : AreParts (host_rules managed_ops) c (beginning c programs) parts end
     pub whole : (i : ℕ) (n : NodeReport) → slice_get nodes i ≡ Some n
-        → (program : List Instruction) × (slice_get programs i ≡ Some program)
+        → (program : Program) × (slice_get programs i ≡ Some program)
         × IsWholeRun program n.history n.output
     pub order : List Record
     pub explained : ExplainsWhole order nodes
     pub exclusive : IsExclusive end
     pub no_breach : HasNoBreach end
+
+-- such a report, of these programs where some calls were handed to each node; to those that are
+-- written down nothing can be
+abbrev pub IsHandedReport : Config → List Program → List NodeReport → Type 0
+IsHandedReport c programs nodes = (calls : ℕ → List Call) × IsReport c (all_handed calls programs) nodes

@@ -6,17 +6,19 @@
 //! In a comment, numbers in brackets as [1, 17] are the fault numbers that a call may answer.
 #![tactic(auto)]
 
+mod homed;
 mod report;
 mod seated;
 mod seating;
 mod wire_turn;
 
+pub use homed::{Home, Homed};
 pub use ivy_ether;
 pub use ivy_moves::ivy_link;
 pub use report::Report;
 pub use seated::Seated;
-pub use seating::{seat_all, take_reports};
+pub use seating::{close_seat, close_seats, seat_all};
 pub use wire_turn::WireTurn;
 
-// what a turn of a seated site's program came to
-pub use ivy_site::Turn;
+// the site itself, what it keeps of its own past, and what a turn of its program came to
+pub use ivy_site::{Keep, Site, Turn};

@@ -1,5 +1,6 @@
 //! What a finished session gives.
 ghost use Rattle.std.specs.Prelude.{◌≡◌, ◌<◌, IfSome, length, map, slice_get};
+ghost use Rattle.ivy_moves.specs.Keeping.{keeps_history, keeps_events, read_of};
 ghost use Rattle.ivy_moves.specs.Marks.{marks};
 ghost use Rattle.ivy_seating.specs.Reports.{report_of};
 
@@ -27,7 +28,7 @@ impl<A: Allocator> Model for Report<A> {
 
 impl<A: Allocator + Copy> Report<A> {
     /// The report of these sites, in the order of their nodes.
-    pub(crate) fn new(sites: Vec<Site<A>, A>) -> Self
+    pub fn new(sites: Vec<Site<A>, A>) -> Self
         ensures { result ≡ map report_of sites.items }
     {
         Report { sites }
@@ -40,10 +41,10 @@ impl<A: Allocator + Copy> Report<A> {
         self.sites.len() as u64
     }
 
-    /// What a node was answered, in order; the node is one of the session's.
+    /// What a node was answered, in order, where its site kept that; else nothing. The node is one of the session's.
     pub fn history(&self, node: u64) -> &[Record]
         requires { node < length self.now }
-        ensures { IfSome (slice_get self.now node) (λ n. result.now ≡ n.history) }
+        ensures { IfSome (slice_get self.now node) (λ n. result.now ≡ read_of (keeps_history n.keep) n.history) }
     {
         self.sites[node as usize].history()
     }
@@ -56,10 +57,10 @@ impl<A: Allocator + Copy> Report<A> {
         self.sites[node as usize].output()
     }
 
-    /// The events of a node, in order; the node is one of the session's.
+    /// The events of a node, in order, where its site kept them; else none. The node is one of the session's.
     pub fn events(&self, node: u64) -> &[Event<Bytes<A>>]
         requires { node < length self.now }
-        ensures { IfSome (slice_get self.now node) (λ n. marks result.now ≡ n.events) }
+        ensures { IfSome (slice_get self.now node) (λ n. marks result.now ≡ read_of (keeps_events n.keep) n.events) }
     {
         self.sites[node as usize].events()
     }

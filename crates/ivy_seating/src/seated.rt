@@ -1,9 +1,13 @@
 //! A site that is seated at an ether.
-ghost use Rattle.std.specs.Prelude.{◌≡◌, ◌≢◌, ◌↔◌, ◌<◌, ◌≤◌, [], ◌++◌, Err, Contains, IsTrue, MatchBool, MatchOption, MatchResult, IfOk, IfErr, IfSome, IsSome, IsOkUnless, length};
+ghost use Rattle.std.specs.Prelude.{◌≡◌, ◌≢◌, ◌↔◌, ◌<◌, ◌≤◌, [], ◌∷◌, ◌++◌, Err, Contains, IsTrue, MatchBool, MatchOption, MatchResult, IfOk, IfErr, IfSome, IsSome, IsOkUnless, OnOk, OnErr, length};
 ghost use Rattle.ivy_model.specs.Wants.{IsWant};
 ghost use Rattle.ivy_wire.specs.Faults.{checked};
 ghost use Rattle.ivy_moves.specs.Nodes.{pulsing, verdict_of};
+ghost use Rattle.ivy_model.specs.Legal.{HasWidth};
+ghost use Rattle.ivy_program.specs.Owned.{IsFree};
 ghost use Rattle.ivy_program.specs.Steps.{HasEnded};
+ghost use Rattle.ivy_site.specs.Handed.{site_handed};
+ghost use Rattle.ivy_ether.specs.Views.{with_handed};
 ghost use Rattle.ivy_site.specs.ivy_outbox.Outboxes.{next_dest};
 ghost use Rattle.ivy_site.specs.Shown.{after_pulse_to};
 ghost use Rattle.ivy_site.specs.Sites.{AfterTurn, AfterDelivery, IsSpentTurn, IsSpentDelivery};
@@ -12,7 +16,7 @@ ghost use Rattle.ivy_seating.specs.Wire.{AfterWire, Drains, RefusesString, IsPut
 
 use crate::wire_turn::WireTurn;
 use ivy_ether::{Ether, Item, Pass, Put, Setup, Wired};
-use ivy_model::Fault;
+use ivy_model::{Call, Fault};
 use ivy_moves::ivy_link::Verdict;
 use ivy_site::{Site, Turn};
 use ivy_wire::{Bytes, destination};
@@ -92,11 +96,18 @@ impl<'e, S: Setup, A: Allocator + Copy> Seated<'e, S, A> {
         self.ether.learn_run(&mut self.pass);
     }
 
+    /// The site. It takes no memory.
+    pub fn site(&self) -> &Site<A>
+        ensures { result.now ≡ self.now.site }
+    {
+        &self.site
+    }
+
     /// How many records the site's history has.
     pub fn records(&self) -> u64
         ensures { result ≡ length self.now.site.node.core.history }
     {
-        self.site.history().len() as u64
+        self.site.records()
     }
 
     /// Whether the site's program has ended.
@@ -118,6 +129,28 @@ impl<'e, S: Setup, A: Allocator + Copy> Seated<'e, S, A> {
         ensures { result ≡ next_dest self.now.site.waiting }
     {
         self.site.next_destination()
+    }
+
+    /// Whether the node's owner may make a call: the program is own code, and each call before has its reply.
+    pub fn is_free(&self) -> bool
+        ensures { IsTrue result ↔ IsFree self.now.site.node.core.process }
+    {
+        self.site.is_free()
+    }
+
+    /// The node's owner makes a call, which the program's next turn begins [1]. A refused call changes nothing.
+    pub fn hand(&mut self, call: Call) -> Result<(), Fault>
+        requires free { IsFree self.old.site.node.core.process }
+        requires width { HasWidth call }
+        ensures ether { self.new.ether ≡ self.old.ether }
+        ensures site { OnOk result (self.new.site ≡ site_handed (call ∷ []) self.old.site) }
+        ensures pass { OnOk result (self.new.pass.known ≡ with_handed self.old.pass.known call) }
+        ensures err { OnErr result (self.new ≡ self.old) }
+        ensures memory { IsOkUnless result Fault.Memory }
+    {
+        self.site.hand(call)?;
+        self.ether.hand(&mut self.pass, call);
+        Ok(())
     }
 
     /// One turn of the site's program [1, 17]. A refused turn changes nothing.
@@ -270,7 +303,9 @@ impl<'e, S: Setup, A: Allocator + Copy> Seated<'e, S, A> {
 
     /// The ether, the site and its pass.
     pub(crate) fn into_parts(self) -> (&'e Ether<S, A>, Site<A>, Pass<Wired<A>>)
-        ensures { IsSeated result.0.now S.config S.programs result.1 result.2 }
+        ensures ether { result.0.now ≡ self.entry.ether }
+        ensures site { result.1 ≡ self.entry.site }
+        ensures seated { IsSeated result.0.now S.config S.programs result.1 result.2 }
     {
         let Seated { ether, site, pass } = self;
         (ether, site, pass)

@@ -1,20 +1,21 @@
 //! How the sites of a session are seated, and how their reports are taken.
-ghost use Rattle.std.specs.Prelude.{◌≡◌, ◌<◌, ◌≤◌, ◌+◌, true, Some, All, IfOk, IfErr, OnOk, length, vec_len, slice_get};
+ghost use Rattle.std.specs.Prelude.{◌≡◌, ◌<◌, ◌≤◌, ◌+◌, true, Some, All, IfOk, IfErr, IsTrue, OnOk, length, vec_len, slice_get};
 ghost use Rattle.ivy_model.specs.Config.{IsConfig};
 ghost use Rattle.ivy_ether.specs.Rule.{times};
-ghost use Rattle.ivy_ether.specs.Views.{beginner, with_issued, with_told};
+ghost use Rattle.ivy_ether.specs.Views.{beginner, with_issued};
 ghost use Rattle.ivy_ether.specs.Words.{IsNewcomer};
 ghost use Rattle.ivy_seating.specs.Faults.{IsStop};
 ghost use Rattle.ivy_seating.specs.Places.{IsSeated};
-ghost use Rattle.ivy_seating.specs.Reports.{report_of, IsDone};
-ghost use Rattle.ivy_seating.specs.Told.{AreTold};
+ghost use Rattle.ivy_seating.specs.Reports.{report_of, AllKeep};
+ghost use Rattle.ivy_seating.specs.Told.{TellsOf, AreTold};
 
+use crate::homed::{Home, Homed};
 use crate::report::Report;
 use crate::seated::Seated;
 use ivy_ether::{Ether, Pass, Setup, Wired};
 use ivy_model::{Config, Fault};
 use ivy_program::Program;
-use ivy_site::Site;
+use ivy_site::{Keep, Site};
 use std::alloc::Allocator;
 use std::sync::{Mutex, Wait};
 
@@ -28,6 +29,7 @@ fn seat_one<'e, S: Setup, A: Allocator + Copy, R: Wait>(
     pass: Pass<Wired<A>>,
     node: u8,
     program: Program<A>,
+    keep: Keep,
 ) -> Result<Seated<'e, S, A>, Fault>
     requires config { config.now ≡ S.config }
     requires limits { IsConfig config.now }
@@ -39,6 +41,7 @@ fn seat_one<'e, S: Setup, A: Allocator + Copy, R: Wait>(
     requires new { times node starter.old.known.issued ≡ 0 }
     ensures starter { starter.new.ether ≡ starter.old.ether }
     ensures issued { IfOk result (λ _. starter.new.known ≡ with_issued starter.old.known node) }
+    ensures ether { IfOk result (λ seated. seated.ether ≡ ether.now) }
     ensures stop { IfErr result IsStop }
 {
     let mut pass = pass;
@@ -51,12 +54,12 @@ fn seat_one<'e, S: Setup, A: Allocator + Copy, R: Wait>(
     if found != node {
         return Err(Fault::TurnLimit);
     }
-    let site = Site::new(alloc, config, node, program)?;
+    let site = Site::keeping(alloc, config, node, program, keep)?;
     Ok(Seated::new(ether, site, pass))
 }
 
-/// Seats all nodes [1, 21], with a pass and a program for each.
-pub fn seat_all<'e, S: Setup, A: Allocator + Copy, R: Wait>(
+/// Seats all nodes [1, 21], with a pass and a program for each. Each keeps these lists of its own past.
+pub fn seat_all<'e, S: Setup, H: Home, A: Allocator + Copy, R: Wait>(
     rt: &R,
     alloc: A,
     ether: &'e Ether<S, A>,
@@ -64,7 +67,9 @@ pub fn seat_all<'e, S: Setup, A: Allocator + Copy, R: Wait>(
     starter: &mut Pass<Wired<A>>,
     passes: Vec<Pass<Wired<A>>, A>,
     programs: Vec<Program<A>, A>,
-) -> Result<Vec<Mutex<Seated<'e, S, A>>, A>, Fault>
+    keep: Keep,
+) -> Result<Vec<Mutex<Homed<'e, S, H, A>>, A>, Fault>
+    requires home { ether.now ≡ H.ether }
     requires config { config.now ≡ S.config }
     requires limits { IsConfig config.now }
     requires programs { programs.items ≡ S.programs }
@@ -85,29 +90,25 @@ pub fn seat_all<'e, S: Setup, A: Allocator + Copy, R: Wait>(
             unreachable!()
         };
         seats.reserve(1)?;
-        let seated = seat_one(rt, alloc, ether, config, starter, pass, node, program)?;
-        seats.push_reserved(Mutex::new(seated));
+        let seated = seat_one(rt, alloc, ether, config, starter, pass, node, program, keep)?;
+        seats.push_reserved(Mutex::new(Homed::new(seated)));
         node += 1;
     }
     Ok(seats)
 }
 
-/// A site's report goes through its ether, from its pass to the starter's [1, 21].
-fn exchange<S: Setup, A: Allocator + Copy, R: Wait>(
-    rt: &R,
-    alloc: A,
+/// Takes in the pass of a site whose program has ended [21].
+fn take_in<S: Setup, A: Allocator + Copy>(
     ether: &Ether<S, A>,
     starter: &mut Pass<Wired<A>>,
-    own: &Ether<S, A>,
     site: &Site<A>,
-    pass: &mut Pass<Wired<A>>,
+    pass: Pass<Wired<A>>,
     node: u8,
 ) -> Result<(), Fault>
-    requires starter { (starter.old.ether ≡ ether.now) × (starter.old.known.starts ≡ true) }
-    requires seated { IsSeated own.now S.config S.programs site.now pass.old }
-    ensures starter { starter.new.ether ≡ starter.old.ether }
-    ensures told { OnOk result (starter.new.known ≡ with_told starter.old.known node site.now.events) }
-    ensures done { OnOk result (IsDone S.config S.programs node (report_of site.now)) }
+    requires starter { starter.old.ether ≡ ether.now }
+    requires seated { IsSeated ether.now S.config S.programs site.now pass }
+    ensures ether { starter.new.ether ≡ starter.old.ether }
+    ensures told { OnOk result (TellsOf S.config S.programs starter.old.known node (report_of site.now) starter.new.known) }
     ensures stop { IfErr result IsStop }
 {
     if site.me() != node {
@@ -116,59 +117,63 @@ fn exchange<S: Setup, A: Allocator + Copy, R: Wait>(
     if !site.ended() {
         return Err(Fault::TurnLimit);
     }
-    let events = site.event_list();
-    let copy = events.copy(alloc)?;
-    if own.put_report(rt, pass, copy).is_err() {
-        return Err(Fault::TurnLimit);
-    }
-    let Some((from, told)) = ether.take_report(rt, starter) else {
-        return Err(Fault::TurnLimit);
-    };
-    if from != node || !told.is_same(events) {
-        return Err(Fault::TurnLimit);
-    }
+    ether.close(starter, pass, site.event_list());
     Ok(())
 }
 
-/// Takes the report of a node, and hands out its site [1, 21].
-fn take_one<S: Setup, A: Allocator + Copy, R: Wait>(
-    rt: &R,
-    alloc: A,
+/// Whether a site keeps these lists of its own past.
+fn is_keeping<A: Allocator + Copy>(site: &Site<A>, keep: Keep) -> bool
+    ensures { IsTrue result → site.now.keep ≡ keep }
+{
+    site.keep() == keep
+}
+
+/// Closes a node that keeps these lists, and hands out its site [21].
+pub fn close_seat<S: Setup, H: Home, A: Allocator + Copy>(
     ether: &Ether<S, A>,
     starter: &mut Pass<Wired<A>>,
-    seated: Seated<'_, S, A>,
+    homed: Homed<'_, S, H, A>,
     node: u8,
+    keep: Keep,
 ) -> Result<Site<A>, Fault>
-    requires starter { (starter.old.ether ≡ ether.now) × (starter.old.known.starts ≡ true) }
-    ensures starter { starter.new.ether ≡ starter.old.ether }
-    ensures told { IfOk result (λ site. starter.new.known ≡ with_told starter.old.known node site.events) }
-    ensures done { IfOk result (λ site. IsDone S.config S.programs node (report_of site)) }
+    requires home { ether.now ≡ H.ether }
+    requires starter { starter.old.ether ≡ ether.now }
+    ensures site { IfOk result (λ site. site ≡ homed.entry.seated.site) }
+    ensures ether { starter.new.ether ≡ starter.old.ether }
+    ensures told { IfOk result (λ site. TellsOf S.config S.programs starter.old.known node (report_of site) starter.new.known) }
+    ensures keep { IfOk result (λ site. site.keep ≡ keep) }
     ensures stop { IfErr result IsStop }
 {
-    let (own, site, mut pass) = seated.into_parts();
-    match exchange(rt, alloc, ether, starter, own, &site, &mut pass, node) {
+    let seated = homed.into_seated();
+    let (_, site, pass) = seated.into_parts();
+    if !is_keeping(&site, keep) {
+        return Err(Fault::TurnLimit);
+    }
+    match take_in(ether, starter, &site, pass, node) {
         Ok(()) => Ok(site),
         Err(fault) => Err(fault),
     }
 }
 
-/// Takes the reports of all nodes from their sites [1, 21].
-pub fn take_reports<S: Setup, A: Allocator + Copy, R: Wait>(
-    rt: &R,
+/// Closes all nodes, each of which keeps these lists, and hands out the report of their sites [1, 21].
+pub fn close_seats<S: Setup, H: Home, A: Allocator + Copy>(
     alloc: A,
     ether: &Ether<S, A>,
     starter: &mut Pass<Wired<A>>,
-    seats: Vec<Mutex<Seated<'_, S, A>>, A>,
+    seats: Vec<Mutex<Homed<'_, S, H, A>>, A>,
+    keep: Keep,
 ) -> Result<Report<A>, Fault>
-    requires starter { (starter.old.ether ≡ ether.now) × (starter.old.known.starts ≡ true) }
+    requires home { ether.now ≡ H.ether }
+    requires starter { starter.old.ether ≡ ether.now }
     ensures starter { starter.new.ether ≡ starter.old.ether }
     ensures told { IfOk result (λ report. AreTold S.config S.programs starter.new.known report) }
+    ensures keep { IfOk result (AllKeep keep) }
     ensures stop { IfErr result IsStop }
 {
     let mut sites = Vec::with_capacity(alloc, seats.len())?;
     let mut node = 0u8;
     for seat in seats {
-        let site = take_one(rt, alloc, ether, starter, seat.into_inner(), node)?;
+        let site = close_seat(ether, starter, seat.into_inner(), node, keep)?;
         sites.push_reserved(site);
         let Some(next) = node.checked_add(1) else {
             return Err(Fault::TurnLimit);

@@ -1,13 +1,16 @@
 -- What the starter was told is a report.
-use Rattle.std.proofs.Common.{◌≡◌, ℕ, zero, suc, List, [], ◌∷◌, ◌++◌, length, map, slice_get}
-use Rattle.std.proofs.Common.{Contains, Option, Some, None, refl, sym, ap, subst, ◌∙◌, append-nil}
+use Rattle.std.proofs.Common.{◌≡◌, ℕ, zero, suc, ◌+◌, List, [], ◌∷◌, ◌++◌, length, map, slice_get}
+use Rattle.std.proofs.Common.{Option, Some, None, refl, sym, ap, subst, ◌∙◌, append-nil}
+use Rattle.std.specs.Prelude.{Result, Ok, Err, IfOk, All}
+use Rattle.std.proofs.lemmas.List.Elements.{All-head, All-tail}
 use Rattle.std.proofs.lemmas.Option.{none-some, same_Some}
+use Rattle.ivy_model.specs.declared.Fault.{Fault}
 use Rattle.ivy_model.specs.declared.Call.{Call}
 use Rattle.ivy_model.specs.declared.Config.{Config}
 use Rattle.ivy_model.specs.declared.Record.{Record}
 use Rattle.ivy_model.specs.Config.{IsConfig}
 use Rattle.ivy_model.specs.Explains.{IsOwed, part}
-use Rattle.ivy_program.specs.declared.Instruction.{Instruction}
+use Rattle.ivy_program.specs.Programs.{Program, Written, Called, IsWritten, handed}
 use Rattle.ivy_program.specs.Runs.{IsWholeRun}
 use Rattle.ivy_program.specs.Steps.{Asks, Ends, HasEnded, step_of}
 use Rattle.ivy_seating.specs.ivy_moves.declared.Move.{Move}
@@ -20,9 +23,13 @@ use Rattle.ivy_seating.proofs.of_ivy_moves.Parts.{runs_are_their_parts}
 use Rattle.ivy_seating.proofs.of_ivy_moves.Splitting.{same-effect}
 use Rattle.ivy_seating.specs.ivy_ether.ivy_host.Hosts.{Host, host_rules, answered_by}
 use Rattle.ivy_seating.specs.ivy_ether.ivy_host.Managers.{Managed, managed_ops}
-use Rattle.ivy_seating.specs.ivy_ether.Programs.{beginning, Told}
+use Rattle.ivy_seating.specs.ivy_ether.ivy_host.Handing.{handing}
+use Rattle.ivy_seating.specs.ivy_ether.Programs.{beginning, all_handed_from, all_handed, Told}
+use Rattle.ivy_seating.specs.ivy_ether.Rule.{IsNode}
+use Rattle.ivy_seating.proofs.of_ivy_ether.Advancing.{same_start, list_over}
+use Rattle.ivy_seating.proofs.of_ivy_ether.Hosts.{length-all_handed, opened, from_start}
 use Rattle.ivy_seating.specs.ivy_ether.Views.{View}
-use Rattle.ivy_seating.specs.Reports.{NodeReport, IsDone, IsReport}
+use Rattle.ivy_seating.specs.Reports.{NodeReport, IsDone, IsReport, IsHandedReport}
 use Rattle.ivy_seating.specs.Told.{AreTold}
 use Rattle.proof_headline.proofs.Headline.{exclusive-led, no_breach-led, runs-led, explained-along, sound-led}
 
@@ -58,7 +65,7 @@ map_get f [] i x is = absurd (none-some x is)
 map_get f (y ∷ ys) zero x is = ap (λ o. Some (f o)) (same_Some y x is)
 map_get f (y ∷ ys) (suc i) x is = map_get f ys i x is
 
-module _ (c : Config) (programs : List (List Instruction)) (limits : IsConfig c)
+module _ (c : Config) (programs : List Program) (limits : IsConfig c)
     (each : length programs ≡ c.nodes) where
   -- a done node is the one of its place at the end of the run
   record IsThere (end : World (Host Managed)) (i : ℕ) (n : NodeReport) : Type 0 where
@@ -89,22 +96,20 @@ module _ (c : Config) (programs : List (List Instruction)) (limits : IsConfig c)
         ended = done.ended;
       }
 
-  module _ (nodes : List NodeReport) (v : View) (count : length nodes ≡ length programs)
-      (told : AreTold c programs v nodes) (parts : ℕ → List Mark) (end : World (Host Managed))
+  module _ (nodes : List NodeReport) (count : length nodes ≡ length programs)
+      (done : (i : ℕ) (n : NodeReport) → slice_get nodes i ≡ Some n → IsDone c programs i n)
+      (parts : ℕ → List Mark) (end : World (Host Managed))
       (run : AreParts (host_rules managed_ops) c (beginning c programs) parts end)
-      (are : (i : ℕ) (events : List Mark) → Contains v.reports (i, events) → parts i ≡ events) where
-    list_of : (i : ℕ) (n : NodeReport) → slice_get nodes i ≡ Some n → parts i ≡ n.events
-    list_of i n there = are i n.events (told i n there).0
-
+      (lists : (i : ℕ) (n : NodeReport) → slice_get nodes i ≡ Some n → parts i ≡ n.events) where
     at_end : (i : ℕ) (n : NodeReport) → slice_get nodes i ≡ Some n → IsThere end i n
-    at_end i n there = is_there end parts i n run (list_of i n there) (told i n there).1
+    at_end i n there = is_there end parts i n run (lists i n there) (done i n there)
 
     order : (whole : List Record) × IsExplainedBy (host_rules managed_ops) c answered_by end whole
     order = explained_end c (beginning c programs) end [] run.moves
         (explained-along c programs limits each run.moves) run.leads
 
     whole_run : (i : ℕ) (n : NodeReport) → slice_get nodes i ≡ Some n
-        → (program : List Instruction) × (slice_get programs i ≡ Some program)
+        → (program : Program) × (slice_get programs i ≡ Some program)
         × IsWholeRun program n.history n.output
     whole_run i n there =
         let e = at_end i n there in
@@ -133,12 +138,12 @@ module _ (c : Config) (programs : List (List Instruction)) (limits : IsConfig c)
         p.1 ∙ ap (λ l. e.node.core.history ++ l) empty ∙ append-nil e.node.core.history
         ∙ sym e.history
 
-    reported_as : IsReport c programs nodes
+    pub reported_as : IsReport c programs nodes
     reported_as = record {
       all = count;
-      each = λ i n there. (told i n there).1.of;
+      each = λ i n there. (done i n there).of;
       parts = parts;
-      lists = list_of;
+      lists = lists;
       end = end;
       run = run;
       whole = whole_run;
@@ -148,7 +153,64 @@ module _ (c : Config) (programs : List (List Instruction)) (limits : IsConfig c)
       no_breach = no_breach-led c programs limits each run.moves end run.leads;
     }
 
-  -- what the starter was told is a report
-  pub reported : (nodes : List NodeReport) (v : View) → length nodes ≡ length programs
-      → AreTold c programs v nodes → Told c programs v → IsReport c programs nodes
-  reported nodes v count told t = reported_as nodes v count told t.parts t.end t.run t.told
+-- what is known of a node by the calls that were handed to it holds whatever the others were handed
+done_over : (c : Config) (programs : List Program) (calls calls' : ℕ → List Call) (i : ℕ)
+    (n : NodeReport) → calls i ≡ calls' i → IsDone c (all_handed calls programs) i n
+    → IsDone c (all_handed calls' programs) i n
+done_over c programs calls calls' i n same d = record {
+  of = record {
+    effect = d.of.effect;
+    list = list_over (host_rules managed_ops) c (beginning c programs) handing
+        (beginning c (all_handed calls programs)) (beginning c (all_handed calls' programs)) i
+        n.events d.of.effect
+        (same_start (host_rules managed_ops) c (beginning c programs) handing calls calls'
+        (beginning c (all_handed calls programs)) (beginning c (all_handed calls' programs)) i
+        (opened c programs calls) (opened c programs calls') same)
+        d.of.list;
+    history = d.of.history;
+    output = d.of.output;
+  };
+  ended = d.ended;
+}
+
+-- what the starter was told is a report
+pub reported : (c : Config) (programs : List Program) → IsConfig c → length programs ≡ c.nodes
+    → (nodes : List NodeReport) (v : View) → length nodes ≡ length programs
+    → AreTold c programs v nodes → Told c programs v → IsHandedReport c programs nodes
+reported c programs limits each nodes v count told t =
+    let known : (i : ℕ) (n : NodeReport) (there : slice_get nodes i ≡ Some n)
+    → IsNode (host_rules managed_ops) c (beginning c programs) handing t.calls t.parts i
+    (told i n there).calls n.events =
+    (λ i n there. t.closed (record { node = i; handed = (told i n there).calls; events = n.events })
+    (told i n there).closed) in (
+      t.calls,
+      reported_as c (all_handed t.calls programs) limits (length-all_handed t.calls programs ∙ each)
+          nodes (count ∙ sym (length-all_handed t.calls programs))
+          (λ i n there. done_over c programs (λ _. (told i n there).calls) t.calls i n
+          (sym (known i n there).handed) (told i n there).done)
+          t.parts t.end (from_start c programs t.calls t.parts t.end t.run)
+          (λ i n there. (known i n there).part),
+    )
+
+-- nothing can be handed to programs that are written down
+handed_written : (calls : List Call) (p : Program) → IsWritten p → handed calls p ≡ p
+handed_written calls (Written is) written = refl
+handed_written calls (Called own) written = absurd written
+
+written_from : (calls : ℕ → List Call) (k : ℕ) (ps : List Program) → All IsWritten ps
+    → all_handed_from k calls ps ≡ ps
+written_from calls k [] all = refl
+written_from calls k (p ∷ ps) all =
+    ap (λ q. q ∷ all_handed_from (k + 1) calls ps)
+    (handed_written (calls k) p (All-head IsWritten p ps all))
+    ∙ ap (λ qs. p ∷ qs) (written_from calls (k + 1) ps (All-tail IsWritten p ps all))
+
+pub reported_written : (c : Config) (programs : List Program) (nodes : List NodeReport)
+    → All IsWritten programs → IsHandedReport c programs nodes → IsReport c programs nodes
+reported_written c programs nodes all r =
+    subst (λ ps. IsReport c ps nodes) (written_from r.0 0 programs all) r.1
+
+pub if_written : (c : Config) (programs : List Program) (r : Result (List NodeReport) Fault)
+    → All IsWritten programs → IfOk r (IsHandedReport c programs) → IfOk r (IsReport c programs)
+if_written c programs (Ok nodes) all report = reported_written c programs nodes all report
+if_written c programs (Err fault) all report = tt

@@ -10,13 +10,23 @@ mod bells;
 mod gate;
 mod limits;
 mod line;
+mod pulses;
 mod report;
+mod seat;
 mod session;
 mod shared;
+mod turns;
 mod watch;
 mod workers;
 
 pub use gate::{Gate, OpenGate, Role};
-pub use ivy_seating::{Report, Seated, WireTurn, ivy_ether};
+pub use ivy_seating::{Keep, Report, Seated, WireTurn, ivy_ether};
 pub use limits::Limits;
 pub use session::Session;
+
+// what a session of own code has in common with one of programs
+pub use pulses::Pulses;
+pub use seat::Seat;
+pub use shared::Shared;
+pub use turns::ProgramWorker;
+pub use workers::Crew;

@@ -1,9 +1,12 @@
 //! Sessions.
-ghost use Rattle.std.specs.Prelude.{◌≡◌, ◌↔◌, ◌<◌, ◌+◌, IsErrOf, IfOk, IfErr, length, vec_len};
+ghost use Rattle.std.specs.Prelude.{◌≡◌, ◌↔◌, ◌<◌, ◌+◌, All, IsErrOf, IfOk, IfErr, length, vec_len};
 ghost use Rattle.ivy_model.specs.Config.{IsConfig};
+ghost use Rattle.ivy_seating.specs.ivy_ether.Views.{beginner};
 ghost use Rattle.ivy_seating.specs.ivy_ether.Words.{AreFresh, room_of};
 ghost use Rattle.ivy_seating.specs.Faults.{IsStop};
-ghost use Rattle.ivy_seating.specs.Reports.{IsReport};
+ghost use Rattle.ivy_program.specs.Programs.{IsWritten};
+ghost use Rattle.ivy_seating.specs.ivy_ether.Words.{IsNewcomer};
+ghost use Rattle.ivy_seating.specs.Reports.{IsReport, IsHandedReport, AllKeep};
 ghost use Rattle.ivy_session.specs.Faults.{IsSessionFault};
 ghost use Rattle.ivy_session.specs.Limits.{AreLimits};
 
@@ -14,7 +17,7 @@ use crate::workers::run_workers;
 use ivy_model::{Config, Fault};
 use ivy_program::Program;
 use ivy_seating::ivy_ether::{Ether, Pass, Setup, Wired};
-use ivy_seating::{Report, seat_all};
+use ivy_seating::{Home, Keep, Report, seat_all};
 use std::alloc::Allocator;
 use std::marker::Brand;
 use std::sync::Wait;
@@ -43,7 +46,57 @@ fn lay<S: Setup, A: Allocator + Copy>(
     Ether::<S, A>::new(alloc, config, programs, capacity, programs.len() + 1)
 }
 
-/// Seats the nodes, runs their workers, and takes their reports [1, 17, 21].
+/// Seats the nodes at their ether, runs their workers, and closes them [1, 17, 21].
+fn play_at<S, H, A, R, G>(
+    rt: &R,
+    alloc: A,
+    config: &Config,
+    ether: &Ether<S, A>,
+    starter: Pass<Wired<A>>,
+    passes: Vec<Pass<Wired<A>>, A>,
+    programs: Vec<Program<A>, A>,
+    limits: Limits,
+    gate: &G,
+    keep: Keep,
+) -> Result<Report<A>, Fault>
+where
+    S: Setup + Send + Sync,
+    H: Home + Send + Sync,
+    A: Allocator + Copy + Send + Sync,
+    R: Threads + Wait + Sync,
+    G: Gate,
+    requires config { config.now ≡ S.config }
+    requires limits { IsConfig config.now }
+    requires programs { programs.items ≡ S.programs }
+    requires each { length programs.items ≡ config.now.nodes }
+    requires home { ether.now ≡ H.ether }
+    requires starter { (starter.ether ≡ ether.now) × (starter.known ≡ beginner) }
+    requires passes { All (IsNewcomer ether.now) passes.items }
+    requires enough { vec_len passes ≡ length programs.items }
+    ensures report { IfOk result (λ report. IsHandedReport S.config S.programs report) }
+    ensures keep { IfOk result (AllKeep keep) }
+    ensures stop { IfErr result IsStop }
+{
+    let nodes = programs.len();
+    let mut starter = starter;
+    let seats = seat_all::<S, H, A, R>(
+        rt,
+        alloc,
+        ether,
+        config,
+        &mut starter,
+        passes,
+        programs,
+        keep,
+    )?;
+    run_workers(rt, alloc, &seats, limits, gate)?;
+    if let Some(first) = seats.first() {
+        first.lock(rt).seated.drain(rt, limits.capacity);
+    }
+    collect(alloc, ether, starter, seats, nodes, keep)
+}
+
+/// Lays the ether, and runs the programs of the nodes there [1, 17, 21].
 fn play<S, A, R, G>(
     rt: &R,
     alloc: A,
@@ -51,6 +104,7 @@ fn play<S, A, R, G>(
     programs: Vec<Program<A>, A>,
     limits: Limits,
     gate: &G,
+    keep: Keep,
 ) -> Result<Report<A>, Fault>
 where
     S: Setup + Send + Sync,
@@ -62,24 +116,30 @@ where
     requires programs { programs.items ≡ S.programs }
     requires each { length programs.items ≡ config.now.nodes }
     requires capacity { 0 < limits.capacity }
-    ensures report { IfOk result (λ report. IsReport S.config S.programs report) }
+    ensures report { IfOk result (λ report. IsHandedReport S.config S.programs report) }
+    ensures keep { IfOk result (AllKeep keep) }
     ensures stop { IfErr result IsStop }
 {
-    let nodes = programs.len();
     let (ether, mut passes) = lay::<S, A>(alloc, config, &programs, limits)?;
-    let Some(mut starter) = passes.pop() else {
+    let Some(starter) = passes.pop() else {
         unreachable!()
     };
-    let seats = seat_all(rt, alloc, &ether, config, &mut starter, passes, programs)?;
-    run_workers(rt, alloc, &seats, limits, gate)?;
-    if let Some(first) = seats.first() {
-        first.lock(rt).drain(rt, limits.capacity);
+    play_at::<S, Brand, A, R, G>(
+        rt, alloc, config, &ether, starter, passes, programs, limits, gate, keep,
+    )
+}
+
+/// The programs are written down. It takes no memory.
+fn are_written<A: Allocator + Copy>(programs: &[Program<A>])
+    ensures { All IsWritten programs.now }
+{
+    for program in programs {
+        let _ = program.instructions();
     }
-    collect(rt, alloc, &ether, starter, seats, nodes)
 }
 
 impl Session {
-    /// Runs the programs, one for each node, until all have ended [1, 2, 17, 21].
+    /// Runs the programs, one for each node, until all have ended [1, 2, 17, 21]. The report has all histories and events.
     pub fn run<A, R, G>(
         rt: &R,
         alloc: A,
@@ -94,12 +154,38 @@ impl Session {
         G: Gate,
         ensures report { IfOk result (λ report. IsReport config programs.items report) }
         ensures bad { IsErrOf result Fault.BadConfig ↔ ¬ (IsConfig config × (length programs.items ≡ config.nodes) × AreLimits limits) }
+        ensures keep { IfOk result (AllKeep Keep.All) }
+        ensures fault { IfErr result IsSessionFault }
+    {
+        Session::run_keeping(rt, alloc, config, programs, limits, gate, Keep::All)
+    }
+
+    /// Runs the programs, one for each node, until all have ended [1, 2, 17, 21]. Each node keeps these lists of its own
+    /// past, which the report has; where it keeps nothing the report has the outputs alone, and what the session takes of
+    /// memory does not grow with the calls.
+    pub fn run_keeping<A, R, G>(
+        rt: &R,
+        alloc: A,
+        config: Config,
+        programs: Vec<Program<A>, A>,
+        limits: Limits,
+        gate: &G,
+        keep: Keep,
+    ) -> Result<Report<A>, Fault>
+    where
+        A: Allocator + Copy + Send + Sync,
+        R: Threads + Wait + Sync,
+        G: Gate,
+        ensures report { IfOk result (λ report. IsReport config programs.items report) }
+        ensures bad { IsErrOf result Fault.BadConfig ↔ ¬ (IsConfig config × (length programs.items ≡ config.nodes) × AreLimits limits) }
+        ensures keep { IfOk result (AllKeep keep) }
         ensures fault { IfErr result IsSessionFault }
     {
         config.check()?;
         if programs.len() != usize::from(config.nodes) || !limits.are_fair() {
             return Err(Fault::BadConfig);
         }
-        play::<Brand, A, R, G>(rt, alloc, &config, programs, limits, gate)
+        are_written(&programs);
+        play::<Brand, A, R, G>(rt, alloc, &config, programs, limits, gate, keep)
     }
 }

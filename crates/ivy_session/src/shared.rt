@@ -11,6 +11,8 @@ use ivy_seating::ivy_link::Verdict;
 use std::alloc::Allocator;
 use std::sync::atomic::{AtomicBool, AtomicU64, Ordering};
 use std::sync::{Mutex, Wait};
+use std::thread;
+use std::thread::Threads;
 
 /// So many turns a round of pulses has at most.
 const MOST_ROUND: u64 = 32_768;
@@ -30,6 +32,14 @@ const MOST_BEHIND: u64 = 64;
 /// Where so few places of the ether are left, whoever waits for one is woken when one may have come.
 const FEW_PLACES: u64 = 8;
 
+/// So many processors a session may use, where that is known.
+fn processors<R: Threads>(rt: &R) -> u64 {
+    match thread::available_parallelism(rt) {
+        Ok(found) => found.get() as u64,
+        Err(_) => 1,
+    }
+}
+
 /// Why a session ends before its programs do.
 #[derive(Drop)]
 struct Stop {
@@ -46,7 +56,7 @@ struct Standing {
 
 /// How a session stands, how many frames were lost, whom the frames on the ether are for, and what the workers sleep on.
 #[derive(Drop)]
-pub(crate) struct Shared<A: Allocator> {
+pub struct Shared<A: Allocator> {
     programs: u64,
     pulse_every: u64,
     kept_places: u64,
@@ -60,13 +70,8 @@ pub(crate) struct Shared<A: Allocator> {
 }
 
 impl<A: Allocator + Copy> Shared<A> {
-    /// Of a session of so many programs, of which none has ended yet, on so many processors [1].
-    pub(crate) fn new(
-        alloc: A,
-        programs: usize,
-        limits: Limits,
-        processors: u64,
-    ) -> Result<Self, Fault>
+    /// Of a session of so many programs, of which none has ended yet [1].
+    pub fn new<R: Threads>(rt: &R, alloc: A, programs: usize, limits: Limits) -> Result<Self, Fault>
         ensures { IfErr result IsStop }
     {
         let line = Line::new(alloc, limits.capacity, programs)?;
@@ -79,7 +84,7 @@ impl<A: Allocator + Copy> Shared<A> {
             programs: programs as u64,
             pulse_every: limits.pulse_every,
             kept_places: KEPT_PLACES.min(limits.capacity / 2),
-            looks: if (programs as u64) <= processors / 2 {
+            looks: if (programs as u64) <= processors(rt) / 2 {
                 LOOKS
             } else {
                 0
@@ -99,7 +104,7 @@ impl<A: Allocator + Copy> Shared<A> {
 
 impl<A: Allocator> Shared<A> {
     /// One more program has ended.
-    pub(crate) fn end<R: Wait>(&self, rt: &R) {
+    pub fn end<R: Wait>(&self, rt: &R) {
         let mut standing = self.standing.lock(rt);
         standing.ended = standing.ended.saturating_add(1);
         let all = standing.ended >= self.programs;
@@ -110,21 +115,24 @@ impl<A: Allocator> Shared<A> {
         }
     }
 
-    /// The session stops with this fault, unless all programs have ended, or it has stopped with another one.
-    pub(crate) fn stop<R: Wait>(&self, rt: &R, fault: Fault)
+    /// The session stops with this fault, unless all programs have ended, or it has stopped with another one. It tells
+    /// whether it stops with this one.
+    pub fn stop<R: Wait>(&self, rt: &R, fault: Fault) -> bool
         requires { IsStop fault }
     {
         let mut standing = self.standing.lock(rt);
         if standing.ended >= self.programs {
-            return;
+            return false;
         }
-        if standing.stop.is_none() {
+        let is_first = standing.stop.is_none();
+        if is_first {
             standing.stop = Some(Stop { fault });
         }
         drop(standing);
         self.stopped.store(true, Ordering::SeqCst);
         self.over.store(true, Ordering::SeqCst);
         self.wake_all();
+        is_first
     }
 
     /// Whether the session stops before all programs have ended.
@@ -262,7 +270,7 @@ impl<A: Allocator> Shared<A> {
     }
 
     /// Why the session stopped, if it did.
-    pub(crate) fn into_stop(self) -> Option<Fault>
+    pub fn into_stop(self) -> Option<Fault>
         ensures { IfSome result IsStop }
     {
         let Shared {

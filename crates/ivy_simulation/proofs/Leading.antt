@@ -4,7 +4,7 @@ use Rattle.std.proofs.lemmas.List.{take_more}
 use Rattle.std.specs.Io.KnownBytes.{Appends}
 use Rattle.ivy_texts.specs.declared.Settings.{Settings}
 use Rattle.ivy_model.specs.declared.Config.{Config}
-use Rattle.ivy_program.specs.declared.Instruction.{Instruction}
+use Rattle.ivy_program.specs.Programs.{Program}
 use Rattle.ivy_moves.specs.declared.Move.{Move}
 use Rattle.ivy_moves.specs.Worlds.{World}
 use Rattle.ivy_world.specs.ivy_host.Hosts.{Host, host_rules}
@@ -29,7 +29,7 @@ led-on c c' u v w moves i d within same led next =
     (leads_on (host_rules managed_ops) c u v w (take i moves) (get_or moves i d ∷ []) led one)
 
 -- a world that was the opening of these programs, under the configuration of the settings
-module _ (s : Settings) (n : ℕ) (c : Config) (programs : List (List Instruction)) (r : Run)
+module _ (s : Settings) (n : ℕ) (c : Config) (programs : List Program) (r : Run)
     (end : World (Host Managed)) (old new : Option (List ℕ))
     (count : n ≡ length programs) (shown : c ≡ config_of s n)
     (opens : r ≡ record { config = c; programs = programs; world = opening managed_ops c programs })

@@ -2,7 +2,7 @@
 use Rattle.std.specs.Prelude.{ℕ, List, ◌++◌, Option}
 use Rattle.std.specs.Io.KnownBytes.{Appends}
 use Rattle.ivy_model.specs.declared.Config.{Config}
-use Rattle.ivy_program.specs.declared.Instruction.{Instruction}
+use Rattle.ivy_program.specs.Programs.{Program}
 use Rattle.ivy_moves.specs.declared.Move.{Move}
 use Rattle.ivy_moves.specs.Worlds.{World}
 use Rattle.ivy_texts.specs.declared.Settings.{Settings}
@@ -32,7 +32,7 @@ Adds old new = (text : List ℕ) × Appends old new text
 abbrev pub AddsLast : Option (List ℕ) → Option (List ℕ) → List ℕ → Type 0
 AddsLast old new last = (text : List ℕ) × Appends old new (text ++ last)
 
-module _ (c : Config) (programs : List (List Instruction)) (old new : Option (List ℕ)) where
+module _ (c : Config) (programs : List Program) (old new : Option (List ℕ)) where
   -- the moves led from the opening of these programs to a world, and after some trace its text was
   -- printed
   pub record PrintsMoves (moves : List Move) : Type 0 where
@@ -49,7 +49,7 @@ module _ (c : Config) (programs : List (List Instruction)) (old new : Option (Li
 
 -- the moves that the text says led from the opening of these programs to a world, and after some
 -- trace its text was printed
-pub record PrintsSchedule (c : Config) (programs : List (List Instruction)) (text : List ℕ)
+pub record PrintsSchedule (c : Config) (programs : List Program) (text : List ℕ)
     (old new : Option (List ℕ)) : Type 0 where
   pub moves : List Move
   pub said : SpellsSchedule text moves

@@ -5,6 +5,7 @@ pub mod Calling
 pub mod Pulsing
 pub mod Turned
 pub mod Made
+pub mod Handed
 pub mod HeldStrings
 pub mod Receiving
 pub use Rattle.ivy_host.proofs.of_ivy_memory as of_ivy_memory

@@ -15,8 +15,9 @@ use Rattle.ivy_moves.specs.ivy_link.declared.Verdict.TheVariants as verdict
 use Rattle.ivy_host.specs.Managers.{Managed, managed_ops}
 use Rattle.ivy_host.specs.Hosts.{Host, host_rules}
 use Rattle.ivy_host.specs.Openings.{first_node}
-use Rattle.ivy_program.specs.declared.Instruction.{Instruction}
+use Rattle.ivy_program.specs.Programs.{Program}
 use Rattle.ivy_moves.specs.Cores.{Core}
+use Rattle.ivy_moves.specs.declared.keep.Keep.{Keep}
 use Rattle.ivy_moves.specs.Marks.{Mark, Turn, Delivery}
 use Rattle.ivy_moves.specs.Nodes.{Node, Effect, stays, turned, turned_to, verdict_as, verdict_of, pulsing}
 use Rattle.ivy_moves.specs.Parts.{followed_by, pulse_marks, AllHappen}
@@ -28,12 +29,12 @@ use Rattle.ivy_site.specs.declared.turn.Turn.TheVariants.{Idle, Moved, Ended}
 use Rattle.ivy_host.proofs.Programs.{turned-program, posting-core, delivered-program}
 use Rattle.ivy_outbox.specs.Outboxes.{Outbox, TakesFirst}
 use Rattle.ivy_site.specs.Shown.{Shown, after_hearing, after_delivery, after_pulse_to, box_of, boxed}
-use Rattle.ivy_site.specs.Sites.{early_at, IsSite, HoldsEarly, IsMadeByEvents, AfterTurn, SiteDelivers, first_shown, IsSentBy}
+use Rattle.ivy_site.specs.Sites.{early_at, IsSite, HoldsEarly, IsMadeByEvents, AfterTurn, SiteDelivers, first_keeping, IsSentBy}
 
 abbrev rules : Core (Host Managed)
 rules = host_rules managed_ops
 
-abbrev program_in : Shown → List Instruction
+abbrev program_in : Shown → Program
 program_in s = s.node.core.process.program
 
 -- the events so far, and one effect more
@@ -133,9 +134,9 @@ pub delivery_made : (bytes : List ℕ) (v : Verdict) (old new : Shown) → IsCon
 delivery_made bytes v old new limits h d = made_as bytes v old new limits h d v refl
 
 -- the first site
-pub first_made : (c : Config) (me : ℕ) (program : List Instruction)
-    → IsMadeByEvents (first_shown c me program)
-first_made c me program =
+pub first_made : (keep : Keep) (c : Config) (me : ℕ) (program : Program)
+    → IsMadeByEvents (first_keeping keep c me program)
+first_made keep c me program =
     record {
       effect = stays (first_node managed_ops c me program);
       happen = refl;
@@ -145,9 +146,9 @@ first_made c me program =
     }
 
 -- nothing is held
-first_holds : (c : Config) (me : ℕ) (program : List Instruction)
-    → HoldsEarly (first_shown c me program)
-first_holds c me program from place bytes is =
+first_holds : (keep : Keep) (c : Config) (me : ℕ) (program : Program)
+    → HoldsEarly (first_keeping keep c me program)
+first_holds keep c me program from place bytes is =
     elim (cases_lt from c.nodes) [
       | inl lt ↦
           absurd (none-some bytes
@@ -168,16 +169,16 @@ first_holds c me program from place bytes is =
           (omega (arith, past, length-replicate {A = Option (List ℕ)} 32 None))
     ]
 
-pub first_site : (c : Config) (me : ℕ) (program : List Instruction) (s : Shown)
-    → s ≡ first_shown c me program → IsSite s
-first_site c me program s is =
+pub first_site : (keep : Keep) (c : Config) (me : ℕ) (program : Program) (s : Shown)
+    → s ≡ first_keeping keep c me program → IsSite s
+first_site keep c me program s is =
     subst IsSite (sym is)
     (record {
       config = refl;
       me = refl;
       asking = λ call asked. absurd (none-some call asked);
-      made = first_made c me program;
-      held = first_holds c me program;
+      made = first_made keep c me program;
+      held = first_holds keep c me program;
     })
 
 -- a pulse

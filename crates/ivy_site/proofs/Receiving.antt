@@ -27,7 +27,7 @@ use Rattle.ivy_site.specs.Shown.{Shown, holding_at, after_delivery, box_of, boxe
 use Rattle.ivy_site.specs.Sites.{early_at, IsSite, IsHeld, SiteDelivers}
 use Rattle.ivy_site.specs.Sites.{holding_in, without_ready}
 use Rattle.ivy_site.specs.Sites.{GoesOnOnce, SiteGoesOn, FollowsDelivery, AfterDelivery, GoesAsFar, DeliversWhole}
-use Rattle.ivy_site.specs.Inside.{CameEarlyAs, Holds, HoldsString, Hears, Receives, WentOnOnce}
+use Rattle.ivy_site.specs.Inside.{CameEarlyAs, Holds, HoldsString, Hears, Receives}
 use Rattle.ivy_site.proofs.HeldStrings.{CameEarly, IsNextOf, holding-holds, taking-holds, put-back-same}
 use Rattle.ivy_outbox.proofs.Boxes.{link-kept}
 
@@ -242,7 +242,7 @@ offered-next s from f n =
 
 pub went_once : (old new : Shown) (from source : ℕ) (bytes : List ℕ) (w : Verdict)
     → IsConfig old.config → Some bytes ≡ ready_of (holding_at old) from → IsHeld old from 0 bytes
-    → Receives bytes w source (without_ready old from) new → WentOnOnce from old new
+    → Receives bytes w source (without_ready old from) new → GoesOnOnce from bytes old new
 went_once old new from source bytes w limits ready h r =
     let one : h.frame ≡ r.first.frame =
     spelled_same old.config limits h.frame r.first.frame bytes h.spelled r.first.spelled in
@@ -261,15 +261,13 @@ went_once old new from source bytes w limits ready h r =
       after = r.first.after
           ∙ ap (λ x. after_delivery (without_ready old from) bytes x r.first.frame.source
           r.first.effect) next;
-    }) in (
-      bytes,
-      record {
-        ready = sym ready;
-        early = h.early;
-        next = d;
-        from = ap (λ (x : Frame). x.source) (sym one) ∙ h.source;
-      },
-    )
+    }) in
+    record {
+      ready = sym ready;
+      early = h.early;
+      next = d;
+      from = ap (λ (x : Frame). x.source) (sym one) ∙ h.source;
+    }
 
 -- refused, and held again
 pub held_again : (old mid new : Shown) (from : ℕ) (bytes : List ℕ)
@@ -295,12 +293,12 @@ abbrev pub WentSoOften : ℕ → ℕ → Shown → Shown → Type 0
 WentSoOften from count a b =
     (more : List (List ℕ)) × SiteGoesOn from more a b × (length more ≡ count)
 
-pub went_more : (from count : ℕ) (a b d : Shown) → WentSoOften from count a b → WentOnOnce from b d
-    → WentSoOften from (count + 1) a d
-went_more from count a b d on once = (
-  on.0 ++ once.0 ∷ [],
-  goes_more from on.0 a b d once.0 on.1 once.1,
-  length-append on.0 (once.0 ∷ []) ∙ ap (λ n. n + 1) on.2,
+pub went_more : (from count : ℕ) (bytes : List ℕ) (a b d : Shown) → WentSoOften from count a b
+    → GoesOnOnce from bytes b d → WentSoOften from (count + 1) a d
+went_more from count bytes a b d on once = (
+  on.0 ++ bytes ∷ [],
+  goes_more from on.0 a b d bytes on.1 once,
+  length-append on.0 (bytes ∷ []) ∙ ap (λ n. n + 1) on.2,
 )
 
 -- and no more

@@ -39,6 +39,7 @@ with_core v h events =
       events = events;
       waiting = v.waiting;
       held = v.held;
+      keep = v.keep;
     }
 
 hosts : (m m' : NodeMemory Managed) (p p' : Process) (hs hs' : List Record) → m ≡ m' → p ≡ p'
@@ -112,7 +113,7 @@ spent_turn n v same p hs f k cannot =
 pub called_turn : (n v : Shown) → v ≡ n
     → (p : Process) (hs : List Record) (h : H) (box : Outbox) (reserved events : List Mark)
     → IsAtRest v p hs → HasTurn (host_of v.node.core.memory p hs) (box_of v) h box
-    → reserved ≡ v.events → events ≡ reserved ++ Turn ∷ [] → SiteTurns n (shown_of h box events)
+    → reserved ≡ v.events → events ≡ reserved ++ Turn ∷ [] → SiteTurns n (shown_of v.keep h box events)
 called_turn n v same p hs h box reserved events k b room listed =
     moved_by_call n v same h box events
     (subst (λ x. HasTurn x (box_of v) h box) (resting_host v p hs k) b)
@@ -139,7 +140,7 @@ turns_quietly old new made t =
 pub called_site : (v : Shown) (p : Process) (hs : List Record) (h : H) (box : Outbox)
     (reserved events : List Mark) → IsSite v → IsAtRest v p hs
     → HasTurn (host_of v.node.core.memory p hs) (box_of v) h box
-    → reserved ≡ v.events → events ≡ reserved ++ Turn ∷ [] → IsSite (shown_of h box events)
+    → reserved ≡ v.events → events ≡ reserved ++ Turn ∷ [] → IsSite (shown_of v.keep h box events)
 called_site v p hs h box reserved events s k b0 room listed =
     let b : HasTurn v.node.core (box_of v) h box =
     subst (λ x. HasTurn x (box_of v) h box) (resting_host v p hs k) b0 in
@@ -153,10 +154,10 @@ called_site v p hs h box reserved events s k b0 room listed =
       asking =
           subst IsAskingHost (sym b.host)
           (turn-asking managed_ops v.node.core b.outcome s.asking b.turn);
-      made = turn_made turn.Moved v (shown_of h box events) s.made
+      made = turn_made turn.Moved v (shown_of v.keep h box events) s.made
           (called_turn v v refl p hs h box reserved events k b0 room listed);
-      held = quiet-holds v (shown_of h box events) s.held
-          (turns_quietly v (shown_of h box events) s.made
+      held = quiet-holds v (shown_of v.keep h box events) s.held
+          (turns_quietly v (shown_of v.keep h box events) s.made
           (called_turn v v refl p hs h box reserved events k b0 room listed));
     }
 
@@ -194,15 +195,15 @@ pub record IsIdle (v : Shown) (p : Process) (hs : List Record) (h : H) (box : Ou
   pub after : AfterHostTurn false (host_of v.node.core.memory p hs) (box_of v) h box
 
 idle_same : (v : Shown) (p : Process) (hs : List Record) (h : H) (box : Outbox) (events : List Mark)
-    → IsIdle v p hs h box → events ≡ v.events → shown_of h box events ≡ v
+    → IsIdle v p hs h box → events ≡ v.events → shown_of v.keep h box events ≡ v
 idle_same v p hs h box events u listed =
-    ap (λ x. shown_of x box events) (u.after.1 ∙ resting_host v p hs u.rests)
-    ∙ (ap (λ x. shown_of v.node.core x events) u.after.2 ∙ ap (with_core v v.node.core) listed)
+    ap (λ x. shown_of v.keep x box events) (u.after.1 ∙ resting_host v p hs u.rests)
+    ∙ (ap (λ x. shown_of v.keep v.node.core x events) u.after.2 ∙ ap (with_core v v.node.core) listed)
 
 pub idle_turn : (n v : Shown) → v ≡ n
     → (p : Process) (hs : List Record) (h : H) (box : Outbox) (events : List Mark)
     → IsIdle v p hs h box → events ≡ v.events
-    → (turn_of managed_ops n.node.core ≡ None) × (shown_of h box events ≡ n)
+    → (turn_of managed_ops n.node.core ≡ None) × (shown_of v.keep h box events ≡ n)
 idle_turn n v same p hs h box events u listed = (
   subst (λ (y : Shown). turn_of managed_ops y.node.core ≡ None) same
       (subst (λ x. turn_of managed_ops x ≡ None) (resting_host v p hs u.rests) u.after.0),

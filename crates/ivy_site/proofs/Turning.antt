@@ -38,6 +38,7 @@ pub moved_quietly : (n v : Shown) → v ≡ n → (h : H) (events : List Mark)
       events = events;
       waiting = v.waiting;
       held = v.held;
+      keep = v.keep;
     })
 moved_quietly n v same h events is listed =
     subst (λ x. SiteTurns x
@@ -48,6 +49,7 @@ moved_quietly n v same h events is listed =
       events = events;
       waiting = v.waiting;
       held = v.held;
+      keep = v.keep;
     })) same
     (record {
       outcome = quietly h;
@@ -63,6 +65,7 @@ moved_quietly n v same h events is listed =
             events = es;
             waiting = v.waiting;
             held = v.held;
+            keep = v.keep;
           }) listed
           ∙ ap (λ (ws : List (List ℕ)).
           record {
@@ -72,6 +75,7 @@ moved_quietly n v same h events is listed =
             events = v.events ++ Turn ∷ [];
             waiting = ws;
             held = v.held;
+            keep = v.keep;
           })
           (sym (append-nil v.waiting));
     })
@@ -92,7 +96,7 @@ not_sent n h parcels numbers = rw numbers refl
 pub moved_by_call : (n v : Shown) → v ≡ n → (h : H) (box : Outbox) (events : List Mark)
     → HasTurn v.node.core (box_of v) h box
     → events ≡ v.events ++ Turn ∷ []
-    → SiteTurns n (shown_of h box events)
+    → SiteTurns n (shown_of v.keep h box events)
 moved_by_call n v same h box events b listed =
     let s = sends v.node.link b.outcome.posted in
     let e : Effect H =
@@ -108,6 +112,7 @@ moved_by_call n v same h box events b listed =
       events = events;
       waiting = box.waiting;
       held = box.held;
+      keep = v.keep;
     })) same
     (record {
       outcome = b.outcome;
@@ -123,6 +128,7 @@ moved_by_call n v same h box events b listed =
             events = events;
             waiting = x.waiting;
             held = x.held;
+            keep = v.keep;
           }) b.sent
           ∙ ap (λ (x : H).
           record {
@@ -132,6 +138,7 @@ moved_by_call n v same h box events b listed =
             events = events;
             waiting = v.waiting ++ map spelling s.frames;
             held = v.held;
+            keep = v.keep;
           }) b.host
           ∙ ap (λ (es : List Mark).
           record {
@@ -141,6 +148,7 @@ moved_by_call n v same h box events b listed =
             events = es;
             waiting = v.waiting ++ e.sent;
             held = v.held;
+            keep = v.keep;
           }) listed;
     })
 

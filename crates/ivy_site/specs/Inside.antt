@@ -56,14 +56,10 @@ pub record Receives (bytes : List ℕ) (verdict : Verdict) (source : ℕ) (old n
     pub from : first.frame.source ≡ source
     pub holds : Holds verdict first.frame bytes mid new
 
--- the site went on once, with some string that it held
-abbrev pub WentOnOnce : ℕ → Shown → Shown → Type 0
-WentOnOnce source old new = (bytes : List ℕ) × GoesOnOnce source bytes old new
-
--- it did, or it holds none that is the next one
-abbrev pub AfterOnce : Bool → ℕ → Shown → Shown → Type 0
-AfterOnce true source old new = WentOnOnce source old new
-AfterOnce false source old new = (ready_of (holding_at new) source ≡ None) × (new ≡ old)
+-- the site went on once, with this string that it held, or it holds none that is the next one
+abbrev pub AfterOnce : Option (List ℕ) → ℕ → Shown → Shown → Type 0
+AfterOnce (Some bytes) source old new = GoesOnOnce source bytes old new
+AfterOnce None source old new = (ready_of (holding_at new) source ≡ None) × (new ≡ old)
 
 -- the host of these
 abbrev pub host_of : memories.NodeMemory Managed → Process → List Record → Host Managed

@@ -8,13 +8,15 @@ use Rattle.ivy_moves.specs.ivy_link.Windows.{Window}
 use Rattle.ivy_moves.specs.ivy_link.Holding.{Holding, holding, moved_at}
 use Rattle.ivy_host.specs.Managers.{Managed}
 use Rattle.ivy_moves.specs.Marks.{Mark, Delivery}
+use Rattle.ivy_moves.specs.declared.keep.Keep.{Keep}
 use Rattle.ivy_moves.specs.Nodes.{Node, Effect}
 use Rattle.ivy_moves.specs.Parts.{pulse_marks}
 use Rattle.ivy_host.specs.Hosts.{Host}
 use Rattle.ivy_outbox.specs.Outboxes.{Outbox}
 
 -- `events` are all that the site ever listed; `waiting` are the strings not yet put on the wire,
--- the first first; `held` has a window for each node
+-- the first first; `held` has a window for each node; `keep` are the lists of its own past that can
+-- be read
 pub record Shown : Type 0 where
   pub config : Config
   pub me : ℕ
@@ -22,16 +24,18 @@ pub record Shown : Type 0 where
   pub events : List Mark
   pub waiting : List (List ℕ)
   pub held : List Window
+  pub keep : Keep
 
 -- the site of this core and this outbox, at which these events are listed
-abbrev pub shown_of : Host Managed → Outbox → List Mark → Shown
-shown_of core box events = record {
+abbrev pub shown_of : Keep → Host Managed → Outbox → List Mark → Shown
+shown_of keep core box events = record {
   config = box.config;
   me = box.me;
   node = record { core = core; link = box.link };
   events = events;
   waiting = box.waiting;
   held = box.held;
+  keep = keep;
 }
 
 -- a site's outbox
@@ -46,7 +50,7 @@ box_of s = record {
 
 -- the site with this one
 abbrev pub boxed : Shown → Outbox → Shown
-boxed s box = shown_of s.node.core box s.events
+boxed s box = shown_of s.keep s.node.core box s.events
 
 -- the link, with what it holds
 abbrev pub holding_at : Shown → Holding

@@ -13,9 +13,11 @@ use Rattle.ivy_moves.specs.ivy_link.declared.Verdict.{Verdict}
 use Rattle.ivy_moves.specs.ivy_link.declared.Verdict.TheVariants as verdict
 use Rattle.ivy_moves.specs.ivy_link.Windows.{first_window, place_at}
 use Rattle.ivy_moves.specs.ivy_link.Holding.{window_of, after_hold, ready_of, after_taking}
-use Rattle.ivy_program.specs.declared.Instruction.{Instruction}
+use Rattle.ivy_program.specs.Programs.{Program}
 use Rattle.ivy_program.specs.Steps.{HasEnded, Asks, step_of}
 use Rattle.ivy_host.specs.Managers.{Managed, managed_ops}
+use Rattle.ivy_moves.specs.declared.keep.Keep.{Keep}
+use Rattle.ivy_moves.specs.declared.keep.Keep.TheVariants.{All}
 use Rattle.ivy_moves.specs.Marks.{Turn}
 use Rattle.ivy_moves.specs.Cores.{Outcome}
 use Rattle.ivy_moves.specs.Nodes.{Effect, posting, turned, delivered}
@@ -38,25 +40,31 @@ most_sent = most_posted
 abbrev pub most_delivered : ℕ
 most_delivered = most_sent + most_sent * most_ahead
 
--- nothing was listed or held, and no string waits
-abbrev pub first_shown : Config → ℕ → List Instruction → Shown
-first_shown c me program = record {
+-- nothing was listed or held, and no string waits; these lists are kept
+abbrev pub first_keeping : Keep → Config → ℕ → Program → Shown
+first_keeping keep c me program = record {
   config = c;
   me = me;
   node = first_node managed_ops c me program;
   events = [];
   waiting = [];
   held = replicate c.nodes first_window;
+  keep = keep;
 }
+
+-- so it is where all lists are kept
+abbrev pub first_shown : Config → ℕ → Program → Shown
+first_shown = first_keeping All
 
 -- what came to a site too early, told from its events
 abbrev pub early_at : Shown → List (List ℕ)
 early_at s = early_in (host_rules managed_ops) s.config
     (first_node managed_ops s.config s.me s.node.core.process.program) s.events
 
--- it is the same node, under the same configuration
+-- it is the same node, under the same configuration, and keeps the same lists
 abbrev pub IsSameNode : Shown → Shown → Type 0
-IsSameNode old new = (new.config ≡ old.config) × (new.me ≡ old.me)
+IsSameNode old new =
+    (new.config ≡ old.config) × (new.me ≡ old.me) × (new.keep ≡ old.keep)
 
 -- the turn has an outcome: it is the turn of the definitions
 pub record SiteTurns (old new : Shown) : Type 0 where

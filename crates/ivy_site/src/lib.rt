@@ -6,6 +6,7 @@
 mod site;
 mod turn;
 
+pub use ivy_moves::Keep;
 pub use ivy_moves::ivy_link::Verdict;
 pub use ivy_program::{Program, parse};
 pub use site::Site;

@@ -1,9 +1,12 @@
 //! One node: its program, its memory, its link, and the strings that wait to be put on the wire.
-ghost use Rattle.std.specs.Prelude.{◌*◌, ◌≡◌, ◌↔◌, ◌≢◌, ◌+◌, ◌<◌, ◌≤◌, [], None, Some, Err, length, vec_len, vec_capacity};
+ghost use Rattle.std.specs.Prelude.{◌*◌, ◌≡◌, ◌↔◌, ◌≢◌, ◌+◌, ◌<◌, ◌≤◌, [], ◌∷◌, None, Some, Err, length, vec_len, vec_capacity};
 ghost use Rattle.std.specs.Prelude.{IsTrue, IsSome, IfOk, IfErr, OnOk, OnErr, IfSome, IsOkUnless, MatchBool, MatchResult, MatchOption, Contains};
 ghost use Rattle.ivy_model.specs.Config.{IsConfig};
 ghost use Rattle.ivy_model.specs.Wants.{IsWant};
 ghost use Rattle.ivy_wire.specs.Faults.{checked};
+ghost use Rattle.ivy_program.specs.Owned.{IsFree};
+ghost use Rattle.ivy_program.specs.Programs.{Called};
+ghost use Rattle.ivy_program.specs.States.{first_state};
 ghost use Rattle.ivy_program.specs.Steps.{HasEnded, Asks, step_of};
 ghost use Rattle.ivy_moves.specs.Nodes.{pulsing};
 ghost use Rattle.ivy_host.specs.ivy_coherence.Limits.{most_posted};
@@ -11,8 +14,10 @@ ghost use Rattle.ivy_moves.specs.ivy_link.Limits.{most_ahead};
 ghost use Rattle.ivy_moves.specs.ivy_link.Linked.{peer_at};
 ghost use Rattle.ivy_moves.specs.ivy_link.Holding.{ready_of};
 ghost use Rattle.ivy_outbox.specs.Outboxes.{next_dest};
+ghost use Rattle.ivy_site.specs.Handed.{site_handed};
 ghost use Rattle.ivy_site.specs.Shown.{holding_at, after_pulse_to};
-ghost use Rattle.ivy_site.specs.Sites.{most_sent, most_delivered, first_shown, AfterTurn, AfterDelivery};
+ghost use Rattle.ivy_site.specs.Sites.{most_sent, most_delivered, first_shown, first_keeping, AfterTurn, AfterDelivery};
+ghost use Rattle.ivy_moves.specs.Keeping.{keeps_history, keeps_events, read_of, last_of};
 ghost use Rattle.ivy_site.specs.Sites.{SpellsFrame, GoesAsFar, DeliversWhole, IsHeld, early_at, without_ready, IsSpentTurn, IsSpentDelivery, TakesFrame, IsSameNode, IsMadeByEvents, IsSentBy, Awaits, await_in};
 ghost use Rattle.ivy_site.specs.Inside.{host_of, is_served, kept_by, told_by, HasTurn, AfterHostTurn, HasNoNumbers, Hears, Receives, AfterOnce, HoldsString};
 ghost use Rattle.ivy_moves.specs.Marks.{marks};
@@ -23,7 +28,7 @@ use ivy_host::NodeManager;
 use ivy_host::ivy_memory::{Answer, Memory};
 use ivy_model::{Call, Config, Fault, Record, Reply};
 use ivy_moves::ivy_link::{MOST_AHEAD, Verdict};
-use ivy_moves::{Event, Events};
+use ivy_moves::{Event, Events, History, Keep};
 use ivy_outbox::Outbox;
 use ivy_program::{Machine, Next, Program};
 use ivy_wire::{Bytes, head_of, message_of, read};
@@ -36,7 +41,8 @@ pub struct Site<A: Allocator> {
     alloc: A,
     memory: Memory<NodeManager<A>, A>,
     machine: Machine<A>,
-    history: Vec<Record, A>,
+    keep: Keep,
+    history: History<A>,
     outbox: Outbox<A>,
     events: Events<A>,
 }
@@ -45,6 +51,7 @@ impl<A: Allocator> Model for Site<A> {
     ghost use Rattle.ivy_site.specs.Shown.{Shown, shown_of};
     ghost use Rattle.ivy_site.specs.Inside.{host_of};
     ghost use Rattle.ivy_site.specs.Sites.{IsSite};
+    ghost use Rattle.ivy_moves.specs.Keeping.{AreKept};
 
     ghost Value = { Shown };
 
@@ -54,9 +61,9 @@ impl<A: Allocator> Model for Site<A> {
 
     ghost coded = { Prim.hlevel (codes, nodes_code, heap_state_code) };
 
-    ghost view = { λ s. shown_of (host_of s.memory s.machine s.history.items) s.outbox s.events.marks };
+    ghost view = { λ s. shown_of s.keep (host_of s.memory s.machine s.history.records) s.outbox s.events.marks };
 
-    ghost invariant = { λ s. IsSite (shown_of (host_of s.memory s.machine s.history.items) s.outbox s.events.marks) };
+    ghost invariant = { λ s. IsSite (shown_of s.keep (host_of s.memory s.machine s.history.records) s.outbox s.events.marks) × AreKept s.keep s.history.kept s.events.kept };
 }
 
 /// The string once more, where its frame came before its turn.
@@ -75,21 +82,22 @@ fn if_ahead<A: Allocator + Copy>(
 /// Where a call was answered its reply is recorded, and the program goes on with it. It says whether the call
 /// was answered, or is in progress from now on.
 fn keep<A: Allocator + Copy>(
-    history: &mut Vec<Record, A>,
+    history: &mut History<A>,
     machine: &mut Machine<A>,
     node: u8,
     call: Call,
     answer: Answer,
 ) -> bool
-    requires room { vec_len history.old < vec_capacity history.old }
+    requires room { IsTrue history.old.has_room }
     requires asks { step_of machine.old ≡ Asks call }
     ensures served { result ≡ is_served answer }
-    ensures history { history.new.items ≡ kept_by history.old.items node call answer }
+    ensures history { history.new.records ≡ kept_by history.old.records node call answer }
+    ensures kept { history.new.kept ≡ history.old.kept }
     ensures machine { machine.new ≡ told_by machine.old answer }
 {
     match answer {
         Answer::Given(reply) => {
-            history.push_reserved(Record { node, call, reply });
+            history.push(Record { node, call, reply });
             machine.answer(reply);
             true
         }
@@ -104,22 +112,23 @@ fn begin<A: Allocator + Copy>(
     memory: &mut Memory<NodeManager<A>, A>,
     outbox: &mut Outbox<A>,
     machine: &mut Machine<A>,
-    history: &mut Vec<Record, A>,
+    history: &mut History<A>,
     call: Call,
 ) -> Result<(), Fault>
-    requires room { vec_len history.old < vec_capacity history.old }
+    requires room { IsTrue history.old.has_room }
     requires idle { memory.old.asked ≡ None }
     requires asks { step_of machine.old ≡ Asks call }
     requires width { HasWidth call }
     requires config { outbox.old.config ≡ memory.old.coherence.config }
     requires me { outbox.old.me ≡ memory.old.coherence.me }
-    ensures ok { OnOk result (HasTurn (host_of memory.old machine.old history.old.items) outbox.old (host_of memory.new machine.new history.new.items) outbox.new) }
-    ensures err { OnErr result ((memory.new ≡ memory.old) × (outbox.new ≡ outbox.old) × (machine.new ≡ machine.old) × (history.new.items ≡ history.old.items)) }
+    ensures ok { OnOk result (HasTurn (host_of memory.old machine.old history.old.records) outbox.old (host_of memory.new machine.new history.new.records) outbox.new) }
+    ensures err { OnErr result ((memory.new ≡ memory.old) × (outbox.new ≡ outbox.old) × (machine.new ≡ machine.old) × (history.new.records ≡ history.old.records)) }
+    ensures kept { history.new.kept ≡ history.old.kept }
     ensures few { OnOk result (length outbox.new.waiting ≤ length outbox.old.waiting + most_posted) }
-    ensures spent { IfErr result (HasNoNumbers (host_of memory.old machine.old history.old.items) outbox.old) }
+    ensures spent { IfErr result (HasNoNumbers (host_of memory.old machine.old history.old.records) outbox.old) }
     ensures want { IfErr result IsWant }
 {
-    let number = history.len() as u64 + 1;
+    let number = history.next_number();
     let answer = memory.begin(call, number, outbox)?;
     let _ = keep(history, machine, outbox.me(), call, answer);
     Ok(())
@@ -131,18 +140,19 @@ fn poll<A: Allocator + Copy>(
     memory: &mut Memory<NodeManager<A>, A>,
     outbox: &mut Outbox<A>,
     machine: &mut Machine<A>,
-    history: &mut Vec<Record, A>,
+    history: &mut History<A>,
     call: Call,
 ) -> Result<bool, Fault>
-    requires room { vec_len history.old < vec_capacity history.old }
+    requires room { IsTrue history.old.has_room }
     requires asked { memory.old.asked ≡ Some call }
     requires asks { step_of machine.old ≡ Asks call }
     requires config { outbox.old.config ≡ memory.old.coherence.config }
     requires me { outbox.old.me ≡ memory.old.coherence.me }
-    ensures ok { IfOk result (λ changed. AfterHostTurn changed (host_of memory.old machine.old history.old.items) outbox.old (host_of memory.new machine.new history.new.items) outbox.new) }
-    ensures err { OnErr result ((memory.new ≡ memory.old) × (outbox.new ≡ outbox.old) × (machine.new ≡ machine.old) × (history.new.items ≡ history.old.items)) }
+    ensures ok { IfOk result (λ changed. AfterHostTurn changed (host_of memory.old machine.old history.old.records) outbox.old (host_of memory.new machine.new history.new.records) outbox.new) }
+    ensures err { OnErr result ((memory.new ≡ memory.old) × (outbox.new ≡ outbox.old) × (machine.new ≡ machine.old) × (history.new.records ≡ history.old.records)) }
+    ensures kept { history.new.kept ≡ history.old.kept }
     ensures few { OnOk result (length outbox.new.waiting ≤ length outbox.old.waiting + most_posted) }
-    ensures spent { IfErr result (HasNoNumbers (host_of memory.old machine.old history.old.items) outbox.old) }
+    ensures spent { IfErr result (HasNoNumbers (host_of memory.old machine.old history.old.records) outbox.old) }
     ensures want { IfErr result IsWant }
 {
     let answer = memory.poll_reply(outbox)?;
@@ -153,28 +163,131 @@ impl<A: Allocator + Copy> Site<A> {
     /// Node `me` at the beginning of its program [1].
     ///
     /// The configuration is within its limits, and `me` is one of its nodes.
+    ///
+    /// It keeps its history and its events to be read.
     pub fn new(alloc: A, config: &Config, me: u8, program: Program<A>) -> Result<Site<A>, Fault>
         requires limits { IsConfig config.now }
         requires here { me < config.now.nodes }
         ensures first { IfOk result (λ site. site ≡ first_shown config.now me program) }
+        ensures keep { IfOk result (λ site. site.keep ≡ Keep.All) }
+        ensures memory { IsOkUnless result Fault.Memory }
+    {
+        Site::keeping(alloc, config, me, program, Keep::All)
+    }
+
+    /// Node `me` at the beginning of its program, which keeps these lists of its own past [1].
+    ///
+    /// The configuration is within its limits, and `me` is one of its nodes.
+    pub fn keeping(
+        alloc: A,
+        config: &Config,
+        me: u8,
+        program: Program<A>,
+        keep: Keep,
+    ) -> Result<Site<A>, Fault>
+        requires limits { IsConfig config.now }
+        requires here { me < config.now.nodes }
+        ensures first { IfOk result (λ site. site ≡ first_keeping keep config.now me program) }
+        ensures memory { IsOkUnless result Fault.Memory }
+    {
+        Site::with_machine(alloc, config, me, Machine::new(program), keep)
+    }
+
+    /// Node `me` with own code, which has made no call yet [1].
+    ///
+    /// The configuration is within its limits, and `me` is one of its nodes.
+    pub fn open(alloc: A, config: &Config, me: u8) -> Result<Site<A>, Fault>
+        requires limits { IsConfig config.now }
+        requires here { me < config.now.nodes }
+        ensures first { IfOk result (λ site. site ≡ first_shown config.now me (Called [])) }
+        ensures memory { IsOkUnless result Fault.Memory }
+    {
+        Site::open_keeping(alloc, config, me, Keep::All)
+    }
+
+    /// Node `me` with own code, which has made no call yet, and which keeps these lists of its own past [1].
+    ///
+    /// The configuration is within its limits, and `me` is one of its nodes.
+    pub fn open_keeping(alloc: A, config: &Config, me: u8, keep: Keep) -> Result<Site<A>, Fault>
+        requires limits { IsConfig config.now }
+        requires here { me < config.now.nodes }
+        ensures first { IfOk result (λ site. site ≡ first_keeping keep config.now me (Called [])) }
+        ensures memory { IsOkUnless result Fault.Memory }
+    {
+        Site::with_machine(alloc, config, me, Machine::open(alloc), keep)
+    }
+
+    /// Node `me` with a machine that has done nothing yet.
+    fn with_machine(
+        alloc: A,
+        config: &Config,
+        me: u8,
+        machine: Machine<A>,
+        keep: Keep,
+    ) -> Result<Site<A>, Fault>
+        requires limits { IsConfig config.now }
+        requires here { me < config.now.nodes }
+        requires begins { machine.state ≡ first_state }
+        ensures first { IfOk result (λ site. site ≡ first_keeping keep config.now me machine.program) }
         ensures memory { IsOkUnless result Fault.Memory }
     {
         let manager = NodeManager::new(alloc, config, me)?;
         Ok(Site {
             alloc,
             memory: Memory::new(alloc, config, me, manager)?,
-            machine: Machine::new(program),
-            history: Vec::new(alloc),
+            machine,
+            keep,
+            history: History::new(alloc, keep.keeps_history()),
             outbox: Outbox::new(alloc, config, me)?,
-            events: Events::new(alloc),
+            events: Events::keeping(alloc, keep.keeps_events()),
         })
     }
 
-    /// What the program was answered so far, in order. It takes no memory.
-    pub fn history(&self) -> &[Record]
-        ensures { result.now ≡ self.now.node.core.history }
+    /// Whether the node has own code of which each call has its reply, so that it may make one. It takes no memory.
+    pub fn is_free(&self) -> bool
+        ensures { IsTrue result ↔ IsFree self.now.node.core.process }
     {
-        &self.history
+        self.machine.is_free()
+    }
+
+    /// Own code makes a call, which the node's next turn begins [1]. Each call before has its reply, and a width is 1,
+    /// 2, 4 or 8. A refused call changes nothing.
+    pub fn hand(&mut self, call: Call) -> Result<(), Fault>
+        requires free { IsFree self.old.node.core.process }
+        requires width { HasWidth call }
+        ensures ok { OnOk result (self.new ≡ site_handed (call ∷ []) self.old) }
+        ensures err { OnErr result (self.new ≡ self.old) }
+        ensures memory { IsOkUnless result Fault.Memory }
+    {
+        self.machine.hand(call)
+    }
+
+    /// What the program was answered so far, in order, where the site keeps that; else nothing. It takes no memory.
+    pub fn history(&self) -> &[Record]
+        ensures { result.now ≡ read_of (keeps_history self.now.keep) self.now.node.core.history }
+    {
+        self.history.records()
+    }
+
+    /// How many calls the program was answered so far. It takes no memory.
+    pub fn records(&self) -> u64
+        ensures { result ≡ length self.now.node.core.history }
+    {
+        self.history.count()
+    }
+
+    /// The last call that was answered, with its reply, if there is one. It can be read whatever the site keeps.
+    pub fn last_record(&self) -> Option<Record>
+        ensures { result ≡ last_of self.now.node.core.history }
+    {
+        self.history.last()
+    }
+
+    /// Which lists of its own past the site keeps. It takes no memory.
+    pub fn keep(&self) -> Keep
+        ensures { result ≡ self.now.keep }
+    {
+        self.keep
     }
 
     /// What the program printed so far. It takes no memory.
@@ -277,7 +390,7 @@ impl<A: Allocator + Copy> Site<A> {
         ensures spent { IfErr result (IsSpentTurn self.old) }
         ensures want { IfErr result IsWant }
     {
-        self.history.reserve(1)?;
+        self.history.reserve()?;
         self.events.reserve()?;
         if let Some(call) = self.memory.asked() {
             let changed = poll(
@@ -387,19 +500,19 @@ impl<A: Allocator + Copy> Site<A> {
     }
 
     /// Goes on with the string that is held of the next number from a node, if there is one, by the whole rule of
-    /// a delivery [1, 17]. It says whether there was one. One that is refused is held again.
-    fn go_on_once(&mut self, from: u8) -> Result<bool, Fault>
+    /// a delivery [1, 17], which lists one event. That string is the answer. One that is refused is held again.
+    pub fn go_on_with(&mut self, from: u8) -> Result<Option<Bytes<A>>, Fault>
         requires from { from < self.old.config.nodes }
         ensures same { IsSameNode self.old self.new }
-        ensures done { MatchResult result (λ went. AfterOnce went from self.old self.new) (λ _. self.new ≡ self.old) }
+        ensures done { MatchResult result (λ string. AfterOnce string from self.old self.new) (λ _. self.new ≡ self.old) }
         ensures want { IfErr result IsWant }
         ensures few { length self.new.waiting ≤ length self.old.waiting + most_posted }
     {
         let Some(string) = self.take_ready(from) else {
-            return Ok(false);
+            return Ok(None);
         };
         match self.receive(&string) {
-            Ok(_) => Ok(true),
+            Ok(_) => Ok(Some(string)),
             Err(fault) => {
                 self.hold(string);
                 Err(fault)
@@ -416,9 +529,9 @@ impl<A: Allocator + Copy> Site<A> {
         ensures few { length self.new.waiting ≤ length self.old.waiting + most_posted * most_ahead }
     {
         for _ in 0..MOST_AHEAD {
-            match self.go_on_once(from) {
-                Ok(true) => {}
-                Ok(false) => return None,
+            match self.go_on_with(from) {
+                Ok(Some(string)) => drop(string),
+                Ok(None) => return None,
                 Err(fault) => return Some(fault),
             }
         }
@@ -474,6 +587,21 @@ impl<A: Allocator + Copy> Site<A> {
         self.deliver_whole(string)
     }
 
+    /// A string comes, as [`Site::deliver_shared`] says, but the site does not go on after it. So one event is listed, or
+    /// none where the frame is for another node. Besides the verdict it says which node the frame comes from.
+    pub fn deliver_alone(&mut self, string: &Bytes<A>) -> Result<(Verdict, u8), Fault>
+        ensures same { IsSameNode self.old self.new }
+        ensures done { MatchResult result (λ r. Receives string.now r.0 r.1 self.old self.new) (λ _. self.new ≡ self.old) }
+        ensures from { IfOk result (λ r. r.1 < self.old.config.nodes) }
+        ensures refused { MatchResult (checked self.old.config string.now) (λ _. IfErr result IsWant) (λ fault. result ≡ Err fault) }
+        ensures few { length self.new.waiting ≤ length self.old.waiting + most_posted }
+        ensures spent { IfErr result (IsSpentDelivery self.old string.now) }
+    {
+        let config = self.outbox.config();
+        read(&config, string.bytes())?;
+        self.receive(string)
+    }
+
     /// A string comes that spells a frame, as [`Site::deliver_shared`] says [1, 17]. It is not tested again.
     pub fn deliver_spelled(&mut self, string: &Bytes<A>) -> Result<Verdict, Fault>
         requires spelled { SpellsFrame self.old.config string.now }
@@ -521,10 +649,10 @@ impl<A: Allocator + Copy> Site<A> {
         Ok(())
     }
 
-    /// The events of this node so far, in order. Making them again, from the node as it begins, makes the node
-    /// again, and what waits to be put on the wire was sent by them. It takes no memory.
+    /// The events of this node so far, in order, where the site keeps them; else none. Making all of them again, from the
+    /// node as it begins, makes the node again, and what waits to be put on the wire was sent by them. It takes no memory.
     pub fn events(&self) -> &[Event<Bytes<A>>]
-        ensures is { marks result.now ≡ self.now.events }
+        ensures is { marks result.now ≡ read_of (keeps_events self.now.keep) self.now.events }
         ensures made { IsMadeByEvents self.now }
     {
         self.events.entries()

@@ -4,7 +4,7 @@ use Rattle.std.proofs.lemmas.List.{map-set, set-set}
 use Rattle.std.proofs.lemmas.Option.{slice_get-map, get_or_from_slice_get}
 use Rattle.ivy_model.specs.declared.Config.{Config}
 use Rattle.ivy_model.specs.Config.{IsConfig}
-use Rattle.ivy_program.specs.declared.Instruction.{Instruction}
+use Rattle.ivy_program.specs.Programs.{Program}
 use Rattle.ivy_wire.specs.Data.{Frame}
 use Rattle.ivy_moves.specs.ivy_link.declared.Verdict.{Verdict}
 use Rattle.ivy_moves.specs.ivy_link.declared.Verdict.TheVariants as verdict
@@ -41,7 +41,7 @@ went_there c sites sites' sent sent' step w = record {
   programs = w.programs;
 }
 
-abbrev program_in : Shown → List Instruction
+abbrev program_in : Shown → Program
 program_in s = s.node.core.process.program
 
 -- made by the same events
@@ -54,6 +54,7 @@ same_made s held m =
 pub record IsLater (old new : Shown) : Type 0 where
   pub config : new.config ≡ old.config
   pub me : new.me ≡ old.me
+  pub keep : new.keep ≡ old.keep
   pub program : program_in new ≡ program_in old
   pub made : IsMadeByEvents new
 
@@ -62,6 +63,7 @@ later a b c x y =
     record {
       config = y.config ∙ x.config;
       me = y.me ∙ x.me;
+      keep = y.keep ∙ x.keep;
       program = y.program ∙ x.program;
       made = y.made;
     }
@@ -73,6 +75,7 @@ delivered_later bytes v old new limits made d =
     record {
       config = gone.config;
       me = gone.me;
+      keep = gone.keep;
       program = ap (λ (n : Node (Host Managed)). n.core.process.program) gone.node ∙ gone.program;
       made = delivery_made bytes v old new limits made d;
     }
@@ -82,7 +85,7 @@ pub once_later : (source : ℕ) (bytes : List ℕ) (old new : Shown) → IsConfi
 once_later source bytes old new limits made once =
     let x = delivered_later bytes verdict.Next (without_ready old source) new limits
     (same_made old (without_ready old source).held made) once.next in
-    record { config = x.config; me = x.me; program = x.program; made = x.made }
+    record { config = x.config; me = x.me; keep = x.keep; program = x.program; made = x.made }
 
 module _ (c : Config) (limits : IsConfig c) (sites : List Shown) (sent : List (List ℕ)) (i : ℕ)
     (was : Shown) (there : slice_get sites i ≡ Some was) where
@@ -163,6 +166,7 @@ module _ (c : Config) (limits : IsConfig c) (sites : List Shown) (sent : List (L
     later = record {
       config = ap (λ (s : Shown). s.config) same;
       me = ap (λ (s : Shown). s.me) same;
+      keep = ap (λ (s : Shown). s.keep) same;
       program = ap program_in same;
       made = subst IsMadeByEvents (sym same) made;
     };
@@ -193,6 +197,7 @@ module _ (c : Config) (limits : IsConfig c) (sites : List Shown) (sent : List (L
       later = record {
         config = ap (λ (s : Shown). s.config) same;
         me = ap (λ (s : Shown). s.me) same;
+        keep = ap (λ (s : Shown). s.keep) same;
         program = ap program_in same;
         made = subst IsMadeByEvents (sym same) (same_made mid held made);
       };
@@ -231,7 +236,7 @@ module _ (c : Config) (limits : IsConfig c) (sites : List Shown) (sent : List (L
           goes_on = rest.gone.goes;
         };
         are = changed_are c sites i was (record done { waiting = [] }) h there all.config all.me
-            refl (all_taken done all.made);
+            all.keep refl (all_taken done all.made);
         programs = same_map program_in sites i was (record done { waiting = [] }) there all.program;
       }
 

@@ -3,6 +3,7 @@ pub mod Rounds
 pub mod Idling
 pub mod Worlds
 pub mod Making
+pub mod Handed
 pub mod GoingOn
 pub mod Growing
 pub mod Coming

@@ -8,6 +8,8 @@ use Rattle.std.proofs.lemmas.List.{map-set, length-map}
 use Rattle.std.proofs.lemmas.Option.{same_Some, slice_get-map, slice_get_within, get_or_from_slice_get}
 use Rattle.ivy_model.specs.declared.Config.{Config}
 use Rattle.ivy_model.specs.declared.Fault.{Fault}
+use Rattle.std.specs.Prelude.{IfSome}
+use Rattle.ivy_model.specs.declared.Record.{Record}
 use Rattle.ivy_model.specs.Wants.{IsWant}
 use Rattle.ivy_site.specs.ivy_host.Managers.{Managed, managed_ops}
 use Rattle.ivy_wire.specs.Data.{Frame}
@@ -25,8 +27,10 @@ use Rattle.ivy_site.specs.ivy_host.Holding.{AllSpell}
 use Rattle.ivy_world.specs.Runs.{IsRefusedBy}
 use Rattle.ivy_site.specs.Shown.{Shown, after_pulse_to, after_delivery}
 use Rattle.ivy_site.specs.Sites.{SpellsFrame, early_at, IsMadeByEvents, AfterTurn, IsSpentTurn, SiteDelivers, IsSpentDelivery}
-use Rattle.ivy_world.specs.WorldSites.{programs_of, world_of, AreSites}
+use Rattle.ivy_world.specs.WorldSites.{programs_of, world_of, run_of, AreSites}
+use Rattle.proof_headline.specs.RunState.{Run}
 use Rattle.ivy_moves.specs.Early.{early_as}
+use Rattle.ivy_moves.specs.Keeping.{keeps_history, read_of}
 use Rattle.ivy_moves.proofs.Places.{set-cases}
 use Rattle.ivy_moves.proofs.Kept.{none-after}
 use Rattle.ivy_site.proofs.Made.{turn_made, turn_early, pulse_made-on, pulse_early, delivery_made, delivery_early, all_taken}
@@ -39,6 +43,7 @@ pub record IsGone (old new : Shown) (e : Effect (Host Managed)) : Type 0 where
   pub waiting : new.waiting ≡ old.waiting ++ e.sent
   pub config : new.config ≡ old.config
   pub me : new.me ≡ old.me
+  pub keep : new.keep ≡ old.keep
   pub program : e.after.core.process.program ≡ old.node.core.process.program
 
 -- what an event did: the move, with one site changed
@@ -58,14 +63,18 @@ same_map f (x ∷ xs) (suc i) old new there same =
     ap (λ l. f x ∷ l) (same_map f xs i old new there same)
 
 pub changed_are : (c : Config) (sites : List Shown) (i : ℕ) (old new : Shown) → AreSites c sites
-    → slice_get sites i ≡ Some old → new.config ≡ old.config → new.me ≡ old.me → new.waiting ≡ []
+    → slice_get sites i ≡ Some old → new.config ≡ old.config → new.me ≡ old.me
+    → new.keep ≡ old.keep → new.waiting ≡ []
     → IsMadeByEvents new → AreSites c (set sites i new)
-changed_are c sites i old new h there config me none made = record {
+changed_are c sites i old new h there config me keep none made = record {
   config =
       λ j s e. ⊎_elim (λ p. ap (λ (x : Shown). x.config) p.1 ∙ config ∙ h.config i old there)
       (λ q. h.config j s q) (set-cases sites i j new s e);
   me = λ j s e. ⊎_elim (λ p. ap (λ (x : Shown). x.me) p.1 ∙ me ∙ h.me i old there ∙ sym p.0)
       (λ q. h.me j s q) (set-cases sites i j new s e);
+  keep =
+      λ j s e. ⊎_elim (λ p. ap (λ (x : Shown). x.keep) p.1 ∙ keep ∙ h.keep i old there)
+      (λ q. h.keep j s q) (set-cases sites i j new s e);
   none_waits =
       λ j s e. ⊎_elim (λ p. ap (λ (x : Shown). x.waiting) p.1 ∙ none) (λ q. h.none_waits j s q)
       (set-cases sites i j new s e);
@@ -122,7 +131,7 @@ went c sites sent i old done e step early h there gone made grown moved =
           (changed_world sites sent i (record done { waiting = [] }) e early done.waiting gone.node
           waits grown);
       are = changed_are c sites i old (record done { waiting = [] }) h there gone.config gone.me
-          refl (all_taken done made);
+          gone.keep refl (all_taken done made);
       programs =
           same_map (λ (s : Shown). s.node.core.process.program) sites i old
           (record done { waiting = [] }) there
@@ -135,6 +144,7 @@ still_gone old new same = record {
   waiting = ap (λ (s : Shown). s.waiting) same ∙ sym (append-nil old.waiting);
   config = ap (λ (s : Shown). s.config) same;
   me = ap (λ (s : Shown). s.me) same;
+  keep = ap (λ (s : Shown). s.keep) same;
   program = refl;
 }
 
@@ -152,6 +162,7 @@ turn_gone Moved old new h = (
     waiting = ap (λ (s : Shown). s.waiting) h.after;
     config = ap (λ (s : Shown). s.config) h.after;
     me = ap (λ (s : Shown). s.me) h.after;
+    keep = ap (λ (s : Shown). s.keep) h.after;
     program =
         ap (λ (k : Host Managed). k.process.program)
         (posting-core old.node h.outcome.after h.outcome.posted h.effect h.sent)
@@ -215,6 +226,7 @@ pulse_gone old new to after = record {
   waiting = ap (λ (s : Shown). s.waiting) after;
   config = ap (λ (s : Shown). s.config) after;
   me = ap (λ (s : Shown). s.me) after;
+  keep = ap (λ (s : Shown). s.keep) after;
   program = refl;
 }
 
@@ -255,9 +267,17 @@ pulse_went c sites sent i to old done site step more h there within apart after 
 
 event_gone : (old new : Shown) (e : Effect (Host Managed)) → new.node ≡ e.after
     → new.waiting ≡ old.waiting ++ e.sent → new.config ≡ old.config → new.me ≡ old.me
+    → new.keep ≡ old.keep
     → e.after.core.process.program ≡ old.node.core.process.program → IsGone old new e
-event_gone old new e node waiting config me program =
-    record { node = node; waiting = waiting; config = config; me = me; program = program }
+event_gone old new e node waiting config me keep program =
+    record {
+      node = node;
+      waiting = waiting;
+      config = config;
+      me = me;
+      keep = keep;
+      program = program;
+    }
 
 after_gone : (v : Verdict) (old new : Shown) (f : Frame) (bytes : List ℕ)
     (e : Effect (Host Managed)) → new ≡ after_delivery old bytes v f.source e
@@ -267,14 +287,17 @@ after_gone verdict.NotMine old new f bytes e after is =
 after_gone verdict.Next old new f bytes e after is =
     event_gone old new e (ap (λ (s : Shown). s.node) after) (ap (λ (s : Shown). s.waiting) after)
     (ap (λ (s : Shown). s.config) after) (ap (λ (s : Shown). s.me) after)
+    (ap (λ (s : Shown). s.keep) after)
     (received-program verdict.Next old.node f e is)
 after_gone verdict.Repeat old new f bytes e after is =
     event_gone old new e (ap (λ (s : Shown). s.node) after) (ap (λ (s : Shown). s.waiting) after)
     (ap (λ (s : Shown). s.config) after) (ap (λ (s : Shown). s.me) after)
+    (ap (λ (s : Shown). s.keep) after)
     (received-program verdict.Repeat old.node f e is)
 after_gone verdict.Ahead old new f bytes e after is =
     event_gone old new e (ap (λ (s : Shown). s.node) after) (ap (λ (s : Shown). s.waiting) after)
     (ap (λ (s : Shown). s.config) after) (ap (λ (s : Shown). s.me) after)
+    (ap (λ (s : Shown). s.keep) after)
     (received-program verdict.Ahead old.node f e is)
 
 pub delivery_gone : (old new : Shown) (bytes : List ℕ) (v : Verdict) → IsConfig old.config
@@ -358,3 +381,15 @@ delivery_refused c sites sent index i old bytes step fault limits h spell there 
     (worlds.world_goes_on (world_of sites sent) i o))
     (subst (λ k. delivered (host_rules managed_ops) k old.node bytes ≡ None) config
     (spent s))))) want)
+
+-- what a site of the world was answered can be read
+pub history_shown : (c : Config) (sites : List Shown) (sent : List (List ℕ)) (run : Run)
+    → run_of c sites sent ≡ run → AreSites c sites → (i : ℕ) (s : Shown) → slice_get sites i ≡ Some s
+    → (h : List Record) → h ≡ read_of (keeps_history s.keep) s.node.core.history
+    → IfSome (slice_get run.world.nodes i) (λ (n : Node (Host Managed)). h ≡ n.core.history)
+history_shown c sites sent run same are i s there h read =
+    let is : h ≡ s.node.core.history =
+    read ∙ ap (λ k. read_of (keeps_history k) s.node.core.history) (are.keep i s there) in
+    subst (λ o. IfSome o (λ (n : Node (Host Managed)). h ≡ n.core.history))
+    (sym (node_there c sites sent i s there)
+    ∙ ap (λ (r : Run). slice_get r.world.nodes i) same) is

@@ -8,7 +8,7 @@ use Rattle.ivy_model.specs.Config.{IsConfig}
 use Rattle.ivy_model.specs.declared.Fault.{Fault}
 use Rattle.ivy_model.specs.declared.Fault.TheVariants.{NoSuchFrame}
 use Rattle.ivy_site.specs.ivy_host.Managers.{Managed, managed_ops}
-use Rattle.ivy_program.specs.declared.Instruction.{Instruction}
+use Rattle.ivy_program.specs.Programs.{Program}
 use Rattle.ivy_moves.specs.declared.Move.{Move}
 use Rattle.ivy_moves.specs.Worlds as worlds
 use Rattle.ivy_site.specs.ivy_host.Hosts.{Host, host_rules}
@@ -19,14 +19,15 @@ use Rattle.ivy_site.specs.ivy_host.Holding.{AllSpell}
 use Rattle.ivy_site.specs.Shown.{Shown}
 use Rattle.proof_headline.proofs.Headline.{spelled-led}
 use Rattle.ivy_moves.proofs.Leading.{leads_one}
-use Rattle.ivy_site.specs.Sites.{first_shown, early_at, IsMadeByEvents}
+use Rattle.ivy_site.specs.Sites.{first_keeping, early_at, IsMadeByEvents}
 use Rattle.ivy_site.proofs.Made.{first_made}
+use Rattle.ivy_moves.specs.declared.keep.Keep.TheVariants.{History}
 use Rattle.ivy_world.specs.WorldSites.{programs_of, world_of, run_of, AreSites, IsRunning, first_sites_from}
 
 -- the site of the first program left goes behind those that are there
-pub one_more_site : (c : Config) (me : ℕ) (sites : List Shown) (p : List Instruction)
-    (left rest : List (List Instruction)) → left ≡ p ∷ rest
-    → (site : Shown) → site ≡ first_shown c me p → (more : List Shown) → more ≡ sites ++ site ∷ []
+pub one_more_site : (c : Config) (me : ℕ) (sites : List Shown) (p : Program)
+    (left rest : List Program) → left ≡ p ∷ rest
+    → (site : Shown) → site ≡ first_keeping History c me p → (more : List Shown) → more ≡ sites ++ site ∷ []
     → more ++ first_sites_from c (me + 1) rest ≡ sites ++ first_sites_from c me left
 one_more_site c me sites p left rest steps site is more added =
     ap (λ l. l ++ first_sites_from c (me + 1) rest) added
@@ -37,56 +38,61 @@ one_more_site c me sites p left rest steps site is more added =
 -- the sites that begin
 
 module _ (c : Config) where
-  first_length : (me : ℕ) (ps : List (List Instruction))
+  first_length : (me : ℕ) (ps : List Program)
       → length (first_sites_from c me ps) ≡ length ps
   first_length me [] = refl
   first_length me (p ∷ ps) = ap suc (first_length (me + 1) ps)
 
-  first_programs : (me : ℕ) (ps : List (List Instruction))
+  first_programs : (me : ℕ) (ps : List Program)
       → programs_of (first_sites_from c me ps) ≡ ps
   first_programs me [] = refl
   first_programs me (p ∷ ps) = ap (λ l. p ∷ l) (first_programs (me + 1) ps)
 
-  first_nodes_are : (me : ℕ) (ps : List (List Instruction))
+  first_nodes_are : (me : ℕ) (ps : List Program)
       → map (λ (s : Shown). s.node) (first_sites_from c me ps) ≡ first_nodes managed_ops c me ps
   first_nodes_are me [] = refl
   first_nodes_are me (p ∷ ps) =
-      ap (λ l. (first_shown c me p).node ∷ l) (first_nodes_are (me + 1) ps)
+      ap (λ l. (first_keeping History c me p).node ∷ l) (first_nodes_are (me + 1) ps)
 
-  first_at : (me : ℕ) (ps : List (List Instruction)) (i : ℕ) (s : Shown)
+  first_at : (me : ℕ) (ps : List Program) (i : ℕ) (s : Shown)
       → slice_get (first_sites_from c me ps) i ≡ Some s
-      → (s.config ≡ c) × (s.me ≡ me + i) × (s.waiting ≡ [])
+      → (s.config ≡ c) × (s.me ≡ me + i) × (s.waiting ≡ []) × (s.keep ≡ History)
   first_at me [] i s e = absurd (none-some s e)
   first_at me (p ∷ ps) zero s e =
-      let is = sym (same_Some (first_shown c me p) s e) in
-      let me-is : s.me ≡ me = ap (λ (x : Shown). x.me) is in
-      (ap (λ (x : Shown). x.config) is, omega (arith, me-is), ap (λ (x : Shown). x.waiting) is)
+      let is = sym (same_Some (first_keeping History c me p) s e) in
+      let me-is : s.me ≡ me = ap (λ (x : Shown). x.me) is in (
+        ap (λ (x : Shown). x.config) is,
+        omega (arith, me-is),
+        ap (λ (x : Shown). x.waiting) is,
+        ap (λ (x : Shown). x.keep) is,
+      )
   first_at me (p ∷ ps) (suc i) s e =
       let rest = first_at (me + 1) ps i s e in
       let me-is : s.me ≡ me + 1 + i = rest.1 in
-      (rest.0, omega (arith, me-is), rest.2)
+      (rest.0, omega (arith, me-is), rest.2, rest.3)
 
-  first_made_at : (me : ℕ) (ps : List (List Instruction)) (i : ℕ) (s : Shown)
+  first_made_at : (me : ℕ) (ps : List Program) (i : ℕ) (s : Shown)
       → slice_get (first_sites_from c me ps) i ≡ Some s → IsMadeByEvents s
   first_made_at me [] i s e = absurd (none-some s e)
   first_made_at me (p ∷ ps) zero s e =
-      subst IsMadeByEvents (same_Some (first_shown c me p) s e) (first_made c me p)
+      subst IsMadeByEvents (same_Some (first_keeping History c me p) s e) (first_made History c me p)
   first_made_at me (p ∷ ps) (suc i) s e = first_made_at (me + 1) ps i s e
 
-  first_early : (me : ℕ) (ps : List (List Instruction))
-      → map early_at (first_sites_from c me ps) ≡ map (λ (p : List Instruction). []) ps
+  first_early : (me : ℕ) (ps : List Program)
+      → map early_at (first_sites_from c me ps) ≡ map (λ (p : Program). []) ps
   first_early me [] = refl
   first_early me (p ∷ ps) = ap (λ l. [] ∷ l) (first_early (me + 1) ps)
 
-  first_are : (ps : List (List Instruction)) → AreSites c (first_sites_from c 0 ps)
+  first_are : (ps : List Program) → AreSites c (first_sites_from c 0 ps)
   first_are ps = record {
     config = λ i s e. (first_at 0 ps i s e).0;
     me = λ i s e. (let is : s.me ≡ 0 + i = (first_at 0 ps i s e).1 in omega (arith, is));
     none_waits = λ i s e. (first_at 0 ps i s e).2;
+    keep = λ i s e. (first_at 0 ps i s e).3;
     made = λ i s e. first_made_at 0 ps i s e;
   }
 
-  first_run : (ps : List (List Instruction))
+  first_run : (ps : List Program)
       → run_of c (first_sites_from c 0 ps) []
       ≡ record { config = c; programs = ps; world = opening managed_ops c ps }
   first_run ps =
@@ -96,7 +102,7 @@ module _ (c : Config) where
         world = record { nodes = first_nodes_are 0 ps k; sent = []; early = first_early 0 ps k };
       }
 
-  first_leads : (ps : List (List Instruction))
+  first_leads : (ps : List Program)
       → IsLedTo c (opening managed_ops c (programs_of (first_sites_from c 0 ps))) []
       (world_of (first_sites_from c 0 ps) [])
   first_leads ps =
@@ -105,10 +111,10 @@ module _ (c : Config) where
             (first_nodes_are 0 ps ∙ ap (first_nodes managed_ops c 0) (sym (first_programs 0 ps))) k;
         sent = [];
         early = (first_early 0 ps
-            ∙ ap (map (λ (p : List Instruction). [])) (sym (first_programs 0 ps))) k;
+            ∙ ap (map (λ (p : Program). [])) (sym (first_programs 0 ps))) k;
       }
 
-  first_running : IsConfig c → (ps : List (List Instruction)) → length ps ≡ c.nodes
+  first_running : IsConfig c → (ps : List Program) → length ps ≡ c.nodes
       → IsRunning c (first_sites_from c 0 ps) []
   first_running config ps each = record {
     limits = config;
@@ -118,13 +124,13 @@ module _ (c : Config) where
   }
 
 -- the world of the first sites is the opening one, and it runs
-pub first_running-of : (c : Config) (ps : List (List Instruction)) (sites : List Shown)
+pub first_running-of : (c : Config) (ps : List Program) (sites : List Shown)
     (sent : List (List ℕ)) → IsConfig c → length ps ≡ c.nodes → sites ≡ first_sites_from c 0 ps
     → sent ≡ [] → IsRunning c sites sent
 first_running-of c ps sites sent config each is none =
     rw is (rw none (first_running c config ps each))
 
-pub first_run-of : (c : Config) (ps : List (List Instruction)) (sites : List Shown)
+pub first_run-of : (c : Config) (ps : List Program) (sites : List Shown)
     (sent : List (List ℕ)) → sites ≡ first_sites_from c 0 ps → sent ≡ []
     → run_of c sites sent ≡ record { config = c; programs = ps; world = opening managed_ops c ps }
 first_run-of c ps sites sent is none =

@@ -2,11 +2,12 @@
 use Rattle.std.specs.Prelude.{◌≡◌, ◌⊎◌, ℕ, ◌+◌, List, [], ◌∷◌, length, map, slice_get, Some}
 use Rattle.ivy_model.specs.declared.Fault.{Fault}
 use Rattle.ivy_model.specs.declared.Fault.TheVariants.{Memory, BadConfig}
-use Rattle.ivy_site.specs.Sites.{first_shown, early_at, IsMadeByEvents}
+use Rattle.ivy_site.specs.Sites.{first_keeping, early_at, IsMadeByEvents}
 use Rattle.ivy_model.specs.declared.Config.{Config}
 use Rattle.ivy_model.specs.Config.{IsConfig}
 use Rattle.ivy_site.specs.ivy_host.Managers.{Managed}
-use Rattle.ivy_program.specs.declared.Instruction.{Instruction}
+use Rattle.ivy_program.specs.Programs.{Program}
+use Rattle.ivy_moves.specs.declared.keep.Keep.TheVariants.{History}
 use Rattle.ivy_moves.specs.Worlds as worlds
 use Rattle.ivy_site.specs.ivy_host.Hosts.{Host}
 use Rattle.ivy_site.specs.Shown.{Shown}
@@ -14,7 +15,7 @@ use Rattle.proof_headline.specs.RunState.{Run}
 use Rattle.proof_headline.specs.Reached.{IsReached}
 
 -- the programs of the sites, in order
-abbrev pub programs_of : List Shown → List (List Instruction)
+abbrev pub programs_of : List Shown → List Program
 programs_of sites = map (λ (s : Shown). s.node.core.process.program) sites
 
 -- the world that these sites are, in which these strings were sent
@@ -25,18 +26,19 @@ world_of sites sent = record {
   early = map early_at sites;
 }
 
--- each site is the node of its place, under this configuration, made by its events, and no string
--- waits at it
+-- each site is the node of its place, under this configuration, made by its events; it keeps its
+-- history, and no string waits at it
 pub record AreSites (c : Config) (sites : List Shown) : Type 0 where
   pub config : (i : ℕ) (s : Shown) → slice_get sites i ≡ Some s → s.config ≡ c
   pub me : (i : ℕ) (s : Shown) → slice_get sites i ≡ Some s → s.me ≡ i
+  pub keep : (i : ℕ) (s : Shown) → slice_get sites i ≡ Some s → s.keep ≡ History
   pub none_waits : (i : ℕ) (s : Shown) → slice_get sites i ≡ Some s → s.waiting ≡ []
   pub made : (i : ℕ) (s : Shown) → slice_get sites i ≡ Some s → IsMadeByEvents s
 
 -- the sites of the programs as they begin, from this number on
-abbrev pub first_sites_from : Config → ℕ → List (List Instruction) → List Shown
+abbrev pub first_sites_from : Config → ℕ → List Program → List Shown
 first_sites_from c me [] = []
-first_sites_from c me (p ∷ ps) = first_shown c me p ∷ first_sites_from c (me + 1) ps
+first_sites_from c me (p ∷ ps) = first_keeping History c me p ∷ first_sites_from c (me + 1) ps
 
 -- that world, under this configuration, with its programs
 abbrev pub run_of : Config → List Shown → List (List ℕ) → Run
@@ -51,7 +53,7 @@ pub record IsRunning (c : Config) (sites : List Shown) (sent : List (List ℕ)) 
   pub reached : IsReached (run_of c sites sent)
 
 -- the sites of the programs as they begin, and no string waits
-abbrev pub AreFirst : Config → List (List Instruction) → List Shown → Type 0
+abbrev pub AreFirst : Config → List Program → List Shown → Type 0
 AreFirst c programs sites = sites ≡ first_sites_from c 0 programs
 
 -- no other fault than want of memory

@@ -7,7 +7,7 @@ mod rest;
 mod round;
 mod world;
 
-pub use ivy_moves::{Move, ivy_link};
+pub use ivy_moves::{Keep, Move, ivy_link};
 pub use ivy_site;
 pub use ivy_site::{Program, Site, Turn, Verdict, parse};
 pub use rest::Rest;

@@ -1,6 +1,8 @@
 //! All nodes, and every string ever sent between them.
-ghost use Rattle.std.specs.Prelude.{◌≡◌, ◌+◌, ◌<◌, ◌≤◌, ◌↔◌, ◌++◌, [], true, false, Some, Ok, length, slice_get, vec_len, vec_capacity, IsTrue, IfOk, IfErr, IfSome, OnOk, OnErr, IsErrOf};
+ghost use Rattle.std.specs.Prelude.{◌≡◌, ◌+◌, ◌<◌, ◌≤◌, ◌↔◌, ◌++◌, ◌∷◌, [], true, false, Some, Ok, length, slice_get, slice_set, vec_len, vec_capacity, IsTrue, IfOk, IfErr, IfSome, OnOk, OnErr, IsErrOf, IsOkUnless};
 ghost use Rattle.ivy_model.specs.Config.{IsConfig};
+ghost use Rattle.ivy_model.specs.Legal.{HasWidth};
+ghost use Rattle.ivy_program.specs.Owned.{IsFree};
 ghost use Rattle.ivy_program.specs.Steps.{HasEnded};
 ghost use Rattle.ivy_site.specs.ivy_host.Managers.{managed_ops};
 ghost use Rattle.ivy_moves.specs.declared.Move.{Move};
@@ -9,8 +11,10 @@ ghost use Rattle.ivy_site.specs.ivy_host.Hosts.{host_rules};
 ghost use Rattle.ivy_site.specs.ivy_host.Holding.{AllSpell};
 ghost use Rattle.proof_headline.specs.Keeping.{Keeps};
 ghost use Rattle.ivy_site.specs.ivy_host.Openings.{opening};
+ghost use Rattle.ivy_world.specs.Handed.{own_code, run_handed};
 ghost use Rattle.ivy_world.specs.Runs.{made_of, IsRefusedBy, IsNamedUnless, IsSameRun, IsRefusedAt, IsNamedAt, IsExplainedOn};
 ghost use Rattle.proof_headline.specs.Reached.{IsLedTo, IsReached};
+ghost use Rattle.ivy_site.specs.Handed.{site_handed};
 ghost use Rattle.ivy_site.specs.Sites.{await_in};
 ghost use Rattle.proof_headline.specs.proof_progress.Still.{HasNothingUnderWay};
 ghost use Rattle.ivy_world.specs.Settling.{StandsStill, HasSettledBy, Settles, HasSettled, IsFoundStill};
@@ -21,8 +25,8 @@ ghost use Rattle.ivy_world.specs.WorldSites.{programs_of, world_of, AreSites, Is
 use crate::rest::Rest;
 use crate::round::{Round, is_delivered, next_move};
 use ivy_model::{Call, Config, Fault, MOST_NODES, Record};
-use ivy_moves::Move;
 use ivy_moves::ivy_link::MOST_AHEAD;
+use ivy_moves::{Keep, Move};
 use ivy_program::Program;
 use ivy_site::{Site, Turn};
 use ivy_wire::Bytes;
@@ -150,8 +154,37 @@ fn first_sites<A: Allocator + Copy>(
     let mut sites = Vec::with_capacity(alloc, programs.len())?;
     let mut me = 0u8;
     for program in programs {
-        sites.push(Site::new(alloc, config, me, program)?)?;
+        sites.push(Site::keeping(alloc, config, me, program, Keep::History)?)?;
         me += 1;
+    }
+    Ok(sites)
+}
+
+/// Own code at a site makes a call [1]. A refused call changes nothing.
+fn hand<A: Allocator + Copy>(
+    sites: &mut Vec<Site<A>, A>,
+    node: u64,
+    call: Call,
+) -> Result<(), Fault>
+    requires node { node < length sites.old.items }
+    requires free { IfSome (slice_get sites.old.items node) (λ s. IsFree s.node.core.process) }
+    requires width { HasWidth call }
+    ensures ok { OnOk result (IfSome (slice_get sites.old.items node) (λ s. sites.new.items ≡ slice_set sites.old.items node (site_handed (call ∷ []) s))) }
+    ensures err { OnErr result (sites.new.items ≡ sites.old.items) }
+    ensures memory { IsOkUnless result Fault.Memory }
+{
+    sites[node as usize].hand(call)
+}
+
+/// The sites of own code, as many as there are nodes.
+fn open_sites<A: Allocator + Copy>(alloc: A, config: &Config) -> Result<Vec<Site<A>, A>, Fault>
+    requires limits { IsConfig config.now }
+    ensures first { IfOk result (λ sites. AreFirst config.now (own_code config.now.nodes) sites.items) }
+    ensures memory { IfErr result IsMemory }
+{
+    let mut sites = Vec::with_capacity(alloc, usize::from(config.nodes))?;
+    for me in 0..config.nodes {
+        sites.push(Site::open_keeping(alloc, config, me, Keep::History)?)?;
     }
     Ok(sites)
 }
@@ -170,6 +203,24 @@ impl<A: Allocator + Copy> World<A> {
             return Err(Fault::BadConfig);
         }
         let sites = first_sites(alloc, &config, programs)?;
+        Ok(World {
+            config,
+            sites,
+            sent: Vec::new(alloc),
+            passed: 0,
+        })
+    }
+
+    /// The opening world of own code alone, at each node of the configuration [1, 2].
+    ///
+    /// It is 2 exactly where the configuration is out of its limits.
+    pub fn open(alloc: A, config: Config) -> Result<World<A>, Fault>
+        ensures opens { IfOk result (λ world. world ≡ record { config = config; programs = own_code config.nodes; world = opening managed_ops config (own_code config.nodes) }) }
+        ensures bad { IsErrOf result Fault.BadConfig ↔ ¬ IsConfig config }
+        ensures want { IfErr result IsWorldWant }
+    {
+        config.check()?;
+        let sites = open_sites(alloc, &config)?;
         Ok(World {
             config,
             sites,
@@ -214,6 +265,45 @@ impl<A: Allocator + Copy> World<A> {
         ensures { IfSome (slice_get self.now.world.nodes node) (λ n. IsTrue result ↔ HasEnded n.core.process) }
     {
         self.sites[node as usize].ended()
+    }
+
+    /// Whether a node has own code of which each call has its reply; the node is one of the world's. It takes no memory.
+    pub fn is_free(&self, node: u64) -> bool
+        requires { node < self.now.config.nodes }
+        ensures { IfSome (slice_get self.now.world.nodes node) (λ n. IsTrue result ↔ IsFree n.core.process) }
+    {
+        self.sites[node as usize].is_free()
+    }
+
+    /// Own code at a node makes a call, which the node's next turn begins [1]. Each call before has its reply there, and
+    /// a width is 1, 2, 4 or 8. A refused call changes nothing.
+    ///
+    /// All that is promised of a world holds of it with the longer program: the moves that led here lead here from the
+    /// opening of that, too.
+    pub fn hand(&mut self, node: u64, call: Call) -> Result<(), Fault>
+        requires node { node < self.old.config.nodes }
+        requires free { IfSome (slice_get self.old.world.nodes node) (λ n. IsFree n.core.process) }
+        requires width { HasWidth call }
+        ensures ok { OnOk result (self.new ≡ run_handed node (call ∷ []) self.old) }
+        ensures keeps { Keeps self.new }
+        ensures err { OnErr result (self.new ≡ self.old) }
+        ensures memory { IsOkUnless result Fault.Memory }
+    {
+        let result = self.hand_over(node, call);
+        self.keeps();
+        result
+    }
+
+    /// Hands the call to the node's site.
+    fn hand_over(&mut self, node: u64, call: Call) -> Result<(), Fault>
+        requires node { node < self.old.config.nodes }
+        requires free { IfSome (slice_get self.old.world.nodes node) (λ n. IsFree n.core.process) }
+        requires width { HasWidth call }
+        ensures ok { OnOk result (self.new ≡ run_handed node (call ∷ []) self.old) }
+        ensures err { OnErr result (self.new ≡ self.old) }
+        ensures memory { IsOkUnless result Fault.Memory }
+    {
+        hand(&mut self.sites, node, call)
     }
 
     /// The call that a node has in progress; the node is one of the world's. It takes no memory.

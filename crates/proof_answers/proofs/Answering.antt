@@ -8,7 +8,7 @@ use Rattle.ivy_model.specs.declared.Call.{Call}
 use Rattle.ivy_model.specs.declared.Record.{Record}
 use Rattle.ivy_wire.specs.Data.{Message, Parcel}
 use Rattle.ivy_wire.specs.Spelling.{spelling}
-use Rattle.ivy_program.specs.declared.Instruction.{Instruction}
+use Rattle.ivy_program.specs.Programs.{Program}
 use Rattle.ivy_moves.specs.ivy_link.Linked.{Linked, peer_at, sends, has_numbers}
 use Rattle.ivy_moves.specs.ivy_link.Paired.{link_at}
 use Rattle.ivy_moves.specs.declared.Move.{Move}
@@ -73,7 +73,7 @@ no_change c n out called (begins p inside is calls elsewhere puts less) asked sa
     let a : host_weight out.after ≡ host_weight n = ap (λ (h : Host Managed). host_weight h) same in
     omega (arith, a, less)
 
-module _ (c : Config) (limits : IsConfig c) (programs : List (List Instruction))
+module _ (c : Config) (limits : IsConfig c) (programs : List Program)
     (many : length programs ≡ c.nodes) where
   abbrev Follower : World (Host Managed) → Type 0
   Follower w = FollowsInOrder managed_ops c programs w

@@ -22,7 +22,7 @@ use Rattle.ivy_model.specs.Legal.{ServesAll}
 use Rattle.ivy_model.specs.Memory.{Memory, IsSized, first}
 use Rattle.ivy_model.specs.Serves.{ServesKind, access_refusal, with_written}
 use Rattle.ivy_model.proofs.Sizes.{first_sized, leads_sized}
-use Rattle.ivy_program.specs.declared.Instruction.{Instruction}
+use Rattle.ivy_program.specs.Programs.{Program}
 use Rattle.ivy_moves.specs.Following.{ordered_of}
 use Rattle.ivy_moves.specs.Nodes.{Node}
 use Rattle.ivy_moves.specs.Worlds.{World}
@@ -242,7 +242,7 @@ module _ (c : Config) (limits : IsConfig c) (w : World (Host Managed)) (order : 
       let least = rises.least in
       omega (arith, a, b, same, least)
 
-module _ (c : Config) (limits : IsConfig c) (programs : List (List Instruction))
+module _ (c : Config) (limits : IsConfig c) (programs : List Program)
     (w : World (Host Managed)) (f : FollowsInOrder managed_ops c programs w) where
   -- what each node was told is in the order
   module _ (u : AreUnblocked managed_ops c (ordered_of w f.posted).cores) (k : ℕ) where

@@ -15,7 +15,7 @@ use Rattle.ivy_wire.specs.Data.{Message}
 use Rattle.ivy_pagetable.specs.declared.Entry.{Entry}
 use Rattle.ivy_pagetable.specs.Entries.{put_offs}
 use Rattle.ivy_pagetable.specs.Tables.{entry_at}
-use Rattle.ivy_program.specs.declared.Instruction.{Instruction}
+use Rattle.ivy_program.specs.Programs.{Program}
 use Rattle.ivy_moves.specs.ivy_link.Paired.{posted, extended}
 use Rattle.ivy_moves.specs.Ordered.{Ordered, Turns, Delivers, Steps, rests, turns, delivers}
 use Rattle.proof_progress.specs.Ending.{sum_below}
@@ -392,7 +392,7 @@ module _ (c : Config) (o u : Ordered (Host Managed)) (x : ℕ) (n m : Host Manag
       ];
     }
 
-module _ (c : Config) (limits : IsConfig c) (programs : List (List Instruction))
+module _ (c : Config) (limits : IsConfig c) (programs : List Program)
     (many : length programs ≡ c.nodes) (o : Ordered (Host Managed))
     (reached : IsReachedInOrder managed_ops c programs o) where
   told : IsToldBy managed_ops c o

@@ -8,7 +8,7 @@ use Rattle.ivy_model.specs.declared.Config.{Config}
 use Rattle.ivy_model.specs.Config.{IsConfig}
 use Rattle.ivy_wire.specs.Data.{Message, Frame}
 use Rattle.ivy_wire.specs.Spelling.{FitsMessage, Spells, spelling}
-use Rattle.ivy_program.specs.declared.Instruction.{Instruction}
+use Rattle.ivy_program.specs.Programs.{Program}
 use Rattle.ivy_moves.specs.ivy_link.Limits.{most_again}
 use Rattle.ivy_moves.specs.ivy_link.Linked.{Peer, peer_at}
 use Rattle.ivy_moves.specs.ivy_link.Pulsed.{numbered, ack_alone, frames_of_pulse}
@@ -396,7 +396,7 @@ module _ {C : Type 0} (rules : Core C) (c : Config) (Sound : ℕ → C → Type 
     pulse_acks some = pulse_heard (pulsing n j).sent refl some
 
 -- under the manager of the configuration
-module _ (c : Config) (programs : List (List Instruction)) (w : World (Host Managed))
+module _ (c : Config) (programs : List Program) (w : World (Host Managed))
     (of : IsOfMoves c programs w) where
   pub tamed : IsTame (host_rules managed_ops) c (IsSoundHost managed_ops c)
   tamed = tame managed_laws c

@@ -1,5 +1,5 @@
--- That somebody is answered: whatever the others do, in so many rounds of a node whose call is due
--- some node is answered.
+-- That somebody is answered, as by lock-free objects (Herlihy and Shavit 2008), but in rounds:
+-- whatever the others do, in so many rounds of a node whose call is due some node is answered.
 use Rattle.std.specs.Prelude.{◌≡◌, ◌<◌, ◌≤◌, ◌==◌, ℕ, Bool, false, List, length, slice_get, count_by, Option, Some, None}
 use Rattle.ivy_model.specs.declared.Config.{Config}
 use Rattle.ivy_model.specs.declared.Call.{Call}
@@ -7,7 +7,7 @@ use Rattle.ivy_model.specs.declared.Call.TheVariants.{Advance, Await}
 use Rattle.ivy_model.specs.declared.Record.{Record}
 use Rattle.ivy_model.specs.declared.Reply.{Reply}
 use Rattle.ivy_model.specs.declared.Reply.TheVariants.{Done}
-use Rattle.ivy_program.specs.declared.Instruction.{Instruction}
+use Rattle.ivy_program.specs.Programs.{Program}
 use Rattle.ivy_moves.specs.Nodes.{Node}
 use Rattle.ivy_moves.specs.Worlds.{World}
 use Rattle.proof_progress.specs.Ending.{sum_below}
@@ -45,7 +45,7 @@ IsSomeAnswered w end = (j : ℕ) × (n m : Node (Host Managed)) × (slice_get w.
 -- The law: of each world that moves lead to, and each of its nodes whose call is due, there is a
 -- number so that as many rounds of that node, whatever they are, answer some node.
 abbrev pub SomeAnswered : Type 0
-SomeAnswered = (c : Config) (programs : List (List Instruction)) (w : World (Host Managed))
+SomeAnswered = (c : Config) (programs : List Program) (w : World (Host Managed))
     → IsOfMoves c programs w → (i : ℕ) (n : Node (Host Managed)) → slice_get w.nodes i ≡ Some n
     → IsDue w n.core.memory.asked
     → (most : ℕ) × ((end : World (Host Managed)) → AreRounds c i most w end

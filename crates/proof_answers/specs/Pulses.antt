@@ -2,7 +2,7 @@
 -- not keep, and of what it kept the first 32.
 use Rattle.std.specs.Prelude.{◌≡◌, ◌≢◌, ◌≤◌, ◌+◌, ◌-◌, min, ◌⊎◌, ℕ, zero, suc, List, [], ◌∷◌, length, take, slice_get, Some}
 use Rattle.ivy_model.specs.declared.Config.{Config}
-use Rattle.ivy_program.specs.declared.Instruction.{Instruction}
+use Rattle.ivy_program.specs.Programs.{Program}
 use Rattle.ivy_moves.specs.ivy_link.Limits.{most_again}
 use Rattle.ivy_moves.specs.ivy_link.Linked.{Peer, peer_at}
 use Rattle.ivy_moves.specs.declared.Move.{Move}
@@ -41,7 +41,7 @@ module _ (c : Config) where
 
 -- The law: so much is delivered then.
 abbrev pub PulsesDeliver : Type 0
-PulsesDeliver = (c : Config) (programs : List (List Instruction)) (w end : World (Host Managed))
+PulsesDeliver = (c : Config) (programs : List Program) (w end : World (Host Managed))
     → IsOfMoves c programs w → (i j : ℕ) (m : Node (Host Managed)) (moves : List Move)
     → (heard : IsHeard c i j w moves end) → slice_get end.nodes j ≡ Some m
     → last_again (peer_at heard.node.link j) ≤ (peer_at m.link i).delivered
@@ -49,7 +49,7 @@ PulsesDeliver = (c : Config) (programs : List (List Instruction)) (w end : World
 -- The law: node j pulses node i, by which a string is sent, and then node i pulses node j. Then all
 -- is delivered to j that i had sent at its pulse, or 32 more than were delivered at the first one.
 abbrev pub PulsesMoveOn : Type 0
-PulsesMoveOn = (c : Config) (programs : List (List Instruction)) (w mid end : World (Host Managed))
+PulsesMoveOn = (c : Config) (programs : List Program) (w mid end : World (Host Managed))
     → IsOfMoves c programs w → (i j : ℕ) (m : Node (Host Managed)) (back there : List Move)
     → (first : IsHeard c j i w back mid) → (pulsing first.node i).sent ≢ []
     → (second : IsHeard c i j mid there end) → slice_get end.nodes j ≡ Some m

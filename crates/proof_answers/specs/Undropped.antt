@@ -3,7 +3,7 @@
 use Rattle.std.specs.Prelude.{◌≡◌, ◌≢◌, ◌≤◌, ◌+◌, ℕ, List, length, slice_get, Some}
 use Rattle.ivy_model.specs.declared.Config.{Config}
 use Rattle.ivy_model.specs.Config.{IsConfig}
-use Rattle.ivy_program.specs.declared.Instruction.{Instruction}
+use Rattle.ivy_program.specs.Programs.{Program}
 use Rattle.ivy_moves.specs.ivy_link.Linked.{peer_at}
 use Rattle.ivy_moves.specs.declared.Move.{Move}
 use Rattle.ivy_moves.specs.Nodes.{Node}
@@ -21,7 +21,7 @@ IsNothingDropped {C} w = (i j : ℕ) (n m : Node C) → i ≢ j → slice_get w.
     × ((peer_at m.link i).delivered ≤ (peer_at n.link j).sent)
 
 -- the moves lead from the opening of the programs to the world
-pub record IsOfMoves (c : Config) (programs : List (List Instruction)) (w : World (Host Managed)) :
+pub record IsOfMoves (c : Config) (programs : List Program) (w : World (Host Managed)) :
     Type 0 where
   pub limits : IsConfig c
   pub many : length programs ≡ c.nodes
@@ -30,5 +30,5 @@ pub record IsOfMoves (c : Config) (programs : List (List Instruction)) (w : Worl
 
 -- The law: so it is in each world that moves lead to.
 abbrev pub NothingIsDropped : Type 0
-NothingIsDropped = (c : Config) (programs : List (List Instruction)) (w : World (Host Managed))
+NothingIsDropped = (c : Config) (programs : List Program) (w : World (Host Managed))
     → IsOfMoves c programs w → IsNothingDropped w

@@ -12,7 +12,7 @@ use Rattle.ivy_model.specs.Explains.{part, Answered, IsOwed, IsExplained}
 use Rattle.ivy_model.proofs.Parts.{part-append, leads-append}
 use Rattle.ivy_pagetable.specs.Manager.{Ops}
 use Rattle.proof_refinement.specs.ivy_alloc.Heap.{HeapState}
-use Rattle.ivy_program.specs.declared.Instruction.{Instruction}
+use Rattle.ivy_program.specs.Programs.{Program}
 use Rattle.ivy_program.specs.Runs.{IsRunTo}
 use Rattle.ivy_moves.specs.Ordered.{Ordered}
 use Rattle.proof_refinement.specs.ivy_heap.HeapCalls.{after_told}
@@ -43,7 +43,7 @@ pub record IsFaithful {S : Type 0} (ops : Ops S) (c : Config) (o : Ordered (Host
       → n.memory.side.heap ≡ Some h → h.blocks ≡ memory.blocks
 
 -- each node runs the program of its number
-abbrev pub HasPrograms : {S : Type 0} → List (List Instruction) → Ordered (Host S) → Type 0
+abbrev pub HasPrograms : {S : Type 0} → List Program → Ordered (Host S) → Type 0
 HasPrograms {S} programs o =
     (i : ℕ) (n : Host S) → slice_get o.cores i ≡ Some n
     → slice_get programs i ≡ Some n.process.program
@@ -162,7 +162,7 @@ module _ {S : Type 0} (ops : Ops S) (c : Config) where
         ];
   }
 
-  pub programs-on : (programs : List (List Instruction)) (o o' : Ordered (Host S)) (i : ℕ)
+  pub programs-on : (programs : List Program) (o o' : Ordered (Host S)) (i : ℕ)
       (n n' : Host S) → slice_get o.cores i ≡ Some n → n'.process.program ≡ n.process.program
       → o'.cores ≡ set o.cores i n'
       → HasPrograms programs o → HasPrograms programs o'
@@ -179,5 +179,5 @@ pub record GoesOn {S : Type 0} (ops : Ops S) (c : Config) (o o' : Ordered (Host 
     (order : List Record) : Type 0 where
   pub more : List Record
   pub faithful : IsFaithful ops c o' (order ++ more)
-  pub programs : (programs : List (List Instruction)) → HasPrograms programs o
+  pub programs : (programs : List Program) → HasPrograms programs o
       → HasPrograms programs o'

@@ -14,7 +14,7 @@ use Rattle.ivy_pagetable.specs.declared.PutOff.{PutOff}
 use Rattle.ivy_pagetable.specs.Entries.{put_offs, nothing, owned}
 use Rattle.ivy_pagetable.specs.Tables.{first_entry}
 use Rattle.ivy_pagetable.specs.Manager.{Ops, Laws}
-use Rattle.ivy_program.specs.declared.Instruction.{Instruction}
+use Rattle.ivy_program.specs.Programs.{Program, Called}
 use Rattle.proof_refinement.specs.ivy_alloc.Heap.{HeapState, first_heap}
 use Rattle.proof_refinement.specs.ivy_heap.HeapCalls.{first_side}
 use Rattle.ivy_moves.specs.Ordered.{Ordered}
@@ -56,7 +56,7 @@ first_at i pages p = elim (cases_lt p pages) [
 ]
 
 module _ {S : Type 0} (ops : Ops S) (laws : Laws ops) (c : Config) (config : IsConfig c)
-    (programs : List (List Instruction)) (many : length programs ≡ c.nodes) where
+    (programs : List Program) (many : length programs ≡ c.nodes) where
   abbrev begun : Ordered (Host S)
   begun = ordered_of (opening ops c programs) (λ i j. [])
 
@@ -98,9 +98,9 @@ module _ {S : Type 0} (ops : Ops S) (laws : Laws ops) (c : Config) (config : IsC
           → page_of h p ≡ replicate c.page_size 0
       at None gone =
           let there =
-          slice_get-get_or begun.cores i (first_host ops c i [])
+          slice_get-get_or begun.cores i (first_host ops c i (Called []))
           (let count = sound.count in omega (arith, low, count)) in
-          absurd (none-some (get_or begun.cores i (first_host ops c i [])) (sym gone ∙ there))
+          absurd (none-some (get_or begun.cores i (first_host ops c i (Called []))) (sym gone ∙ there))
       at (Some n) there =
           let new = opening_first ops c programs i n there in
           ap (λ (x : Host S). page_of (Some x) p) new.1

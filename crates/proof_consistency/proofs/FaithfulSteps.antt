@@ -13,7 +13,7 @@ use Rattle.ivy_wire.specs.Data.{Content, Parcel}
 use Rattle.ivy_wire.specs.Posts.{parcel_to}
 use Rattle.ivy_moves.specs.ivy_link.Paired.{posted}
 use Rattle.ivy_pagetable.specs.Manager.{Ops, Laws}
-use Rattle.ivy_program.specs.declared.Instruction.{Instruction}
+use Rattle.ivy_program.specs.Programs.{Program}
 use Rattle.ivy_moves.specs.Cores.{Outcome}
 use Rattle.ivy_moves.specs.Ordered.{Ordered, Steps, Delivers}
 use Rattle.proof_refinement.specs.ivy_heap.declared.Errand.TheVariants as errand
@@ -43,7 +43,7 @@ pub record GoesOn {S : Type 0} (ops : Ops S) (c : Config) (o o' : Ordered (Host 
     (order : List Record) : Type 0 where
   pub more : List Record
   pub faithful : IsFaithful ops c o' (order ++ more)
-  pub programs : (programs : List (List Instruction)) → HasPrograms programs o
+  pub programs : (programs : List Program) → HasPrograms programs o
       → HasPrograms programs o'
 
 -- A turn posts no message of the heap that goes from node 0.

@@ -9,7 +9,7 @@ use Rattle.ivy_model.specs.Config.{IsConfig}
 use Rattle.ivy_model.specs.Explains.{IsExplained}
 use Rattle.ivy_wire.specs.Data.{Message}
 use Rattle.ivy_pagetable.specs.Manager.{Ops, Laws}
-use Rattle.ivy_program.specs.declared.Instruction.{Instruction}
+use Rattle.ivy_program.specs.Programs.{Program}
 use Rattle.ivy_moves.specs.declared.moves.Move.{Move}
 use Rattle.ivy_moves.specs.Nodes.{Node}
 use Rattle.ivy_moves.specs.Worlds.{World, Leads}
@@ -44,13 +44,13 @@ module _ {S : Type 0} (ops : Ops S) (laws : Laws ops) (c : Config) (config : IsC
 
   -- after each step an order that goes on from this one is faithful, and the nodes have these
   -- programs
-  abbrev GoesOnFrom : List (List Instruction) → List Record → World (Host S)
+  abbrev GoesOnFrom : List Program → List Record → World (Host S)
       → (ℕ → ℕ → List Message) → Type 0
   GoesOnFrom programs order w posted =
       (more : List Record) × IsFaithful ops c (ordered_of w posted) (order ++ more)
       × HasPrograms programs (ordered_of w posted)
 
-  steps_go_on : (programs : List (List Instruction)) (order : List Record)
+  steps_go_on : (programs : List Program) (order : List Record)
       → IsKeptBySteps (host_rules ops) c (IsSoundHost ops c) config (tame laws c)
       (GoesOnFrom programs order)
   steps_go_on programs order w w' posted h f next =
@@ -64,7 +64,7 @@ module _ {S : Type 0} (ops : Ops S) (laws : Laws ops) (c : Config) (config : IsC
       )
 
   -- the order explains the world, and goes on to explain each world after it
-  pub goes_on : (programs : List (List Instruction)) (w : World (Host S))
+  pub goes_on : (programs : List Program) (w : World (Host S))
       (posted : ℕ → ℕ → List Message) (order : List Record) (moves : List Move)
       → Follows c (IsSoundHost ops c) w posted → IsFaithful ops c (ordered_of w posted) order
       → HasPrograms programs (ordered_of w posted)
@@ -82,7 +82,7 @@ module _ {S : Type 0} (ops : Ops S) (laws : Laws ops) (c : Config) (config : IsC
         (next.2.0, goes_on programs mid next.0 (order ++ next.2.0) moves next.1 next.2.1 next.2.2)),
   )
 
-  runs : (programs : List (List Instruction)) (w : World (Host S)) (posted : ℕ → ℕ → List Message)
+  runs : (programs : List Program) (w : World (Host S)) (posted : ℕ → ℕ → List Message)
       (order : List Record) → IsFaithful ops c (ordered_of w posted) order
       → HasPrograms programs (ordered_of w posted) → AreRuns programs w
   runs programs w posted order f has i n there =
@@ -91,7 +91,7 @@ module _ {S : Type 0} (ops : Ops S) (laws : Laws ops) (c : Config) (config : IsC
       (has i n.core core, faithful_runs ops c (ordered_of w posted) order f i n.core core)
 
   -- in each world that is led to, the histories are runs of the programs
-  pub runs_led : (programs : List (List Instruction)) (w w' : World (Host S))
+  pub runs_led : (programs : List Program) (w w' : World (Host S))
       (posted : ℕ → ℕ → List Message) (order : List Record) (moves : List Move)
       → Follows c (IsSoundHost ops c) w posted
       → IsFaithful ops c (ordered_of w posted) order → HasPrograms programs (ordered_of w posted)
@@ -107,9 +107,9 @@ module _ {S : Type 0} (ops : Ops S) (laws : Laws ops) (c : Config) (config : IsC
 
 module _ {S : Type 0} (ops : Ops S) (c : Config) where
   -- the nodes of the opening world
-  first_place : (me : ℕ) (ps : List (List Instruction)) (i : ℕ) (n : Node (Host S))
+  first_place : (me : ℕ) (ps : List Program) (i : ℕ) (n : Node (Host S))
       → slice_get (first_nodes ops c me ps) i ≡ Some n
-      → (program : List Instruction) × (slice_get ps i ≡ Some program)
+      → (program : Program) × (slice_get ps i ≡ Some program)
       × (n.core ≡ first_host ops c (me + i) program)
   first_place me [] i n h = absurd (none-some n h)
   first_place me (p ∷ ps) zero n h = (
@@ -119,23 +119,23 @@ module _ {S : Type 0} (ops : Ops S) (c : Config) where
         ∙ ap (λ k. first_host ops c k p) (omega arith),
   )
   first_place me (p ∷ ps) (suc i) n h =
-      let rest : (program : List Instruction) × (slice_get ps i ≡ Some program)
+      let rest : (program : Program) × (slice_get ps i ≡ Some program)
       × (n.core ≡ first_host ops c ((me + 1) + i) program) = first_place (me + 1) ps i n h in
       (rest.0, rest.1, rest.2 ∙ ap (λ k. first_host ops c k rest.0) (omega arith))
 
-  pub opening_programs : (programs : List (List Instruction))
+  pub opening_programs : (programs : List Program)
       → HasPrograms programs (ordered_of (opening ops c programs) (λ i j. []))
   opening_programs programs i n h =
       let found : (x : Node (Host S)) × (slice_get (first_nodes ops c 0 programs) i ≡ Some x)
       × (x.core ≡ n) =
       map-places (λ (m : Node (Host S)). m.core) (first_nodes ops c 0 programs) i n h in
-      let first : (program : List Instruction) × (slice_get programs i ≡ Some program)
+      let first : (program : Program) × (slice_get programs i ≡ Some program)
       × (found.0.core ≡ first_host ops c (0 + i) program) =
       first_place 0 programs i found.0 found.1 in
       first.1 ∙ ap (λ (x : Host S). Some x.process.program) (sym (sym found.2 ∙ first.2))
 
 module _ {S : Type 0} (ops : Ops S) (laws : Laws ops) (c : Config) (config : IsConfig c)
-    (programs : List (List Instruction)) (many : length programs ≡ c.nodes)
+    (programs : List Program) (many : length programs ≡ c.nodes)
     (follow : Follows c (IsSoundHost ops c) (opening ops c programs) (λ i j. [])) where
   -- an order explains the opening world, and goes on to explain each world that is led to
   pub opening_explained : (moves : List Move)

@@ -20,7 +20,7 @@ use Rattle.ivy_pagetable.specs.declared.Word.TheVariants as word
 use Rattle.ivy_pagetable.specs.Entries.{is_locked, readable}
 use Rattle.ivy_pagetable.specs.Words.{number_at}
 use Rattle.ivy_pagetable.specs.Tables.{entry_at}
-use Rattle.ivy_program.specs.declared.Instruction.{Instruction}
+use Rattle.ivy_program.specs.Programs.{Program}
 use Rattle.ivy_moves.specs.ivy_link.Paired.{posted, extended}
 use Rattle.ivy_moves.specs.Ordered.{Ordered, Turns, Delivers, Steps, rests, turns, delivers, one_more}
 use Rattle.proof_waiting.specs.proof_routing.ivy_fixed.Fixed.{Owners, fixed_ops}
@@ -176,7 +176,7 @@ core_here o o' x n m i at cores same =
     ∙ elim (get_set o.cores x n m x at) [ inl y ↦ y.1 | inr y ↦ absurd (y.0 refl) ]
 
 module _ (c : Config) (limits : IsConfig c) (fixed : c.manager ≡ kind.Fixed)
-    (programs : List (List Instruction)) (many : length programs ≡ c.nodes)
+    (programs : List Program) (many : length programs ≡ c.nodes)
     (o o' : Ordered (Host Managed)) (run : IsReachedInOrder managed_ops c programs o)
     (step : Steps (host_rules managed_ops) o o') (i p : ℕ) (inside : p < c.pages) (called : Call)
     (history : List Record) (h : Host Managed) (there : slice_get o.cores i ≡ Some h)

@@ -4,7 +4,7 @@ use Rattle.std.proofs.Common.{◌≡◌, ℕ, List, [], length, refl, subst}
 use Rattle.ivy_model.specs.declared.Config.{Config}
 use Rattle.ivy_model.specs.declared.Kind.TheVariants as kind
 use Rattle.ivy_model.specs.Config.{IsConfig}
-use Rattle.ivy_program.specs.declared.Instruction.{Instruction}
+use Rattle.ivy_program.specs.Programs.{Program}
 use Rattle.ivy_moves.specs.Ordered.{Ordered}
 use Rattle.proof_waiting.specs.proof_routing.ivy_fixed.Fixed.{Owners, fixed_ops}
 use Rattle.proof_waiting.specs.proof_routing.proof_transitions.Rows.{Claim, IsKept}
@@ -74,7 +74,7 @@ module _ (c : Config) where
           );
         })
 
-    module _ (fixed : c.manager ≡ kind.Fixed) (programs : List (List Instruction))
+    module _ (fixed : c.manager ≡ kind.Fixed) (programs : List Program)
         (many : length programs ≡ c.nodes) where
       abbrev pub spare : Managed
       spare = managed_ops.first c 0

@@ -1,5 +1,7 @@
 pub mod Bases
 pub mod Unlocking
 pub mod Aims
+pub mod Leading
 pub mod Rounds
-pub mod Accesses
+pub mod Errands
+pub mod Calls

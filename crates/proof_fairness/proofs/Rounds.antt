@@ -1,9 +1,9 @@
 -- A node that reads or writes, through rounds: it waits no longer than so many of them, and then
 -- its next turn records the reply.
-use Rattle.std.proofs.Common.{◌≡◌, ◌⊎◌, ◌<◌, ◌≤◌, ◌+◌, ◌*◌, ◌%◌, ℕ, zero, suc, Bool, true, false, List, [], ◌∷◌, ◌++◌, length, take, cond, slice_get, Option, Some, None, refl, sym, ap, ◌∙◌, subst, inl, inr, arith, append-nil, append_assoc}
+use Rattle.std.proofs.Common.{◌≡◌, ◌⊎◌, ◌<◌, ◌≤◌, ◌+◌, ◌*◌, ◌%◌, ℕ, zero, suc, Bool, true, false, List, [], ◌∷◌, ◌++◌, length, take, cond, slice_get, Option, Some, None, refl, sym, ap, ◌∙◌, subst, inl, inr, arith}
 use Rattle.std.proofs.lemmas.Bool.{cases_Bool, cases_eq, cases_lt, both_ways, le-leb}
-use Rattle.std.proofs.lemmas.List.{length-append, length-map, get_or_past}
-use Rattle.std.proofs.lemmas.Option.{same_Some, none-some, slice_get_cases}
+use Rattle.std.proofs.lemmas.List.{length-append, get_or_past}
+use Rattle.std.proofs.lemmas.Option.{same_Some, none-some}
 use Rattle.std.specs.Ordering.{nat_cmp}
 use Rattle.std.specs.FinSet as set
 use Rattle.std.specs.FinSet.{contains-empty}
@@ -26,18 +26,14 @@ use Rattle.ivy_pagetable.specs.States.{IdleState}
 use Rattle.ivy_pagetable.specs.Words.{number_at}
 use Rattle.ivy_pagetable.proofs.NodeSets.{sets_equal}
 use Rattle.ivy_pagetable.specs.Tables.{entry_at, page_at}
-use Rattle.ivy_program.specs.declared.Instruction.{Instruction}
-use Rattle.ivy_moves.specs.ivy_link.Linked.{Linked, peer_at}
-use Rattle.ivy_moves.specs.ivy_link.Paired.{link_at, posted}
-use Rattle.ivy_moves.specs.declared.Move.{Move}
+use Rattle.ivy_program.specs.Programs.{Program}
 use Rattle.ivy_moves.specs.declared.Move.TheVariants.{Turn}
 use Rattle.ivy_moves.specs.Cores.{Outcome}
-use Rattle.ivy_moves.specs.Following.{links_of, ordered_of, Follows, IsTame, FollowsStep}
+use Rattle.ivy_moves.specs.Following.{ordered_of}
 use Rattle.ivy_moves.specs.Nodes.{Node}
 use Rattle.ivy_moves.specs.Ordered.{Ordered, Delivers, Steps, rests, turns, delivers}
-use Rattle.ivy_moves.specs.Worlds.{World, Leads}
-use Rattle.ivy_moves.proofs.Kept.{moves-keep}
-use Rattle.ivy_moves.proofs.Places.{core-of, link-of}
+use Rattle.ivy_moves.specs.Worlds.{World}
+use Rattle.ivy_moves.proofs.Places.{core-of}
 use Rattle.proof_waiting.specs.proof_routing.ivy_coherence.Coherent.{Coherent}
 use Rattle.proof_waiting.specs.proof_routing.ivy_coherence.Steps.{handled}
 use Rattle.proof_waiting.specs.proof_routing.proof_transitions.Letters.{Net}
@@ -59,20 +55,20 @@ use Rattle.proof_answers.specs.proof_progress.ivy_host.ivy_memory.Memories.{firs
 use Rattle.proof_answers.specs.proof_progress.proof_refinement.Nets.{about_pages, entry_of, page_of, net_of, managers_of}
 use Rattle.proof_answers.specs.proof_progress.proof_refinement.Runs.{IsReachedInOrder, FollowsInOrder}
 use Rattle.proof_answers.proofs.of_proof_progress.of_ivy_host.Pages.{page_serving}
-use Rattle.proof_answers.proofs.of_proof_progress.of_ivy_host.Tame.{tame}
 use Rattle.proof_answers.proofs.of_proof_progress.of_proof_consistency.Faithful.{map-places}
 use Rattle.proof_answers.proofs.of_proof_progress.of_proof_refinement.HostTurns.{HostTurn, answers, tries_again, goes_on, refuses, asks_for, serves_heap, asks_heap, turn-cases}
 use Rattle.proof_answers.proofs.of_proof_progress.of_proof_refinement.LiftedEvents.{Tells, quiet, answers as is_answered}
 use Rattle.proof_answers.proofs.of_proof_progress.of_proof_refinement.LiftedRuns.{Holds}
 use Rattle.proof_answers.proofs.of_proof_progress.of_proof_refinement.LiftedSteps.{kept-delivers}
-use Rattle.proof_answers.proofs.of_proof_progress.of_proof_refinement.LiftedWorlds.{IsSoundWorld, fits_heap}
+use Rattle.proof_answers.proofs.of_proof_progress.of_proof_refinement.LiftedWorlds.{fits_heap}
 use Rattle.proof_answers.proofs.of_proof_progress.Pursued.{IsPlain}
-use Rattle.proof_answers.proofs.of_proof_progress.Reached.{IsToldBy, reached_told}
+use Rattle.proof_answers.proofs.of_proof_progress.Reached.{IsToldBy}
 use Rattle.proof_answers.proofs.of_proof_progress.Shares.{HasShare, has, gave, IsOccupied, IsCovered}
 use Rattle.proof_answers.proofs.of_proof_progress.Stopped.{replied_turn, tries, await_answered}
 use Rattle.proof_answers.proofs.Answering.{Apart, leads_apart, turn_leads}
 use Rattle.proof_answers.proofs.Falling.{AreLater, all_then, no_shorter, by_step}
 use Rattle.proof_fairness.proofs.Bases.{IsBase, OfFixed, fixed-kept, base-kept, spare, reached_base}
+use Rattle.proof_fairness.proofs.Leading.{IsLonger, IsLed, HasGrown as Grown, Records, told_of, led_on, round_on, all_there, reply_records, rounds_record}
 use Rattle.proof_fairness.proofs.Aims.{IsWaiting, IsOpen, Comes, waits_on, opens, grows, Stepped, one_step, heap_still, IsReady, served_asked, served_history, core_elsewhere, core_here}
 
 -- no reply at all: none of a word that was carried out
@@ -126,24 +122,6 @@ module _ (c : Config) (n : Net) (covered : IsCovered n) (p : ℕ) where
     has = λ y x call col. share_either y x (shared (n.entry y p) y x call refl col);
   }
 
--- what a step posts stands behind what was posted
-abbrev IsLonger : Ordered (Host Managed) → Ordered (Host Managed) → Type 0
-IsLonger o o' = (x y : ℕ) → (more : List Message) × (o'.posted x y ≡ o.posted x y ++ more)
-
-step_longer : (o o' : Ordered (Host Managed)) → Steps (host_rules managed_ops) o o' → IsLonger o o'
-step_longer o o' (rests same) x y =
-    ([], ap (λ (z : Ordered (Host Managed)). z.posted x y) same ∙ sym (append-nil (o.posted x y)))
-step_longer o o' (turns i t) x y =
-    (posted x y t.outcome.posted, ap (λ g. g x y) t.posted)
-step_longer o o' (delivers source i t) x y =
-    (posted x y (serving managed_ops t.core source t.message).posted, ap (λ g. g x y) t.posted)
-
-then_longer : (o u v : Ordered (Host Managed)) → IsLonger o u → IsLonger u v → IsLonger o v
-then_longer o u v a b x y = (
-  (a x y).0 ++ (b x y).0,
-  (b x y).1 ∙ ap (λ l. l ++ (b x y).0) (a x y).1 ∙ append_assoc (o.posted x y) (a x y).0 (b x y).0,
-)
-
 -- a word is an await, or is not
 plain_or_await : (w : Word)
     → IsPlain w ⊎ ((offset : ℕ) × (least : ℕ) × (w ≡ word.Await offset least))
@@ -173,16 +151,9 @@ await_waits ops n called asked c config none free page offset least of s idle un
   refl,
 )
 
--- the explaining order of a world that is reached, and what goes with it
-abbrev pub told_of : (c : Config) → IsConfig c → (programs : List (List Instruction))
-    → length programs ≡ c.nodes → (o : Ordered (Host Managed))
-    → IsReachedInOrder managed_ops c programs o → IsToldBy managed_ops c o
-told_of c limits programs many o run =
-    reached_told managed_ops managed_laws c limits programs many o run
-
 -- In the worlds after `start`, where the call is an await, its count has come to the least value.
 module _ (c : Config) (limits : IsConfig c) (fixed : c.manager ≡ kind.Fixed)
-    (programs : List (List Instruction)) (many : length programs ≡ c.nodes) (i : ℕ) (called : Call)
+    (programs : List Program) (many : length programs ≡ c.nodes) (i : ℕ) (called : Call)
     (page : ℕ) (w : Word) (of : asked_of c called ≡ kinds.Word page w)
     (start : Ordered (Host Managed))
     (ready : (o : Ordered (Host Managed)) (run : IsReachedInOrder managed_ops c programs o)
@@ -227,19 +198,22 @@ module _ (c : Config) (limits : IsConfig c) (fixed : c.manager ≡ kind.Fixed)
       first_of (reply_told h.memory.side.errand) (reply_there h.memory.coherence.done) opened.told.0
       opened.told.1
 
-  turn_open : (o : Ordered (Host Managed)) (run : IsRun o) (history : List Record) (h : Host Managed)
-      (there : slice_get o.cores i ≡ Some h) → IsOpen called history h
-      → (out : Outcome (Host Managed)) × (turn_of managed_ops h ≡ Some out)
-      × (length history < length out.after.history)
-  turn_open o run history h there opened =
+  abbrev HasGrown : List Record → Ordered (Host Managed) → Type 0
+  HasGrown history o = Grown c limits programs many i history o
+
+  -- so its turn records the reply
+  past_records : (history : List Record) (o : Ordered (Host Managed)) → IsRun o → IsPast history o
+      → HasGrown history o
+      ⊎ ((h : Host Managed) × (slice_get o.cores i ≡ Some h)
+      × Records c limits programs many i history h)
+  past_records history o run (answered h there more) = inl (h, there, more)
+  past_records history o run (carried h there opened) =
       let r : (r : Reply) × (reply_at h.memory ≡ Some r) = reply_is history h opened in
-      let last : Record = record { node = h.memory.coherence.me; call = called; reply = r.0 } in
-      let out : Outcome (Host Managed) =
-      record { after = recorded h (taken_out h.memory) called r.0; posted = [] } in
-      let a : length (h.history ++ last ∷ []) ≡ length h.history + length (last ∷ []) =
-      length-append h.history (last ∷ []) in
-      let b : length h.history ≡ length history = ap length opened.records in
-      (out, replied_turn managed_ops h called opened.asked r.0 r.1, omega (arith, a, b))
+      inr (
+        h,
+        there,
+        reply_records c limits programs many i history h called opened.asked opened.records r.0 r.1,
+      )
 
   module _ (o o' : Ordered (Host Managed)) (run : IsRun o) (step : Steps (host_rules managed_ops) o o')
       (history : List Record) where
@@ -382,186 +356,27 @@ module _ (c : Config) (limits : IsConfig c) (fixed : c.manager ≡ kind.Fixed)
         by_comes h' now (opens opened) = past (carried h' now opened)
         by_comes h' now (grows more) = past (answered h' now more)
 
-  tamed : IsTame (host_rules managed_ops) c (IsSoundHost managed_ops c)
-  tamed = tame managed_laws c
-
-  -- what steps keep, moves keep
-  module _ (K : Ordered (Host Managed) → Type 0)
-      (on : (o o' : Ordered (Host Managed)) → IsRun o → Steps (host_rules managed_ops) o o' → K o
-      → K o') where
-    record IsFrom (o : Ordered (Host Managed)) (v : World (Host Managed))
-        (sent : ℕ → ℕ → List Message) : Type 0 where
-      run : IsRun (ordered_of v sent)
-      longer : IsLonger o (ordered_of v sent)
-      kept : K (ordered_of v sent)
-
-    record IsLed (u : World (Host Managed)) (f : Follower u) (v : World (Host Managed)) : Type 0 where
-      follows : Follower v
-      longer : IsLonger (order_of u f) (order_of v follows)
-      kept : K (order_of v follows)
-
-    from_on : (o : Ordered (Host Managed)) (u v : World (Host Managed)) (sent : ℕ → ℕ → List Message)
-        → Follows c (IsSoundHost managed_ops c) u sent → IsFrom o u sent
-        → (next : FollowsStep (host_rules managed_ops) c (IsSoundHost managed_ops c) u sent v)
-        → IsFrom o v next.0
-    from_on o u v sent follows from next = record {
-      run = (ordered_of u sent ∷ from.run.0, (from.run.1, next.2));
-      longer =
-          then_longer o (ordered_of u sent) (ordered_of v next.0) from.longer
-          (step_longer (ordered_of u sent) (ordered_of v next.0) next.2);
-      kept = on (ordered_of u sent) (ordered_of v next.0) from.run next.2 from.kept;
-    }
-
-    led_on : (u v : World (Host Managed)) (f : Follower u) (moves : List Move)
-        → Leads (host_rules managed_ops) c u moves v → K (order_of u f) → IsLed u f v
-    led_on u v f moves led k =
-        let l =
-        moves-keep (host_rules managed_ops) c (IsSoundHost managed_ops c) limits tamed
-        (IsFrom (order_of u f)) (from_on (order_of u f)) u v moves (
-          f.posted,
-          f.follows,
-          record {
-            run = f.reached;
-            longer = λ x y. ([], sym (append-nil (f.posted x y)));
-            kept = k;
-          },
-        ) led in
-        record {
-          follows = record { posted = l.0; follows = l.1; reached = l.2.run };
-          longer = l.2.longer;
-          kept = l.2.kept;
-        }
-
-    rounds_on : (k : ℕ) (u v : World (Host Managed)) (f : Follower u) → AreRounds c i k u v
-        → K (order_of u f) → IsLed u f v
-    rounds_on zero u v f are k =
-        subst (IsLed u f) (sym are)
-        (record { follows = f; longer = λ x y. ([], sym (append-nil (f.posted x y))); kept = k })
-    rounds_on (suc more) u v f are k =
-        let first = led_on u are.0 f (are.1.before ++ Turn i ∷ are.1.after) are.1.led k in
-        let rest = rounds_on more are.0 v first.follows are.2 first.kept in
-        record {
-          follows = rest.follows;
-          longer =
-              then_longer (order_of u f) (order_of are.0 first.follows) (order_of v rest.follows)
-              first.longer rest.longer;
-          kept = rest.kept;
-        }
-
   module _ (history : List Record) where
-    -- the history is longer
-    abbrev HasGrown : Ordered (Host Managed) → Type 0
-    HasGrown o = (h : Host Managed) × (slice_get o.cores i ≡ Some h) × (length history < length h.history)
-
-    grown_on : (o o' : Ordered (Host Managed)) → IsRun o → Steps (host_rules managed_ops) o o'
-        → HasGrown o → HasGrown o'
-    grown_on o o' run step g =
-        let m = (later o o' run step history).at i g.0 g.1 in
-        let le = no_shorter g.0 m.0 m.2 in
-        let more = g.2 in
-        (m.0, m.1, omega (arith, more, le))
-
     IsPast_on : (o o' : Ordered (Host Managed)) → IsRun o → Steps (host_rules managed_ops) o o'
         → IsPast history o → IsPast history o'
     IsPast_on o o' run step = past_on o o' run step history
 
-    -- a round once the word was carried out: the node's turn records its reply
-    module _ (u v : World (Host Managed)) (f : Follower u) (round : IsRound c i u v)
-        (k : IsPast history (order_of u f)) where
-      apart : Apart (host_rules managed_ops) c round.before (Turn i ∷ round.after) u v
-      apart = leads_apart (host_rules managed_ops) c round.before (Turn i ∷ round.after) u v round.led
-
-      first : IsLed (IsPast history) IsPast_on u f apart.mid
-      first = led_on (IsPast history) IsPast_on u apart.mid f round.before apart.before k
-
-      by_turn : IsPast history (order_of apart.mid first.follows)
-          → HasGrown (order_of apart.after.0 (led_on (IsPast history) IsPast_on apart.mid apart.after.0
-          first.follows (Turn i ∷ []) (apart.after.0, apart.after.1, refl) first.kept).follows)
-      by_turn (answered h there more) =
-          (led_on HasGrown grown_on apart.mid apart.after.0 first.follows (Turn i ∷ [])
-          (apart.after.0, apart.after.1, refl) (h, there, more)).kept
-      by_turn (carried h there opened) =
-          let node = map-places (λ (m : Node (Host Managed)). m.core) apart.mid.nodes i h there in
-          let out =
-          turn_open (order_of apart.mid first.follows) first.follows.reached history h there opened in
-          let came =
-          turn_leads c limits programs many apart.mid apart.after.0 i node.0 node.1 out.0
-          (ap (turn_of managed_ops) node.2 ∙ out.1) apart.after.1 in (
-            came.0.core,
-            core-of apart.after.0.nodes i came.0 came.1,
-            subst (λ (z : Host Managed). length history < length z.history) (sym came.2) out.2,
-          )
-
-      past_round : IsLed HasGrown grown_on u f v
-      past_round =
-          let turn = led_on (IsPast history) IsPast_on apart.mid apart.after.0 first.follows
-          (Turn i ∷ []) (apart.after.0, apart.after.1, refl) first.kept in
-          let rest = led_on HasGrown grown_on apart.after.0 v turn.follows round.after apart.after.2
-          (by_turn first.kept) in
-          record {
-            follows = rest.follows;
-            longer =
-                then_longer (order_of u f) (order_of apart.after.0 turn.follows)
-                (order_of v rest.follows)
-                (then_longer (order_of u f) (order_of apart.mid first.follows)
-                (order_of apart.after.0 turn.follows) first.longer turn.longer) rest.longer;
-            kept = rest.kept;
-          }
-
+    -- rounds once the word was carried out: the node's turn records its reply
     past_rounds : (k : ℕ) (u v : World (Host Managed)) (f : Follower u) → AreRounds c i (suc k) u v
-        → IsPast history (order_of u f) → IsLed HasGrown grown_on u f v
+        → IsPast history (order_of u f) → (g : Follower v) × HasGrown history (order_of v g)
     past_rounds k u v f are was =
-        let first = past_round u are.0 f are.1 was in
-        let rest = rounds_on HasGrown grown_on k are.0 v first.follows are.2 first.kept in
-        record {
-          follows = rest.follows;
-          longer =
-              then_longer (order_of u f) (order_of are.0 first.follows) (order_of v rest.follows)
-              first.longer rest.longer;
-          kept = rest.kept;
-        }
+        rounds_record c limits programs many i history (IsPast history) IsPast_on
+        (past_records history) k u v f are was
 
     -- a round while the word waits
     module _ (p : ℕ) (inside : p < c.pages) where
       module _ (u v : World (Host Managed)) (f : Follower u) (round : IsRound c i u v) (g : Follower v)
           (longer : IsLonger (order_of u f) (order_of v g)) where
-        world : IsSoundWorld managed_ops c (order_of u f)
-        world = (told (order_of u f) f.reached).faithful.sound
-
-        all_there : (x y : ℕ) (ms : List Message) → f.posted x y ≡ ms
-            → length (f.posted x y) ≤ (order_of v g).delivered x y
-        all_there x y [] none = (let e = ap length none in omega (arith, e))
-        all_there x y (m ∷ ms) some =
-            let sent = world.sent x y 0 m (ap (λ l. slice_get l 0) some) in
-            let at_x = node_at u f x sent.below in
-            let at_y = node_at v g y sent.there in
-            let long : length (links_of u) ≡ length u.nodes =
-            length-map u.nodes (λ (z : Node (Host Managed)). z.link) in
-            let all = round.delivered x y at_x.0 at_y.0 sent.apart at_x.1 at_y.1 in
-            let within_x = sent.below in
-            let within_y = sent.there in
-            let nodes = f.follows.nodes in
-            let count = f.follows.paired.counted x y (omega (arith, within_x, nodes, long))
-            (omega (arith, within_y, nodes, long)) in
-            let here : (peer_at (link_at (links_of u) x) y).sent ≡ (peer_at at_x.0.link y).sent =
-            ap (λ (l : Linked). (peer_at l y).sent) (link-of u.nodes x at_x.0 at_x.1) in
-            let ends : (order_of v g).delivered x y ≡ (peer_at at_y.0.link x).delivered =
-            ap (λ (l : Linked). (peer_at l x).delivered) (link-of v.nodes y at_y.0 at_y.1) in
-            omega (arith, all, count, here, ends)
-          where
-            node_at : (z : World (Host Managed)) (e : Follower z) (j : ℕ) → j < c.nodes
-                → (n : Node (Host Managed)) × (slice_get z.nodes j ≡ Some n)
-            node_at z e j low = elim (slice_get_cases z.nodes j).1 [
-              | inl there ↦ (there.0, there.2)
-              | inr beyond ↦
-                  absurd (let a = beyond.0 in let b = e.follows.nodes in omega (arith, a, b, low))
-            ]
-
         ended : (x y : ℕ) → next_due (net_of (order_of u f)) x y ≤ (net_of (order_of v g)).delivered x y
         ended x y =
             let more = longer x y in
             let le = all_about ((order_of v g).delivered x y) (f.posted x y) more.0
-            (all_there x y (f.posted x y) refl) in
+            (all_there c limits programs many i u v f round g x y) in
             subst (λ l. length (about_pages (f.posted x y))
             ≤ length (about_pages (take ((order_of v g).delivered x y) l))) (sym more.1) le
 
@@ -614,24 +429,22 @@ module _ (c : Config) (limits : IsConfig c) (fixed : c.manager ≡ kind.Fixed)
           × Stage history p (next_due (net_of (order_of v g))) s (order_of v g)))
       round_stage r u v f round stage =
           let first =
-          led_on (λ o. Stage history p (next_due (net_of (order_of u f))) r o)
+          round_on c limits programs many (λ o. Stage history p (next_due (net_of (order_of u f))) r o)
           (λ o o' run step. stage_on o o' run step history p inside (next_due (net_of (order_of u f))) r)
-          u v f (round.before ++ Turn i ∷ round.after) round.led stage in
+          i u v f round stage in
           (first.follows, less u v f round first.follows first.longer r first.kept)
 
       pub waiting_rounds : (r k m : ℕ) (u v : World (Host Managed)) (f : Follower u)
           → m ≡ r + suc k → AreRounds c i (suc m) u v
           → Stage history p (next_due (net_of (order_of u f))) r (order_of u f)
-          → (g : Follower v) × HasGrown (order_of v g)
+          → (g : Follower v) × HasGrown history (order_of v g)
       waiting_rounds zero k m u v f is are stage =
           let one = round_stage 0 u are.0 f are.1 stage in
           elim one.1 [
             | inr more ↦ absurd (let e : 0 ≡ suc more.0 = more.1 in omega (arith, e))
             | inl k_past ↦ (
                 let e : m ≡ suc k = omega (arith, is) in
-                let l = past_rounds k are.0 v one.0
-                (subst (λ z. AreRounds c i z are.0 v) e are.2) k_past in
-                (l.follows, l.kept)
+                past_rounds k are.0 v one.0 (subst (λ z. AreRounds c i z are.0 v) e are.2) k_past
                 )
           ]
       waiting_rounds (suc r) k m u v f is are stage =
@@ -639,9 +452,7 @@ module _ (c : Config) (limits : IsConfig c) (fixed : c.manager ≡ kind.Fixed)
           let e : m ≡ suc (r + suc k) = omega (arith, is) in
           let rest = subst (λ z. AreRounds c i z are.0 v) e are.2 in
           elim one.1 [
-            | inl k_past ↦ (
-                let l = past_rounds (r + suc k) are.0 v one.0 rest k_past in (l.follows, l.kept)
-                )
+            | inl k_past ↦ past_rounds (r + suc k) are.0 v one.0 rest k_past
             | inr more ↦
                 waiting_rounds r k (r + suc k) are.0 v one.0 refl rest
                 (let same : r ≡ more.0 = (let h : suc r ≡ suc more.0 = more.1 in omega (arith, h)) in
@@ -866,12 +677,12 @@ module _ (c : Config) (limits : IsConfig c) (fixed : c.manager ≡ kind.Fixed)
         apart =
             leads_apart (host_rules managed_ops) c round.before (Turn i ∷ round.after) u v round.led
 
-        first : IsLed Begun begun_on u f apart.mid
-        first = led_on Begun begun_on u apart.mid f round.before apart.before k
+        first : IsLed c limits programs many Begun begun_on u f apart.mid
+        first = led_on c limits programs many Begun begun_on u apart.mid f round.before apart.before k
 
         by_begun : Begun (order_of apart.mid first.follows) → (g : Follower v) × Moved (order_of v g)
         by_begun (moved m) =
-            let rest = led_on Moved moved_on apart.mid v first.follows (Turn i ∷ round.after)
+            let rest = led_on c limits programs many Moved moved_on apart.mid v first.follows (Turn i ∷ round.after)
             apart.after m in
             (rest.follows, rest.kept)
         by_begun (trying h there t since) =
@@ -881,9 +692,9 @@ module _ (c : Config) (limits : IsConfig c) (fixed : c.manager ≡ kind.Fixed)
             let came =
             turn_leads c limits programs many apart.mid apart.after.0 i node.0 node.1 out.0
             (ap (turn_of managed_ops) node.2 ∙ out.1) apart.after.1 in
-            let turn = led_on (AreLater start) since_on apart.mid apart.after.0 first.follows
+            let turn = led_on c limits programs many (AreLater start) since_on apart.mid apart.after.0 first.follows
             (Turn i ∷ []) (apart.after.0, apart.after.1, refl) since in
-            let rest = led_on Moved moved_on apart.after.0 v turn.follows round.after apart.after.2
+            let rest = led_on c limits programs many Moved moved_on apart.after.0 v turn.follows round.after apart.after.2
             (moved_by (order_of apart.mid first.follows) first.follows.reached since h there t
             (order_of apart.after.0 turn.follows) out.0 turn.kept
             (core-of apart.after.0.nodes i came.0 came.1 ∙ ap Some came.2) out.2) in
@@ -893,9 +704,7 @@ module _ (c : Config) (limits : IsConfig c) (fixed : c.manager ≡ kind.Fixed)
         → Moved (order_of u f) → (g : Follower v) × HasGrown history (order_of v g)
     from_moved u v f are (is_past k) =
         let e : 6 * c.nodes + 2 ≡ suc (6 * c.nodes + 1) = omega arith in
-        let l = past_rounds history (6 * c.nodes + 1) u v f
-        (subst (λ z. AreRounds c i z u v) e are) k in
-        (l.follows, l.kept)
+        past_rounds history (6 * c.nodes + 1) u v f (subst (λ z. AreRounds c i z u v) e are) k
     from_moved u v f are (waits_now p h there is since) =
         let e : 6 * c.nodes + 2 ≡ suc (6 * c.nodes + suc 0) = omega arith in
         from_waiting 0 u v f p h there is since (subst (λ z. AreRounds c i z u v) e are)
@@ -921,10 +730,9 @@ module _ (c : Config) (limits : IsConfig c) (fixed : c.manager ≡ kind.Fixed)
           → reply_there n.core.memory.coherence.done ≡ a
           → (g : Follower v) × HasGrown n.core.history (order_of v g)
       by_lock None free (Some r) is =
-          let l = past_rounds n.core.history (6 * c.nodes + 2) u v f all
+          past_rounds n.core.history (6 * c.nodes + 2) u v f all
           (carried n.core here
-          (record { asked = asked; records = refl; locked = free; told = (r, is) })) in
-          (l.follows, l.kept)
+          (record { asked = asked; records = refl; locked = free; told = (r, is) }))
       by_lock None free None is =
           let one = begun_round n.core.history u all.0 f all.1
           (trying n.core here

@@ -6,7 +6,7 @@ use Rattle.ivy_model.specs.Config.{IsConfig}
 use Rattle.ivy_wire.specs.Data.{Message}
 use Rattle.proof_progress.specs.ivy_host.Managers.{Managed, managed_ops}
 use Rattle.proof_progress.specs.ivy_host.ManagedLaws.{managed_laws}
-use Rattle.ivy_program.specs.declared.Instruction.{Instruction}
+use Rattle.ivy_program.specs.Programs.{Program}
 use Rattle.ivy_moves.specs.declared.Move.{Move}
 use Rattle.ivy_moves.specs.Nodes.{Node}
 use Rattle.ivy_moves.specs.Worlds.{World, Leads}
@@ -30,7 +30,7 @@ use Rattle.proof_headline.specs.Keeping.{Keeps}
 use Rattle.ivy_moves.proofs.Leading.{leads_on}
 use Rattle.proof_progress.proofs.of_ivy_host.Tame.{tame, opening_is}
 
-module _ (c : Config) (programs : List (List Instruction)) (config : IsConfig c)
+module _ (c : Config) (programs : List Program) (config : IsConfig c)
     (each : length programs ≡ c.nodes) where
   tamed : IsTame (host_rules managed_ops) c (IsSoundHost managed_ops c)
   tamed = tame managed_laws c

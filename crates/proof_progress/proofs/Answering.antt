@@ -5,7 +5,7 @@ use Rattle.std.proofs.lemmas.Option.{slice_get_cases}
 use Rattle.ivy_model.specs.declared.Config.{Config}
 use Rattle.ivy_model.specs.Config.{IsConfig}
 use Rattle.ivy_wire.specs.Data.{Message}
-use Rattle.ivy_program.specs.declared.Instruction.{Instruction}
+use Rattle.ivy_program.specs.Programs.{Program}
 use Rattle.ivy_moves.specs.Ordered.{Ordered, delivers}
 use Rattle.proof_consistency.specs.ivy_host.Hosts.{Host}
 use Rattle.proof_consistency.specs.ivy_host.ManagedLaws.{managed_laws}
@@ -85,7 +85,7 @@ module _ (c : Config) (o : Ordered (Host Managed)) (sound : IsSoundWorld managed
         | inr none ↦ inr (λ i j. beyond i j (λ below. none i below j))
       ]
 
-module _ (c : Config) (programs : List (List Instruction)) (limits : IsConfig c)
+module _ (c : Config) (programs : List Program) (limits : IsConfig c)
     (many : length programs ≡ c.nodes) where
   -- deliveries lead on
   pub reached_last : (after : List (Ordered (Host Managed))) (o : Ordered (Host Managed))

@@ -7,7 +7,7 @@ use Rattle.ivy_model.specs.declared.Kind.TheVariants as kind
 use Rattle.ivy_model.specs.Config.{IsConfig}
 use Rattle.proof_routing.specs.ivy_fixed.Fixed.{hop_of}
 use Rattle.proof_routing.specs.ivy_dynamic.Dynamic.{hint_of}
-use Rattle.ivy_program.specs.declared.Instruction.{Instruction}
+use Rattle.ivy_program.specs.Programs.{Program}
 use Rattle.proof_consistency.specs.ivy_host.Managers.{Managed, managed_ops}
 use Rattle.proof_consistency.specs.ivy_host.ManagedLaws.{managed_laws}
 use Rattle.proof_routing.specs.proof_transitions.Letters.{Net}
@@ -60,13 +60,13 @@ module _ (c : Config) (limits : IsConfig c) where
         λ fixed. absurd (let f : kind.Dynamic ≡ kind.Fixed = fixed in cc),
       )
 
-  pub either_awaited : (programs : List (List Instruction)) → length programs ≡ c.nodes
+  pub either_awaited : (programs : List Program) → length programs ≡ c.nodes
       → AllAwaited managed_ops c programs
   either_awaited =
       runs_awaited managed_laws c limits (RoutedBy c.manager c) (either-kept c limits c.manager)
       (either-first c limits c.manager) (either_descends c.manager)
 
-  pub either_routed : (programs : List (List Instruction)) → length programs ≡ c.nodes
+  pub either_routed : (programs : List Program) → length programs ≡ c.nodes
       → AllRouted managed_ops c programs
   either_routed programs many =
       runs_routed managed_laws c limits (RoutedBy c.manager c) (either-kept c limits c.manager)

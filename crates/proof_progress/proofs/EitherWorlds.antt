@@ -8,7 +8,7 @@ use Rattle.ivy_model.specs.Config.{IsConfig}
 use Rattle.ivy_pagetable.specs.Entries.{owned}
 use Rattle.proof_routing.specs.ivy_fixed.Fixed.{Owners, first_owners, fixed_ops}
 use Rattle.proof_routing.specs.ivy_dynamic.Dynamic.{Hints, first_hints, dynamic_ops}
-use Rattle.ivy_program.specs.declared.Instruction.{Instruction}
+use Rattle.ivy_program.specs.Programs.{Program}
 use Rattle.ivy_moves.specs.declared.moves.Move.{Move}
 use Rattle.ivy_moves.specs.Worlds.{World, Leads}
 use Rattle.proof_consistency.specs.ivy_host.Hosts.{Host, host_rules}
@@ -80,7 +80,7 @@ module _ (c : Config) (limits : IsConfig c) where
   either-first kind.Dynamic m n first owner managers =
       (first_hints c, managers, first_hinted c (first_hints c) n first owner (λ i below. refl))
 
-  pub either_no_breach : (spare : Managed) (programs : List (List Instruction))
+  pub either_no_breach : (spare : Managed) (programs : List Program)
       → length programs ≡ c.nodes
       → (moves : List Move) (w : World (Host Managed))
       → Leads (host_rules managed_ops) c (opening managed_ops c programs) moves w → HasNoBreach w

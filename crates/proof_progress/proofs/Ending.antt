@@ -9,7 +9,7 @@ use Rattle.ivy_model.specs.Config.{IsConfig}
 use Rattle.ivy_wire.specs.Data.{Content, Message}
 use Rattle.ivy_pagetable.specs.declared.PutOff.{PutOff}
 use Rattle.ivy_pagetable.specs.Entries.{put_offs}
-use Rattle.ivy_program.specs.declared.Instruction.{Instruction}
+use Rattle.ivy_program.specs.Programs.{Program}
 use Rattle.ivy_moves.specs.Ordered.{Ordered, Steps, delivers}
 use Rattle.proof_consistency.specs.ivy_host.Hosts.{Host, host_rules}
 use Rattle.proof_consistency.specs.ivy_host.Managers.{Managed, managed_ops}
@@ -103,7 +103,7 @@ rounds_most k (suc a) some =
     let d : rounds k a ≤ k * a * a = rounds_most k a some in
     omega (arith, d, some)
 
-module _ (c : Config) (limits : IsConfig c) (programs : List (List Instruction))
+module _ (c : Config) (limits : IsConfig c) (programs : List Program)
     (many : length programs ≡ c.nodes) where
   ending : (after : List (Ordered (Host Managed))) (o : Ordered (Host Managed))
       → IsReachedInOrder managed_ops c programs o → AreDeliveries managed_ops o after

@@ -18,7 +18,7 @@ use Rattle.ivy_pagetable.specs.Tables.{entry_at}
 use Rattle.ivy_wire.specs.Posts.{parcel_to}
 use Rattle.proof_routing.specs.ivy_coherence.Coherent.{Coherent}
 use Rattle.proof_routing.specs.ivy_coherence.Steps.{CoherenceEffect}
-use Rattle.ivy_program.specs.declared.Instruction.{Instruction}
+use Rattle.ivy_program.specs.Programs.{Program}
 use Rattle.ivy_moves.specs.Cores.{Outcome}
 use Rattle.ivy_moves.specs.Ordered.{Ordered, Delivers}
 use Rattle.proof_consistency.specs.ivy_heap.declared.HeapCall.{HeapCall}
@@ -150,7 +150,7 @@ module _ (c : Config) (o u : Ordered (Host Managed)) (entry : entries c u ≡ en
 abbrev pub Lowers : ℕ → Config → Ordered (Host Managed) → Ordered (Host Managed) → Type 0
 Lowers lost c o o' = (work c o' lost < work c o lost) ⊎ ((work c o' lost ≤ work c o lost) × (way c o' < way c o))
 
-module _ (lost : ℕ) (c : Config) (limits : IsConfig c) (programs : List (List Instruction))
+module _ (lost : ℕ) (c : Config) (limits : IsConfig c) (programs : List Program)
     (many : length programs ≡ c.nodes) (o o' : Ordered (Host Managed))
     (reached : IsReachedInOrder managed_ops c programs o) (source x : ℕ)
     (t : Delivers (host_rules managed_ops) o source x o') where

@@ -8,7 +8,7 @@ use Rattle.ivy_model.specs.Config.{IsConfig}
 use Rattle.ivy_pagetable.specs.Entries.{nothing, owned}
 use Rattle.ivy_pagetable.specs.Tables.{entry_at, first_entry}
 use Rattle.ivy_pagetable.specs.Manager.{Ops, Laws}
-use Rattle.ivy_program.specs.declared.Instruction.{Instruction}
+use Rattle.ivy_program.specs.Programs.{Program}
 use Rattle.ivy_moves.specs.declared.moves.Move.{Move}
 use Rattle.ivy_moves.specs.Ordered.{Ordered}
 use Rattle.ivy_moves.specs.Worlds.{World, Leads}
@@ -33,7 +33,7 @@ BeginsSo ops c Routed =
 
 module _ {S : Type 0} {ops : Ops S} (laws : Laws ops) (c : Config) (limits : IsConfig c)
     (Routed : (ℕ → S) → Net → Type 0) (kept : IsKept ops c (IsQuiet Routed c))
-    (begins : BeginsSo ops c Routed) (spare : S) (programs : List (List Instruction))
+    (begins : BeginsSo ops c Routed) (spare : S) (programs : List Program)
     (many : length programs ≡ c.nodes) where
   abbrev first : Ordered (Host S)
   first = ordered_of (opening ops c programs) (λ i j. [])
@@ -41,7 +41,7 @@ module _ {S : Type 0} {ops : Ops S} (laws : Laws ops) (c : Config) (limits : IsC
   -- a node of the world as it begins
   first_there : (i : ℕ) → i < c.nodes
       → (h : Host S) × (slice_get first.cores i ≡ Some h)
-      × ((program : List Instruction) × (h ≡ first_host ops c i program))
+      × ((program : Program) × (h ≡ first_host ops c i program))
   first_there i below = elim (slice_get_cases first.cores i).1 [
     | inl there ↦ (there.0, there.2, opening_first ops c programs i there.0 there.2)
     | inr past ↦ absurd (

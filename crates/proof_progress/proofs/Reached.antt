@@ -6,7 +6,7 @@ use Rattle.ivy_model.specs.declared.Config.{Config}
 use Rattle.ivy_model.specs.declared.Record.{Record}
 use Rattle.ivy_model.specs.Config.{IsConfig}
 use Rattle.ivy_pagetable.specs.Manager.{Ops, Laws}
-use Rattle.ivy_program.specs.declared.Instruction.{Instruction}
+use Rattle.ivy_program.specs.Programs.{Program}
 use Rattle.ivy_moves.specs.Ordered.{Ordered, Steps, rests, turns, delivers}
 use Rattle.proof_consistency.specs.ivy_host.Hosts.{Host, host_rules}
 use Rattle.proof_consistency.specs.proof_refinement.Runs.{IsOrderedRun, IsReachedInOrder}
@@ -28,7 +28,7 @@ pub record IsToldBy {S : Type 0} (ops : Ops S) (c : Config) (o : Ordered (Host S
   pub pursued : AllPursued c o
 
 module _ {S : Type 0} (ops : Ops S) (laws : Laws ops) (c : Config) (config : IsConfig c)
-    (programs : List (List Instruction)) (many : length programs ≡ c.nodes) where
+    (programs : List Program) (many : length programs ≡ c.nodes) where
   servable_next : (o o' : Ordered (Host S)) (order : List Record) → IsFaithful ops c o order
       → AllServable c o → Steps (host_rules ops) o o' → AllServable c o'
   servable_next o o' order f served (rests same) j n there =

@@ -4,7 +4,7 @@ use Rattle.std.proofs.Common.{◌≡◌, ◌<◌, ℕ, List, [], length}
 use Rattle.ivy_model.specs.declared.Config.{Config}
 use Rattle.ivy_model.specs.Config.{IsConfig}
 use Rattle.ivy_pagetable.specs.Manager.{Ops, Laws}
-use Rattle.ivy_program.specs.declared.Instruction.{Instruction}
+use Rattle.ivy_program.specs.Programs.{Program}
 use Rattle.ivy_moves.specs.Ordered.{Ordered}
 use Rattle.proof_consistency.specs.ivy_host.Hosts.{Host}
 use Rattle.proof_routing.specs.proof_transitions.Letters.{Net}
@@ -30,7 +30,7 @@ module _ {S : Type 0} {ops : Ops S} (laws : Laws ops) (c : Config) (limits : IsC
     (Routed : (ℕ → S) → Net → Type 0) (kept : IsKept ops c (IsQuiet Routed c))
     (begins : BeginsSo ops c Routed)
     (descends : (m : ℕ → S) (n : Net) → IsOrderly c n → Routed m n → Descends n)
-    (programs : List (List Instruction)) (many : length programs ≡ c.nodes) where
+    (programs : List Program) (many : length programs ≡ c.nodes) where
   abbrev spare : S
   spare = ops.first c 0
 

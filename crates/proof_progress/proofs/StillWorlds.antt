@@ -12,7 +12,7 @@ use Rattle.ivy_moves.specs.ivy_link.Paired.{link_at}
 use Rattle.ivy_wire.specs.Data.{Message}
 use Rattle.ivy_pagetable.specs.Entries.{is_locked}
 use Rattle.ivy_pagetable.specs.Manager.{Ops, Laws}
-use Rattle.ivy_program.specs.declared.Instruction.{Instruction}
+use Rattle.ivy_program.specs.Programs.{Program}
 use Rattle.ivy_moves.specs.declared.moves.Move.{Move}
 use Rattle.ivy_moves.specs.Following.{links_of, ordered_of}
 use Rattle.ivy_moves.specs.Nodes.{Node}
@@ -55,7 +55,7 @@ module _ {S : Type 0} {ops : Ops S} (laws : Laws ops) (c : Config) (limits : IsC
     (Routed : (ℕ → S) → Net → Type 0) (kept : IsKept ops c (IsQuiet Routed c))
     (begins : BeginsSo ops c Routed)
     (descends : (m : ℕ → S) (n : Net) → IsOrderly c n → Routed m n → Descends n)
-    (programs : List (List Instruction)) (many : length programs ≡ c.nodes) where
+    (programs : List Program) (many : length programs ≡ c.nodes) where
   abbrev spare : S
   spare = ops.first c 0
 
@@ -100,7 +100,7 @@ module _ {S : Type 0} {ops : Ops S} (laws : Laws ops) (c : Config) (limits : IsC
       (unlocked_reached o reached all)
 
 -- a world in which nothing is under way follows an ordered one in which nothing is
-module _ {S : Type 0} (ops : Ops S) (c : Config) (programs : List (List Instruction))
+module _ {S : Type 0} (ops : Ops S) (c : Config) (programs : List Program)
     (w : World (Host S)) (follow : FollowsInOrder ops c programs w)
     (sound : IsSoundWorld ops c (ordered_of w follow.posted)) (none : HasNothingUnderWay w) where
   abbrev o : Ordered (Host S)
@@ -143,7 +143,7 @@ module _ {S : Type 0} (ops : Ops S) (c : Config) (programs : List (List Instruct
   none_under_way i j = all_delivered i j (follow.posted i j) refl
 
 -- under the manager of the configuration
-module _ (c : Config) (programs : List (List Instruction)) (limits : IsConfig c)
+module _ (c : Config) (programs : List Program) (limits : IsConfig c)
     (many : length programs ≡ c.nodes) where
   pub either_unblocked : (o : Ordered (Host Managed)) → IsReachedInOrder managed_ops c programs o
       → AreAllDelivered o → AreUnblocked managed_ops c o.cores

@@ -3,7 +3,7 @@ use Rattle.std.specs.Prelude.{◌≡◌, ◌≤◌, ◌⊎◌, ℕ, List, [], �
 use Rattle.ivy_model.specs.declared.Config.{Config}
 use Rattle.ivy_model.specs.Config.{IsConfig}
 use Rattle.ivy_pagetable.specs.Manager.{Ops}
-use Rattle.ivy_program.specs.declared.Instruction.{Instruction}
+use Rattle.ivy_program.specs.Programs.{Program}
 use Rattle.ivy_moves.specs.Ordered.{Ordered, Delivers}
 use Rattle.proof_consistency.specs.ivy_host.Hosts.{Host, host_rules}
 use Rattle.proof_consistency.specs.proof_refinement.Runs.{IsReachedInOrder}
@@ -28,7 +28,7 @@ module _ {S : Type 0} (ops : Ops S) where
   -- The law: from each ordered world that programs reach, whatever was delivered, a message can be
   -- delivered next, or nothing is under way, and no node is blocked.
   abbrev pub DeliveriesAnswer : Type 0
-  DeliveriesAnswer = (c : Config) (programs : List (List Instruction)) → IsConfig c
+  DeliveriesAnswer = (c : Config) (programs : List Program) → IsConfig c
       → length programs ≡ c.nodes → (o : Ordered (Host S)) → IsReachedInOrder ops c programs o
       → (after : List (Ordered (Host S))) → AreDeliveries ops o after
       → CanDeliver (last_of o after)

@@ -8,7 +8,7 @@ use Rattle.ivy_wire.specs.declared.Content.TheVariants as content
 use Rattle.ivy_wire.specs.Data.{Content}
 use Rattle.ivy_pagetable.specs.Entries.{put_offs}
 use Rattle.ivy_pagetable.specs.Manager.{Ops}
-use Rattle.ivy_program.specs.declared.Instruction.{Instruction}
+use Rattle.ivy_program.specs.Programs.{Program}
 use Rattle.ivy_moves.specs.Ordered.{Ordered, Delivers}
 use Rattle.proof_consistency.specs.ivy_host.Hosts.{Host, host_rules}
 use Rattle.proof_routing.specs.proof_transitions.Letters.{content_of}
@@ -66,7 +66,7 @@ module _ {S : Type 0} (ops : Ops S) where
   -- The law: from each ordered world that programs reach there are no more deliveries than that,
   -- in whatever order they come.
   abbrev pub DeliveriesEnd : Type 0
-  DeliveriesEnd = (c : Config) (programs : List (List Instruction)) → IsConfig c
+  DeliveriesEnd = (c : Config) (programs : List Program) → IsConfig c
       → length programs ≡ c.nodes → (o : Ordered (Host S)) → IsReachedInOrder ops c programs o
       → (after : List (Ordered (Host S))) → AreDeliveries o after
       → length after ≤ most_deliveries c.nodes (work_left c o)

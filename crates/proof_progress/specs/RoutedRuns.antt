@@ -4,7 +4,7 @@ use Rattle.std.specs.Prelude.{◌≡◌, ◌<◌, ℕ, List}
 use Rattle.ivy_model.specs.declared.Config.{Config}
 use Rattle.ivy_model.specs.declared.Kind.TheVariants as kind
 use Rattle.ivy_pagetable.specs.Manager.{Ops}
-use Rattle.ivy_program.specs.declared.Instruction.{Instruction}
+use Rattle.ivy_program.specs.Programs.{Program}
 use Rattle.ivy_moves.specs.Ordered.{Ordered}
 use Rattle.proof_consistency.specs.ivy_host.Hosts.{Host}
 use Rattle.proof_routing.specs.proof_transitions.Orderly.{IsOrderly}
@@ -14,7 +14,7 @@ use Rattle.proof_consistency.specs.proof_refinement.Runs.{IsReachedInOrder}
 use Rattle.proof_routing.specs.Waiting.{IsAwaited}
 use Rattle.proof_routing.specs.Routing.{AreRoutes, AreManaged}
 
-module _ {S : Type 0} (ops : Ops S) (c : Config) (programs : List (List Instruction)) where
+module _ {S : Type 0} (ops : Ops S) (c : Config) (programs : List Program) where
   -- each node's next hop for a page
   abbrev pub hops_of : Ordered (Host S) → ℕ → ℕ → ℕ
   hops_of o page node = ops.next_hop (managers_of (ops.first c 0) o node) page

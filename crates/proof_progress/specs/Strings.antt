@@ -7,7 +7,7 @@ use Rattle.ivy_model.specs.Config.{IsConfig}
 use Rattle.ivy_moves.specs.ivy_link.declared.Verdict.{Verdict}
 use Rattle.ivy_moves.specs.ivy_link.declared.Verdict.TheVariants.{Next, Repeat, Ahead, NotMine}
 use Rattle.ivy_pagetable.specs.Manager.{Ops}
-use Rattle.ivy_program.specs.declared.Instruction.{Instruction}
+use Rattle.ivy_program.specs.Programs.{Program}
 use Rattle.ivy_moves.specs.declared.Move.{Move}
 use Rattle.ivy_moves.specs.declared.Move.TheVariants.{Turn, Deliver, Pulse}
 use Rattle.ivy_moves.specs.Cores.{Core}
@@ -52,7 +52,7 @@ IsNoTurn (Pulse from to) = Unit {0}
 -- The law: in each world that follows an ordered one that programs reach, by moves that are no turns
 -- no more strings are delivered that are next than messages can be delivered there.
 abbrev pub StringsEnd : {S : Type 0} → Ops S → Type 0
-StringsEnd {S} ops = (c : Config) (programs : List (List Instruction)) → IsConfig c
+StringsEnd {S} ops = (c : Config) (programs : List Program) → IsConfig c
     → length programs ≡ c.nodes → (w : World (Host S)) → (follow : FollowsInOrder ops c programs w)
     → (moves : List Move) → All IsNoTurn moves → (end : World (Host S))
     → (led : Leads (host_rules ops) c w moves end)

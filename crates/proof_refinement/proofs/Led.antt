@@ -7,7 +7,7 @@ use Rattle.ivy_model.specs.declared.Config.{Config}
 use Rattle.ivy_model.specs.Config.{IsConfig}
 use Rattle.ivy_wire.specs.Data.{Message}
 use Rattle.ivy_pagetable.specs.Manager.{Ops}
-use Rattle.ivy_program.specs.declared.Instruction.{Instruction}
+use Rattle.ivy_program.specs.Programs.{Program}
 use Rattle.ivy_moves.specs.declared.moves.Move.{Move}
 use Rattle.ivy_moves.specs.Nodes.{Node}
 use Rattle.ivy_moves.specs.Ordered.{Ordered, Steps}
@@ -41,7 +41,7 @@ AllSound ops c o = (i : ℕ) (n : Host _) → slice_get o.cores i ≡ Some n →
 abbrev pub AreFirst : {S : Type 0} → Ops S → Config → Ordered (Host S) → Type 0
 AreFirst ops c o =
     (i : ℕ) (k : Host _) → slice_get o.cores i ≡ Some k
-    → (program : List Instruction) × (k ≡ first_host ops c i program)
+    → (program : Program) × (k ≡ first_host ops c i program)
 
 abbrev core_of : {S : Type 0} → Node (Host S) → Host S
 core_of n = n.core
@@ -91,9 +91,9 @@ module _ {S : Type 0} (ops : Ops S) (c : Config) (limits : IsConfig c)
       record { posted = f.0; follows = f.1; holds = f.2 }
 
 module _ {S : Type 0} (ops : Ops S) (c : Config) where
-  first_cores : (me : ℕ) (ps : List (List Instruction)) (i : ℕ) (k : Host S)
+  first_cores : (me : ℕ) (ps : List Program) (i : ℕ) (k : Host S)
       → slice_get (map core_of (first_nodes ops c me ps)) i ≡ Some k
-      → (program : List Instruction) × (k ≡ first_host ops c (i + me) program)
+      → (program : Program) × (k ≡ first_host ops c (i + me) program)
   first_cores me [] i k is = absurd (none-some k is)
   first_cores me (p ∷ ps) zero k is = (
     p,
@@ -101,20 +101,20 @@ module _ {S : Type 0} (ops : Ops S) (c : Config) where
         ∙ ap (λ n. first_host ops c n p) (let f : me ≡ 0 + me = omega arith in f),
   )
   first_cores me (p ∷ ps) (suc i) k is =
-      let f : (program : List Instruction) × (k ≡ first_host ops c (i + (me + 1)) program) =
+      let f : (program : Program) × (k ≡ first_host ops c (i + (me + 1)) program) =
       first_cores (me + 1) ps i k is in (
         f.0,
         f.1
             ∙ ap (λ n. first_host ops c n f.0) (let g : i + (me + 1) ≡ suc i + me = omega arith in g),
       )
 
-  pub first_count : (me : ℕ) (ps : List (List Instruction))
+  pub first_count : (me : ℕ) (ps : List Program)
       → length (map core_of (first_nodes ops c me ps)) ≡ length ps
   first_count me [] = refl
   first_count me (p ∷ ps) = ap suc (first_count (me + 1) ps)
 
   -- the world as it begins
-  pub opening_first : (programs : List (List Instruction))
+  pub opening_first : (programs : List Program)
       → AreFirst ops c (ordered_of (opening ops c programs) (λ i j. []))
   opening_first programs i k is =
       let f = first_cores 0 programs i k is in

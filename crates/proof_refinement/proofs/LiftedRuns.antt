@@ -6,7 +6,7 @@ use Rattle.ivy_model.specs.declared.Config.{Config}
 use Rattle.ivy_model.specs.Config.{IsConfig}
 use Rattle.ivy_pagetable.specs.Manager.{Ops, Laws}
 use Rattle.ivy_host.proofs.of_ivy_memory.Tame.{first_sound-memory}
-use Rattle.ivy_program.specs.declared.Instruction.{Instruction}
+use Rattle.ivy_program.specs.Programs.{Program}
 use Rattle.ivy_moves.specs.declared.moves.Move.{Move}
 use Rattle.ivy_moves.specs.Nodes.{Node}
 use Rattle.ivy_moves.specs.Ordered.{Ordered}
@@ -45,7 +45,7 @@ kept-led {ops = ops} {P = P} laws c limits kept spare w w' moves =
 
 -- the world as it begins is sound
 pub sound_opening : {S : Type 0} {ops : Ops S} → Laws ops → (c : Config) → IsConfig c
-    → (programs : List (List Instruction)) → length programs ≡ c.nodes
+    → (programs : List Program) → length programs ≡ c.nodes
     → IsSoundWorld ops c (ordered_of (opening ops c programs) (λ i j. []))
 sound_opening {S = S} {ops = ops} laws c limits programs many =
     let o : Ordered (Host S) = ordered_of (opening ops c programs) (λ i j. []) in

@@ -6,7 +6,7 @@ use Rattle.ivy_model.specs.declared.Config.{Config}
 use Rattle.ivy_moves.specs.ivy_link.Linked.{Peer, fresh, first_link, peer_at}
 use Rattle.ivy_moves.specs.ivy_link.Paired.{link_at}
 use Rattle.ivy_pagetable.specs.Manager.{Ops}
-use Rattle.ivy_program.specs.declared.Instruction.{Instruction}
+use Rattle.ivy_program.specs.Programs.{Program}
 use Rattle.ivy_moves.specs.Nodes.{Node}
 use Rattle.ivy_moves.specs.Following.{ordered_of, links_of}
 use Rattle.ivy_host.specs.Hosts.{Host}
@@ -19,7 +19,7 @@ fresh_peer (suc n) zero = refl
 fresh_peer (suc n) (suc j) = fresh_peer n j
 
 module _ {S : Type 0} (ops : Ops S) (c : Config) where
-  first_link_there : (me : ℕ) (ps : List (List Instruction)) (i : ℕ) (n : Node (Host S))
+  first_link_there : (me : ℕ) (ps : List Program) (i : ℕ) (n : Node (Host S))
       → slice_get (first_nodes ops c me ps) i ≡ Some n → n.link ≡ first_link (me + i) c.nodes
   first_link_there me [] i n is = absurd (none-some n is)
   first_link_there me (p ∷ ps) zero n is =
@@ -36,7 +36,7 @@ module _ {S : Type 0} (ops : Ops S) (c : Config) where
       (slice_get-map (λ (m : Node (Host S)). m.link) ns j
       ∙ ap (option_map (λ (m : Node (Host S)). m.link)) is)
 
-  pub opening_delivered : (programs : List (List Instruction)) (i j : ℕ)
+  pub opening_delivered : (programs : List Program) (i j : ℕ)
       → (ordered_of (opening ops c programs) (λ i j. [])).delivered i j ≡ 0
   opening_delivered programs i j = elim (slice_get_cases (opening ops c programs).nodes j).1 [
     | inl there ↦

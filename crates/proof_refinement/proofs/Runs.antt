@@ -9,7 +9,7 @@ use Rattle.ivy_host.specs.ivy_heap.HeapCalls.{is_of_pages}
 use Rattle.ivy_pagetable.specs.declared.PutOff.{PutOff}
 use Rattle.ivy_pagetable.specs.Entries.{put_offs}
 use Rattle.ivy_pagetable.specs.Manager.{Ops, Laws}
-use Rattle.ivy_program.specs.declared.Instruction.{Instruction}
+use Rattle.ivy_program.specs.Programs.{Program}
 use Rattle.ivy_moves.specs.declared.moves.Move.{Move}
 use Rattle.ivy_moves.specs.Ordered.{Ordered}
 use Rattle.ivy_moves.specs.Worlds.{World, Leads}
@@ -30,7 +30,7 @@ use Rattle.proof_refinement.proofs.LiftedRuns.{Holds, sound_opening}
 
 module _ {S : Type 0} {ops : Ops S} {P : (ℕ → S) → Net → (ℕ → List ℕ) → Type 0} (laws : Laws ops)
     (c : Config) (limits : IsConfig c) (kept : IsKept ops c P) (spare : S)
-    (programs : List (List Instruction)) (many : length programs ≡ c.nodes) (f : ℕ → List ℕ)
+    (programs : List Program) (many : length programs ≡ c.nodes) (f : ℕ → List ℕ)
     (first : P (managers_of spare (first_ordered ops c programs))
     (net_of (first_ordered ops c programs)) f) where
   run_holds : (before : List (Ordered (Host S))) (o : Ordered (Host S))
@@ -49,7 +49,7 @@ module _ {S : Type 0} {ops : Ops S} {P : (ℕ → S) → Net → (ℕ → List �
   reached_holds o reached = run_holds reached.0 o reached.1
 
 module _ {S : Type 0} {ops : Ops S} (laws : Laws ops) (c : Config) (limits : IsConfig c)
-    (programs : List (List Instruction)) (many : length programs ≡ c.nodes) where
+    (programs : List Program) (many : length programs ≡ c.nodes) where
   pub led_in_order : (moves : List Move) (w : World (Host S))
       → Leads (host_rules ops) c (opening ops c programs) moves w → FollowsInOrder ops c programs w
   led_in_order moves w led =

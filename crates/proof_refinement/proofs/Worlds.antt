@@ -10,7 +10,7 @@ use Rattle.ivy_pagetable.specs.declared.Entry.{Entry}
 use Rattle.ivy_pagetable.specs.Entries.{nothing, owned, readable, writable}
 use Rattle.ivy_pagetable.specs.Tables.{entry_at, first_entry}
 use Rattle.ivy_pagetable.specs.Manager.{Ops, Laws}
-use Rattle.ivy_program.specs.declared.Instruction.{Instruction}
+use Rattle.ivy_program.specs.Programs.{Program}
 use Rattle.ivy_moves.specs.declared.moves.Move.{Move}
 use Rattle.ivy_moves.specs.Ordered.{Ordered}
 use Rattle.ivy_moves.specs.Worlds.{World, Leads}
@@ -52,7 +52,7 @@ first_at i p n = elim (entry_first n p (first_entry i)) [
 
 module _ {S : Type 0} (ops : Ops S) (c : Config) where
   -- the net of the world as it begins
-  pub first_net : (programs : List (List Instruction))
+  pub first_net : (programs : List Program)
       → IsFirst (net_of (ordered_of (opening ops c programs) (λ i j. [])))
   first_net programs =
       record {
@@ -71,7 +71,7 @@ module _ {S : Type 0} (ops : Ops S) (c : Config) where
       entries i p = elim (slice_get_cases o.cores i).1 [
         | inr past ↦ inr (ap (λ z. entry_of z p) past.1)
         | inl there ↦ (
-            let first : (program : List Instruction) × (there.0 ≡ first_host ops c i program) =
+            let first : (program : Program) × (there.0 ≡ first_host ops c i program) =
             opening_first ops c programs i there.0 there.2 in
             let here : (net_of o).entry i p ≡ get_or (replicate c.pages (first_entry i)) p nothing
             = ap (λ z. entry_of z p) there.2
@@ -83,7 +83,7 @@ module _ {S : Type 0} (ops : Ops S) (c : Config) where
 -- what the rows keep, and holds of the world as it begins, holds of each world that moves lead to
 module _ {S : Type 0} {ops : Ops S} {P : (ℕ → S) → Net → (ℕ → List ℕ) → Type 0} (laws : Laws ops)
     (c : Config) (limits : IsConfig c) (kept : IsKept ops c P) (spare : S) where
-  pub opening-led : (programs : List (List Instruction)) → length programs ≡ c.nodes
+  pub opening-led : (programs : List Program) → length programs ≡ c.nodes
       → (f : ℕ → List ℕ)
       → P (managers_of spare (ordered_of (opening ops c programs) (λ i j. [])))
       (net_of (ordered_of (opening ops c programs) (λ i j. []))) f
@@ -108,7 +108,7 @@ module _ {S : Type 0} {ops : Ops S} (laws : Laws ops) (c : Config) (limits : IsC
       (ap (λ z. writable (entry_of z p)) (core_there w.nodes i n at_n) ∙ writes)
       (ap (λ z. readable (entry_of z p)) (core_there w.nodes j m at_m) ∙ may_read)
 
-  pub exclusive_led : (spare : S) (programs : List (List Instruction)) → length programs ≡ c.nodes
+  pub exclusive_led : (spare : S) (programs : List Program) → length programs ≡ c.nodes
       → (moves : List Move) (w : World (Host S))
       → Leads (host_rules ops) c (opening ops c programs) moves w → IsExclusive w
   exclusive_led spare programs many moves w led =

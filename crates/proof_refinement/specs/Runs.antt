@@ -3,7 +3,7 @@ use Rattle.std.specs.Prelude.{◌≡◌, ℕ, List, [], ◌∷◌}
 use Rattle.ivy_model.specs.declared.Config.{Config}
 use Rattle.ivy_wire.specs.Data.{Message}
 use Rattle.ivy_pagetable.specs.Manager.{Ops}
-use Rattle.ivy_program.specs.declared.Instruction.{Instruction}
+use Rattle.ivy_program.specs.Programs.{Program}
 use Rattle.ivy_moves.specs.Ordered.{Ordered, Steps}
 use Rattle.ivy_moves.specs.Worlds.{World}
 use Rattle.ivy_moves.specs.Following.{Follows, ordered_of}
@@ -11,7 +11,7 @@ use Rattle.ivy_host.specs.Hosts.{Host, host_rules}
 use Rattle.ivy_host.specs.Openings.{opening}
 use Rattle.ivy_host.specs.Sound.{IsSoundHost}
 
-module _ {S : Type 0} (ops : Ops S) (c : Config) (programs : List (List Instruction)) where
+module _ {S : Type 0} (ops : Ops S) (c : Config) (programs : List Program) where
   -- the ordered world of the opening, in which nothing was posted
   abbrev pub first_ordered : Ordered (Host S)
   first_ordered = ordered_of (opening ops c programs) (λ i j. [])

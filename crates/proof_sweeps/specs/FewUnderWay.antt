@@ -1,7 +1,7 @@
 -- That few messages are under way: between two nodes never more than there are nodes.
 use Rattle.std.specs.Prelude.{◌≡◌, ◌≢◌, ◌≤◌, ◌+◌, ℕ, List, slice_get, Some}
 use Rattle.ivy_model.specs.declared.Config.{Config}
-use Rattle.ivy_program.specs.declared.Instruction.{Instruction}
+use Rattle.ivy_program.specs.Programs.{Program}
 use Rattle.ivy_moves.specs.ivy_link.Linked.{peer_at}
 use Rattle.ivy_moves.specs.Nodes.{Node}
 use Rattle.ivy_moves.specs.Worlds.{World}
@@ -17,5 +17,5 @@ AreFewUnderWay {C} most w = (i j : ℕ) (n m : Node C) → i ≢ j → slice_get
 
 -- The law: in each world that moves lead to it is no more than there are nodes.
 abbrev pub FewAreUnderWay : Type 0
-FewAreUnderWay = (c : Config) (programs : List (List Instruction)) (w : World (Host Managed))
+FewAreUnderWay = (c : Config) (programs : List Program) (w : World (Host Managed))
     → IsOfMoves c programs w → AreFewUnderWay c.nodes w

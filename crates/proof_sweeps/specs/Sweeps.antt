@@ -1,7 +1,7 @@
 -- Sweeps of pulses: each node pulses each other one, and what is sent by pulses comes.
 use Rattle.std.specs.Prelude.{◌≡◌, ◌≢◌, ◌<◌, ℕ, List, [], ◌∷◌, ◌++◌, length, slice_get, Some, Contains}
 use Rattle.ivy_model.specs.declared.Config.{Config}
-use Rattle.ivy_program.specs.declared.Instruction.{Instruction}
+use Rattle.ivy_program.specs.Programs.{Program}
 use Rattle.ivy_moves.specs.declared.Move.{Move}
 use Rattle.ivy_moves.specs.declared.Move.TheVariants.{Turn, Deliver, Pulse}
 use Rattle.ivy_moves.specs.Nodes.{Node, pulsing}
@@ -47,12 +47,12 @@ pub record AreThreeSweeps (c : Config) (w : World (Host Managed)) (one two three
 -- The law: after three sweeps each message is delivered that a node had sent another one before the
 -- first.
 abbrev pub SweepsDeliver : Type 0
-SweepsDeliver = (c : Config) (programs : List (List Instruction)) (w end : World (Host Managed))
+SweepsDeliver = (c : Config) (programs : List Program) (w end : World (Host Managed))
     → IsOfMoves c programs w → (one two three : List Move) → AreThreeSweeps c w one two three end
     → IsDeliveredBy w end
 
 -- The law: so three sweeps are a round of each node that has a turn in them.
 abbrev pub SweepsAreRounds : Type 0
-SweepsAreRounds = (c : Config) (programs : List (List Instruction)) (w end : World (Host Managed))
+SweepsAreRounds = (c : Config) (programs : List Program) (w end : World (Host Managed))
     → IsOfMoves c programs w → (one two three : List Move) → AreThreeSweeps c w one two three end
     → (i : ℕ) → Contains (one ++ two ++ three) (Turn i) → IsRound c i w end

@@ -9,5 +9,6 @@ mod counts;
 mod forged;
 mod growths_of_sites;
 mod growths_of_strings;
+mod keeping;
 mod site_alone;
 mod steps;

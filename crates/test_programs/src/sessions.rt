@@ -84,6 +84,7 @@ mod common;
 mod ends;
 mod gates;
 mod growths_of_sessions;
+mod keeping;
 mod pulses;
 mod replays;
 mod rows;

@@ -145,8 +145,13 @@ fn seat<'e, S: Setup, R: Wait + Abort>(
 {
     let mut pass = pass;
     assert!(rt; ether.issue_seat(rt, starter, node));
-    assert!(rt; ether.take_seat(rt, &mut pass) == Some(node));
-    let site = Site::new(alloc, config, node, program).expect(rt, "memory");
+    let Some(found) = ether.take_seat(rt, &mut pass) else {
+        panic!(rt; "no seat");
+    };
+    assert!(rt; found == node);
+    let Ok(site) = Site::new(alloc, config, node, program) else {
+        panic!(rt; "memory");
+    };
     Seated::new(ether, site, pass)
 }
 

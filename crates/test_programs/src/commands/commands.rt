@@ -350,6 +350,13 @@ fn defaults(rt: HostRuntime) -> Result<(), Fail> {
         settings,
     };
     expect_same(&rt, Request::read(rt.alloc(), &run).ok(), Some(wanted));
+    let step = words_of(rt.alloc(), "step load moves")?;
+    let wanted = Request::Step {
+        file: "load",
+        schedule: "moves",
+        settings,
+    };
+    expect_same(&rt, Request::read(rt.alloc(), &step).ok(), Some(wanted));
     let sim = words_of(rt.alloc(), "sim load")?;
     let wanted = Request::Sim {
         file: "load",

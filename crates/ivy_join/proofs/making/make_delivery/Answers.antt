@@ -1,14 +1,23 @@
-use Rattle.ivy_join.proofs.Steps.{delivered}
+use Rattle.std.proofs.Common.{rules}
+use Rattle.ivy_join.proofs.Steps.{delivered, received-listed}
 use Rattle.ivy_join.proofs.making.make_delivery.Goals as goal
 
-pub returns-in-Ok : goal.returns-in-Ok
-returns-in-Ok g c = record {
-  on = λ sent limits took there. delivered sent c.deliver_telling.result c.args.string.now c.args.site.now
-      c.deliver_telling.new.self c.deliver_telling.ensures.done limits took there;
-}
+pub returns-in-Ok-clause-on : goal.returns-in-Ok-clause-on
+returns-in-Ok-clause-on g c =
+    λ sent limits there. delivered sent c.deliver_alone.result c.args.string.now c.args.site.now
+    c.deliver_alone.new.self c.deliver_alone.ensures.done limits there
 
-pub returns-in-Ok-default-Some-Memory : goal.returns-in-Ok-default-Some-Memory
-returns-in-Ok-default-Some-Memory g c = record {
-  on = λ sent limits took there. delivered sent c.deliver_telling.result c.args.string.now c.args.site.now
-      c.deliver_telling.new.self c.deliver_telling.ensures.done limits took there;
-}
+pub returns-in-Ok-clause-made : goal.returns-in-Ok-clause-made
+returns-in-Ok-clause-made g c =
+    λ happens. received-listed c.args.string.now c.in-Ok.verdict c.in-Ok.field-0-1 c.args.site.now
+    c.deliver_alone.new.self c.in-Ok.ensures.done (search rules)
+
+pub returns-in-Err-Memory-clause-on : goal.returns-in-Err-Memory-clause-on
+returns-in-Err-Memory-clause-on g c =
+    λ sent limits there. delivered sent c.deliver_alone.result c.args.string.now c.args.site.now
+    c.deliver_alone.new.self c.deliver_alone.ensures.done limits there
+
+pub returns-in-Err-clause-on : goal.returns-in-Err-clause-on
+returns-in-Err-clause-on g c =
+    λ sent limits there. delivered sent c.deliver_alone.result c.args.string.now c.args.site.now
+    c.deliver_alone.new.self c.deliver_alone.ensures.done limits there

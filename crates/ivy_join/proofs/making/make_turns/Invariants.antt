@@ -1,6 +1,14 @@
-use Rattle.std.proofs.Common.{ℕ, List}
+use Rattle.std.proofs.Common.{◌≡◌, ◌++◌, ◌≤◌, ◌-◌, ℕ, List}
+use Rattle.ivy_moves.specs.Marks.{turns}
 use Rattle.ivy_join.specs.Joining.{GoesOnBy}
 use Rattle.ivy_join.proofs.making.make_turns.Given as goal
 
-abbrev pub invariant-loop : goal.invariant-loop
-invariant-loop g l = (sent : List (List ℕ)) → GoesOnBy sent l.initial.site l.site
+abbrev pub invariant-loop-made : goal.invariant-loop-made
+invariant-loop-made g l = record {
+  on : (sent : List (List ℕ)) → GoesOnBy sent l.initial.site l.site;
+  within : l.made ≤ l.count;
+  made : l.site.events ≡ l.initial.site.events ++ turns l.made;
+}
+
+abbrev pub decreases-loop-made : goal.decreases-loop-made
+decreases-loop-made g l = l.count - l.made

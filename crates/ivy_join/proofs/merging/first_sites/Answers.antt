@@ -1,8 +1,8 @@
 use Rattle.std.proofs.Common.{rules, ◌≡◌, ◌++◌, ◌∷◌, [], length, ap, sym, ◌∙◌, append-nil, arith}
 use Rattle.std.proofs.lemmas.List.{nil_from_length}
 use Rattle.std.specs.Vec.Iter.{into_iter_items}
-use Rattle.ivy_world.specs.WorldSites.{first_sites_from}
-use Rattle.ivy_world.proofs.Worlds.{one_more_site}
+use Rattle.ivy_join.specs.Joining.{kept_from}
+use Rattle.ivy_join.proofs.Ended.{one_more_kept}
 use Rattle.ivy_join.proofs.merging.first_sites.Goals as goal
 
 pub loop-program-init : goal.loop-program-init
@@ -13,9 +13,9 @@ loop-program-init g c =
       left = search rules;
       count = (let long = ap length gives.0 ∙ c.requires.each in omega (arith, long));
       all = ap
-          (λ x. x ++ first_sites_from c.args.config.now 0
+          (λ x. x ++ kept_from c.args.config.now 0
           (into_iter_items c.into_iter-program-iterator.result)) c.in_ok-sites.ensures.items
-          ∙ ap (first_sites_from c.args.config.now 0) gives.0;
+          ∙ ap (kept_from c.args.config.now 0) gives.0;
     }
 
 pub loop-program-preserved : goal.loop-program-preserved
@@ -31,7 +31,7 @@ loop-program-preserved g c =
       finite = search rules;
       left = omega arith;
       count = omega arith;
-      all = one_more_site c.args.config.now at.me at.sites.items c.in-Some.program
+      all = one_more_kept c.args.config.now at.me at.sites.items c.in-Some.program
           (into_iter_items at.program-iterator) (into_iter_items c.next.new.self) steps
           c.in_ok-new.field-0 c.in_ok-new.ensures.first c.push.new.self.items
           c.in_ok-push.ensures.items ∙ at.invariant.all;
@@ -44,5 +44,5 @@ returns-clause-first g c =
     let empty : into_iter_items at.program-iterator ≡ [] =
     nil_from_length _ (sym at.invariant.left ∙ none.0) in
     sym (append-nil at.sites.items)
-    ∙ ap (λ l. at.sites.items ++ first_sites_from c.args.config.now at.me l) (sym empty)
+    ∙ ap (λ l. at.sites.items ++ kept_from c.args.config.now at.me l) (sym empty)
     ∙ at.invariant.all

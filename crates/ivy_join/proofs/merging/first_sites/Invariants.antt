@@ -1,6 +1,6 @@
 use Rattle.std.proofs.Common.{◌≡◌, ◌+◌, ◌++◌, length}
 use Rattle.std.specs.Vec.Iter.{into_iter_items, into_iter_len}
-use Rattle.ivy_world.specs.WorldSites.{first_sites_from}
+use Rattle.ivy_join.specs.Joining.{kept_from}
 use Rattle.ivy_join.proofs.merging.first_sites.Given as goal
 
 -- the sites so far, and those of the programs left, are all
@@ -10,6 +10,6 @@ invariant-loop-program g l = record {
   finite : (goal.iterator-loop-program g).is_finite l.program-iterator;
   left : into_iter_len l.program-iterator ≡ length (into_iter_items l.program-iterator);
   count : l.me + length (into_iter_items l.program-iterator) ≡ l.config.nodes;
-  all : l.sites.items ++ first_sites_from l.config l.me (into_iter_items l.program-iterator)
-      ≡ first_sites_from l.config 0 l.fn.programs.items;
+  all : l.sites.items ++ kept_from l.config l.me (into_iter_items l.program-iterator)
+      ≡ kept_from l.config 0 l.fn.programs.items;
 }

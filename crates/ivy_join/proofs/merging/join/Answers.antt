@@ -1,9 +1,9 @@
 use Rattle.std.proofs.Common.{rules, ◌≡◌, length, ap, sym, subst, ◌∙◌}
 use Rattle.std.proofs.lemmas.List.{length-map}
 use Rattle.ivy_model.specs.Config.{IsConfig}
-use Rattle.ivy_join.specs.Joining.{events_at, ArePlayed}
+use Rattle.ivy_join.specs.Joining.{events_at, ArePlayed, AreKept}
 use Rattle.ivy_join.specs.Joined.{AreJoined}
-use Rattle.ivy_join.proofs.Ended.{first-played, first-programs, joined}
+use Rattle.ivy_join.proofs.Ended.{first-played, first-programs, joined, are-kept}
 use Rattle.ivy_join.proofs.merging.join.Goals as goal
 
 pub play-requires-clause-played : goal.play-requires-clause-played
@@ -39,3 +39,12 @@ returns-clause-joined g c =
     (length-map c.args.logs.now _ ∙ c.in_ok-check_heads.ensures.count ∙ sym began.count
     ∙ sym c.in_ok-play.ensures.count)
     (λ i. ap (λ l. events_at l i) (sym c.deref.ensures.value) ∙ c.in_ok-check_lists.ensures i))
+
+pub check_lists-requires-clause-kept : goal.check_lists-requires-clause-kept
+check_lists-requires-clause-kept g c =
+    subst AreKept (sym c.deref.ensures.value)
+    (are-kept c.args.config c.play.new.sites.items c.play.new.sent c.in_ok-play.ensures.played)
+
+pub new-requires : goal.new-requires
+new-requires g c =
+    are-kept c.args.config c.play.new.sites.items c.play.new.sent c.in_ok-play.ensures.played

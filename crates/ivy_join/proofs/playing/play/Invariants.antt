@@ -8,5 +8,5 @@ invariant-loop g l = record {
   played : ArePlayed l.config l.sites.items l.sent;
   programs : programs_of l.sites.items ≡ programs_of l.initial.sites.items;
   count : length l.sites.items ≡ length l.initial.sites.items;
-  readers : vec_len l.readers ≡ length l.initial.sites.items;
+  made : vec_len l.made ≡ length l.initial.sites.items;
 }

@@ -1,6 +1,6 @@
 use Rattle.std.proofs.Common.{◌≡◌, ◌+◌, ◌≤◌, ℕ, true, length, vec_len, All, List, slice_get, Some}
 use Rattle.std.specs.Vec.Iter.{into_iter_items, into_iter_len}
-use Rattle.ivy_program.specs.declared.Instruction.{Instruction}
+use Rattle.ivy_program.specs.Programs.{Program}
 use Rattle.ivy_ether.specs.Rule.{times}
 use Rattle.ivy_ether.specs.Words.{IsNewcomer}
 use Rattle.ivy_seating.proofs.seating.seat_all.Given as goal
@@ -12,7 +12,7 @@ invariant-loop-program g l = record {
   finite : (goal.iterator-loop-program g).is_finite l.program-iterator;
   left : into_iter_len l.program-iterator ≡ length (into_iter_items l.program-iterator);
   count : l.node + length (into_iter_items l.program-iterator) ≡ length g.S.Setup.programs;
-  there : (k : ℕ) (p : List Instruction) → slice_get (into_iter_items l.program-iterator) k ≡ Some p
+  there : (k : ℕ) (p : Program) → slice_get (into_iter_items l.program-iterator) k ≡ Some p
       → slice_get g.S.Setup.programs (l.node + k) ≡ Some p;
   ether : l.starter.ether ≡ l.ether;
   starts : l.starter.known.starts ≡ true;

@@ -1,4 +1,4 @@
-use Rattle.std.proofs.Common.{rules, ◌≡◌, ◌≢◌, true, arith, ap, refl, ◌+◌, ◌∙◌}
+use Rattle.std.proofs.Common.{rules, ◌≡◌, ◌≢◌, ◌<◌, ◌^◌, true, refl, subst, sym, ◌∙◌}
 use Rattle.ivy_host.specs.ivy_heap.declared.Answer.{Answer}
 use Rattle.ivy_host.specs.ivy_heap.declared.Answer.TheVariants.{Given, Awaited, Unserved}
 use Rattle.ivy_host.proofs.of_ivy_memory.Beginning.{err_there}
@@ -25,13 +25,14 @@ returns-in_err-answer-clause-err g c =
 pub returns-in_err-answer-clause-spent : goal.returns-in_err-answer-clause-spent
 returns-in_err-answer-clause-spent g c =
     err_there c.from_residual.result _ _ c.from_residual.ensures.1
-    (cannot_begin (host_of c.args.memory.now c.args.machine.now c.args.history.now.items)
+    (cannot_begin (host_of c.args.memory.now c.args.machine.now c.args.history.now.records)
     c.args.call _
-    (begin_call (host_of c.args.memory.now c.args.machine.now c.args.history.now.items) c.args.call
-    (c.len.result + 1)
+    (begin_call (host_of c.args.memory.now c.args.machine.now c.args.history.now.records) c.args.call
+    c.next_number-number.result
     (record {
-      is = ap (λ n. n + 1) (search rules);
-      below = omega (arith, c.args.history.now.small);
+      is = c.next_number-number.ensures.is;
+      below = subst (λ n. n < 2 ^ 64) (sym c.next_number-number.ensures.is)
+          c.next_number-number.ensures.small;
     }) c.requires.idle c.requires.asks)
     c.args.outbox.now c.begin.new.post _ _ _ (c.in_err-answer.ensures.fault c.requires.idle))
 
@@ -39,15 +40,16 @@ pub returns-clause-ok : goal.returns-clause-ok
 returns-clause-ok g c =
     has_turned c.keep.result
     (c.keep.ensures.served ∙ serves c.in_ok-answer.answer c.in_ok-answer.ensures.begins) _ _ _ _
-    (called (host_of c.args.memory.now c.args.machine.now c.args.history.now.items) c.args.call _
-    (begin_call (host_of c.args.memory.now c.args.machine.now c.args.history.now.items) c.args.call
-    (c.len.result + 1)
+    (called (host_of c.args.memory.now c.args.machine.now c.args.history.now.records) c.args.call _
+    (begin_call (host_of c.args.memory.now c.args.machine.now c.args.history.now.records) c.args.call
+    c.next_number-number.result
     (record {
-      is = ap (λ n. n + 1) (search rules);
-      below = omega (arith, c.args.history.now.small);
+      is = c.next_number-number.ensures.is;
+      below = subst (λ n. n < 2 ^ 64) (sym c.next_number-number.ensures.is)
+          c.next_number-number.ensures.small;
     }) c.requires.idle c.requires.asks)
     c.args.outbox.now c.begin.new.post c.me.result c.begin.new.self c.keep.new.machine
-    c.keep.new.history.items c.keep.result c.in_ok-answer.answer (search rules)
+    c.keep.new.history.records c.keep.result c.in_ok-answer.answer (search rules)
     c.in_ok-answer.ensures.reply c.in_ok-answer.ensures.ok c.in_ok-answer.ensures.took
     c.in_ok-answer.ensures.posted c.keep.ensures.served c.keep.ensures.history
     c.keep.ensures.machine)

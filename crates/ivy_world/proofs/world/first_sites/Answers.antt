@@ -33,7 +33,7 @@ loop-program-preserved g c =
       count = omega arith;
       all = one_more_site c.args.config.now at.me at.sites.items c.in-Some.program
           (into_iter_items at.program-iterator) (into_iter_items c.next.new.self) steps
-          c.in_ok-new.field-0 c.in_ok-new.ensures.first c.push.new.self.items
+          c.in_ok-keeping.field-0 c.in_ok-keeping.ensures.first c.push.new.self.items
           c.in_ok-push.ensures.items ∙ at.invariant.all;
     }
 

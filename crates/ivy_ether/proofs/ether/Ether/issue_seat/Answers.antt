@@ -1,5 +1,6 @@
 use Rattle.std.proofs.Common.{sym, subst}
 use Rattle.crossbeam_queue.specs.Passes.{view}
+use Rattle.ivy_host.specs.Handing.{handing}
 use Rattle.ivy_host.specs.Hosts.{host_rules}
 use Rattle.ivy_host.specs.Managers.{managed_ops}
 use Rattle.ivy_ether.specs.Held.{Held}
@@ -22,7 +23,7 @@ push_as-requires-clause-rule g c =
     let inside =
     subst (λ k. c.args.node < k) (sym (first_length managed_ops config 0 programs))
     c.requires.node in (
-      issues (host_rules managed_ops) config (beginning config programs) _ _
+      issues (host_rules managed_ops) config (beginning config programs) handing _ _
           (view c.pass.inside.token) c.args.node starts inside new,
       λ _ _ _ _. tt,
     )

@@ -1,4 +1,5 @@
 use Rattle.crossbeam_queue.specs.Passes.{view}
+use Rattle.ivy_host.specs.Handing.{handing}
 use Rattle.ivy_host.specs.Hosts.{host_rules}
 use Rattle.ivy_host.specs.Managers.{managed_ops}
 use Rattle.ivy_ether.specs.Programs.{beginning}
@@ -9,4 +10,4 @@ pub learn_as-requires-clause-rule : goal.learn_as-requires-clause-rule
 learn_as-requires-clause-rule g c =
     let config = g.S.Setup.config in
     let programs = g.S.Setup.programs in
-    learns (host_rules managed_ops) config (beginning config programs) _ (view c.pass.inside.token)
+    learns (host_rules managed_ops) config (beginning config programs) handing _ (view c.pass.inside.token)

@@ -1,5 +1,6 @@
 use Rattle.std.proofs.Common.{sym, subst}
 use Rattle.crossbeam_queue.specs.Passes.{view}
+use Rattle.ivy_host.specs.Handing.{handing}
 use Rattle.ivy_host.specs.Hosts.{host_rules}
 use Rattle.ivy_host.specs.Managers.{managed_ops}
 use Rattle.ivy_ether.specs.Held.{Held}
@@ -19,7 +20,7 @@ push_as-requires-clause-rule g c =
     subst (λ (h : Held). SendsFrom config programs h.known events c.args.frame
     ⊎ Contains h.known.took c.args.frame)
     (sym c.pass.view_is) c.requires.frame in (
-      puts (host_rules managed_ops) config (beginning config programs) _ _
+      puts (host_rules managed_ops) config (beginning config programs) handing _ _
           (view c.pass.inside.token) c.args.frame events may from,
       λ _ _ _ _. tt,
     )
@@ -28,5 +29,5 @@ pub another-requires-clause-rule : goal.another-requires-clause-rule
 another-requires-clause-rule g c =
     let config = g.S.Setup.config in
     let programs = g.S.Setup.programs in
-    notes (host_rules managed_ops) config (beginning config programs) _ (view c.push_as.new.pass)
+    notes (host_rules managed_ops) config (beginning config programs) handing _ (view c.push_as.new.pass)
     _ _

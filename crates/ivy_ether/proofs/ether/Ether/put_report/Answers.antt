@@ -1,5 +1,6 @@
 use Rattle.std.proofs.Common.{sym, subst, ◌∙◌}
 use Rattle.crossbeam_queue.specs.Passes.{view}
+use Rattle.ivy_host.specs.Handing.{handing}
 use Rattle.ivy_host.specs.Hosts.{host_rules}
 use Rattle.ivy_host.specs.Managers.{managed_ops}
 use Rattle.ivy_ether.specs.Held.{Held}
@@ -15,7 +16,7 @@ push_as-requires-clause-rule g c =
     let may = subst (λ (h : Held). MayGive config programs h.known c.args.events.marks)
     (sym c.pass.view_is) c.requires.events in
     let node = same_Some _ _ (sym c.in-Some.is ∙ sym c.pass.invariant.1 ∙ may.sits) in (
-      reports (host_rules managed_ops) config (beginning config programs) _ _
+      reports (host_rules managed_ops) config (beginning config programs) handing _ _
           (view c.pass.inside.token) _ c.args.events may node,
       λ _ _ _ _. tt,
     )

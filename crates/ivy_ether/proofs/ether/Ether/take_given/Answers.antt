@@ -1,5 +1,6 @@
 use Rattle.std.proofs.Common.{sym, subst}
 use Rattle.crossbeam_queue.specs.Passes.{view}
+use Rattle.ivy_host.specs.Handing.{handing}
 use Rattle.ivy_host.specs.Hosts.{host_rules}
 use Rattle.ivy_host.specs.Managers.{managed_ops}
 use Rattle.ivy_ether.specs.Held.{Held}
@@ -13,7 +14,7 @@ pop_as-item-requires-clause-rule g c =
     let programs = g.S.Setup.programs in
     let may = subst (λ (h : Held). MayGive config programs h.known g.E.Given.events)
     (sym c.pass.view_is) c.requires.events in (
-      takes (host_rules managed_ops) config (beginning config programs) _ (view c.pass.inside.token)
+      takes (host_rules managed_ops) config (beginning config programs) handing _ (view c.pass.inside.token)
           g.E.Given.events may,
       λ _ _ _ _. tt,
     )
@@ -22,5 +23,5 @@ pub another-requires-clause-rule : goal.another-requires-clause-rule
 another-requires-clause-rule g c =
     let config = g.S.Setup.config in
     let programs = g.S.Setup.programs in
-    notes (host_rules managed_ops) config (beginning config programs) _ (view c.pop_as-item.new.pass)
+    notes (host_rules managed_ops) config (beginning config programs) handing _ (view c.pop_as-item.new.pass)
     _ _

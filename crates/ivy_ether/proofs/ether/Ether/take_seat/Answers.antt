@@ -1,5 +1,6 @@
 use Rattle.std.proofs.Common.{sym, subst}
 use Rattle.crossbeam_queue.specs.Passes.{view}
+use Rattle.ivy_host.specs.Handing.{handing}
 use Rattle.ivy_host.specs.Hosts.{host_rules}
 use Rattle.ivy_host.specs.Managers.{managed_ops}
 use Rattle.ivy_ether.specs.Held.{Held}
@@ -13,7 +14,7 @@ pop_as-requires-clause-rule g c =
     let config = g.S.Setup.config in
     let programs = g.S.Setup.programs in
     let none = subst (λ (h : Held). h.known.node ≡ None) (sym c.pass.view_is) c.requires.none in (
-      seats (host_rules managed_ops) config (beginning config programs) _ (view c.pass.inside.token)
+      seats (host_rules managed_ops) config (beginning config programs) handing _ (view c.pass.inside.token)
           none,
       λ _ _ _ _. tt,
     )

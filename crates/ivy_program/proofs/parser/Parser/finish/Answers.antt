@@ -1,6 +1,6 @@
 -- One part more is made, or loses a jump.
 use Rattle.std.proofs.Common.{◌≡◌, ◌∙◌, ◌<◌, ◌≤◌, ℕ, Some, length, get_or, ap, sym, subst, arith}
-use Rattle.ivy_program.specs.Instructions.{IsProgram}
+use Rattle.ivy_program.specs.Programs.{IsWritten}
 use Rattle.ivy_program.specs.Readings.{HasLost, IsLeastOrNone, program_of}
 use Rattle.ivy_program.proofs.Drawn.{IsMade, none_made, made_found, made_lost, all_made, fault_found}
 use Rattle.ivy_program.proofs.parser.Parser.finish.Goals as goal
@@ -26,7 +26,7 @@ loop-draft-preserved g c =
           rw w.in-Ok.is at c.in_ok-program.ensures.program in
           let whole : (n : ℕ) → ¬ HasLost c.draft-item.result n =
           rw w.in-Ok.is at c.in_ok-program.ensures.whole in
-          let sound : IsProgram w.in-Ok.program = rw w.in-Ok.is at c.in_ok-program.ensures.sound in
+          let sound : IsWritten w.in-Ok.program = rw w.in-Ok.is at c.in_ok-program.ensures.sound in
           made_found c.args.self c.args.out_of_order c.loop-draft.draft-index c.draft-item.result l
           e
           c.loop-draft.programs.items c.match-branch-2.programs.items c.loop-draft.at_fault

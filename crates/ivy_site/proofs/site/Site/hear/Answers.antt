@@ -11,8 +11,9 @@ use Rattle.ivy_moves.specs.ivy_link.Holding.{accepted_at}
 use Rattle.ivy_moves.specs.Marks.{Mark, Delivery}
 use Rattle.ivy_outbox.specs.Outboxes.{Outbox, holding_of, with_holding}
 use Rattle.ivy_site.specs.Shown.{Shown, shown_of}
-use Rattle.ivy_site.specs.Sites.{IsSpentDelivery}
-use Rattle.ivy_site.specs.Inside.{CameEarlyAs, host_of}
+use Rattle.ivy_site.specs.Sites.{IsSite, IsSpentDelivery}
+use Rattle.ivy_moves.specs.Keeping.{keeps_history, keeps_events}
+use Rattle.ivy_site.specs.Inside.{CameEarlyAs, Hears, host_of}
 use Rattle.ivy_host.proofs.of_ivy_memory.Beginning.{err_there}
 use Rattle.ivy_site.proofs.Heads.{head_is, source_is, source_there, number_small, read_head, message_fits, heard_from, spent_from, source_foreign}
 use Rattle.ivy_site.proofs.Delivering.{IsHeard, not_mine, heard_quietly, heard_delivers, heard_site, heard_early, heard_few}
@@ -48,12 +49,12 @@ module _ (g : Over) (c : After-accept g) where
 
   -- what the fields are before the frame is accepted
   heard : IsHeard
-      (shown_of
-      (host_of c.self.inside.memory c.self.inside.machine c.self.inside.history.items)
+      (shown_of c.self.inside.keep
+      (host_of c.self.inside.memory c.self.inside.machine c.self.inside.history.records)
       c.self.inside.outbox c.self.inside.events.marks)
       c.requires.spelled.0 c.offer-verdict.result
       (host_of c.if-eq-2.self-inside.memory c.if-eq-2.self-inside.machine
-      c.if-eq-2.self-inside.history.items) c.if-eq-2.self-inside.outbox
+      c.if-eq-2.self-inside.history.records) c.if-eq-2.self-inside.outbox
   heard = elim c.if-eq-2.branch [
     | then-eq-2+in-Some+in_ok-handle w ↦
         let next : c.offer-verdict.result ≡ verdict.Next =
@@ -105,6 +106,29 @@ module _ (g : Over) (c : After-accept g) where
       pushed ∙ (ap (λ (ms : List Mark). ms ++ Delivery copy ∷ []) kept
       ∙ ap (λ b. c.self.inside.events.marks ++ Delivery b ∷ []) copied)
 
+  -- what is kept of the past stays
+  same_keep : c.if-eq-2.self-inside.keep ≡ c.self.inside.keep
+  same_keep = elim c.if-eq-2.branch [
+    | then-eq-2+in-Some+in_ok-handle w ↦ rw w.self-inside-is refl
+    | then-eq-2+in_default w ↦ rw w.self-inside-is refl
+    | else-eq-2 w ↦ rw w.self-inside-is refl
+  ]
+
+  same_history : c.if-eq-2.self-inside.history.kept ≡ c.self.inside.history.kept
+  same_history = elim c.if-eq-2.branch [
+    | then-eq-2+in-Some+in_ok-handle w ↦ rw w.self-inside-is refl
+    | then-eq-2+in_default w ↦ rw w.self-inside-is refl
+    | else-eq-2 w ↦ rw w.self-inside-is refl
+  ]
+
+  same_events : c.reserve.new.self.kept ≡ c.self.inside.events.kept
+      → c.if-eq-2.self-inside.events.kept ≡ c.self.inside.events.kept
+  same_events same = elim c.if-eq-2.branch [
+    | then-eq-2+in-Some+in_ok-handle w ↦ rw w.self-inside-is same
+    | then-eq-2+in_default w ↦ rw w.self-inside-is same
+    | else-eq-2 w ↦ rw w.self-inside-is same
+  ]
+
 pub returns-then-eq-clause-done : goal.returns-then-eq-clause-done
 returns-then-eq-clause-done g c =
     let not : c.offer-verdict.result ≡ verdict.NotMine = search rules in
@@ -150,19 +174,29 @@ returns-in_err-handle-clause-spent g c =
 
 pub invariant_of-self-2 : goal.invariant_of-self-2
 invariant_of-self-2 g c =
-    heard_site _ c.config-config.result c.requires.spelled.0 c.args.string.now
-    c.offer-verdict.result c.config-config.ensures.fits
-    (read_head c.args.self.now c.args.string.now c.bytes-bytes.result.now c.bytes-bytes.ensures
-    c.requires.spelled c.head_of-head.result c.head_of-head.ensures _ c.self.view_is
-    c.config-config.result c.config-config.ensures.is c.config-config.ensures.limits
-    c.offer-verdict.result c.offer-verdict.ensures)
-    (apart g (goal.at.invariant_of-self-2 g c).After-accept) _ _ c.accept.new.self
-    c.push_delivery.new.self.marks c.self.invariant
-    (heard g (goal.at.invariant_of-self-2 g c).After-accept)
-    (accepts g (goal.at.invariant_of-self-2 g c).After-accept _ c.accept.ensures)
-    (listed g (goal.at.invariant_of-self-2 g c).After-accept c.push_delivery.new.self.marks
-    c.in_ok-listed.listed c.args.string.now c.in_ok-reserve.ensures.same c.push_delivery.ensures
-    c.in_ok-listed.ensures)
+    let after = (goal.at.invariant_of-self-2 g c).After-accept in (
+      subst (λ k. IsSite (shown_of k
+          (host_of c.if-eq-2.self-inside.memory c.if-eq-2.self-inside.machine
+          c.if-eq-2.self-inside.history.records) c.accept.new.self c.push_delivery.new.self.marks))
+          (sym (same_keep g after))
+          (heard_site _ c.config-config.result c.requires.spelled.0 c.args.string.now
+          c.offer-verdict.result c.config-config.ensures.fits
+          (read_head c.args.self.now c.args.string.now c.bytes-bytes.result.now c.bytes-bytes.ensures
+          c.requires.spelled c.head_of-head.result c.head_of-head.ensures _ c.self.view_is
+          c.config-config.result c.config-config.ensures.is c.config-config.ensures.limits
+          c.offer-verdict.result c.offer-verdict.ensures)
+          (apart g after) _ _ c.accept.new.self
+          c.push_delivery.new.self.marks c.self.invariant.0 (heard g after)
+          (accepts g after _ c.accept.ensures)
+          (listed g after c.push_delivery.new.self.marks
+          c.in_ok-listed.listed c.args.string.now c.in_ok-reserve.ensures.same c.push_delivery.ensures.marks
+          c.in_ok-listed.ensures)),
+      (
+        same_history g after ∙ c.self.invariant.1.0 ∙ ap keeps_history (sym (same_keep g after)),
+        c.push_delivery.ensures.kept ∙ same_events g after c.in_ok-reserve.ensures.kept
+            ∙ c.self.invariant.1.1 ∙ ap keeps_events (sym (same_keep g after)),
+      ),
+    )
 
 pub returns-clause-done : goal.returns-clause-done
 returns-clause-done g c =
@@ -170,13 +204,18 @@ returns-clause-done g c =
     let config = c.config-config.ensures.is ∙ ap (λ (x : Shown). x.config) c.self.view_is in
     let events =
     listed g after c.push_delivery.new.self.marks c.in_ok-listed.listed c.args.string.now
-    c.in_ok-reserve.ensures.same c.push_delivery.ensures c.in_ok-listed.ensures in
+    c.in_ok-reserve.ensures.same c.push_delivery.ensures.marks c.in_ok-listed.ensures in
     let read =
     (read_head c.args.self.now c.args.string.now c.bytes-bytes.result.now c.bytes-bytes.ensures
     c.requires.spelled c.head_of-head.result c.head_of-head.ensures _ c.self.view_is
     c.config-config.result c.config-config.ensures.is c.config-config.ensures.limits
     c.offer-verdict.result c.offer-verdict.ensures) in
-    hears c.args.string.now c.offer-verdict.result c.head_of-head.result.source _ _ _
+    subst (λ k. Hears c.args.string.now c.offer-verdict.result c.head_of-head.result.source
+    c.in_ok-held.held c.args.self.now (shown_of k
+    (host_of c.if-eq-2.self-inside.memory c.if-eq-2.self-inside.machine
+    c.if-eq-2.self-inside.history.records) c.accept.new.self c.push_delivery.new.self.marks))
+    (sym (same_keep g after))
+    (hears c.args.string.now c.offer-verdict.result c.head_of-head.result.source _ _ _
     (subst IsConfig config c.config-config.ensures.limits) c.requires.spelled.0
     c.requires.spelled.1
     (source_is c.args.self.now c.args.string.now c.bytes-bytes.result.now c.bytes-bytes.ensures
@@ -187,9 +226,9 @@ returns-clause-done g c =
     (accepts g after _ c.accept.ensures) events)
     (heard_early _ c.config-config.result c.requires.spelled.0 c.args.string.now
     c.offer-verdict.result read
-    (apart g after) _ _ c.accept.new.self c.push_delivery.new.self.marks c.self.invariant
+    (apart g after) _ _ c.accept.new.self c.push_delivery.new.self.marks c.self.invariant.0
     (heard g after) (accepts g after _ c.accept.ensures) events)
-    c.in_ok-held.ensures
+    c.in_ok-held.ensures)
 
 pub returns-clause-few : goal.returns-clause-few
 returns-clause-few g c =
@@ -241,7 +280,7 @@ handle-requires g c =
     record {
       from =
           subst (λ (k : Config). c.head_of-head.result.source < k.nodes)
-          (sym c.self.invariant.config)
+          (sym c.self.invariant.0.config)
           (subst (λ (x : Shown). c.head_of-head.result.source < x.config.nodes)
           (sym c.self.view_is)
           (source_there c.args.self.now c.args.string.now c.bytes-bytes.result.now c.bytes-bytes.ensures
@@ -249,14 +288,14 @@ handle-requires g c =
       foreign =
           source_foreign _ c.config-config.result c.requires.spelled.0 c.args.string.now
           c.offer-verdict.result read (search rules) c.config-config.ensures.mine
-          c.self.invariant c.head_of-head.result.source
+          c.self.invariant.0 c.head_of-head.result.source
           (source_is c.args.self.now c.args.string.now c.bytes-bytes.result.now c.bytes-bytes.ensures
           c.requires.spelled c.head_of-head.result c.head_of-head.ensures);
       fits =
           message_fits c.args.self.now c.args.string.now c.bytes-bytes.result.now c.bytes-bytes.ensures
           c.requires.spelled c.head_of-head.result c.head_of-head.ensures
           c.self.inside.memory.coherence.config
-          (c.self.invariant.config ∙ ap (λ (x : Shown). x.config) c.self.view_is)
+          (c.self.invariant.0.config ∙ ap (λ (x : Shown). x.config) c.self.view_is)
           (owned_message c.in-Some.message)
           (sym (c.message_of.ensures c.requires.spelled.0
           (subst (Spells c.config-config.result c.requires.spelled.0)

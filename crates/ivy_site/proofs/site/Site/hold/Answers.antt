@@ -6,15 +6,17 @@ use Rattle.ivy_site.proofs.Receiving.{came_early, holding_site}
 use Rattle.ivy_site.proofs.site.Site.hold.Goals as goal
 
 pub invariant_of-self : goal.invariant_of-self
-invariant_of-self g c =
-    subst IsSite
-    (sym (held_head _ c.requires.spelled.0 c.head_of-head.result c.args.string c.hold.new.self
-    (head_is c.args.self.now c.args.string c.bytes.result.now c.bytes.ensures c.requires.spelled
-    c.head_of-head.result c.head_of-head.ensures) c.hold.ensures))
-    (holding_site _ c.requires.spelled.0 c.args.string c.self.invariant
-    (came_early _ _ c.self.view_is c.args.self.now.config c.requires.spelled.0 c.args.string
-    c.args.string c.requires.early (sym (ap (λ (x : Shown). x.config) c.self.view_is))
-    c.requires.spelled.1 refl))
+invariant_of-self g c = (
+  subst IsSite
+      (sym (held_head _ c.requires.spelled.0 c.head_of-head.result c.args.string c.hold.new.self
+      (head_is c.args.self.now c.args.string c.bytes.result.now c.bytes.ensures c.requires.spelled
+      c.head_of-head.result c.head_of-head.ensures) c.hold.ensures))
+      (holding_site _ c.requires.spelled.0 c.args.string c.self.invariant.0
+      (came_early _ _ c.self.view_is c.args.self.now.config c.requires.spelled.0 c.args.string
+      c.args.string c.requires.early (sym (ap (λ (x : Shown). x.config) c.self.view_is))
+      c.requires.spelled.1 refl)),
+  c.self.invariant.1,
+)
 
 pub hold-requires : goal.hold-requires
 hold-requires g c = record {

@@ -6,90 +6,105 @@ use Rattle.ivy_site.proofs.site.Site.program_turn.Goals as goal
 
 pub returns-in-Ended-clause-done : goal.returns-in-Ended-clause-done
 returns-in-Ended-clause-done g c =
-    ended_turn _ _ c.self.view_is c.in_ok-next.field-0 c.next.new.self c.reserve.new.self.items _
+    ended_turn _ _ c.self.view_is c.in_ok-next.field-0 c.next.new.self c.reserve.new.self.records _
     (sym c.asked.ensures ∙ c.in_default.is) c.in_ok-next.ensures.step c.in-Ended.is
-    c.in_ok-reserve.ensures.items c.in_ok-reserve-2.ensures.same
+    c.in_ok-reserve.ensures.records c.in_ok-reserve-2.ensures.same
 
 pub returns-in-Local-clause-done : goal.returns-in-Local-clause-done
 returns-in-Local-clause-done g c =
-    local_turn _ _ c.self.view_is c.in_ok-next.field-0 c.next.new.self c.reserve.new.self.items _
+    local_turn _ _ c.self.view_is c.in_ok-next.field-0 c.next.new.self c.reserve.new.self.records _
     (sym c.asked.ensures ∙ c.in_default.is) c.in_ok-next.ensures.step c.in-Local.is
-    c.in_ok-reserve.ensures.items
-    (c.push_turn-in-Local.ensures ∙ ap (λ ms. ms ++ Turn ∷ []) c.in_ok-reserve-2.ensures.same)
+    c.in_ok-reserve.ensures.records
+    (c.push_turn-in-Local.ensures.marks ∙ ap (λ ms. ms ++ Turn ∷ []) c.in_ok-reserve-2.ensures.same)
 
 pub returns-in_err-begin-in-Call-clause-spent : goal.returns-in_err-begin-in-Call-clause-spent
 returns-in_err-begin-in-Call-clause-spent g c =
     err_there c.from_residual-in_err-begin-in-Call.result _ _
     c.from_residual-in_err-begin-in-Call.ensures.1
-    (spent_turn _ _ c.self.view_is c.next.new.self c.reserve.new.self.items _
+    (spent_turn _ _ c.self.view_is c.next.new.self c.reserve.new.self.records _
     (record {
       process =
           makes_call _ c.in-Call.call c.in_ok-next.field-0 c.next.new.self c.in_ok-next.ensures.step
           c.in-Call.is;
-      history = c.in_ok-reserve.ensures.items;
+      history = c.in_ok-reserve.ensures.records;
     })
     c.in_err-begin-in-Call.ensures.spent)
 
 pub invariant_of-self-in-Call : goal.invariant_of-self-in-Call
-invariant_of-self-in-Call g c =
-    called_site _ c.next.new.self c.reserve.new.self.items _ c.begin.new.outbox _ _ c.self.invariant
-    (record {
-      process =
-          makes_call _ c.in-Call.call c.in_ok-next.field-0 c.next.new.self c.in_ok-next.ensures.step
-          c.in-Call.is;
-      history = c.in_ok-reserve.ensures.items;
-    })
-    c.in_ok-begin-in-Call.ensures.ok
-    c.in_ok-reserve-2.ensures.same c.push_turn-in-Call.ensures
+invariant_of-self-in-Call g c = (
+  called_site _ c.next.new.self c.reserve.new.self.records _ c.begin.new.outbox _ _ c.self.invariant.0
+      (record {
+        process =
+            makes_call _ c.in-Call.call c.in_ok-next.field-0 c.next.new.self c.in_ok-next.ensures.step
+            c.in-Call.is;
+        history = c.in_ok-reserve.ensures.records;
+      })
+      c.in_ok-begin-in-Call.ensures.ok
+      c.in_ok-reserve-2.ensures.same c.push_turn-in-Call.ensures.marks,
+  (
+    c.in_ok-begin-in-Call.ensures.kept ∙ c.in_ok-reserve.ensures.kept ∙ c.self.invariant.1.0,
+    c.push_turn-in-Call.ensures.kept ∙ c.in_ok-reserve-2.ensures.kept ∙ c.self.invariant.1.1,
+  ),
+)
 
 pub returns-in_ok-begin-in-Call-clause-done : goal.returns-in_ok-begin-in-Call-clause-done
 returns-in_ok-begin-in-Call-clause-done g c =
-    called_turn _ _ c.self.view_is c.next.new.self c.reserve.new.self.items _ c.begin.new.outbox _ _
+    called_turn _ _ c.self.view_is c.next.new.self c.reserve.new.self.records _ c.begin.new.outbox _ _
     (record {
       process =
           makes_call _ c.in-Call.call c.in_ok-next.field-0 c.next.new.self c.in_ok-next.ensures.step
           c.in-Call.is;
-      history = c.in_ok-reserve.ensures.items;
+      history = c.in_ok-reserve.ensures.records;
     })
     c.in_ok-begin-in-Call.ensures.ok
-    c.in_ok-reserve-2.ensures.same c.push_turn-in-Call.ensures
+    c.in_ok-reserve-2.ensures.same c.push_turn-in-Call.ensures.marks
 
 pub returns-in_err-changed-clause-spent : goal.returns-in_err-changed-clause-spent
 returns-in_err-changed-clause-spent g c =
     err_there c.from_residual-in_err-changed.result _ _ c.from_residual-in_err-changed.ensures.1
-    (spent_turn _ _ c.self.view_is c.self.inside.machine c.reserve.new.self.items _
-    (record { process = refl; history = c.in_ok-reserve.ensures.items })
+    (spent_turn _ _ c.self.view_is c.self.inside.machine c.reserve.new.self.records _
+    (record { process = refl; history = c.in_ok-reserve.ensures.records })
     c.in_err-changed.ensures.spent)
 
 pub returns-then-not-changed-clause-done : goal.returns-then-not-changed-clause-done
 returns-then-not-changed-clause-done g c =
-    idle_turn _ _ c.self.view_is c.self.inside.machine c.reserve.new.self.items _ c.poll.new.outbox
+    idle_turn _ _ c.self.view_is c.self.inside.machine c.reserve.new.self.records _ c.poll.new.outbox
     _
     (record {
-      rests = (record { process = refl; history = c.in_ok-reserve.ensures.items });
+      rests = (record { process = refl; history = c.in_ok-reserve.ensures.records });
       after = not_turned c.in_ok-changed.changed (search rules) _ _ _ _ c.in_ok-changed.ensures.ok;
     })
     c.in_ok-reserve-2.ensures.same
 
 pub invariant_of-self-in-Some : goal.invariant_of-self-in-Some
-invariant_of-self-in-Some g c =
-    called_site _ c.self.inside.machine c.reserve.new.self.items _ c.poll.new.outbox _ _
-    c.self.invariant
-    (record { process = refl; history = c.in_ok-reserve.ensures.items })
-    (has_turned c.in_ok-changed.changed (search rules) _ _ _ _ c.in_ok-changed.ensures.ok)
-    c.in_ok-reserve-2.ensures.same c.push_turn.ensures
+invariant_of-self-in-Some g c = (
+  called_site _ c.self.inside.machine c.reserve.new.self.records _ c.poll.new.outbox _ _
+      c.self.invariant.0
+      (record { process = refl; history = c.in_ok-reserve.ensures.records })
+      (has_turned c.in_ok-changed.changed (search rules) _ _ _ _ c.in_ok-changed.ensures.ok)
+      c.in_ok-reserve-2.ensures.same c.push_turn.ensures.marks,
+  (
+    c.in_ok-changed.ensures.kept ∙ c.in_ok-reserve.ensures.kept ∙ c.self.invariant.1.0,
+    c.push_turn.ensures.kept ∙ c.in_ok-reserve-2.ensures.kept ∙ c.self.invariant.1.1,
+  ),
+)
 
 pub returns-in-Some-clause-done : goal.returns-in-Some-clause-done
 returns-in-Some-clause-done g c =
-    called_turn _ _ c.self.view_is c.self.inside.machine c.reserve.new.self.items _
+    called_turn _ _ c.self.view_is c.self.inside.machine c.reserve.new.self.records _
     c.poll.new.outbox _ _
-    (record { process = refl; history = c.in_ok-reserve.ensures.items })
+    (record { process = refl; history = c.in_ok-reserve.ensures.records })
     (has_turned c.in_ok-changed.changed (search rules) _ _ _ _ c.in_ok-changed.ensures.ok)
-    c.in_ok-reserve-2.ensures.same c.push_turn.ensures
+    c.in_ok-reserve-2.ensures.same c.push_turn.ensures.marks
 
 pub invariant_of-self-in-Local : goal.invariant_of-self-in-Local
-invariant_of-self-in-Local g c =
-    local_site _ c.in_ok-next.field-0 c.next.new.self c.reserve.new.self.items _ c.self.invariant
-    (sym c.asked.ensures ∙ c.in_default.is) c.in_ok-next.ensures.step c.in-Local.is
-    c.in_ok-reserve.ensures.items
-    (c.push_turn-in-Local.ensures ∙ ap (λ ms. ms ++ Turn ∷ []) c.in_ok-reserve-2.ensures.same)
+invariant_of-self-in-Local g c = (
+  local_site _ c.in_ok-next.field-0 c.next.new.self c.reserve.new.self.records _ c.self.invariant.0
+      (sym c.asked.ensures ∙ c.in_default.is) c.in_ok-next.ensures.step c.in-Local.is
+      c.in_ok-reserve.ensures.records
+      (c.push_turn-in-Local.ensures.marks ∙ ap (λ ms. ms ++ Turn ∷ []) c.in_ok-reserve-2.ensures.same),
+  (
+    c.in_ok-reserve.ensures.kept ∙ c.self.invariant.1.0,
+    c.push_turn-in-Local.ensures.kept ∙ c.in_ok-reserve-2.ensures.kept ∙ c.self.invariant.1.1,
+  ),
+)

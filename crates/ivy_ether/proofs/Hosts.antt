@@ -1,0 +1,92 @@
+-- Calls are handed to the nodes of a world of hosts.
+use Rattle.std.proofs.Common.{◌≡◌, ℕ, zero, suc, ◌+◌, List, [], ◌∷◌, ◌++◌, length, slice_get, Some}
+use Rattle.std.proofs.Common.{refl, sym, ap, subst, ◌∙◌, arith, append_assoc}
+use Rattle.std.proofs.lemmas.Option.{none-some, same_Some}
+use Rattle.ivy_model.specs.declared.Call.{Call}
+use Rattle.ivy_model.specs.declared.Config.{Config}
+use Rattle.ivy_program.specs.Programs.{Program, Written, Called, handed}
+use Rattle.ivy_moves.specs.Marks.{Mark}
+use Rattle.ivy_moves.specs.Parts.{AreParts}
+use Rattle.ivy_moves.specs.Worlds.{World}
+use Rattle.ivy_moves.proofs.Carried.{changed-one}
+use Rattle.ivy_host.specs.Handing.{handing}
+use Rattle.ivy_host.specs.Hosts.{Host, host_rules}
+use Rattle.ivy_host.specs.Managers.{Managed, managed_ops}
+use Rattle.ivy_host.proofs.Handed.{unseen, handing_none, opening_handed}
+use Rattle.ivy_host.proofs.Tame.{first_length}
+use Rattle.ivy_ether.specs.Programs.{beginning, all_handed_from, all_handed}
+use Rattle.ivy_ether.specs.Rule.{IsHanding, IsStart, AreRunParts, StartsWith}
+
+pub handed_more : (some more : List Call) (p : Program)
+    → handed (some ++ more) p ≡ handed more (handed some p)
+handed_more some more (Written is) = refl
+handed_more some more (Called calls) = ap Called (sym (append_assoc calls some more))
+
+pub is_handing : IsHanding (host_rules managed_ops) handing
+is_handing = record {
+  unseen = λ calls. unseen managed_ops calls;
+  none = λ core. handing_none core;
+  more = λ some more core. ap
+      (λ p. record core { process = record { program = p; state = core.process.state } })
+      (handed_more some more core.process.program);
+}
+
+-- the programs of the nodes
+handed-from : (calls : ℕ → List Call) (k j : ℕ) (ps : List Program) (i : ℕ) (p : Program)
+    → k + i ≡ j → slice_get ps i ≡ Some p
+    → slice_get (all_handed_from k calls ps) i ≡ Some (handed (calls j) p)
+handed-from calls k j [] i p at is = absurd (none-some p is)
+handed-from calls k j (q ∷ ps) zero p at is =
+    let here : k ≡ j = omega (arith, at) in
+    ap (λ x. Some (handed (calls x) q)) here
+    ∙ ap (λ x. Some (handed (calls j) x)) (same_Some q p is)
+handed-from calls k j (q ∷ ps) (suc i) p at is =
+    handed-from calls (k + 1) j ps i p (omega (arith, at)) is
+
+pub handed-at : (calls : ℕ → List Call) (ps : List Program) (i : ℕ) (p : Program)
+    → slice_get ps i ≡ Some p → slice_get (all_handed calls ps) i ≡ Some (handed (calls i) p)
+handed-at calls ps i p is = handed-from calls 0 i ps i p (omega arith) is
+
+length-handed : (calls : ℕ → List Call) (k : ℕ) (ps : List Program)
+    → length (all_handed_from k calls ps) ≡ length ps
+length-handed calls k [] = refl
+length-handed calls k (p ∷ ps) = let e = length-handed calls (k + 1) ps in omega (arith, e)
+
+pub length-all_handed : (calls : ℕ → List Call) (ps : List Program)
+    → length (all_handed calls ps) ≡ length ps
+length-all_handed calls ps = length-handed calls 0 ps
+
+pub handed_count : (c : Config) (calls : ℕ → List Call) (ps : List Program)
+    → length (beginning c (all_handed calls ps)).nodes ≡ length ps
+handed_count c calls ps =
+    first_length managed_ops c 0 (all_handed calls ps) ∙ length-all_handed calls ps
+
+-- the nodes as they begin
+pub opened : (c : Config) (programs : List Program) (calls : ℕ → List Call)
+    → IsStart (host_rules managed_ops) c (beginning c programs) handing calls
+    (beginning c (all_handed calls programs))
+opened c programs calls = opening_handed managed_ops c calls programs (all_handed calls programs)
+    (record {
+      count = length-all_handed calls programs;
+      each = λ i p is. handed-at calls programs i p is;
+    })
+
+-- whatever was handed to the others
+abbrev pub starts_with : (c : Config) (programs : List Program) (node : ℕ) (calls : List Call)
+    → StartsWith (host_rules managed_ops) c (beginning c programs) handing node calls
+starts_with c programs node calls = record {
+  calls = λ _. calls;
+  own = refl;
+  start = beginning c (all_handed (λ _. calls) programs);
+  starts = opened c programs (λ _. calls);
+}
+
+-- a run of nodes to which calls were handed is one of the programs with these calls
+pub from_start : (c : Config) (programs : List Program) (calls : ℕ → List Call)
+    (parts : ℕ → List Mark) (end : World (Host Managed))
+    → AreRunParts (host_rules managed_ops) c (beginning c programs) handing calls parts end
+    → AreParts (host_rules managed_ops) c (beginning c (all_handed calls programs)) parts end
+from_start c programs calls parts end r =
+    subst (λ w. AreParts (host_rules managed_ops) c w parts end)
+    (changed-one (λ i. handing (calls i)) (beginning c programs) r.start
+    (beginning c (all_handed calls programs)) r.starts (opened c programs calls)) r.run

@@ -1,0 +1,18 @@
+use Rattle.std.proofs.Common.{sym, subst}
+use Rattle.crossbeam_queue.specs.Passes.{view}
+use Rattle.ivy_host.specs.Handing.{handing}
+use Rattle.ivy_host.specs.Hosts.{host_rules}
+use Rattle.ivy_host.specs.Managers.{managed_ops}
+use Rattle.ivy_ether.specs.Held.{Held}
+use Rattle.ivy_ether.specs.Programs.{beginning, MayGive}
+use Rattle.ivy_ether.proofs.Keeps.{gives}
+use Rattle.ivy_ether.proofs.ether.Ether.give.Goals as goal
+
+pub another-requires-clause-rule : goal.another-requires-clause-rule
+another-requires-clause-rule g c =
+    let config = g.S.Setup.config in
+    let programs = g.S.Setup.programs in
+    gives (host_rules managed_ops) config (beginning config programs) handing _
+    (view c.pass.inside.token) g.E.Given.events
+    (subst (λ (h : Held). MayGive config programs h.known g.E.Given.events)
+    (sym c.pass.view_is) c.requires.events)

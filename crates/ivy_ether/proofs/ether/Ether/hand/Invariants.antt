@@ -1,0 +1,4 @@
+use Rattle.ivy_ether.proofs.ether.Ether.hand.Given as goal
+
+abbrev pub ghosts-hand_given : goal.ghosts-hand_given
+ghosts-hand_given g a = record { call = a.call }

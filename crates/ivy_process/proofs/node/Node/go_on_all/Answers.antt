@@ -1,0 +1,18 @@
+use Rattle.std.proofs.Common.{refl, sym, subst}
+use Rattle.ivy_process.specs.Logging.{GoesOn}
+use Rattle.ivy_process.proofs.Logged.{stays, goes-further}
+use Rattle.ivy_process.proofs.node.Node.go_on_all.Goals as goal
+use Rattle.ivy_process.proofs.node.Node.go_on_all.Goals.{then-from-config+in_ok-go_on, else-from-config}
+
+pub loop-from-init : goal.loop-from-init
+loop-from-init c = stays _ _ refl refl
+
+pub loop-from-preserved : goal.loop-from-preserved
+loop-from-preserved c =
+    elim c.if-from-config.branch [
+      | then-from-config+in_ok-go_on w ↦
+          subst (GoesOn c.args.self.now) (sym w.self-is)
+          (goes-further c.args.self.now c.loop-from.self w.go_on.new.self c.loop-from.invariant
+          w.in_ok-go_on.ensures)
+      | else-from-config w ↦ subst (GoesOn c.args.self.now) (sym w.self-is) c.loop-from.invariant
+    ]

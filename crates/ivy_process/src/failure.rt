@@ -1,0 +1,62 @@
+//! Why a node stops before its input ends.
+
+use ivy_model::Fault;
+use std::alloc::{AllocError, AllocFailed};
+use std::{fmt, io};
+
+/// Why a node stops before its input ends.
+#[derive(Clone, Copy, Debug, PartialEq, Eq)]
+pub enum Failure {
+    /// A call was refused: memory or message numbers ran out, or the allowed turns are used up [1, 17, 21].
+    Refused(Fault),
+    /// So many messages for this node are kept, since it acknowledged none of them.
+    Kept(u8),
+    /// The event in this line of the log does not happen at the node: it is the log of another node, or of another program.
+    NotItsLog(u64),
+    /// The log takes no more.
+    Unlogged,
+    /// Standard output takes no more.
+    Unwritten,
+}
+
+impl fmt::Display for Failure {
+    fn fmt<W: fmt::Write>(&self, f: &mut fmt::Formatter<W>) -> fmt::Result {
+        match self {
+            Failure::Refused(fault) => write!(f, "{fault}"),
+            Failure::Kept(node) => write!(f, "kept messages to node {node}"),
+            Failure::NotItsLog(line) => write!(f, "line {line} of the log: no such event"),
+            Failure::Unlogged => write!(f, "the log takes no more"),
+            Failure::Unwritten => write!(f, "standard output takes no more"),
+        }
+    }
+}
+
+impl From<Fault> for Failure {
+    fn from(fault: Fault) -> Failure {
+        Failure::Refused(fault)
+    }
+}
+
+impl From<AllocError> for Failure {
+    fn from(_error: AllocError) -> Failure {
+        Failure::Refused(Fault::Memory)
+    }
+}
+
+impl<T: Drop> From<AllocFailed<T>> for Failure {
+    fn from(_error: AllocFailed<T>) -> Failure {
+        Failure::Refused(Fault::Memory)
+    }
+}
+
+impl Failure {
+    /// The failure of a log that a write to it ended with.
+    pub(crate) fn of_log(_error: io::Error) -> Failure {
+        Failure::Unlogged
+    }
+
+    /// The failure of standard output that a write to it ended with.
+    pub(crate) fn of_output(_error: io::Error) -> Failure {
+        Failure::Unwritten
+    }
+}

@@ -1,0 +1,372 @@
+//! A node that notes each event that it makes in lines for its log.
+ghost use Rattle.std.specs.Prelude.{◌≡◌, ◌++◌, ◌<◌, [], IfOk, OnOk};
+ghost use Rattle.std.specs.Io.KnownBytes.{Appends};
+ghost use Rattle.ivy_model.specs.Config.{IsConfig};
+ghost use Rattle.ivy_moves.specs.declared.keep.Keep.TheVariants.{Nothing};
+ghost use Rattle.ivy_join.specs.ivy_lines.Printed.{event_line, head_line};
+ghost use Rattle.ivy_join.specs.ivy_site.Sites.{first_keeping};
+ghost use Rattle.ivy_process.specs.Logging.{GoesOn, IsEmptied, IsLogged, IsRestarted, served};
+
+use crate::failure::Failure;
+use crate::limits::{Limits, Told};
+use crate::sites::{make_turns, push_frames};
+use ivy_join::ivy_lines::{Head, Log, parse_frame, push_event, push_head};
+use ivy_join::ivy_site::{Keep, Site, Verdict};
+use ivy_join::{NotPlayed, replay};
+use ivy_model::{Config, Fault};
+use ivy_moves::Event;
+use ivy_moves::ivy_link::MOST_AHEAD;
+use ivy_program::Program;
+use ivy_wire::{Bytes, read};
+use std::alloc::Global;
+use std::io::Write;
+use std::marker::Model;
+
+/// One node of a shared memory, which keeps no list of its past: its log has it.
+#[derive(Drop)]
+pub struct Node {
+    alloc: Global,
+    site: Site<Global>,
+    limits: Limits,
+    /// So many turns its program made.
+    turns: u64,
+    /// Of each node the greatest number that it acknowledged.
+    acknowledged: Vec<u64>,
+    told: Told,
+    /// The lines of the events that the log lacks.
+    lines: String,
+    /// The lines of frames that go out once the log has these.
+    frames: String,
+    /// So many values of its output were printed.
+    printed: usize,
+}
+
+impl Model for Node {
+    ghost use Rattle.std.specs.Prelude.{string_bytes};
+    ghost use Rattle.ivy_process.specs.Logging.{Served, served};
+    ghost use Rattle.std.specs.Coded.{codes};
+    ghost use Rattle.ivy_join.specs.ivy_pagetable.NodeSets.{nodes_code};
+    ghost use Rattle.ivy_join.specs.ivy_site.ivy_alloc.Heap.{heap_state_code};
+
+    ghost Value = { Served };
+
+    ghost coded = { Prim.hlevel (codes, nodes_code, heap_state_code) };
+
+    ghost view = { λ n. served n.site (string_bytes n.lines) };
+}
+
+impl Node {
+    /// The node of this number at the beginning of its program.
+    pub fn start(
+        alloc: Global,
+        config: &Config,
+        me: u8,
+        program: Program<Global>,
+        limits: Limits,
+    ) -> Result<Node, Failure>
+        requires limits { IsConfig config.now }
+        requires here { me < config.now.nodes }
+        ensures { IfOk result (λ node. node ≡ served (first_keeping Nothing config.now me program) []) }
+    {
+        let acknowledged = vec![in alloc; 0u64; usize::from(config.nodes)]?;
+        Ok(Node {
+            alloc,
+            site: Site::keeping(alloc, config, me, program, Keep::Nothing)?,
+            limits,
+            turns: 0,
+            acknowledged,
+            told: Told {
+                bad_lines: 0,
+                no_frames: 0,
+            },
+            lines: String::new(alloc),
+            frames: String::new(alloc),
+            printed: 0,
+        })
+    }
+
+    /// The node of this number as it was when its log ended: it is what the events of the log make of it. Nothing that they
+    /// sent is sent again, but for what pulses bring.
+    pub fn restart(
+        alloc: Global,
+        config: &Config,
+        me: u8,
+        program: Program<Global>,
+        limits: Limits,
+        log: &Log<Global>,
+    ) -> Result<Node, Failure>
+        requires limits { IsConfig config.now }
+        requires here { me < config.now.nodes }
+        ensures { IfOk result (λ node. IsRestarted config.now me program log.now.events.items node) }
+    {
+        let mut node = Node::start(alloc, config, me, program, limits)?;
+        match replay(&mut node.site, &log.events) {
+            Ok(()) => {}
+            Err(NotPlayed::Refused(fault)) => return Err(Failure::Refused(fault)),
+            Err(NotPlayed::NoSuchEvent(place)) => {
+                let line = log.lines.get(place).copied().unwrap_or(0);
+                return Err(Failure::NotItsLog(line));
+            }
+        }
+        node.learn_acknowledged(log);
+        Ok(node)
+    }
+
+    /// What the strings that a log delivers acknowledge.
+    fn learn_acknowledged(&mut self, log: &Log<Global>)
+        ensures { self.new ≡ self.old }
+    {
+        let config = self.site.config();
+        for event in &log.events {
+            if let Event::Delivered(string) = event {
+                if let Ok(frame) = read(&config, string.bytes()) {
+                    self.acknowledge(frame.source, frame.ack);
+                }
+            }
+        }
+    }
+
+    /// The number of the node.
+    pub fn me(&self) -> u8 {
+        self.site.me()
+    }
+
+    /// Whether its program has ended.
+    pub fn ended(&self) -> bool {
+        self.site.ended()
+    }
+
+    /// What it may use.
+    pub fn limits(&self) -> Limits {
+        self.limits
+    }
+
+    /// What it did not take.
+    pub fn told(&self) -> Told {
+        self.told
+    }
+
+    /// A node acknowledges all messages up to a number.
+    fn acknowledge(&mut self, from: u8, number: u64)
+        ensures { self.new ≡ self.old }
+    {
+        if let Some(most) = self.acknowledged.get_mut(usize::from(from)) {
+            *most = (*most).max(number);
+        }
+    }
+
+    /// Notes an event that the site made.
+    fn note(&mut self, event: &Event<Bytes<Global>>) -> Result<(), Failure>
+        ensures { OnOk result (self.new ≡ served self.old.site (self.old.unlogged ++ event_line event.now)) }
+    {
+        push_event(self.alloc, &mut self.lines, event)?;
+        Ok(())
+    }
+
+    /// Goes on with the strings of a node that it holds, one after another, until none of them is the next one.
+    fn go_on(&mut self, from: u8) -> Result<(), Failure>
+        requires { from < self.old.site.config.nodes }
+        ensures { OnOk result (GoesOn self.old self.new) }
+    {
+        for _ in 0..MOST_AHEAD {
+            let Some(string) = self.site.go_on_with(from)? else {
+                break;
+            };
+            self.note(&Event::Delivered(string))?;
+        }
+        Ok(())
+    }
+
+    /// A string comes. It tells of one that spells no frame.
+    fn deliver(&mut self, string: Bytes<Global>) -> Result<(), Failure>
+        ensures { OnOk result (GoesOn self.old self.new) }
+    {
+        let (verdict, from) = self.site.deliver_alone(&string)?;
+        if verdict == Verdict::NotMine {
+            return Ok(());
+        }
+        self.note(&Event::Delivered(string))?;
+        if verdict == Verdict::Next {
+            self.go_on(from)?;
+        }
+        Ok(())
+    }
+
+    /// The string of a line comes. One that spells no frame of this configuration is counted.
+    fn take(&mut self, bytes: Vec<u8>) -> Result<(), Failure>
+        ensures { OnOk result (GoesOn self.old self.new) }
+    {
+        let string = Bytes::from_vec(self.alloc, bytes)?;
+        let config = self.site.config();
+        let Ok(frame) = read(&config, string.bytes()) else {
+            self.told.no_frames = self.told.no_frames.saturating_add(1);
+            return Ok(());
+        };
+        if frame.dest == self.site.me() {
+            self.acknowledge(frame.source, frame.ack);
+        }
+        self.deliver(string)
+    }
+
+    /// A line comes. A frame for another node is left alone, and a line without a frame is counted.
+    pub fn hear(&mut self, line: &str) -> Result<(), Failure>
+        ensures { OnOk result (GoesOn self.old self.new) }
+    {
+        match parse_frame(self.alloc, line)? {
+            None => {
+                self.told.bad_lines = self.told.bad_lines.saturating_add(1);
+                Ok(())
+            }
+            Some(frame) if frame.to == u64::from(self.site.me()) => self.take(frame.bytes),
+            Some(_) => Ok(()),
+        }
+    }
+
+    /// Makes so many turns at most, until one does nothing. It says how many did something.
+    pub fn make_turns(&mut self, most: u64) -> Result<u64, Failure>
+        ensures { OnOk result (GoesOn self.old self.new) }
+    {
+        let left = self.limits.turns.saturating_sub(self.turns);
+        if left == 0 && !self.site.ended() {
+            return Err(Failure::Refused(Fault::TurnLimit));
+        }
+        let made = make_turns(&mut self.site, most.min(left))?;
+        self.turns = self.turns.saturating_add(made);
+        if made > 0 {
+            self.note(&Event::Turns(made))?;
+        }
+        Ok(made)
+    }
+
+    /// Writes the lines of the frames that wait.
+    fn take_frames(&mut self) -> Result<(), Failure>
+        ensures { OnOk result (IsEmptied self.old self.new) }
+    {
+        push_frames(self.alloc, &mut self.site, &mut self.frames)?;
+        Ok(())
+    }
+
+    /// A pulse to a node, where it is another one.
+    fn pulse_to(&mut self, to: u8) -> Result<(), Failure>
+        ensures { OnOk result (GoesOn self.old self.new) }
+    {
+        if to >= self.site.config().nodes || to == self.site.me() {
+            return Ok(());
+        }
+        self.take_frames()?;
+        self.site.pulse(to)?;
+        if self.site.has_frame() {
+            self.note(&Event::Pulsed(to))?;
+        }
+        Ok(())
+    }
+
+    /// Pulses to each other node.
+    pub fn pulse(&mut self) -> Result<(), Failure>
+        ensures { OnOk result (GoesOn self.old self.new) }
+    {
+        for to in 0..self.site.config().nodes {
+            self.pulse_to(to)?;
+        }
+        Ok(())
+    }
+
+    /// Goes on with each string that it holds and that is the next one now. A node that was killed may have such strings.
+    pub fn go_on_all(&mut self) -> Result<(), Failure>
+        ensures { OnOk result (GoesOn self.old self.new) }
+    {
+        for from in 0..self.site.config().nodes {
+            if from < self.site.config().nodes {
+                self.go_on(from)?;
+            }
+        }
+        Ok(())
+    }
+
+    /// Whether no more messages for one node are kept than may be.
+    pub fn check_kept(&self) -> Result<(), Failure> {
+        for to in 0..self.site.config().nodes {
+            let acknowledged = self.acknowledged.get(usize::from(to)).copied();
+            let kept = self
+                .site
+                .sent_to(to)
+                .saturating_sub(acknowledged.unwrap_or(0));
+            if kept > self.limits.kept {
+                return Err(Failure::Kept(to));
+            }
+        }
+        Ok(())
+    }
+
+    /// Writes the first line of its log.
+    pub fn begin_log<L: Write>(&self, log: &mut L) -> Result<(), Failure>
+        ensures { OnOk result (Appends (L.contents log.old) (L.contents log.new) (head_line (record { me = self.now.site.me; config = self.now.site.config }))) }
+    {
+        let mut text = String::new(self.alloc);
+        let head = Head {
+            me: self.site.me(),
+            config: self.site.config(),
+        };
+        push_head(&mut text, &head)?;
+        log.write_all(text.as_bytes()).map_err(Failure::of_log)?;
+        log.flush().map_err(Failure::of_log)
+    }
+
+    /// Writes what the log lacks.
+    fn write_log<L: Write>(&mut self, log: &mut L) -> Result<(), Failure>
+        ensures { OnOk result (IsLogged self.old self.new (L.contents log.old) (L.contents log.new)) }
+    {
+        if self.lines.is_empty() {
+            return Ok(());
+        }
+        log.write_all(self.lines.as_bytes())
+            .map_err(Failure::of_log)?;
+        log.flush().map_err(Failure::of_log)?;
+        self.lines.clear();
+        Ok(())
+    }
+
+    /// Writes the frames that wait.
+    fn send<O: Write>(&mut self, out: &mut O) -> Result<(), Failure>
+        ensures { OnOk result (IsEmptied self.old self.new) }
+    {
+        self.take_frames()?;
+        if self.frames.is_empty() {
+            return Ok(());
+        }
+        out.write_all(self.frames.as_bytes())
+            .map_err(Failure::of_output)?;
+        out.flush().map_err(Failure::of_output)?;
+        self.frames.clear();
+        Ok(())
+    }
+
+    /// Tells of the values that the program printed.
+    fn print<E: Write>(&mut self, err: &mut E)
+        ensures { self.new ≡ self.old }
+    {
+        let me = self.site.me();
+        let output = self.site.output();
+        for value in output.get(self.printed..).unwrap_or(&[]) {
+            // The log has what led to it, so a value that is not told is told after a new start.
+            let _ = writeln!(err, "node {me}: {value}");
+        }
+        self.printed = output.len();
+    }
+
+    /// Writes what the log lacks, and only then the frames that wait, and tells of what was printed. Where the log takes no
+    /// more, nothing goes out.
+    pub fn speak<L: Write, O: Write, E: Write>(
+        &mut self,
+        log: &mut L,
+        out: &mut O,
+        err: &mut E,
+    ) -> Result<(), Failure>
+        ensures { OnOk result (IsLogged self.old self.new (L.contents log.old) (L.contents log.new)) }
+    {
+        self.write_log(log)?;
+        self.send(out)?;
+        self.print(err);
+        Ok(())
+    }
+}

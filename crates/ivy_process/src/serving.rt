@@ -1,0 +1,150 @@
+//! A node serves until its input ends.
+ghost use Rattle.std.specs.Prelude.{OnOk};
+ghost use Rattle.ivy_process.specs.Logging.{GoesOn, Streams, StreamsWhole};
+
+use crate::failure::Failure;
+use crate::mail::{Inbox, Taken};
+use crate::node::Node;
+use std::io::Write;
+use std::sync::Wait;
+
+/// So many strings are heard, and so many turns made, before the node speaks.
+const MOST_STRINGS: u64 = 64;
+
+const MOST_TURNS: u64 = 1024;
+
+/// What tells the time.
+pub trait Clockwork {
+    /// The milliseconds since some moment.
+    fn millis(&self) -> u64;
+}
+
+/// How a node's service ended.
+#[derive(Clone, Copy, Debug, PartialEq, Eq)]
+pub enum Ending {
+    /// Its program has ended.
+    Ended,
+    /// Its program waits.
+    Waits,
+}
+
+/// What was heard.
+#[derive(Clone, Copy, Debug, PartialEq, Eq)]
+struct Heard {
+    lines: u64,
+    has_ended: bool,
+}
+
+/// What a service has told and when it pulsed last.
+#[derive(Clone, Copy, Debug, PartialEq, Eq)]
+struct Service {
+    pulsed: u64,
+    was_told: bool,
+}
+
+/// Hears the lines that wait, so many at most.
+fn hear<R: Wait, I: Inbox>(rt: &R, inbox: &I, node: &mut Node) -> Result<Heard, Failure>
+    ensures { OnOk result (GoesOn node.old node.new) }
+{
+    let mut lines = 0u64;
+    while lines < MOST_STRINGS {
+        match inbox.take(rt) {
+            Taken::Line(line) => node.hear(line.as_str())?,
+            Taken::Nothing => {
+                return Ok(Heard {
+                    lines,
+                    has_ended: false,
+                });
+            }
+            Taken::Ended => {
+                return Ok(Heard {
+                    lines,
+                    has_ended: true,
+                });
+            }
+        }
+        lines += 1;
+    }
+    Ok(Heard {
+        lines,
+        has_ended: false,
+    })
+}
+
+/// Tells once that the program has ended.
+fn tell_end<E: Write>(node: &Node, service: &mut Service, err: &mut E) {
+    if node.ended() && !service.was_told {
+        service.was_told = true;
+        // A node that is started again tells it again.
+        let _ = writeln!(err, "node {} ended", node.me());
+    }
+}
+
+/// Hears what waits, makes turns, speaks, and pulses where it is time. It says whether there is no more to do.
+fn serve_once<R: Wait, I: Inbox, C: Clockwork, L: Write, O: Write, E: Write>(
+    rt: &R,
+    clock: &C,
+    inbox: &I,
+    node: &mut Node,
+    service: &mut Service,
+    log: &mut L,
+    out: &mut O,
+    err: &mut E,
+) -> Result<bool, Failure>
+    ensures { OnOk result (Streams node.old node.new (L.contents log.old) (L.contents log.new)) }
+{
+    let every = node.limits().pulse_millis;
+    let heard = hear(rt, inbox, node)?;
+    let made = node.make_turns(MOST_TURNS)?;
+    node.speak(log, out, err)?;
+    node.check_kept()?;
+    tell_end(node, service, err);
+    if heard.lines == 0 && made == 0 {
+        if heard.has_ended {
+            return Ok(true);
+        }
+        inbox.wait(rt, every);
+    }
+    let now = clock.millis();
+    if now.saturating_sub(service.pulsed) >= every {
+        node.pulse()?;
+        node.speak(log, out, err)?;
+        service.pulsed = now;
+    }
+    Ok(false)
+}
+
+/// Serves until the input has ended and the program's next turn does nothing.
+///
+/// What the node did stands in the log before a frame or a printed value of it goes out. After a nap in which nothing
+/// came, and whenever so much time has passed, it pulses to each other node; at the beginning as well, for it may have
+/// been killed before.
+pub fn serve<R: Wait, I: Inbox, C: Clockwork, L: Write, O: Write, E: Write>(
+    rt: &R,
+    clock: &C,
+    inbox: &I,
+    node: &mut Node,
+    log: &mut L,
+    out: &mut O,
+    err: &mut E,
+) -> Result<Ending, Failure>
+    ensures { OnOk result (StreamsWhole node.old node.new (L.contents log.old) (L.contents log.new)) }
+{
+    node.go_on_all()?;
+    node.pulse()?;
+    let mut service = Service {
+        pulsed: clock.millis(),
+        was_told: false,
+    };
+    for _ in rt.forever() {
+        if serve_once(rt, clock, inbox, node, &mut service, log, out, err)? {
+            break;
+        }
+    }
+    node.speak(log, out, err)?;
+    Ok(if node.ended() {
+        Ending::Ended
+    } else {
+        Ending::Waits
+    })
+}

@@ -1,0 +1,39 @@
+//! What is made at a site on behalf of its node.
+ghost use Rattle.std.specs.Prelude.{◌≡◌, ◌++◌, [], IfOk, OnOk};
+ghost use Rattle.ivy_moves.specs.Marks.{turns};
+
+use ivy_join::ivy_lines::push_frame;
+use ivy_join::ivy_site::{Site, Turn};
+use ivy_model::Fault;
+use ivy_wire::destination;
+use std::alloc::{AllocError, Global};
+
+/// Makes so many turns at most, until one does nothing [1, 17]. It says how many did something.
+pub(crate) fn make_turns(site: &mut Site<Global>, most: u64) -> Result<u64, Fault>
+    ensures { IfOk result (λ made. site.new.events ≡ site.old.events ++ turns made) }
+{
+    let mut made = 0u64;
+    while made < most {
+        if site.program_turn()? != Turn::Moved {
+            return Ok(made);
+        }
+        made += 1;
+    }
+    Ok(made)
+}
+
+/// Takes out all frames that wait at a site, and writes the lines of them behind a text.
+pub(crate) fn push_frames(
+    alloc: Global,
+    site: &mut Site<Global>,
+    text: &mut String,
+) -> Result<(), AllocError>
+    ensures same { record site.new { waiting = [] } ≡ record site.old { waiting = [] } }
+    ensures none { OnOk result (site.new.waiting ≡ []) }
+{
+    while let Some(string) = site.take_frame() {
+        let to = destination(string.bytes()).unwrap_or(0);
+        push_frame(alloc, text, to, string.bytes())?;
+    }
+    Ok(())
+}

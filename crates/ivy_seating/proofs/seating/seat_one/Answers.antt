@@ -1,0 +1,32 @@
+use Rattle.std.proofs.Common.{rules, ◌≡◌, Some, slice_get, sym, ap, subst, ◌∙◌}
+use Rattle.ivy_model.specs.declared.Config.{Config}
+use Rattle.ivy_model.specs.Config.{IsConfig}
+use Rattle.ivy_ether.specs.Held.{Held}
+use Rattle.ivy_ether.specs.Views.{View, newcomer, with_seat}
+use Rattle.ivy_site.specs.Shown.{Shown}
+use Rattle.ivy_site.specs.Sites.{first_keeping}
+use Rattle.ivy_seating.proofs.seating.seat_one.Goals as goal
+
+pub new-requires : goal.new-requires
+new-requires g c =
+    let found : c.in-Some.found ≡ c.args.node = search rules in
+    let first : c.in_ok-site.site
+    ≡ first_keeping c.args.keep c.args.config.now c.args.node c.args.program =
+    c.in_ok-site.ensures.first in
+    let me : c.in_ok-site.site.me ≡ c.args.node = ap (λ (x : Shown). x.me) first in
+    record {
+      fresh = record {
+        limits = subst IsConfig c.requires.config c.requires.limits;
+        each = c.requires.each ∙ ap (λ (k : Config). k.nodes) c.requires.config;
+        ether = c.take_seat.ensures.pass ∙ ap (λ (h : Held). h.ether) c.requires.pass;
+        pass = c.in-Some.ensures.known
+            ∙ ap (λ (h : Held). with_seat h.known c.in-Some.found) c.requires.pass
+            ∙ ap (with_seat newcomer) (found ∙ sym me);
+        program = c.args.program;
+        there = subst (λ i. slice_get g.S.Setup.programs i ≡ Some c.args.program) (sym me)
+            c.requires.there;
+        keep = c.args.keep;
+        site = first ∙ (λ k. first_keeping c.args.keep (c.requires.config k) (sym me k)
+            c.args.program);
+      };
+    }

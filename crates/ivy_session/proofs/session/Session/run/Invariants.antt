@@ -1,4 +1,0 @@
-use Rattle.ivy_session.proofs.session.Session.run.Given as goal
-
-abbrev pub ghosts-play : goal.ghosts-play
-ghosts-play g a = record { config = a.config.now; programs = a.programs.items }

@@ -1,0 +1,17 @@
+use Rattle.std.proofs.Common.{◌≡◌, length, sym, ap, ◌∙◌, arith}
+use Rattle.ivy_model.specs.declared.Config.{Config}
+use Rattle.ivy_session.proofs.session.play_at.Goals as goal
+
+pub collect-requires-clause-each : goal.collect-requires-clause-each
+collect-requires-clause-each g c =
+    let programs : c.args.programs.items ≡ g.S.Setup.programs = c.requires.programs in
+    let each : length c.args.programs.items ≡ c.args.config.now.nodes = c.requires.each in
+    let config : c.args.config.now ≡ g.S.Setup.config = c.requires.config in
+    sym (ap length programs) ∙ each ∙ ap (λ (k : Config). k.nodes) config
+
+pub collect-requires-clause-nodes : goal.collect-requires-clause-nodes
+collect-requires-clause-nodes g c =
+    let programs : c.args.programs.items ≡ g.S.Setup.programs = c.requires.programs in
+    let long = ap length programs in
+    let count = c.args.programs.ok.0 in
+    omega (arith, long, count)

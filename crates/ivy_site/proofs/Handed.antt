@@ -1,0 +1,77 @@
+-- What holds of a site holds where its owner makes further calls.
+use Rattle.std.proofs.Common.{◌≡◌, List, Contains, Result, Ok, Err, OnOk, OnErr, sym, ap, subst}
+use Rattle.ivy_model.specs.declared.Fault.{Fault}
+use Rattle.ivy_model.specs.declared.Call.{Call}
+use Rattle.ivy_host.specs.Handing.{handing}
+use Rattle.ivy_host.specs.Hosts.{host_rules}
+use Rattle.ivy_host.specs.Managers.{managed_ops}
+use Rattle.ivy_host.specs.Openings.{first_node}
+use Rattle.ivy_host.proofs.Handed.{unseen}
+use Rattle.ivy_moves.specs.Carrying.{EventsCarryOver, node_changed, effect_changed}
+use Rattle.ivy_moves.proofs.Unseen.{events-over}
+use Rattle.ivy_program.specs.Owned.{IsFree, process_handed}
+use Rattle.ivy_program.specs.Steps.{Process}
+use Rattle.ivy_site.specs.Inside.{host_of}
+use Rattle.ivy_site.specs.Shown.{Shown, box_of, shown_of}
+use Rattle.ivy_site.specs.Handed.{site_handed}
+use Rattle.ivy_site.specs.Sites.{IsSite, IsHeld, IsMadeByEvents, HoldsEarly, early_at}
+
+module _ (more : List Call) (s : Shown) (made : IsMadeByEvents s) where
+  carried : EventsCarryOver (host_rules managed_ops) s.config (handing more)
+      (first_node managed_ops s.config s.me s.node.core.process.program) s.events made.effect
+  carried = events-over (host_rules managed_ops) s.config (handing more) (unseen managed_ops more)
+      (first_node managed_ops s.config s.me s.node.core.process.program) s.events made.effect
+      made.happen
+
+  -- its events make it of the first node of the longer program
+  pub handed_made : IsMadeByEvents (site_handed more s)
+  handed_made = record {
+    effect = effect_changed (handing more) made.effect;
+    happen = carried.happen;
+    node = ap (node_changed (handing more)) made.node;
+    taken = made.taken;
+    waits = made.waits;
+  }
+
+  -- and no other string came too early
+  pub handed_early : early_at (site_handed more s) ≡ early_at s
+  handed_early = carried.early
+
+  handed_held : HoldsEarly s → HoldsEarly (site_handed more s)
+  handed_held held source place bytes is =
+      let h : IsHeld s source place bytes = held source place bytes is in
+      record {
+        early = subst (λ l. Contains l bytes) (sym handed_early) h.early;
+        frame = h.frame;
+        spelled = h.spelled;
+        source = h.source;
+        dest = h.dest;
+        number = h.number;
+      }
+
+-- what holds of a site that was free
+pub handed_site : (more : List Call) (s : Shown) → IsSite s → IsFree s.node.core.process
+    → IsSite (site_handed more s)
+handed_site more s h free = record {
+  config = h.config;
+  me = h.me;
+  asking = λ call asked. (let asks = h.asking call asked in let ended = free.ended in absurd cc);
+  made = handed_made more s h.made;
+  held = handed_held more s h.made h.held;
+}
+
+-- the site with this program, which has come this far
+abbrev with_process : Shown → Process → Shown
+with_process v p =
+    shown_of v.keep (host_of v.node.core.memory p v.node.core.history) (box_of v) v.events
+
+-- it is so whether the call was handed in or refused
+pub after_hand : (more : List Call) (v n : Shown) → v ≡ n → (r : Result (Unit {0}) Fault)
+    → (p : Process) → OnOk r (p ≡ process_handed more v.node.core.process)
+    → OnErr r (p ≡ v.node.core.process) → IsSite v → IsFree n.node.core.process
+    → IsSite (with_process v p)
+after_hand more v n same (Ok u) p ok err h free =
+    subst (λ q. IsSite (with_process v q)) (sym ok)
+    (handed_site more v h (subst (λ (x : Shown). IsFree x.node.core.process) (sym same) free))
+after_hand more v n same (Err e) p ok err h free =
+    subst (λ q. IsSite (with_process v q)) (sym err) h

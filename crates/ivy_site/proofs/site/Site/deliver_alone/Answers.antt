@@ -1,0 +1,35 @@
+use Rattle.std.proofs.Common.{ap, subst, ◌∙◌}
+use Rattle.ivy_model.specs.Config.{IsConfig}
+use Rattle.ivy_wire.specs.Lent.{owned_frame}
+use Rattle.ivy_host.proofs.of_ivy_memory.Beginning.{err_there}
+use Rattle.ivy_site.specs.Shown.{Shown}
+use Rattle.ivy_site.specs.Sites.{IsSpentDelivery}
+use Rattle.ivy_site.proofs.Delivering.{spent_reading}
+use Rattle.ivy_site.proofs.Heads.{reads_frame, refused_none}
+use Rattle.ivy_site.proofs.site.Site.deliver_alone.Goals as goal
+
+pub receive-requires : goal.receive-requires
+receive-requires g c = record {
+  spelled =
+      reads_frame c.args.self.now _ c.self.view_is c.config-config.result c.config-config.ensures.is
+      (owned_frame c.in_ok-read.field-0) c.args.string.now c.bytes.result.now c.bytes.ensures
+      c.in_ok-read.ensures.found;
+}
+
+pub returns-in_err-read-clause-spent : goal.returns-in_err-read-clause-spent
+returns-in_err-read-clause-spent g c =
+    err_there c.from_residual.result (IsSpentDelivery c.args.self.now c.args.string.now) _
+    c.from_residual.ensures.1
+    (subst (λ b. IsSpentDelivery c.args.self.now b c.in_err-read.field-0.0) c.bytes.ensures
+    (spent_reading _ _ c.self.view_is c.config-config.result c.bytes.result.now _ _
+    c.config-config.ensures.is c.in_err-read.ensures.fault))
+
+pub returns-clause-refused : goal.returns-clause-refused
+returns-clause-refused g c =
+    let config = c.config-config.ensures.is ∙ ap (λ (x : Shown). x.config) c.self.view_is in
+    refused_none c.args.self.now.config (subst IsConfig config c.config-config.ensures.limits)
+    c.args.string.now
+    (reads_frame c.args.self.now _ c.self.view_is c.config-config.result
+    c.config-config.ensures.is (owned_frame c.in_ok-read.field-0) c.args.string.now
+    c.bytes.result.now c.bytes.ensures c.in_ok-read.ensures.found)
+    c.receive.result c.receive.ensures.want
