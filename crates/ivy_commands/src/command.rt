@@ -9,9 +9,9 @@ ghost use Rattle.ivy_commands.specs.Commands.{final_status, AreSpelled, IsCarrie
 
 use crate::failure::Failure;
 use crate::print::Reported;
-use crate::texts::Texts;
 use ivy_arguments::Request;
 use ivy_arguments::ivy_texts::{Settings, parse_order, print_verdict};
+use ivy_files::Texts;
 use ivy_model::{Config, Kind, Record, check_order};
 use ivy_program::{Program, parse};
 use ivy_session::{Keep, Limits, OpenGate, Session};

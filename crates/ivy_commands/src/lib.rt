@@ -10,14 +10,13 @@
 mod command;
 mod failure;
 mod print;
-mod texts;
 
 pub use command::perform;
 pub use failure::Failure;
 pub use ivy_arguments;
 pub use ivy_arguments::ivy_texts;
+pub use ivy_files::{FilesOf, Texts};
 pub use ivy_session;
 pub use ivy_session::ivy_ether;
 pub use ivy_simulation;
 pub use ivy_simulation::{ivy_site, ivy_world};
-pub use texts::{FilesOf, Texts};

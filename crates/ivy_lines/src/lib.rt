@@ -16,4 +16,4 @@ pub use cursor::are_same;
 pub use frame::{FrameLine, parse_frame};
 pub use ivy_texts;
 pub use log::{Head, Log, parse_log};
-pub use print::{push_event, push_frame, push_head};
+pub use print::{push_event, push_frame, push_head, push_log};

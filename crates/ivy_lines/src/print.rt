@@ -1,7 +1,7 @@
 //! What is written of frames and of logs.
 ghost use Rattle.std.specs.Prelude.{◌≡◌, ◌++◌, OnOk, string_bytes};
 ghost use Rattle.hex.specs.Hex.{encode_lower};
-ghost use Rattle.ivy_lines.specs.Printed.{event_line, frame_line, head_line};
+ghost use Rattle.ivy_lines.specs.Printed.{event_line, frame_line, head_line, log_text};
 
 use crate::log::Head;
 use ivy_model::Kind;
@@ -71,4 +71,20 @@ pub fn push_event<A: Allocator + Copy>(
             text.push('\n')
         }
     }
+}
+
+/// Writes a whole log behind a text. Err only where the allocator has no memory.
+pub fn push_log<A: Allocator + Copy>(
+    alloc: A,
+    text: &mut String<A>,
+    head: &Head,
+    events: &[Event<Bytes<A>>],
+) -> Result<(), AllocError>
+    ensures { OnOk result (string_bytes text.new ≡ string_bytes text.old ++ log_text head.now events.now) }
+{
+    push_head(text, head)?;
+    for event in events {
+        push_event(alloc, text, event)?;
+    }
+    Ok(())
 }

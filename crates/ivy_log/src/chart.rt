@@ -19,8 +19,8 @@ pub struct Chart {
     pub page: u32,
 }
 
-/// How wide the legend is.
-const LEGEND: u64 = 420;
+/// How many letters a line of the legend has at most.
+const LEGEND: u64 = 80;
 
 /// How wide a bold letter is at most.
 const LETTER: u64 = 7;
@@ -187,7 +187,7 @@ fn draw_texts<W: Write>(log: &Log, marks: &Marks, out: &mut W) -> io::Result<()>
 
 /// Where the picture ends at the right: behind the last line, the legend and what stands beside the lines.
 fn width_of(alloc: Global, chart: Chart, log: &Log) -> Result<u64, AllocError> {
-    let mut width = lane(chart.nodes).max(LEGEND);
+    let mut width = lane(chart.nodes).max(LEGEND * LETTER + MARGIN);
     for happening in log.happenings.iter() {
         if let Some(record) = happening.record {
             let (call, reply) = (CallText(record.call), ReplyText(record.reply));

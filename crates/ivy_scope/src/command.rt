@@ -4,14 +4,15 @@ use crate::failure::Failure;
 use crate::faults::{Kind, explain, sound};
 use crate::help::print_help;
 use crate::judging::judge;
+use crate::logs::Logs;
 use crate::looking::look;
 use crate::played::{Run, order, schedule, shortest};
 use crate::reading::read;
 use crate::request::{Moves, Request, Steps, View};
-use crate::sessions::run;
+use crate::sessions::{Outcome, run};
 use crate::settled::settle;
 use crate::views::{both, chart, counts};
-use ivy_commands::Texts;
+use ivy_files::Texts;
 use ivy_replay::Progress;
 use std::alloc::Global;
 use std::io::Write;
@@ -73,7 +74,7 @@ fn drawn_of(steps: Steps<'_>) -> (u64, u64) {
 }
 
 /// Prints what is asked of a run.
-fn show<'a, T: Texts, W: Write, E: Write, P: Progress>(
+fn show<'a, T: Texts, W: Write, E: Write + Send, P: Progress>(
     alloc: Global,
     moves: Moves<'a>,
     view: View,
@@ -133,7 +134,7 @@ fn checked<'a, T: Texts, W: Write, E: Write>(
 }
 
 /// Carries out a request, and gives the exit status.
-fn carry_out<'a, R: Threads + Wait + Sync, T: Texts, W: Write, E: Write, P: Progress>(
+fn carry_out<'a, R: Threads + Wait + Sync, T: Texts + Logs, W: Write, E: Write + Send, P: Progress>(
     rt: &R,
     alloc: Global,
     request: Request<'a>,
@@ -148,15 +149,14 @@ fn carry_out<'a, R: Threads + Wait + Sync, T: Texts, W: Write, E: Write, P: Prog
         Request::Explain(file) => return explained(alloc, file, files, out),
         Request::Check(file) => return checked(alloc, file, files, out, err),
         Request::Show { moves, view } => show(alloc, moves, view, files, out, err, progress)?,
-        Request::Run {
-            file,
-            limits,
-            wishes,
-            settings,
-        } => {
+        Request::Run { file, session } => {
             let text = programs_of(alloc, files, file, err)?;
-            let failed = run(rt, alloc, text.as_str(), limits, settings, wishes, out, err)?;
-            return Ok(if failed { FAILED } else { 0 });
+            let outcome = run(rt, alloc, text.as_str(), session, files, out, err)?;
+            return Ok(match outcome {
+                Outcome::Done => 0,
+                Outcome::Refused => FAILED,
+                Outcome::Standstill => STANDSTILL,
+            });
         }
         Request::Search {
             file,
@@ -189,7 +189,7 @@ fn carry_out<'a, R: Threads + Wait + Sync, T: Texts, W: Write, E: Write, P: Prog
 ///
 /// The first word is the program's name. What is at fault is printed on standard error. What may take long tells how far
 /// it is.
-pub fn perform<R: Threads + Wait + Sync, T: Texts, O: Write, E: Write, P: Progress>(
+pub fn perform<R: Threads + Wait + Sync, T: Texts + Logs, O: Write, E: Write + Send, P: Progress>(
     rt: &R,
     alloc: Global,
     words: &[String],

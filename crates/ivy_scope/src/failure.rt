@@ -15,6 +15,8 @@ pub enum Failure<'a> {
     BadGoal(&'a str),
     /// The file of this name can't be read as UTF-8.
     CannotRead(&'a str),
+    /// The folder of this name takes no logs.
+    CannotWrite(&'a str),
     /// The text of this file is at fault. It was told where.
     AtFault(&'a str),
     /// A call was refused.
@@ -30,7 +32,7 @@ impl Failure<'_> {
     pub fn status(&self) -> u8 {
         match self {
             Failure::BadCommandLine(_) | Failure::BadGoal(_) => 2,
-            Failure::CannotRead(_) | Failure::AtFault(_) => 2,
+            Failure::CannotRead(_) | Failure::CannotWrite(_) | Failure::AtFault(_) => 2,
             Failure::Refused(Fault::BadConfig | Fault::ProgramFault(_)) => 2,
             Failure::Refused(_) | Failure::NoOrder | Failure::Unwritten => 1,
         }
@@ -53,6 +55,7 @@ impl fmt::Display for Failure<'_> {
             Failure::BadCommandLine(misuse) => write!(f, "bad command line: {misuse}"),
             Failure::BadGoal(text) => write!(f, "`{text}` is not `node I prints X`"),
             Failure::CannotRead(name) => write!(f, "cannot read {name}"),
+            Failure::CannotWrite(name) => write!(f, "cannot write into {name}"),
             Failure::AtFault(name) => write!(f, "{name} is at fault"),
             Failure::Refused(fault) => write!(f, "{fault}"),
             Failure::NoOrder => write!(f, "no order passed the test"),

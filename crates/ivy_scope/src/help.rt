@@ -28,6 +28,7 @@ fn print_choice<W: Write>(choice: &Choice, out: &mut W) -> io::Result<()> {
         Value::Number(_) | Value::Moves(_) => "N",
         Value::Manager => "fixed|dynamic",
         Value::Word => "WORDS",
+        Value::Folder => "FOLDER",
     };
     write!(out, "  {:<11} {behind:<14} {}", choice.name, choice.about)?;
     match choice.value {

@@ -11,6 +11,7 @@ mod given;
 mod goals;
 mod help;
 mod judging;
+mod logs;
 mod looking;
 mod misuse;
 mod played;
@@ -25,6 +26,7 @@ mod views;
 
 pub use command::perform;
 pub use failure::Failure;
-pub use ivy_commands;
+pub use ivy_files;
 pub use ivy_replay;
+pub use logs::Logs;
 pub use misuse::Misuse;

@@ -4,14 +4,14 @@ use crate::failure::Failure;
 use crate::given::Given;
 use crate::misuse::Misuse;
 use crate::request::{Moves, Request, Steps, View};
-use crate::sessions::Wishes;
+use crate::sessions::{Asked, Wishes};
 use crate::table::{
-    BOTH, CAPACITY, COUNTS, Choice, Command, FIRST_MOVES, HISTORY, MANAGER, MOVES, PAGE, PAGE_SIZE,
-    PAGES, PULSE, SEED, SHORTEST, STATES, STRICT, TURNS, UNTIL, command_of,
+    BOTH, CAPACITY, COUNTS, Choice, Command, FIRST_MOVES, HISTORY, LOGS, MANAGER, MOVES, PAGE,
+    PAGE_SIZE, PAGES, PULSE, SEED, SHORTEST, STATES, STRICT, TURNS, UNTIL, command_of,
 };
-use ivy_commands::ivy_session::Limits;
 use ivy_explain::ivy_texts::Settings;
 use ivy_model::Kind;
+use ivy_watched::ivy_session::Limits;
 use std::alloc::Global;
 
 fn file_of<'a>(given: &Given<'a>) -> &'a str {
@@ -59,17 +59,20 @@ fn show<'a>(given: &Given<'a>, view: View) -> Request<'a> {
 fn run_of<'a>(given: &Given<'a>) -> Request<'a> {
     Request::Run {
         file: file_of(given),
-        limits: Limits {
-            capacity: number_of(given, CAPACITY),
-            turns: number_of(given, TURNS),
-            pulse_every: number_of(given, PULSE),
+        session: Asked {
+            limits: Limits {
+                capacity: number_of(given, CAPACITY),
+                turns: number_of(given, TURNS),
+                pulse_every: number_of(given, PULSE),
+            },
+            wishes: Wishes {
+                strict: given.has(STRICT),
+                history: given.has(HISTORY),
+                counts: given.has(COUNTS),
+                logs: given.word(LOGS),
+            },
+            settings: settings_of(given),
         },
-        wishes: Wishes {
-            strict: given.has(STRICT),
-            history: given.has(HISTORY),
-            counts: given.has(COUNTS),
-        },
-        settings: settings_of(given),
     }
 }
 

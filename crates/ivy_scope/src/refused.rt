@@ -1,18 +1,19 @@
-//! Calls that were refused.
+//! Calls of a session that are refused, told as they are found.
 
 use crate::standing::Listing;
-use ivy_commands::ivy_session::Report;
 use ivy_explain::{Lines, Place, Walk};
 use ivy_model::{Call, Record, Reply};
-use ivy_program::Program;
+use ivy_watched::Watch;
+use ivy_watched::ivy_session::{Gate, Role};
 use std::alloc::{AllocError, Global};
 use std::fmt;
 use std::io::{self, Write};
+use std::sync::{Mutex, Wait};
 
 /// The calls of one line of a node that were refused for one reason.
 #[derive(Clone, Copy)]
-pub(crate) struct Refusal {
-    node: u64,
+struct Refusal {
+    node: u8,
     line: Option<usize>,
     /// The first of them.
     call: Call,
@@ -61,88 +62,130 @@ impl fmt::Display for Reason {
     }
 }
 
-/// Adds a call that was refused to those of its line.
-fn note(refusals: &mut Vec<Refusal>, refusal: Refusal) -> Result<(), AllocError> {
-    for known in refusals.iter_mut() {
-        if known.node == refusal.node && known.line == refusal.line && known.code == refusal.code {
-            known.count = known.count.saturating_add(1);
-            return Ok(());
-        }
-    }
-    refusals.push(refusal)?;
-    Ok(())
-}
-
-/// Adds the calls of a node that were refused.
-fn note_all(
-    refusals: &mut Vec<Refusal>,
-    node: u64,
-    program: &Program<Global>,
-    history: &[Record],
-    lines: &Lines,
-) -> Result<(), AllocError> {
-    let mut walk = Walk::new(program);
-    for record in history {
-        let place = walk.next();
-        if let Reply::Refused(code) = record.reply {
-            let line = match place {
-                Place::Call(place) => lines.get(node, place),
-                _ => None,
-            };
-            note(
-                refusals,
-                Refusal {
-                    node,
-                    line,
-                    call: record.call,
-                    code,
-                    count: 1,
-                },
-            )?;
-        }
-        walk.answer(record);
-    }
-    Ok(())
-}
-
-/// The calls of a session that were refused, by node and line.
-pub(crate) fn refusals_of(
-    alloc: Global,
-    listing: &Listing,
-    report: &Report<Global>,
-) -> Result<Vec<Refusal>, AllocError> {
-    let mut refusals = Vec::new(alloc);
-    for node in 0..report.nodes() {
-        if let Some(program) = listing.programs.get(node as usize) {
-            let history = report.history(node);
-            note_all(&mut refusals, node, program, history, &listing.lines)?;
-        }
-    }
-    Ok(refusals)
-}
-
-/// Tells of a refusal in a line.
+/// Tells of the first refusal of its line.
 fn tell<E: Write>(refusal: &Refusal, err: &mut E) -> io::Result<()> {
     write!(err, "node {}", refusal.node)?;
     if let Some(line) = refusal.line {
         write!(err, ", line {line}")?;
     }
-    write!(err, ": {}: {}", Words(refusal.call), Reason(refusal.code))?;
-    if refusal.count > 1 {
-        write!(err, " (the first of {} so)", refusal.count)?;
-    }
-    writeln!(err)
+    writeln!(err, ": {}: {}", Words(refusal.call), Reason(refusal.code))
 }
 
-/// Tells of each line whose calls were refused, and of how many there were in all.
-pub(crate) fn tell_all<E: Write>(refusals: &[Refusal], err: &mut E) -> io::Result<()> {
-    let mut count = 0u64;
-    for refusal in refusals {
-        tell(refusal, err)?;
-        count = count.saturating_add(refusal.count);
+/// The stream that is told, and the calls that were refused.
+#[derive(Drop)]
+struct Told<'a, E> {
+    err: &'a mut E,
+    refusals: Vec<Refusal>,
+    count: u64,
+}
+
+impl<E: Write> Told<'_, E> {
+    /// Adds a call to those of its line, and tells of the first one.
+    fn note(&mut self, refusal: Refusal) {
+        self.count = self.count.saturating_add(1);
+        for known in self.refusals.iter_mut() {
+            if known.node == refusal.node
+                && known.line == refusal.line
+                && known.code == refusal.code
+            {
+                known.count = known.count.saturating_add(1);
+                return;
+            }
+        }
+        // The session goes on where a stream takes nothing. Without memory a line is told of more than once.
+        let _ = tell(&refusal, self.err);
+        let _ = self.refusals.push(refusal);
     }
-    if count > 0 {
-        writeln!(err, "calls that were refused: {count}")?;
+
+    /// Tells how many calls of a line were refused, where these are several, and how many in all.
+    fn sum_up(&mut self) -> io::Result<()> {
+        for refusal in self.refusals.iter() {
+            if refusal.count > 1 {
+                write!(self.err, "{} times: ", refusal.count)?;
+                tell(refusal, self.err)?;
+            }
+        }
+        if self.count > 0 {
+            writeln!(self.err, "calls that were refused: {}", self.count)?;
+        }
+        Ok(())
     }
-    Ok(())
+}
+
+/// Tells a stream of each line of a session whose calls are refused, as it is found.
+#[derive(Drop)]
+pub(crate) struct Refusals<'a, R, E> {
+    rt: &'a R,
+    lines: &'a Lines,
+    is_strict: bool,
+    /// Where the program of each node is.
+    walks: Vec<Mutex<Walk<'a>>>,
+    told: Mutex<Told<'a, E>>,
+}
+
+impl<'a, R: Wait, E: Write> Refusals<'a, R, E> {
+    /// Of these programs, of whose calls none was refused yet.
+    pub(crate) fn new(
+        rt: &'a R,
+        alloc: Global,
+        listing: &'a Listing,
+        is_strict: bool,
+        err: &'a mut E,
+    ) -> Result<Self, AllocError> {
+        let mut walks = Vec::new(alloc);
+        for program in listing.programs.iter() {
+            walks.push(Mutex::new(Walk::new(program)))?;
+        }
+        Ok(Refusals {
+            rt,
+            lines: &listing.lines,
+            is_strict,
+            walks,
+            told: Mutex::new(Told {
+                err,
+                refusals: Vec::new(alloc),
+                count: 0,
+            }),
+        })
+    }
+
+    /// The line at which a node made its next call, which was answered so.
+    fn line_of(&self, node: u8, record: &Record) -> Option<usize> {
+        let mut walk = self.walks.get(usize::from(node))?.lock(self.rt);
+        let place = walk.next();
+        walk.answer(record);
+        match place {
+            Place::Call(place) => self.lines.get(u64::from(node), place),
+            _ => None,
+        }
+    }
+
+    /// Tells how many calls were refused, and gives the number and the stream back.
+    pub(crate) fn finish(self) -> (u64, &'a mut E) {
+        let mut told = self.told.into_inner();
+        // What was refused counts also where the stream takes nothing.
+        let _ = told.sum_up();
+        (told.count, told.err)
+    }
+}
+
+impl<R: Wait + Sync, E: Write + Send> Gate for Refusals<'_, R, E> {
+    fn enter(&self, _node: u8, _role: Role, _records: u64) {}
+}
+
+impl<R: Wait + Sync, E: Write + Send> Watch for Refusals<'_, R, E> {
+    fn record(&self, node: u8, record: &Record) -> bool {
+        let line = self.line_of(node, record);
+        let Reply::Refused(code) = record.reply else {
+            return true;
+        };
+        self.told.lock(self.rt).note(Refusal {
+            node,
+            line,
+            call: record.call,
+            code,
+            count: 1,
+        });
+        !self.is_strict
+    }
 }

@@ -1,9 +1,9 @@
 //! What a command line asks for.
 
-use crate::sessions::Wishes;
+use crate::sessions::Asked;
 use crate::table::Command;
-use ivy_commands::ivy_session::Limits;
 use ivy_explain::ivy_texts::Settings;
+use ivy_watched::ivy_session::Limits;
 
 /// Where the moves of a run come from.
 #[derive(Clone, Copy)]
@@ -52,9 +52,7 @@ pub(crate) enum Request<'a> {
     /// A session.
     Run {
         file: &'a str,
-        limits: Limits,
-        wishes: Wishes,
-        settings: Settings,
+        session: Asked<'a>,
     },
     /// Something of a run that is played.
     Show {

@@ -1,24 +1,56 @@
-//! Sessions, and the calls that were refused in them.
+//! Sessions, and what is told of them.
 
 use crate::calls::print_calls;
 use crate::failure::Failure;
-use crate::refused::{refusals_of, tell_all};
-use crate::standing::Listing;
-use ivy_commands::ivy_session::{Limits, OpenGate, Report, Session};
+use crate::logs::{Logs, write_logs};
+use crate::refused::Refusals;
+use crate::standing::{Listing, Standing, print_standing};
 use ivy_explain::ivy_texts::{RecordText, Settings, print_output};
-use ivy_model::Record;
+use ivy_model::{Fault, Record};
 use ivy_program::parse;
-use std::alloc::Global;
+use ivy_watched::ivy_session::{Keep, Limits};
+use ivy_watched::{End, ReportSoFar, run_watched};
+use std::alloc::{AllocError, Global};
 use std::io::{self, Write};
 use std::sync::Wait;
 use std::thread::Threads;
 
-/// What is printed of a session beside the outputs, and whether a refused call counts as a failure.
+/// What is printed of a session beside the outputs, and whether it ends at the first call that is refused.
 #[derive(Clone, Copy)]
-pub(crate) struct Wishes {
+pub(crate) struct Wishes<'a> {
     pub(crate) strict: bool,
     pub(crate) history: bool,
     pub(crate) counts: bool,
+    /// The folder that takes the nodes' logs.
+    pub(crate) logs: Option<&'a str>,
+}
+
+impl Wishes<'_> {
+    /// What the nodes keep of their past for that.
+    fn keep(&self) -> Keep {
+        match self.logs {
+            Some(_) => Keep::All,
+            None => Keep::History,
+        }
+    }
+}
+
+/// A session that is asked for.
+#[derive(Clone, Copy)]
+pub(crate) struct Asked<'a> {
+    pub(crate) limits: Limits,
+    pub(crate) settings: Settings,
+    pub(crate) wishes: Wishes<'a>,
+}
+
+/// What became of a session.
+#[derive(Clone, Copy)]
+pub(crate) enum Outcome {
+    Done,
+    /// A call was refused, and none was to be.
+    Refused,
+    /// It stood still.
+    Standstill,
 }
 
 fn print_history<W: Write>(history: &[Record], out: &mut W) -> io::Result<()> {
@@ -29,7 +61,11 @@ fn print_history<W: Write>(history: &[Record], out: &mut W) -> io::Result<()> {
 }
 
 /// Prints what nodes printed, and what else is wished for.
-fn print_report<W: Write>(report: &Report<Global>, wishes: Wishes, out: &mut W) -> io::Result<()> {
+fn print_report<W: Write>(
+    report: &ReportSoFar<Global>,
+    wishes: Wishes<'_>,
+    out: &mut W,
+) -> io::Result<()> {
     for node in 0..report.nodes() {
         print_output(node, report.output(node), out)?;
         if wishes.history {
@@ -42,24 +78,70 @@ fn print_report<W: Write>(report: &Report<Global>, wishes: Wishes, out: &mut W) 
     Ok(())
 }
 
-/// Runs programs in a session, prints what they print, and tells of the calls that were refused. It says whether that
-/// is a failure.
-pub(crate) fn run<R: Threads + Wait + Sync, W: Write, E: Write>(
+/// What each node of a session came to.
+fn standings_of(
+    alloc: Global,
+    report: &ReportSoFar<Global>,
+) -> Result<Vec<Standing<'_>>, AllocError> {
+    let mut nodes = Vec::new(alloc);
+    for node in 0..report.nodes() {
+        nodes.push(Standing {
+            history: report.history(node),
+            asked: report.asked(node),
+            has_ended: report.has_ended(node),
+        })?;
+    }
+    Ok(nodes)
+}
+
+/// Tells what each node came to.
+fn tell_standings<E: Write>(
+    listing: &Listing,
+    nodes: &[Standing<'_>],
+    err: &mut E,
+) -> io::Result<()> {
+    for node in 0..nodes.len() as u64 {
+        print_standing(listing, nodes, node, err)?;
+    }
+    Ok(())
+}
+
+/// Runs programs in a session, and tells of each call that is refused, as it is found. It prints what the nodes printed,
+/// and where the session ended before its programs, tells what each node came to.
+pub(crate) fn run<'a, R: Threads + Wait + Sync, L: Logs, W: Write, E: Write + Send>(
     rt: &R,
     alloc: Global,
     programs: &str,
-    limits: Limits,
-    settings: Settings,
-    wishes: Wishes,
+    asked: Asked<'a>,
+    files: &L,
     out: &mut W,
     err: &mut E,
-) -> Result<bool, Failure<'static>> {
+) -> Result<Outcome, Failure<'a>> {
+    let Asked {
+        limits,
+        settings,
+        wishes,
+    } = asked;
+    let listing = Listing::of(alloc, programs)?;
+    let config = settings.config(listing.programs.len())?;
     let parsed = parse(alloc, programs)?;
-    let config = settings.config(parsed.len())?;
-    let report = Session::run(rt, alloc, config, parsed, limits, &OpenGate)?;
+    let refusals = Refusals::new(rt, alloc, &listing, wishes.strict, err)?;
+    let keep = wishes.keep();
+    let (report, end) = run_watched(rt, alloc, config, parsed, limits, &refusals, keep)?;
+    let (refused, err) = refusals.finish();
+    if let Some(folder) = wishes.logs {
+        write_logs(alloc, config, &report, files, folder)?;
+    }
     print_report(&report, wishes, out)?;
-    let refusals = refusals_of(alloc, &Listing::of(alloc, programs)?, &report)?;
-    // What is printed stands also where standard error takes nothing.
-    let _ = tell_all(&refusals, err);
-    Ok(wishes.strict && !refusals.is_empty())
+    if matches!(end, End::Standstill | End::Turns) {
+        let nodes = standings_of(alloc, &report)?;
+        // The status tells of it also where standard error takes nothing.
+        let _ = tell_standings(&listing, &nodes, err);
+    }
+    match end {
+        End::Turns => Err(Failure::Refused(Fault::TurnLimit)),
+        End::Standstill => Ok(Outcome::Standstill),
+        _ if wishes.strict && refused > 0 => Ok(Outcome::Refused),
+        _ => Ok(Outcome::Done),
+    }
 }

@@ -13,6 +13,8 @@ pub(crate) enum Value {
     Manager,
     /// Any word.
     Word,
+    /// The name of a folder.
+    Folder,
 }
 
 /// An option.
@@ -91,7 +93,7 @@ pub(crate) const PULSE: Choice = Choice {
 pub(crate) const STRICT: Choice = Choice {
     name: "--strict",
     value: Value::Nothing,
-    about: "status 1 where a call was refused",
+    about: "ends the session at the first call that is refused",
 };
 
 pub(crate) const HISTORY: Choice = Choice {
@@ -104,6 +106,12 @@ pub(crate) const COUNTS: Choice = Choice {
     name: "--counts",
     value: Value::Nothing,
     about: "prints how often each node made each call",
+};
+
+pub(crate) const LOGS: Choice = Choice {
+    name: "--logs",
+    value: Value::Folder,
+    about: "takes the log of each node, for `ivynode join`",
 };
 
 pub(crate) const SHORTEST: Choice = Choice {
@@ -148,7 +156,7 @@ pub(crate) const COMMANDS: [Command; 9] = [
         name: "run",
         takes_schedule: false,
         choices: &[
-            PAGES, PAGE_SIZE, MANAGER, TURNS, CAPACITY, PULSE, STRICT, HISTORY, COUNTS,
+            PAGES, PAGE_SIZE, MANAGER, TURNS, CAPACITY, PULSE, STRICT, HISTORY, COUNTS, LOGS,
         ],
         about: "runs programs in threads, and tells of each call that is refused",
     },

@@ -22,7 +22,8 @@ use Rattle.ivy_seating.specs.Reports.{NodeReport, report_of, IsDone}
 use Rattle.ivy_seating.specs.Told.{IsTold, TellsOf, AreTold}
 
 -- one more node
-get_push : {X : Type 0} (xs : List X) (y : X) (i : ℕ) (x : X) → slice_get (xs ++ y ∷ []) i ≡ Some x
+pub get_push : {X : Type 0} (xs : List X) (y : X) (i : ℕ) (x : X)
+    → slice_get (xs ++ y ∷ []) i ≡ Some x
     → (slice_get xs i ≡ Some x) ⊎ ((i ≡ length xs) × (y ≡ x))
 get_push [] y zero x is = inr (refl, same_Some y x is)
 get_push [] y (suc i) x is = absurd (none-some x is)

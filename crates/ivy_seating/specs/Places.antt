@@ -4,7 +4,6 @@ use Rattle.atomic_table.specs.Seated.{TableId}
 use Rattle.ivy_model.specs.declared.Config.{Config}
 use Rattle.ivy_model.specs.Config.{IsConfig}
 use Rattle.ivy_program.specs.Programs.{Program, handed}
-use Rattle.ivy_moves.specs.declared.keep.Keep.{Keep}
 use Rattle.ivy_model.specs.declared.Call.{Call}
 use Rattle.ivy_moves.specs.Marks.{Mark}
 use Rattle.ivy_moves.specs.Parts.{AllCanBeMade, AreParts}
@@ -61,8 +60,9 @@ pub record KeepsSeat (c : Config) (programs : List Program) (s : SeatedState) : 
     pub made : IsMadeByEvents s.site
 
 -- what holds of it among all nodes: some run of the programs, where some calls were handed to each
--- node and to the site's those that its pass knows of, has exactly the site's events as its part, and ends with this very node; in it each string that the pass took was sent, and each that
--- waits to be put
+-- node and to the site's those that its pass knows of, has exactly the site's events as its part,
+-- and ends with this very node; in it each string that the pass took was sent, and each that waits
+-- to be put
 pub record IsInRun (c : Config) (programs : List Program) (s : SeatedState) : Type 0
   where
     pub calls : ℕ → List Call
@@ -88,5 +88,4 @@ pub record IsFreshSeat (wire : TableId) (c : Config) (programs : List Program)
   pub pass : p.known ≡ with_seat newcomer s.me
   pub program : Program
   pub there : slice_get programs s.me ≡ Some program
-  pub keep : Keep
-  pub site : s ≡ first_keeping keep c s.me program
+  pub site : s ≡ first_keeping s.keep c s.me program

@@ -302,7 +302,7 @@ impl<'e, S: Setup, A: Allocator + Copy> Seated<'e, S, A> {
     }
 
     /// The ether, the site and its pass.
-    pub(crate) fn into_parts(self) -> (&'e Ether<S, A>, Site<A>, Pass<Wired<A>>)
+    pub fn into_parts(self) -> (&'e Ether<S, A>, Site<A>, Pass<Wired<A>>)
         ensures ether { result.0.now ≡ self.entry.ether }
         ensures site { result.1 ≡ self.entry.site }
         ensures seated { IsSeated result.0.now S.config S.programs result.1 result.2 }

@@ -1,5 +1,5 @@
 //! How the sites of a session are seated, and how their reports are taken.
-ghost use Rattle.std.specs.Prelude.{◌≡◌, ◌<◌, ◌≤◌, ◌+◌, true, Some, All, IfOk, IfErr, IsTrue, OnOk, length, vec_len, slice_get};
+ghost use Rattle.std.specs.Prelude.{◌≡◌, ◌<◌, ◌≤◌, ◌+◌, true, Some, [], All, IfOk, IfErr, IsTrue, OnOk, length, vec_len, vec_capacity, slice_get};
 ghost use Rattle.ivy_model.specs.Config.{IsConfig};
 ghost use Rattle.ivy_ether.specs.Rule.{times};
 ghost use Rattle.ivy_ether.specs.Views.{beginner, with_issued};
@@ -109,7 +109,7 @@ fn take_in<S: Setup, A: Allocator + Copy>(
     requires seated { IsSeated ether.now S.config S.programs site.now pass }
     ensures ether { starter.new.ether ≡ starter.old.ether }
     ensures told { OnOk result (TellsOf S.config S.programs starter.old.known node (report_of site.now) starter.new.known) }
-    ensures stop { IfErr result IsStop }
+    ensures limit { IfErr result (λ fault. fault ≡ Fault.TurnLimit) }
 {
     if site.me() != node {
         return Err(Fault::TurnLimit);
@@ -142,7 +142,7 @@ pub fn close_seat<S: Setup, H: Home, A: Allocator + Copy>(
     ensures ether { starter.new.ether ≡ starter.old.ether }
     ensures told { IfOk result (λ site. TellsOf S.config S.programs starter.old.known node (report_of site) starter.new.known) }
     ensures keep { IfOk result (λ site. site.keep ≡ keep) }
-    ensures stop { IfErr result IsStop }
+    ensures limit { IfErr result (λ fault. fault ≡ Fault.TurnLimit) }
 {
     let seated = homed.into_seated();
     let (_, site, pass) = seated.into_parts();
@@ -155,22 +155,25 @@ pub fn close_seat<S: Setup, H: Home, A: Allocator + Copy>(
     }
 }
 
-/// Closes all nodes, each of which keeps these lists, and hands out the report of their sites [1, 21].
+/// Closes all nodes, each of which keeps these lists, and hands out the report of their sites [21]. The sites go into an
+/// empty list that has a place for each: no memory is asked for once the programs have ended.
 pub fn close_seats<S: Setup, H: Home, A: Allocator + Copy>(
-    alloc: A,
     ether: &Ether<S, A>,
     starter: &mut Pass<Wired<A>>,
     seats: Vec<Mutex<Homed<'_, S, H, A>>, A>,
+    empty: Vec<Site<A>, A>,
     keep: Keep,
 ) -> Result<Report<A>, Fault>
     requires home { ether.now ≡ H.ether }
     requires starter { starter.old.ether ≡ ether.now }
+    requires empty { empty.items ≡ [] }
+    requires places { vec_len seats ≤ vec_capacity empty }
     ensures starter { starter.new.ether ≡ starter.old.ether }
     ensures told { IfOk result (λ report. AreTold S.config S.programs starter.new.known report) }
     ensures keep { IfOk result (AllKeep keep) }
-    ensures stop { IfErr result IsStop }
+    ensures limit { IfErr result (λ fault. fault ≡ Fault.TurnLimit) }
 {
-    let mut sites = Vec::with_capacity(alloc, seats.len())?;
+    let mut sites = empty;
     let mut node = 0u8;
     for seat in seats {
         let site = close_seat(ether, starter, seat.into_inner(), node, keep)?;

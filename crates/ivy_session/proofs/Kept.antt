@@ -1,5 +1,5 @@
 -- Neither a delivery nor a pulse changes what a program was answered, or where it stands.
-use Rattle.std.proofs.Common.{◌≡◌, ◌⊎◌, ℕ, List, [], ◌∷◌, Bool, true, false, Option, Some, None, Result, Ok, Err, refl, sym, ap, subst, ◌∙◌, inl, inr, if◌then◌else◌, map}
+use Rattle.std.proofs.Common.{◌≡◌, ℕ, List, [], ◌∷◌, Bool, true, false, Option, Some, None, Result, Ok, Err, refl, sym, ap, subst, ◌∙◌, inl, inr, if◌then◌else◌}
 use Rattle.std.specs.Prelude.{MatchResult}
 use Rattle.std.proofs.lemmas.Option.{same_Some, none-some}
 use Rattle.ivy_model.specs.declared.Config.{Config}
@@ -9,7 +9,7 @@ use Rattle.ivy_seating.specs.ivy_ether.ivy_host.Managers.{Managed, managed_ops}
 use Rattle.ivy_seating.specs.ivy_moves.ivy_link.declared.Verdict.{Verdict}
 use Rattle.ivy_seating.specs.ivy_moves.ivy_link.declared.Verdict.TheVariants as verdict
 use Rattle.ivy_seating.specs.ivy_moves.ivy_link.Accepted.{offered}
-use Rattle.ivy_seating.specs.ivy_moves.Nodes.{Node, Effect, stays, posting, accepting, served_next, received_as, received, delivered_as, delivered, pulsing}
+use Rattle.ivy_seating.specs.ivy_moves.Nodes.{Node, Effect, stays, accepting, served_next, received_as, received, delivered_as, delivered, pulsing}
 use Rattle.ivy_seating.specs.ivy_site.Shown.{Shown, after_pulse_to}
 use Rattle.ivy_seating.specs.ivy_site.Sites.{SiteDelivers, GoesOnOnce, SiteGoesOn, FollowsDelivery, AfterDelivery}
 use Rattle.ivy_seating.specs.Places.{SeatedState}

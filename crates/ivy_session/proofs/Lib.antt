@@ -4,3 +4,4 @@ pub mod Reported
 pub use Rattle.ivy_seating.proofs.Told
 pub use Rattle.ivy_seating.proofs as of_ivy_seating
 pub use Rattle.proof_headline.proofs as of_proof_headline
+mod Stopped

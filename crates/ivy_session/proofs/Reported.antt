@@ -34,7 +34,7 @@ use Rattle.ivy_seating.specs.Told.{AreTold}
 use Rattle.proof_headline.proofs.Headline.{exclusive-led, no_breach-led, runs-led, explained-along, sound-led}
 
 -- the order at the end of a run
-explained_end : (c : Config) (w end : World (Host Managed)) (order : List Record)
+pub explained_end : (c : Config) (w end : World (Host Managed)) (order : List Record)
     (moves : List Move)
     → GoesOn (host_rules managed_ops) c answered_by w order moves
     → Leads (host_rules managed_ops) c w moves end
@@ -59,7 +59,7 @@ asks_none None h is asking ended = refl
 asks_none (Some call) h is asking ended =
     let apart : Asks call ≡ Ends = sym (asking call is) ∙ ended in absurd cc
 
-map_get : {X Y : Type 0} (f : X → Y) (xs : List X) (i : ℕ) (x : X) → slice_get xs i ≡ Some x
+pub map_get : {X Y : Type 0} (f : X → Y) (xs : List X) (i : ℕ) (x : X) → slice_get xs i ≡ Some x
     → slice_get (map f xs) i ≡ Some (f x)
 map_get f [] i x is = absurd (none-some x is)
 map_get f (y ∷ ys) zero x is = ap (λ o. Some (f o)) (same_Some y x is)
@@ -197,7 +197,7 @@ handed_written : (calls : List Call) (p : Program) → IsWritten p → handed ca
 handed_written calls (Written is) written = refl
 handed_written calls (Called own) written = absurd written
 
-written_from : (calls : ℕ → List Call) (k : ℕ) (ps : List Program) → All IsWritten ps
+pub written_from : (calls : ℕ → List Call) (k : ℕ) (ps : List Program) → All IsWritten ps
     → all_handed_from k calls ps ≡ ps
 written_from calls k [] all = refl
 written_from calls k (p ∷ ps) all =

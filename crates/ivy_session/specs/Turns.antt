@@ -2,7 +2,8 @@
 use Rattle.std.specs.Prelude.{◌≡◌}
 use Rattle.ivy_seating.specs.ivy_site.Shown.{Shown}
 
--- it is the same node, which keeps the same lists of its past, and what its program was answered and where that stands are as before
+-- it is the same node, which keeps the same lists of its past, and what its program was answered
+-- and where that stands are as before
 pub record KeepsAnswers (old new : Shown) : Type 0 where
   pub me : new.me ≡ old.me
   pub keep : new.keep ≡ old.keep

@@ -15,6 +15,18 @@ pub trait Gate: Sync {
     fn enter(&self, node: u8, role: Role, records: u64);
 }
 
+/// What one worker tells of its turns, which need not be shared by several. Each gate is one.
+pub trait Turnstile {
+    /// A turn of a node, by its number, begins. Its site is locked, and its history has so many records.
+    fn pass(&self, node: u8, role: Role, records: u64);
+}
+
+impl<G: Gate> Turnstile for G {
+    fn pass(&self, node: u8, role: Role, records: u64) {
+        self.enter(node, role, records);
+    }
+}
+
 /// A gate that does nothing.
 #[derive(Clone, Copy, Debug)]
 pub struct OpenGate;

@@ -19,14 +19,15 @@ mod turns;
 mod watch;
 mod workers;
 
-pub use gate::{Gate, OpenGate, Role};
+pub use gate::{Gate, OpenGate, Role, Turnstile};
+pub use ivy_seating;
 pub use ivy_seating::{Keep, Report, Seated, WireTurn, ivy_ether};
 pub use limits::Limits;
-pub use session::Session;
+pub use session::{Session, are_written, lay};
 
-// what a session of own code has in common with one of programs
+// what sessions of own code and watched ones have in common with one of programs
 pub use pulses::Pulses;
-pub use seat::Seat;
+pub use seat::{ProgramSeat, Seat};
 pub use shared::Shared;
 pub use turns::ProgramWorker;
-pub use workers::Crew;
+pub use workers::{Crew, run_workers};

@@ -28,7 +28,7 @@ pub trait Seat {
 }
 
 /// A place whose program is written down, as its program worker has it.
-pub(crate) trait ProgramSeat: Seat {
+pub trait ProgramSeat: Seat {
     /// Whether the node's program has ended.
     fn has_ended(&self) -> bool;
 

@@ -28,7 +28,7 @@ pub struct Session;
 
 /// The ether of a session, which holds as many items as its limits say, with a pass for each node, and one for the
 /// starter [1].
-fn lay<S: Setup, A: Allocator + Copy>(
+pub fn lay<S: Setup, A: Allocator + Copy>(
     alloc: A,
     config: &Config,
     programs: &[Program<A>],
@@ -89,11 +89,12 @@ where
         programs,
         keep,
     )?;
+    let sites = Vec::with_capacity(alloc, nodes)?;
     run_workers(rt, alloc, &seats, limits, gate)?;
     if let Some(first) = seats.first() {
         first.lock(rt).seated.drain(rt, limits.capacity);
     }
-    collect(alloc, ether, starter, seats, nodes, keep)
+    collect(ether, starter, seats, sites, nodes, keep)
 }
 
 /// Lays the ether, and runs the programs of the nodes there [1, 17, 21].
@@ -130,7 +131,7 @@ where
 }
 
 /// The programs are written down. It takes no memory.
-fn are_written<A: Allocator + Copy>(programs: &[Program<A>])
+pub fn are_written<A: Allocator + Copy>(programs: &[Program<A>])
     ensures { All IsWritten programs.now }
 {
     for program in programs {

@@ -1,6 +1,6 @@
 //! The program worker of a node, whatever makes the turns.
 use crate::bells::{Bells, ring};
-use crate::gate::{Gate, Role};
+use crate::gate::{Role, Turnstile};
 use crate::seat::Seat;
 use crate::shared::Shared;
 use crate::watch::{Patience, rest_program};
@@ -50,7 +50,7 @@ pub struct ProgramWorker<'r, 's, 'g, 'a, T, A: Allocator, R, G> {
     patience: Patience,
 }
 
-impl<'r, 's, 'g, 'a, T: Seat, A: Allocator + Copy, R: Wait, G: Gate> ProgramWorker<
+impl<'r, 's, 'g, 'a, T: Seat, A: Allocator + Copy, R: Wait, G: Turnstile> ProgramWorker<
     'r,
     's,
     'g,
@@ -92,7 +92,7 @@ impl<'r, 's, 'g, 'a, T: Seat, A: Allocator + Copy, R: Wait, G: Gate> ProgramWork
         self.served = self.bells.served();
         self.bells.let_wire_go();
         let seated = lock_soon(self.rt, self.seat, lock_looks(self.shared.looks()));
-        self.gate.enter(self.node, Role::Program, seated.records());
+        self.gate.pass(self.node, Role::Program, seated.records());
         Some(seated)
     }
 

@@ -3,7 +3,7 @@ ghost use Rattle.std.specs.Prelude.{IfErr};
 ghost use Rattle.ivy_seating.specs.Faults.{IsStop};
 
 use crate::bells::Bells;
-use crate::gate::{Gate, Role};
+use crate::gate::{Gate, Role, Turnstile};
 use crate::limits::Limits;
 use crate::pulses::Pulses;
 use crate::seat::{ProgramSeat, Seat};
@@ -18,7 +18,7 @@ use std::thread;
 use std::thread::Threads;
 
 /// Makes the turns of a node's program, one turn a lock, until it has ended.
-fn run_program<T: ProgramSeat, A: Allocator + Copy, R: Wait, G: Gate>(
+fn run_program<T: ProgramSeat, A: Allocator + Copy, R: Wait, G: Turnstile>(
     rt: &R,
     seat: &Mutex<T>,
     node: u8,
@@ -72,7 +72,7 @@ fn lock_for_wire<'m, T, R: Wait>(
 }
 
 /// Makes the turns of a node on the wire, one turn a lock, until all programs have ended.
-fn run_wire<T: Seat, A: Allocator + Copy, R: Wait, G: Gate>(
+fn run_wire<T: Seat, A: Allocator + Copy, R: Wait, G: Turnstile>(
     rt: &R,
     seat: &Mutex<T>,
     node: u8,
@@ -92,7 +92,7 @@ fn run_wire<T: Seat, A: Allocator + Copy, R: Wait, G: Gate>(
         }
         let changes = shared.line().changes();
         let mut seated = lock_for_wire(rt, seat, bells, looks);
-        gate.enter(node, Role::Wire, seated.records());
+        gate.pass(node, Role::Wire, seated.records());
         let turn = seated.wire_turn(rt, &mut pulses);
         bells.set_waiting(seated.waiting());
         drop(seated);
@@ -131,7 +131,7 @@ where
     T: Seat,
     A: Allocator + Copy,
     R: Wait,
-    G: Gate,
+    G: Turnstile,
 {
     /// The program worker of a node, whose place this is. None where the session has no such node.
     pub fn program_worker<'p>(
@@ -180,7 +180,7 @@ where
 }
 
 /// Runs two workers for each node, and joins them all [1, 17, 21].
-pub(crate) fn run_workers<T, A, R, G>(
+pub fn run_workers<T, A, R, G>(
     rt: &R,
     alloc: A,
     seats: &[Mutex<T>],

@@ -2,7 +2,7 @@
 #![tactic(auto)]
 
 use ivy_model::Fault;
-use ivy_scope::ivy_commands::FilesOf;
+use ivy_scope::ivy_files::FilesOf;
 use ivy_scope::ivy_replay::Progress;
 use ivy_scope::{Failure, Misuse, perform};
 use std::env;
@@ -52,7 +52,7 @@ fn performed<R, O, E>(rt: &R, out: O, err: &mut E) -> io::Result<u8>
 where
     R: Env + Files + Clock + Eprint + AllocGlobal + Threads + Wait + Sync,
     O: Write + Drop,
-    E: Write + IsTerminal,
+    E: Write + IsTerminal + Send,
 {
     let words: Vec<String> = env::args(rt)?.collect(rt.alloc())?;
     let mut out = BufWriter::new(rt.alloc(), out)?;

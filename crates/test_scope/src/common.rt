@@ -2,9 +2,9 @@
 
 use example_texts::File;
 use ivy_model::Fault;
-use ivy_scope::ivy_commands::Texts;
+use ivy_scope::ivy_files::Texts;
 use ivy_scope::ivy_replay::Silence;
-use ivy_scope::perform;
+use ivy_scope::{Logs, perform};
 use std::alloc::{AllocError, Global};
 use std::process::Abort;
 use std::sync::Wait;
@@ -40,6 +40,13 @@ impl Texts for Shelf<'_> {
             }
         }
         Ok(None)
+    }
+}
+
+/// A folder takes no logs but where it is called so.
+impl Logs for Shelf<'_> {
+    fn write_log(&self, folder: &str, _node: u64, _text: &str) -> Result<bool, Fault> {
+        Ok(folder == "there")
     }
 }
 

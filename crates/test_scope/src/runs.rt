@@ -30,7 +30,7 @@ const FILES: [File; 6] = [
     },
 ];
 
-const CASES: [Case<'static>; 9] = [
+const CASES: [Case<'static>; 12] = [
     // The draws of this seed among nodes that sent nothing, as the tests of draws have them.
     (
         &[
@@ -121,6 +121,26 @@ const CASES: [Case<'static>; 9] = [
         0,
         Told::Is("node 0:\nnode 1: 0\n1 load 8 256 = value 0\nnode 1: load 1\n"),
         Told::Is(""),
+    ),
+    (
+        &["run", "past_the_heap.ivy", "--strict"],
+        1,
+        Told::Is(""),
+        Told::Is(
+            "node 0, line 3: store 8 at 70000: 4 address out of range\ncalls that were refused: 1\n",
+        ),
+    ),
+    (
+        &["run", "first_load.ivy", "--logs", "there"],
+        0,
+        Told::Is("node 1: 0\n"),
+        Told::Is(""),
+    ),
+    (
+        &["run", "first_load.ivy", "--logs", "elsewhere"],
+        2,
+        Told::Is(""),
+        Told::Is("ivyscope: cannot write into elsewhere\n"),
     ),
 ];
 

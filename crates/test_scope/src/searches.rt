@@ -4,12 +4,22 @@ use crate::common::{Case, Told, check_each};
 use example_texts::{File, scheduled};
 use std::test::Fail;
 
-const FILES: [File; 3] = [
+const FILES: [File; 5] = [
     scheduled::STORE_BUFFERING,
     // Each awaits what the other one advances after that.
     File {
         name: "deadlock.ivy",
         text: "node 0\nset r1 1\nawait r2 r3 r1\nadvance r1\nnode 1\nset r1 1\nawait r2 r1 r1\nadvance r3\n",
+    },
+    // Nobody advances what node 0 awaits.
+    File {
+        name: "left.ivy",
+        text: "node 0\nset r1 7\nprint r1\nload 8 r2 r1\nawait r2 r0 r1\nnode 1\nadvance r0\n",
+    },
+    // Node 0 goes on for ever without a call.
+    File {
+        name: "circle.ivy",
+        text: "node 0\nset r1 7\nprint r1\nlabel a\njump a\nnode 1\n",
     },
     File {
         name: "prints.ivy",
@@ -17,7 +27,7 @@ const FILES: [File; 3] = [
     },
 ];
 
-const CASES: [Case<'static>; 6] = [
+const CASES: [Case<'static>; 9] = [
     (
         &["settle", "deadlock.ivy"],
         5,
@@ -66,6 +76,35 @@ const CASES: [Case<'static>; 6] = [
         0,
         Told::Has(&["outputs: none\n", "# an end at which a node waits, by"]),
         Told::Is(""),
+    ),
+    // A session that stands still ends at once.
+    (
+        &["run", "deadlock.ivy"],
+        5,
+        Told::Is(""),
+        Told::Is(
+            "node 0, line 3: waits for count 0 to reach 1, and it is 0\n\
+             node 1, line 7: waits for count 1 to reach 1, and it is 0\n",
+        ),
+    ),
+    // What was printed and refused before is told.
+    (
+        &["run", "left.ivy"],
+        5,
+        Told::Is("node 0: 7\n"),
+        Told::Is(
+            "node 0, line 4: load 8 at 7: 3 address no multiple of the width\n\
+             calls that were refused: 1\n\
+             node 0, line 5: waits for count 0 to reach 7, and it is 1\n\
+             node 1 ended\n",
+        ),
+    ),
+    // What was printed before the turns were used up is not lost.
+    (
+        &["run", "circle.ivy", "--turns", "200000"],
+        1,
+        Told::Is("node 0: 7\n"),
+        Told::Is("node 0 still going\nnode 1 ended\nivyscope: 21 TurnLimit\n"),
     ),
 ];
 

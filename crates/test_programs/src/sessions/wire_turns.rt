@@ -6,13 +6,14 @@ ghost use Rattle.ivy_commands.specs.ivy_ether.Views.{with_issued};
 ghost use Rattle.ivy_commands.specs.ivy_ether.Words.{IsNewcomer};
 
 use crate::sessions::common::{TRIO, expect_same};
+use failing_alloc::Refusing;
 use ivy_commands::ivy_ether::{Ether, Pass, Setup, Wired};
 use ivy_commands::ivy_session::{Seated, WireTurn};
 use ivy_commands::ivy_site::{Site, Turn};
-use ivy_model::{Config, Kind};
+use ivy_model::{Config, Fault, Kind};
 use ivy_moves::ivy_link::Verdict;
 use ivy_program::{Program, parse};
-use std::alloc::Global;
+use std::alloc::{Allocator, Global};
 use std::marker::Brand;
 use std::process::Abort;
 use std::sync::Wait;
@@ -23,6 +24,9 @@ const FIXED_TRIO: Config = Config {
     manager: Kind::Fixed,
     ..TRIO
 };
+
+/// More growths than any turn here asks for.
+const MANY: u64 = 100;
 
 /// Node 1 asks node 0 for a block. Node 2 loads from page 1, whose managing node is node 1.
 const ASKS: &str = "\
@@ -36,16 +40,16 @@ load 8 r2 r1
 ";
 
 /// Issues a node's seat, takes it, and seats the node's site.
-fn seat<'e, S: Setup, R: Wait + Abort>(
+fn seat<'e, S: Setup, A: Allocator + Copy, R: Wait + Abort>(
     rt: &R,
-    alloc: Global,
-    ether: &'e Ether<S, Global>,
+    alloc: A,
+    ether: &'e Ether<S, A>,
     config: &Config,
-    starter: &mut Pass<Wired<Global>>,
-    pass: Pass<Wired<Global>>,
+    starter: &mut Pass<Wired<A>>,
+    pass: Pass<Wired<A>>,
     node: u8,
-    program: Program<Global>,
-) -> Seated<'e, S, Global>
+    program: Program<A>,
+) -> Seated<'e, S, A>
     requires config { config.now ≡ S.config }
     requires limits { IsConfig config.now }
     requires each { length S.programs ≡ config.now.nodes }
@@ -70,27 +74,54 @@ fn seat<'e, S: Setup, R: Wait + Abort>(
 }
 
 /// Two turns of a site's program: a register is set, and a call begins.
-fn begin<S: Setup>(rt: &impl Abort, site: &mut Seated<'_, S, Global>) {
+fn begin<S: Setup, A: Allocator + Copy>(rt: &impl Abort, site: &mut Seated<'_, S, A>) {
     for _ in 0..2 {
         expect_same(rt, site.program_turn(), Ok(Turn::Moved));
     }
 }
 
 /// One turn on the wire of a site, which is this one.
-fn expect_turn<S: Setup, R: Wait + Abort>(
+fn expect_turn<S: Setup, A: Allocator + Copy, R: Wait + Abort>(
     rt: &R,
-    site: &mut Seated<'_, S, Global>,
+    site: &mut Seated<'_, S, A>,
     wanted: WireTurn,
 ) {
     expect_same(rt, site.wire_turn(rt), Ok(wanted));
 }
 
-/// One turn on the wire after the other, of node 2 and then of node 1.
-fn turn_by_turn<S: Setup, R: Wait + Abort>(
+/// Node 1 takes the request of node 2 with the n-th growth refused. Whether that growth was asked for: the request is lost
+/// then, the node is as it was, and it serves the request that a pulse of node 2 brings again.
+fn serve<S: Setup, A: Allocator + Copy, R: Wait + Abort>(
     rt: &R,
-    one: &mut Seated<'_, S, Global>,
-    two: &mut Seated<'_, S, Global>,
-) {
+    (memory, n): (&Refusing<Global>, u64),
+    one: &mut Seated<'_, S, A>,
+    two: &mut Seated<'_, S, A>,
+) -> bool {
+    memory.refuse(n);
+    let turn = one.wire_turn(rt);
+    let met = memory.asked(n) >= n;
+    memory.refuse(0);
+    if !met {
+        expect_same(rt, turn, Ok(WireTurn::Served(Verdict::Next)));
+        return false;
+    }
+    expect_same(rt, turn, Err(Fault::Memory));
+    assert!(rt; !one.has_frame());
+    expect_turn(rt, two, WireTurn::Empty);
+    expect_same(rt, two.pulse_next(0), Ok(1));
+    expect_turn(rt, two, WireTurn::Sent);
+    expect_turn(rt, one, WireTurn::Served(Verdict::Next));
+    true
+}
+
+/// One turn on the wire after the other, of node 2 and then of node 1, with the n-th growth of one of them refused. Whether
+/// that growth was asked for.
+fn turn_by_turn<S: Setup, A: Allocator + Copy, R: Wait + Abort>(
+    rt: &R,
+    refused: (&Refusing<Global>, u64),
+    one: &mut Seated<'_, S, A>,
+    two: &mut Seated<'_, S, A>,
+) -> bool {
     begin(rt, two);
     begin(rt, one);
     expect_same(rt, two.next_destination(), Some(1));
@@ -98,19 +129,21 @@ fn turn_by_turn<S: Setup, R: Wait + Abort>(
     expect_same(rt, one.next_destination(), Some(0));
     expect_turn(rt, one, WireTurn::Lost);
     expect_turn(rt, two, WireTurn::Returned);
-    expect_turn(rt, one, WireTurn::Served(Verdict::Next));
+    let met = serve(rt, refused, one, two);
     expect_same(rt, one.next_destination(), Some(0));
     expect_turn(rt, two, WireTurn::Empty);
     expect_turn(rt, one, WireTurn::Sent);
+    met
 }
 
 /// Seats nodes 1 and 2, and makes the turns.
-fn play<S: Setup, R: Wait + Abort>(
+fn play<S: Setup, A: Allocator + Copy, R: Wait + Abort>(
     rt: &R,
-    alloc: Global,
+    alloc: A,
+    refused: (&Refusing<Global>, u64),
     config: &Config,
-    programs: Vec<Program<Global>, Global>,
-) -> Result<(), Fail>
+    programs: Vec<Program<A>, A>,
+) -> Result<bool, Fail>
     requires config { config.now ≡ S.config }
     requires limits { IsConfig config.now }
     requires programs { programs.items ≡ S.programs }
@@ -118,7 +151,7 @@ fn play<S: Setup, R: Wait + Abort>(
     requires trio { length programs.items ≡ 3 }
 {
     let mut programs = programs;
-    let (ether, mut passes) = Ether::<S, Global>::new(alloc, config, &programs, 1, 3)?;
+    let (ether, mut passes) = Ether::<S, A>::new(alloc, config, &programs, 1, 3)?;
     let (Some(mut starter), Some(first), Some(second)) = (passes.pop(), passes.pop(), passes.pop())
     else {
         return Err("there are three passes".into());
@@ -128,14 +161,26 @@ fn play<S: Setup, R: Wait + Abort>(
     };
     let mut one = seat(rt, alloc, &ether, config, &mut starter, first, 1, asks);
     let mut two = seat(rt, alloc, &ether, config, &mut starter, second, 2, loads);
-    turn_by_turn(rt, &mut one, &mut two);
-    Ok(())
+    Ok(turn_by_turn(rt, refused, &mut one, &mut two))
 }
 
+/// Makes the turns with the n-th growth refused.
+fn play_at<R: Wait + Abort>(rt: &R, memory: &Refusing<Global>, n: u64) -> Result<bool, Fail> {
+    let programs = parse(memory, ASKS)?;
+    FIXED_TRIO.check()?;
+    assert!(rt; programs.len() == 3);
+    play::<Brand, &Refusing<Global>, R>(rt, memory, (memory, n), &FIXED_TRIO, programs)
+}
+
+/// Each growth of the turn that serves is refused in turn, and in the last of these runs none.
 #[test]
 fn wire_turns_at_capacity_one(rt: HostRuntime) -> Result<(), Fail> {
-    let programs = parse(rt.alloc(), ASKS)?;
-    FIXED_TRIO.check()?;
-    assert!(&rt; programs.len() == 3);
-    play::<Brand, HostRuntime>(&rt, rt.alloc(), &FIXED_TRIO, programs)
+    let memory = Refusing::new(rt.alloc());
+    for n in 1..MANY {
+        if !play_at(&rt, &memory, n)? {
+            assert!(&rt; n > 1);
+            return Ok(());
+        }
+    }
+    Err("no end of growths".into())
 }

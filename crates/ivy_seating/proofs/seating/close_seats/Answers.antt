@@ -11,7 +11,7 @@ pub loop-seat-init : goal.loop-seat-init
 loop-seat-init g c =
     let gives = c.into_iter-seat-iterator.ensures.into_iter_gives in
     let long = ap length gives.0 in
-    let none = c.in_ok-sites.ensures.items in record {
+    let none = c.requires.empty in record {
       can = search rules;
       finite = search rules;
       left = search rules;
@@ -19,7 +19,7 @@ loop-seat-init g c =
       ether = c.requires.starter;
       count = ap length (sym none);
       told = told_none g.S.Setup.config g.S.Setup.programs c.args.starter.now.known
-          (map report_of c.in_ok-sites.sites.items) (ap (map report_of) none);
+          (map report_of c.args.empty.items) (ap (map report_of) none);
       kept = subst (AllKeep c.args.keep) (sym (ap (map report_of) none))
           (All-nil (λ (n : NodeReport). n.keep ≡ c.args.keep));
     }

@@ -14,6 +14,7 @@ new-requires g c =
     ≡ first_keeping c.args.keep c.args.config.now c.args.node c.args.program =
     c.in_ok-site.ensures.first in
     let me : c.in_ok-site.site.me ≡ c.args.node = ap (λ (x : Shown). x.me) first in
+    let keep = ap (λ (x : Shown). x.keep) first in
     record {
       fresh = record {
         limits = subst IsConfig c.requires.config c.requires.limits;
@@ -25,8 +26,7 @@ new-requires g c =
         program = c.args.program;
         there = subst (λ i. slice_get g.S.Setup.programs i ≡ Some c.args.program) (sym me)
             c.requires.there;
-        keep = c.args.keep;
-        site = first ∙ (λ k. first_keeping c.args.keep (c.requires.config k) (sym me k)
+        site = first ∙ (λ k. first_keeping (sym keep k) (c.requires.config k) (sym me k)
             c.args.program);
       };
     }

@@ -1,5 +1,6 @@
 use Rattle.std.proofs.Common.{◌≡◌, length, sym, ap, ◌∙◌, arith}
 use Rattle.ivy_model.specs.declared.Config.{Config}
+use Rattle.ivy_session.proofs.Stopped.{stops}
 use Rattle.ivy_session.proofs.session.play_at.Goals as goal
 
 pub collect-requires-clause-each : goal.collect-requires-clause-each
@@ -15,3 +16,13 @@ collect-requires-clause-nodes g c =
     let long = ap length programs in
     let count = c.args.programs.ok.0 in
     omega (arith, long, count)
+
+pub collect-requires-clause-places : goal.collect-requires-clause-places
+collect-requires-clause-places g c =
+    let seats = c.in_ok-seats.ensures.seats in
+    let places = c.in_ok-sites.ensures.exact in
+    let count = c.args.programs.ok.0 in
+    omega (arith, seats, places, count)
+
+pub returns-clause-stop : goal.returns-clause-stop
+returns-clause-stop g c = stops c.collect.result c.collect.ensures.limit

@@ -11,6 +11,7 @@ new-requires-2 g c =
     let first : c.in-Ok.site ≡ first_keeping All c.args.config.now c.args.node c.args.program =
     c.in-Ok.ensures.first in
     let me : c.in-Ok.site.me ≡ c.args.node = ap (λ (x : Shown). x.me) first in
+    let keep = ap (λ (x : Shown). x.keep) first in
     record {
       fresh = record {
         limits = subst IsConfig c.requires.config c.requires.limits;
@@ -20,7 +21,7 @@ new-requires-2 g c =
         program = c.args.program;
         there = subst (λ i. slice_get g.S.Setup.programs i ≡ Some c.args.program) (sym me)
             c.requires.there;
-        keep = All;
-        site = first ∙ (λ k. first_keeping All (c.requires.config k) (sym me k) c.args.program);
+        site = first
+            ∙ (λ k. first_keeping (sym keep k) (c.requires.config k) (sym me k) c.args.program);
       };
     }

@@ -1,0 +1,283 @@
+/* A node in a process of its own: see ivy_runtime.h. Not proved. */
+#define _POSIX_C_SOURCE 200809L
+#include "ivy_runtime.h"
+#include <pthread.h>
+#include <stdio.h>
+#include <stdlib.h>
+#include <string.h>
+#include <time.h>
+
+enum { MOST_NODES = 32, ROOM = 8192 };
+enum { PULSE_US = 2000, HELLO_US = 20000, LISTEN_US = 500 };
+
+/* The first byte of what the runtime sends: a frame of a node, or a word of its own. */
+enum { FRAME = 1, HELLO = 2, DONE = 3, DEAD = 4, ALIVE = 5 };
+
+/* A word of the runtime: its kind, who says it, a set, the version and the configuration. */
+typedef struct { uint8_t kind, from; uint32_t set, version, nodes, pages, page_size, manager; } word;
+enum { WORD_LENGTH = 26 };
+
+struct ivy_process {
+  ivy_node node;
+  ivy_config config;
+  ivy_transport transport;
+  ivy_progress progress;
+  uint32_t me, all, calls;
+  uint32_t here, known_here; /* who said HELLO; who said that it heard HELLO of all */
+  uint32_t done, known_done; /* the same of DONE */
+  int is_done, ending;
+  long death_us;
+  int64_t heard[MOST_NODES], pulsed, spoke;
+  pthread_mutex_t lock;
+  pthread_cond_t served;
+  pthread_t thread;
+};
+
+static int64_t now_us(void) {
+  struct timespec t;
+  clock_gettime(CLOCK_MONOTONIC, &t);
+  return (int64_t)t.tv_sec * 1000000 + t.tv_nsec / 1000;
+}
+
+static void put32(uint8_t *to, uint32_t value) {
+  for (int i = 0; i < 4; i++) to[i] = (uint8_t)(value >> (24 - 8 * i));
+}
+
+static uint32_t get32(const uint8_t *from) {
+  return (uint32_t)from[0] << 24 | (uint32_t)from[1] << 16 | (uint32_t)from[2] << 8 | from[3];
+}
+
+/* Says a word of the runtime to all peers. */
+static void say(ivy_process *p, uint8_t kind, uint32_t set) {
+  uint8_t bytes[WORD_LENGTH] = { kind, (uint8_t)p->me };
+  const ivy_config *c = &p->config;
+  const uint32_t numbers[6] = { set, IVY_VERSION, c->nodes, c->pages, c->page_size, c->manager };
+  for (int i = 0; i < 6; i++) put32(bytes + 2 + 4 * i, numbers[i]);
+  for (uint32_t i = 0; i < c->nodes; i++)
+    if (i != p->me) p->transport.send(p->transport.state, i, bytes, sizeof bytes);
+}
+
+static void fail(ivy_process *p, int status) {
+  say(p, DEAD, 1u << p->me);
+  exit(status);
+}
+
+/* Sends the strings that wait. */
+static void send_frames(ivy_process *p) {
+  uint8_t bytes[ROOM];
+  size_t len;
+  uint32_t to;
+  bytes[0] = FRAME;
+  while (ivy_next_frame(&p->node, bytes + 1, ROOM - 1, &len, &to) == IVY_DONE)
+    if (to < p->config.nodes) p->transport.send(p->transport.state, to, bytes, len + 1);
+}
+
+static void told_dead(ivy_process *p, uint32_t who) {
+  fprintf(stderr, "ivy: node %u: node %u is dead\n", p->me, who);
+  say(p, DEAD, 1u << who);
+  exit(3);
+}
+
+/* Whether the peer has this configuration and version; tells both where it has not. */
+static int agrees(const ivy_process *p, const word *w) {
+  const ivy_config *c = &p->config;
+  if (w->version == IVY_VERSION && w->nodes == c->nodes && w->pages == c->pages && w->page_size == c->page_size
+      && w->manager == c->manager)
+    return 1;
+  fprintf(stderr,
+          "ivy: node %u has version %u, %u nodes, %u pages of %u bytes, manager %u; node %u has version %u, %u nodes, "
+          "%u pages of %u bytes, manager %u\n",
+          p->me, IVY_VERSION, c->nodes, c->pages, c->page_size, c->manager, (unsigned)w->from, w->version, w->nodes,
+          w->pages, w->page_size, w->manager);
+  return 0;
+}
+
+static void hear_word(ivy_process *p, const uint8_t *bytes) {
+  word w = { bytes[0], bytes[1], get32(bytes + 2), get32(bytes + 6), get32(bytes + 10), get32(bytes + 14),
+             get32(bytes + 18), get32(bytes + 22) };
+  if (w.kind == HELLO && !agrees(p, &w)) {
+    say(p, HELLO, p->here);
+    exit(2);
+  }
+  if (w.from >= p->config.nodes || w.from == p->me) return;
+  p->heard[w.from] = now_us();
+  uint32_t bit = 1u << w.from;
+  if (w.kind != DEAD) {
+    p->here |= bit;
+    if (w.kind != HELLO || w.set == p->all) p->known_here |= bit; /* who goes on knows all */
+  }
+  if (w.kind == DONE) {
+    p->done |= bit;
+    if (w.set == p->all) p->known_done |= bit;
+  } else if (w.kind == DEAD && !p->is_done) {
+    for (uint32_t i = 0; i < p->config.nodes; i++)
+      if (w.set >> i & 1u && i != p->me) told_dead(p, i);
+  }
+}
+
+static void hear(ivy_process *p, const uint8_t *bytes, size_t len) {
+  uint32_t verdict;
+  if (bytes[0] != FRAME) {
+    if (len == WORD_LENGTH) hear_word(p, bytes);
+    return;
+  }
+  if (ivy_deliver(&p->node, bytes + 1, len - 1, &verdict) == IVY_DONE && len > 6 && bytes[5] < p->config.nodes) {
+    p->heard[bytes[5]] = now_us();
+    p->here |= 1u << bytes[5];
+    p->known_here |= 1u << bytes[5];
+  }
+  send_frames(p);
+}
+
+/* What is due by the clock: pulses, and signs of life. */
+static void keep_time(ivy_process *p) {
+  int64_t now = now_us();
+  if (now - p->pulsed >= PULSE_US) {
+    for (uint32_t i = 0; i < p->config.nodes; i++)
+      if (i != p->me) ivy_pulse(&p->node, (uint8_t)i);
+    send_frames(p);
+    p->pulsed = now;
+  }
+  if (now - p->spoke >= HELLO_US) {
+    if (p->is_done) say(p, DONE, p->done);
+    else say(p, p->known_here == p->all ? ALIVE : HELLO, p->here);
+    p->spoke = now;
+  }
+  for (uint32_t i = 0; p->death_us && !p->is_done && i < p->config.nodes; i++)
+    if (i != p->me && !(p->done >> i & 1u) && p->heard[i] && now - p->heard[i] > p->death_us) told_dead(p, i);
+}
+
+/* Hears what came, waiting so long for the first string; the lock is held, but not while it waits. */
+static int serve(ivy_process *p, long wait_us) {
+  uint8_t bytes[ROOM];
+  int heard = 0;
+  for (int i = 0; i < 64; i++) {
+    if (p->progress == IVY_BY_THREAD) pthread_mutex_unlock(&p->lock);
+    size_t len = p->transport.receive(p->transport.state, bytes, sizeof bytes, heard ? 0 : wait_us);
+    if (p->progress == IVY_BY_THREAD) pthread_mutex_lock(&p->lock);
+    if (!len) break;
+    hear(p, bytes, len);
+    heard = 1;
+  }
+  keep_time(p);
+  return heard;
+}
+
+static void *serve_on(void *argument) {
+  ivy_process *p = (ivy_process *)argument;
+  pthread_mutex_lock(&p->lock);
+  while (!p->ending) {
+    if (serve(p, LISTEN_US)) pthread_cond_broadcast(&p->served);
+  }
+  pthread_mutex_unlock(&p->lock);
+  return NULL;
+}
+
+/* Waits until something was heard. */
+static void wait_on(ivy_process *p) {
+  if (p->progress == IVY_BY_THREAD) pthread_cond_wait(&p->served, &p->lock);
+  else serve(p, LISTEN_US);
+}
+
+ivy_process *ivy_join(const ivy_config *config, uint32_t me, ivy_transport transport, ivy_progress progress, long start_ms,
+                      long death_ms) {
+  ivy_process *p = (ivy_process *)calloc(1, sizeof *p);
+  if (!p) return NULL;
+  uint32_t status = ivy_version() == IVY_VERSION
+                        ? ivy_open(&p->node, config->nodes, config->pages, config->page_size, config->manager, me)
+                        : (uint32_t)IVY_BAD_VERSION;
+  if (status != IVY_DONE) {
+    fprintf(stderr, "ivy: node %u: %s\n", me, ivy_status_text(status));
+    free(p);
+    return NULL;
+  }
+  p->config = *config;
+  p->transport = transport;
+  p->me = me;
+  p->all = config->nodes == 32 ? 0xffffffffu : (1u << config->nodes) - 1u;
+  p->here = p->known_here = p->done = p->known_done = 1u << me;
+  p->death_us = death_ms * 1000;
+  pthread_mutex_init(&p->lock, NULL);
+  pthread_cond_init(&p->served, NULL);
+  int64_t last = now_us() + start_ms * 1000;
+  while (p->known_here != p->all || p->here != p->all) {
+    serve(p, LISTEN_US);
+    if (p->here == p->all) p->known_here |= 1u << me;
+    if (now_us() > last) {
+      fprintf(stderr, "ivy: node %u: others are not here: those of the set %x are\n", me, p->here);
+      ivy_close(&p->node);
+      free(p);
+      return NULL;
+    }
+  }
+  say(p, HELLO, p->here);
+  p->progress = progress;
+  if (progress == IVY_BY_THREAD && pthread_create(&p->thread, NULL, serve_on, p)) p->progress = IVY_IN_CALLS;
+  return p;
+}
+
+void ivy_leave(ivy_process *p) {
+  pthread_mutex_lock(&p->lock);
+  p->is_done = 1;
+  p->done |= 1u << p->me;
+  p->spoke = 0;
+  int64_t last = now_us() + 10000000;
+  while ((p->done != p->all || (p->known_done | 1u << p->me) != p->all) && now_us() < last) wait_on(p);
+  for (int i = 0; i < 5; i++) say(p, DONE, p->done);
+  p->ending = 1;
+  pthread_mutex_unlock(&p->lock);
+  if (p->progress == IVY_BY_THREAD) pthread_join(p->thread, NULL);
+  ivy_close(&p->node);
+  p->transport.close(p->transport.state);
+  free(p);
+}
+
+uint32_t ivy_call(ivy_process *p, uint32_t kind, uint32_t width, uint64_t place, uint64_t operand, uint64_t expected,
+                  uint64_t *value) {
+  if (p->progress == IVY_BY_THREAD) pthread_mutex_lock(&p->lock);
+  else if (++p->calls % 64 == 0) serve(p, 0);
+  uint32_t status;
+  while ((status = ivy_begin(&p->node, kind, width, place, operand, expected, value)) == IVY_MEMORY) wait_on(p);
+  if (status == IVY_PENDING) send_frames(p);
+  while (status == IVY_PENDING || status == IVY_MEMORY) {
+    wait_on(p);
+    status = ivy_reply(&p->node, value);
+    send_frames(p);
+  }
+  if (p->progress == IVY_BY_THREAD) pthread_mutex_unlock(&p->lock);
+  return status;
+}
+
+void ivy_progress_now(ivy_process *p) {
+  if (p->progress == IVY_IN_CALLS) serve(p, 0);
+}
+
+static uint64_t sure(ivy_process *p, uint32_t kind, uint32_t width, uint64_t place, uint64_t operand, uint64_t expected) {
+  uint64_t value = 0;
+  uint32_t status = ivy_call(p, kind, width, place, operand, expected, &value);
+  if (status != IVY_DONE) {
+    fprintf(stderr, "ivy: node %u: call %u at %llu: %s\n", p->me, kind, (unsigned long long)place,
+            ivy_status_text(status));
+    fail(p, 4);
+  }
+  return value;
+}
+
+uint64_t ivy_load(ivy_process *p, uint32_t width, uint64_t address) { return sure(p, IVY_LOAD, width, address, 0, 0); }
+void ivy_store(ivy_process *p, uint32_t width, uint64_t address, uint64_t value) {
+  sure(p, IVY_STORE, width, address, value, 0);
+}
+uint64_t ivy_swap(ivy_process *p, uint32_t width, uint64_t address, uint64_t value) {
+  return sure(p, IVY_SWAP, width, address, value, 0);
+}
+uint64_t ivy_compare_and_swap(ivy_process *p, uint32_t width, uint64_t address, uint64_t expected, uint64_t value) {
+  return sure(p, IVY_COMPARE_AND_SWAP, width, address, value, expected);
+}
+uint64_t ivy_fetch_add(ivy_process *p, uint32_t width, uint64_t address, uint64_t addend) {
+  return sure(p, IVY_FETCH_AND_ADD, width, address, addend, 0);
+}
+uint64_t ivy_count(ivy_process *p, uint64_t count) { return sure(p, IVY_COUNT, 0, count, 0, 0); }
+void ivy_advance(ivy_process *p, uint64_t count) { sure(p, IVY_ADVANCE, 0, count, 0, 0); }
+uint64_t ivy_await(ivy_process *p, uint64_t count, uint64_t least) { return sure(p, IVY_AWAIT, 0, count, least, 0); }
+uint64_t ivy_alloc(ivy_process *p, uint64_t bytes) { return sure(p, IVY_ALLOC, 0, 0, bytes, 0); }
+void ivy_free(ivy_process *p, uint64_t address) { sure(p, IVY_FREE, 0, address, 0, 0); }

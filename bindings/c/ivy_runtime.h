@@ -1,0 +1,70 @@
+/* ivy_runtime.h: a node of Ivy in a process of its own, over any transport: calls that block, pulses by a timer, the
+ * exchange of configurations at the start, the end, and the death of a peer. It is plain C, tested and not proved; what
+ * it calls in ivy.h is proved. */
+#ifndef IVY_RUNTIME_H
+#define IVY_RUNTIME_H
+#include "ivy.h"
+#ifdef __cplusplus
+extern "C" {
+#endif
+
+/* What carries strings between processes. It may lose, repeat and reorder them. */
+typedef struct ivy_transport {
+  void *state;
+  /* Sends a string to a peer, or loses it. */
+  void (*send)(void *state, uint32_t to, const uint8_t *bytes, size_t len);
+  /* The length of a string that came, or 0 where none came within so many microseconds. */
+  size_t (*receive)(void *state, uint8_t *bytes, size_t room, long wait_us);
+  void (*close)(void *state);
+} ivy_transport;
+
+typedef struct ivy_config {
+  uint32_t nodes, pages, page_size, manager;
+} ivy_config;
+
+/* How the node answers others. */
+typedef enum ivy_progress {
+  IVY_IN_CALLS = 0, /* while a call waits, at each 64th call and in ivy_progress_now */
+  IVY_BY_THREAD = 1 /* by a thread of its own, also while the owner computes */
+} ivy_progress;
+
+typedef struct ivy_process ivy_process;
+
+/* Node `me` joins the others, within `start_ms`. Null, with a line on stderr, where that fails: a peer is not there, or has
+ * another configuration or version; both are told then. A peer of which nothing is heard for `death_ms` is taken for dead,
+ * which ends this process with status 3 and a line on stderr; 0: never. */
+ivy_process *ivy_join(const ivy_config *config, uint32_t me, ivy_transport transport, ivy_progress progress, long start_ms,
+                      long death_ms);
+
+/* Serves the others until all processes are here, and ends. */
+void ivy_leave(ivy_process *process);
+
+/* A call, and its reply: a status below 256. */
+uint32_t ivy_call(ivy_process *process, uint32_t kind, uint32_t width, uint64_t place, uint64_t operand, uint64_t expected,
+                  uint64_t *value);
+
+/* Lets what came in, where progress is made in calls. */
+void ivy_progress_now(ivy_process *process);
+
+/* The same, where a refusal is a mistake of the program: it ends with status 4 and a line on stderr. */
+uint64_t ivy_load(ivy_process *process, uint32_t width, uint64_t address);
+void ivy_store(ivy_process *process, uint32_t width, uint64_t address, uint64_t value);
+uint64_t ivy_swap(ivy_process *process, uint32_t width, uint64_t address, uint64_t value);
+uint64_t ivy_compare_and_swap(ivy_process *process, uint32_t width, uint64_t address, uint64_t expected, uint64_t value);
+uint64_t ivy_fetch_add(ivy_process *process, uint32_t width, uint64_t address, uint64_t addend);
+uint64_t ivy_count(ivy_process *process, uint64_t count);
+void ivy_advance(ivy_process *process, uint64_t count);
+uint64_t ivy_await(ivy_process *process, uint64_t count, uint64_t least);
+uint64_t ivy_alloc(ivy_process *process, uint64_t bytes);
+void ivy_free(ivy_process *process, uint64_t address);
+
+/* Transports. UDP: process i listens at port + i of 127.0.0.1; of each hundred strings that it sends it loses, sends twice
+ * and holds back so many, for tests. */
+ivy_transport ivy_udp(uint32_t me, uint32_t nodes, uint16_t port, unsigned lost, unsigned twice, unsigned late);
+/* MPI, which the program has initialised, with MPI_THREAD_MULTIPLE where progress is made by a thread. */
+ivy_transport ivy_mpi(void);
+
+#ifdef __cplusplus
+}
+#endif
+#endif

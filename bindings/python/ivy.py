@@ -1,0 +1,99 @@
+"""One node of a coherent shared memory, over libivy.so by ctypes. ivy.h says what whoever drives a node owes.
+
+The library is IVY_LIB, or bindings/out/libivy.so. Not proved; what it calls is.
+"""
+import ctypes
+import os
+
+VERSION = 1
+FIXED, DYNAMIC = 0, 1
+LOAD, STORE, SWAP, COMPARE_AND_SWAP, FETCH_AND_ADD, COUNT, ADVANCE, AWAIT, ALLOC, FREE = range(10)
+NEXT, REPEAT, AHEAD, NOT_MINE = range(4)
+DONE, MEMORY, PENDING, NO_FRAME = 0, 257, 300, 302
+
+
+class Handle(ctypes.Structure):
+    _fields_ = [("at", ctypes.c_void_p)]
+
+
+def _library():
+    beside = os.path.join(os.path.dirname(os.path.abspath(__file__)), "..", "out", "libivy.so")
+    lib = ctypes.CDLL(os.environ.get("IVY_LIB", beside))
+    node, u8, u32, u64 = ctypes.POINTER(Handle), ctypes.c_uint8, ctypes.c_uint32, ctypes.c_uint64
+    size, text = ctypes.c_size_t, ctypes.c_char_p
+    to32, to64, to_size = ctypes.POINTER(u32), ctypes.POINTER(u64), ctypes.POINTER(size)
+    types = {
+        "version": [], "open": [node] + [u32] * 5, "close": [node],
+        "begin": [node, u32, u32, u64, u64, u64, to64], "reply": [node, to64],
+        "deliver": [node, text, size, to32], "next_frame": [node, text, size, to_size, to32],
+        "pulse": [node, u8],
+    }
+    for name, arguments in types.items():
+        function = getattr(lib, "ivy_" + name)
+        function.argtypes = arguments
+        function.restype = None if name == "close" else u32
+    return lib
+
+
+_lib = _library()
+if _lib.ivy_version() != VERSION:
+    raise ImportError("libivy has version %d, and this module is for %d" % (_lib.ivy_version(), VERSION))
+
+
+class Refused(Exception):
+    """A status of ivy.h that is neither DONE nor PENDING."""
+
+    def __init__(self, status):
+        super().__init__("status %d" % status)
+        self.status = status
+
+
+def _done(status):
+    if status != DONE:
+        raise Refused(status)
+
+
+class Node:
+    """A node, freed by close or with the object."""
+
+    def __init__(self, nodes, pages, page_size, manager, me):
+        self._handle = Handle()
+        _done(_lib.ivy_open(self._handle, nodes, pages, page_size, manager, me))
+        self._buffer = ctypes.create_string_buffer(page_size + 41)
+
+    def close(self):
+        _lib.ivy_close(self._handle)
+
+    __del__ = close
+
+    def _progress(self, status, value):
+        if status == PENDING:
+            return None
+        _done(status)
+        return value.value
+
+    def begin(self, kind, place=0, operand=0, expected=0, width=8):
+        """The value where the call is over, None where it is in progress."""
+        value = ctypes.c_uint64()
+        return self._progress(_lib.ivy_begin(self._handle, kind, width, place, operand, expected, value), value)
+
+    def reply(self):
+        """The value of the call in progress, once, or None."""
+        value = ctypes.c_uint64()
+        return self._progress(_lib.ivy_reply(self._handle, value), value)
+
+    def deliver(self, string):
+        """A string comes, any bytes at all: its verdict."""
+        verdict = ctypes.c_uint32()
+        _done(_lib.ivy_deliver(self._handle, string, len(string), verdict))
+        return verdict.value
+
+    def frames(self):
+        """The strings that wait, each with the node that it is for."""
+        length, dest = ctypes.c_size_t(), ctypes.c_uint32()
+        room = len(self._buffer)
+        while _lib.ivy_next_frame(self._handle, self._buffer, room, length, dest) == DONE:
+            yield dest.value, self._buffer.raw[:length.value]
+
+    def pulse(self, peer):
+        _done(_lib.ivy_pulse(self._handle, peer))

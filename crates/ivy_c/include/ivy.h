@@ -1,0 +1,180 @@
+/* ivy.h: one node of a coherent shared memory, as a value.
+ *
+ * A node starts no thread, takes no lock, reads no clock, opens no socket and keeps no global state. The program around
+ * it, the driver, moves strings of bytes between the nodes, by any transport, and says when to send again. Each node
+ * runs the proved code of Ivy: whatever a transport loses, repeats, reorders or forges, the replies of all nodes are
+ * those of one flat memory, as long as each string that is delivered was made by one of the nodes.
+ *
+ * THE DRIVER OWES
+ *   1. All nodes have one configuration. Frames do not name it, so compare it before the first frame.
+ *   2. Each string that arrives is handed to ivy_deliver. Any bytes are safe; losses, repeats and order do not matter.
+ *   3. After each call the strings that wait are taken by ivy_next_frame and sent. Losing one is allowed.
+ *   4. ivy_pulse to each peer now and then, by a timer: it makes again what is not acknowledged, and acknowledges what
+ *      came. A node does not say for whom it keeps messages; a pulse that has nothing to say makes no string. Without
+ *      pulses what is kept grows, also where nothing is lost.
+ *   5. 2 to 4 go on while the owner computes or waits for something else, and until no peer needs this node any more:
+ *      a node owns pages that others ask for at any time.
+ *
+ * OWNERSHIP. An ivy_node begins as IVY_NONE. Its member is neither read nor written. It is never copied while open; it
+ * may be moved to another thread. Two threads are never inside functions of one node at once: take a lock round them.
+ * Different nodes are independent. No pointer is null, but for `bytes` where `len` is 0, and no memory that is passed
+ * overlaps other memory that is passed and written. A node owns memory until ivy_close: its pages, what peers have not
+ * acknowledged, and 32 bytes for each call that was begun.
+ *
+ * UNITS. Addresses and sizes are in bytes. A word has 1, 2, 4 or 8 bytes and is a number; in a page it is big-endian,
+ * which no node sees. The first page holds the eventcounts, page_size / 8 of them, numbered from 0; the heap begins at
+ * address page_size and ends at pages * page_size.
+ */
+#ifndef IVY_H
+#define IVY_H
+#include <stddef.h>
+#include <stdint.h>
+#ifdef __cplusplus
+extern "C" {
+#endif
+
+#define IVY_VERSION 1u
+uint32_t ivy_version(void); /* of the library: compare it with IVY_VERSION */
+
+/* ---- Statuses ---------------------------------------------------------------------------------------------------
+ *
+ * Below 256 a status is a reply of the memory: 0 the call was carried out, 3 to 10 it was refused and changed nothing
+ * in the memory; it is over either way. IVY_PENDING says that a call is in progress, also one for which memory ran out as
+ * it began. After each other status the node is as it was before the function was called, and what the pointers lead to
+ * is not to be used. */
+typedef enum ivy_status {
+  IVY_DONE = 0,
+  IVY_MISALIGNED = 3,       /* the address is no multiple of the width */
+  IVY_OUT_OF_RANGE = 4,     /* the address is past the heap */
+  IVY_RESERVED = 5,         /* the address is in the first page */
+  IVY_NO_SUCH_COUNT = 6,
+  IVY_COUNT_FULL = 7,       /* the count is at its greatest value */
+  IVY_ZERO_SIZE = 8,        /* a block of no bytes */
+  IVY_NO_ROOM = 9,          /* no room in the heap for the block */
+  IVY_NOT_A_BLOCK = 10,     /* no live block begins at the address */
+  /* From here on: 256 and the number of a fault that is no reply of the memory. */
+  IVY_MEMORY = 257,         /* malloc gave no memory: try again */
+  IVY_BAD_CONFIG = 258,
+  IVY_SHORT_FRAME = 267,    /* 267 to 272: these bytes are no frame of this configuration */
+  IVY_BAD_MAGIC = 268,
+  IVY_BAD_VERSION = 269,
+  IVY_BAD_KIND = 270,
+  IVY_BAD_NODE = 271,
+  IVY_BAD_BODY = 272,
+  IVY_NUMBERS_SPENT = 273,  /* a message number above 2^64 - 1 would be needed */
+  IVY_BUSY = 274,           /* a call is in progress already */
+  IVY_PENDING = 300,
+  IVY_NO_CALL = 301,        /* no call is in progress */
+  IVY_NO_FRAME = 302,       /* no string waits */
+  IVY_SHORT_BUFFER = 303,   /* the first string is longer than the buffer, and waits */
+  IVY_BAD_ARGUMENT = 304,   /* no such kind, width, node or manager */
+  IVY_CLOSED = 305,         /* the handle has no node */
+  IVY_OPEN = 306            /* the handle has a node already */
+} ivy_status;
+
+/* The name of a status; never null. */
+static inline const char *ivy_status_text(uint32_t status) {
+  switch (status) {
+    case IVY_DONE: return "done";
+    case IVY_MISALIGNED: return "the address is no multiple of the width";
+    case IVY_OUT_OF_RANGE: return "the address is past the heap";
+    case IVY_RESERVED: return "the address is in the first page";
+    case IVY_NO_SUCH_COUNT: return "there is no such eventcount";
+    case IVY_COUNT_FULL: return "the eventcount is at its greatest value";
+    case IVY_ZERO_SIZE: return "a block of no bytes";
+    case IVY_NO_ROOM: return "no room in the heap";
+    case IVY_NOT_A_BLOCK: return "no live block begins at the address";
+    case IVY_MEMORY: return "no memory";
+    case IVY_BAD_CONFIG: return "the configuration is out of its limits";
+    case IVY_SHORT_FRAME: return "no frame: too short";
+    case IVY_BAD_MAGIC: return "no frame: other first bytes";
+    case IVY_BAD_VERSION: return "no frame: another version";
+    case IVY_BAD_KIND: return "no frame: no such kind";
+    case IVY_BAD_NODE: return "no frame: no such node";
+    case IVY_BAD_BODY: return "no frame: length, number or field is wrong";
+    case IVY_NUMBERS_SPENT: return "message numbers are spent";
+    case IVY_BUSY: return "a call is in progress already";
+    case IVY_PENDING: return "the call is in progress";
+    case IVY_NO_CALL: return "no call is in progress";
+    case IVY_NO_FRAME: return "no string waits";
+    case IVY_SHORT_BUFFER: return "the buffer is shorter than the string";
+    case IVY_BAD_ARGUMENT: return "no such kind, width, node or manager";
+    case IVY_CLOSED: return "the handle has no node";
+    case IVY_OPEN: return "the handle has a node already";
+    default: return "unknown status";
+  }
+}
+
+/* ---- A node ----------------------------------------------------------------------------------------------------- */
+
+typedef struct { void *at; } ivy_node;
+#define IVY_NONE { 0 }
+
+typedef enum ivy_manager {
+  IVY_FIXED = 0,  /* a fixed node for each page keeps who owns it */
+  IVY_DYNAMIC = 1 /* each node keeps a hint of who owns each page */
+} ivy_manager;
+
+/* No frame of a configuration is longer. */
+#define IVY_FRAME_MOST(page_size) ((size_t)(page_size) + 41u)
+
+/* Opens node `me` of 2 to 32 `nodes`, with 2 to 256 pages of a power of two from 64 to 4,096 bytes: IVY_DONE, MEMORY,
+ * BAD_CONFIG, BAD_ARGUMENT (no such node or manager), OPEN. After any but IVY_DONE the handle is as it was. */
+uint32_t ivy_open(ivy_node *node, uint32_t nodes, uint32_t pages, uint32_t page_size, uint32_t manager, uint32_t me);
+
+/* Frees all that a node has. A handle without one stays as it is. */
+void ivy_close(ivy_node *node);
+
+/* ---- Calls: one at a time ------------------------------------------------------------------------------------------
+ *
+ *                         place             width       operand     expected  *value, where the status is IVY_DONE
+ *   IVY_LOAD              address           1, 2, 4, 8                        what stands there
+ *   IVY_STORE             address           1, 2, 4, 8  new value             as it was
+ *   IVY_SWAP              address           1, 2, 4, 8  new value             what stood there
+ *   IVY_COMPARE_AND_SWAP  address           1, 2, 4, 8  new value   expected  what stood there
+ *   IVY_FETCH_AND_ADD     address           1, 2, 4, 8  addend                what stood there
+ *   IVY_COUNT             number of a count                                   the count
+ *   IVY_ADVANCE           number of a count                                   as it was
+ *   IVY_AWAIT             number of a count             least                 the count, once it is at least `least`
+ *   IVY_ALLOC                                           bytes                 the address, a multiple of 8
+ *   IVY_FREE              address                                             as it was
+ */
+typedef enum ivy_kind {
+  IVY_LOAD, IVY_STORE, IVY_SWAP, IVY_COMPARE_AND_SWAP, IVY_FETCH_AND_ADD, IVY_COUNT, IVY_ADVANCE, IVY_AWAIT, IVY_ALLOC,
+  IVY_FREE
+} ivy_kind;
+
+/* Begins a call. Below 256: it is over. IVY_PENDING: it is in progress, and ivy_reply has its reply later; it cannot be
+ * withdrawn. MEMORY, BUSY, BAD_ARGUMENT, CLOSED: it was not begun. */
+uint32_t ivy_begin(ivy_node *node, uint32_t kind, uint32_t width, uint64_t place, uint64_t operand, uint64_t expected,
+                   uint64_t *value);
+
+/* The reply of the call in progress, once: below 256. IVY_PENDING: none yet; ask again after an ivy_deliver. Strings may
+ * wait after it: an await asks for its page again. MEMORY and NUMBERS_SPENT: nothing changed, the call is in progress
+ * still. NO_CALL, CLOSED. */
+uint32_t ivy_reply(ivy_node *node, uint64_t *value);
+
+/* ---- Strings ------------------------------------------------------------------------------------------------------ */
+
+typedef enum ivy_verdict {
+  IVY_NEXT = 0,    /* new, and served: ask ivy_reply, take strings */
+  IVY_REPEAT = 1,  /* seen before, or an acknowledgement alone */
+  IVY_AHEAD = 2,   /* others before it are missing: held until they come, or dropped and sent again by its sender */
+  IVY_NOT_MINE = 3 /* for another node; nothing changed */
+} ivy_verdict;
+
+/* A string comes. IVY_DONE, with the verdict; 267 to 273, MEMORY, CLOSED: nothing changed. */
+uint32_t ivy_deliver(ivy_node *node, const uint8_t *bytes, size_t len, uint32_t *verdict);
+
+/* The first string that waits is written to `buffer` and waits no more: IVY_DONE, with its length and the node that it
+ * is for. IVY_SHORT_BUFFER: it waits still, and *len is its length. IVY_NO_FRAME, CLOSED. */
+uint32_t ivy_next_frame(ivy_node *node, uint8_t *buffer, size_t room, size_t *len, uint32_t *dest);
+
+/* The first 32 messages that `peer` has not acknowledged wait to be sent again; where there is none and an
+ * acknowledgement is owed, a frame with it; else nothing. IVY_DONE, MEMORY, BAD_ARGUMENT (no other node), CLOSED. */
+uint32_t ivy_pulse(ivy_node *node, uint8_t peer);
+
+#ifdef __cplusplus
+}
+#endif
+#endif

@@ -1,0 +1,224 @@
+//! One node of Ivy for C and other languages: an opaque handle, with no thread, lock, clock or
+//! socket.
+//!
+//! `include/ivy.h` says what a program in C owes, and what each status leaves.
+#![tactic(auto)]
+
+ghost use Rattle.std.specs.Prelude.{◌≡◌, ◌≢◌, None, Some, MatchOption};
+ghost use Rattle.std.specs.Mem.{manually_drop_value};
+ghost use Rattle.ivy_model.specs.declared.Config.{Config};
+ghost use Rattle.ivy_embedded.specs.Nodes.{first_embedded};
+ghost use Rattle.ivy_embedded.specs.Exports.{Answers, Begins, Delivers, IsConfigOf, IsRequest, Polls, Pulses, RefusesCall, RefusesPoll, RefusesPulse, RefusesString, TakesAt};
+
+mod handle;
+
+pub use handle::{Handle, Held};
+use handle::{end, held};
+use ivy_embedded::{
+    BAD_ARGUMENT, BAD_CONFIG, CLOSED, DONE, Embedded, MEMORY, NO_CALL, NO_FRAME, OPEN,
+    SHORT_BUFFER, Taken, call_of, config_of, status_of, tell, verdict_number,
+};
+use std::alloc::Global;
+use std::mem::replace;
+
+/// The version of the functions of `include/ivy.h`.
+pub const VERSION: u32 = 1;
+
+/// Takes the node out of a handle.
+fn take(alloc: Global, handle: &mut Handle) -> Option<Held>
+    ensures taken { MatchOption result (handle.old.held ≡ None) (λ node. handle.old.held ≡ Some (manually_drop_value node.value)) }
+    ensures nothing { handle.new.held ≡ None }
+{
+    replace(handle, Handle::nothing()).into_box(alloc)
+}
+
+/// Puts a node into a handle, in the place of what it had.
+fn put(alloc: Global, handle: &mut Handle, node: Held)
+    ensures { handle.new.held ≡ Some (manually_drop_value node.value) }
+{
+    if let Some(before) = replace(handle, Handle::of(node)).into_box(alloc) {
+        end(before);
+    }
+}
+
+/// The version of these functions.
+#[unsafe(no_mangle)]
+pub extern "C" fn ivy_version() -> u32
+    ensures { result ≡ VERSION }
+{
+    VERSION
+}
+
+/// Opens node `me` of a configuration in a handle that has none. It has made no call yet.
+#[unsafe(no_mangle)]
+pub extern "C" fn ivy_open(
+    alloc: Global,
+    handle: &mut Handle,
+    nodes: u32,
+    pages: u32,
+    page_size: u32,
+    manager: u32,
+    me: u32,
+) -> u32
+    ensures done { result ≡ DONE → (c : Config) × IsConfigOf nodes pages page_size manager c × (handle.old.held ≡ None) × (handle.new.held ≡ Some (first_embedded c me)) }
+    ensures same { result ≢ DONE → handle.new.held ≡ handle.old.held }
+{
+    if let Some(node) = take(alloc, handle) {
+        put(alloc, handle, node);
+        return OPEN;
+    }
+    let Some(config) = config_of(nodes, pages, page_size, manager) else {
+        return BAD_CONFIG;
+    };
+    let Ok(me) = u8::try_from(me) else {
+        return BAD_ARGUMENT;
+    };
+    if config.nodes <= me {
+        return BAD_ARGUMENT;
+    }
+    let Ok(node) = Embedded::open(alloc, &config, me) else {
+        return MEMORY;
+    };
+    let Some(node) = held(alloc, node) else {
+        return MEMORY;
+    };
+    put(alloc, handle, node);
+    DONE
+}
+
+/// Ends a node, and frees what it had. A handle that has none stays as it is.
+#[unsafe(no_mangle)]
+pub extern "C" fn ivy_close(alloc: Global, handle: &mut Handle)
+    ensures { handle.new.held ≡ None }
+{
+    if let Some(node) = take(alloc, handle) {
+        end(node);
+    }
+}
+
+/// Hands in a call, and begins it.
+#[unsafe(no_mangle)]
+pub extern "C" fn ivy_begin(
+    alloc: Global,
+    handle: &mut Handle,
+    kind: u32,
+    width: u32,
+    place: u64,
+    operand: u64,
+    expected: u64,
+    value: &mut u64,
+) -> u32
+    ensures { Answers result handle.old.held handle.new.held (Begins (IsRequest kind width place operand expected) result value.old value.new) (RefusesCall (IsRequest kind width place operand expected) result) }
+{
+    let Some(mut node) = take(alloc, handle) else {
+        return CLOSED;
+    };
+    let Some(call) = call_of(kind, width, place, operand, expected) else {
+        put(alloc, handle, node);
+        return BAD_ARGUMENT;
+    };
+    let begun = node.begin(call);
+    put(alloc, handle, node);
+    match begun {
+        Ok(progress) => tell(progress, value),
+        Err(fault) => status_of(fault),
+    }
+}
+
+/// The reply of the call in progress.
+#[unsafe(no_mangle)]
+pub extern "C" fn ivy_reply(alloc: Global, handle: &mut Handle, value: &mut u64) -> u32
+    ensures { Answers result handle.old.held handle.new.held (Polls result value.old value.new) (RefusesPoll result) }
+{
+    let Some(mut node) = take(alloc, handle) else {
+        return CLOSED;
+    };
+    if node.is_free() {
+        put(alloc, handle, node);
+        return NO_CALL;
+    }
+    let polled = node.poll();
+    put(alloc, handle, node);
+    match polled {
+        Ok(progress) => tell(progress, value),
+        Err(fault) => status_of(fault),
+    }
+}
+
+/// A string comes, any bytes at all. What it was: 0 the next message of its source, 1 nothing new,
+/// 2 one before which others are missing, 3 one for another node.
+#[unsafe(no_mangle)]
+pub extern "C" fn ivy_deliver(
+    alloc: Global,
+    handle: &mut Handle,
+    bytes: &[u8],
+    what: &mut u32,
+) -> u32
+    ensures { Answers result handle.old.held handle.new.held (Delivers bytes.now result what.new) (RefusesString bytes.now result) }
+{
+    let Some(mut node) = take(alloc, handle) else {
+        return CLOSED;
+    };
+    let delivered = node.deliver(bytes);
+    put(alloc, handle, node);
+    match delivered {
+        Ok(verdict) => {
+            *what = verdict_number(verdict);
+            DONE
+        }
+        Err(fault) => status_of(fault),
+    }
+}
+
+/// The first string that waits is written to the head of a buffer, with its length and the node
+/// that it is for, and waits no more. Where the buffer is too short it waits, and its length is
+/// told.
+#[unsafe(no_mangle)]
+pub extern "C" fn ivy_next_frame(
+    alloc: Global,
+    handle: &mut Handle,
+    buffer: &mut [u8],
+    len: &mut usize,
+    dest: &mut u32,
+) -> u32
+    ensures { TakesAt result buffer.new len.new dest.new handle.old.held handle.new.held }
+{
+    let Some(mut node) = take(alloc, handle) else {
+        return CLOSED;
+    };
+    let taken = node.take_into(buffer);
+    put(alloc, handle, node);
+    match taken {
+        Taken::Given(length, to) => {
+            *len = length;
+            *dest = u32::from(to);
+            DONE
+        }
+        Taken::TooLong(length) => {
+            *len = length;
+            SHORT_BUFFER
+        }
+        Taken::Nothing => NO_FRAME,
+    }
+}
+
+/// What another node has not acknowledged waits to be put on the wire again, or an acknowledgement
+/// where one is owed.
+#[unsafe(no_mangle)]
+pub extern "C" fn ivy_pulse(alloc: Global, handle: &mut Handle, to: u8) -> u32
+    ensures { Answers result handle.old.held handle.new.held (Pulses to result) (RefusesPulse to result) }
+{
+    let Some(mut node) = take(alloc, handle) else {
+        return CLOSED;
+    };
+    if !node.is_peer(to) {
+        put(alloc, handle, node);
+        return BAD_ARGUMENT;
+    }
+    let pulsed = node.pulse(to);
+    put(alloc, handle, node);
+    match pulsed {
+        Ok(()) => DONE,
+        Err(fault) => status_of(fault),
+    }
+}

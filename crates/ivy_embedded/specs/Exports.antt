@@ -1,0 +1,192 @@
+-- What the exports answer, and what they do to the node of a handle. A status below 256 is a reply
+-- of the memory; one from there on is none, and where it is no PENDING either, the node is as it
+-- was.
+use Rattle.std.specs.Prelude.{◌≡◌, ◌≢◌, ◌⊎◌, ℕ, ◌+◌, ◌<◌, ◌≤◌, List, [], ◌∷◌, ◌++◌, take, length, slice_get, Option, None, Some, IfSome, MatchOption, MatchResult}
+use Rattle.ivy_model.specs.declared.Call.{Call}
+use Rattle.ivy_model.specs.declared.Call.TheVariants.{Load, Store, Swap, Cas, FetchAdd, Count, Advance, Await, Alloc, Free}
+use Rattle.ivy_model.specs.declared.Config.{Config}
+use Rattle.ivy_model.specs.declared.Fault.{Fault}
+use Rattle.ivy_model.specs.declared.Kind.{Kind}
+use Rattle.ivy_model.specs.declared.Kind.TheVariants.{Fixed, Dynamic}
+use Rattle.ivy_model.specs.declared.Reply.{Reply}
+use Rattle.ivy_model.specs.declared.Reply.TheVariants.{Value, Done, Refused}
+use Rattle.ivy_model.specs.Numbers.{fault_number}
+use Rattle.ivy_model.specs.Wants.{IsWant}
+use Rattle.ivy_wire.specs.Destinations.{dest_of}
+use Rattle.ivy_wire.specs.Faults.{checked}
+use Rattle.ivy_moves.specs.ivy_link.declared.Verdict.{Verdict}
+use Rattle.ivy_moves.specs.ivy_link.declared.Verdict.TheVariants as verdict
+use Rattle.ivy_moves.specs.Nodes.{pulsing}
+use Rattle.ivy_program.specs.Owned.{IsFree}
+use Rattle.ivy_program.specs.Steps.{Asks, step_of}
+use Rattle.ivy_site.specs.ivy_host.Hosts.{number_of}
+use Rattle.ivy_site.specs.Handed.{site_handed}
+use Rattle.ivy_site.specs.Shown.{Shown, after_pulse_to}
+use Rattle.ivy_site.specs.Sites.{AfterDelivery, SiteTurns}
+use Rattle.ivy_embedded.specs.Nodes.{Embedded, waiting_in}
+use Rattle.ivy_embedded.specs.declared.status.TheConstants.{DONE, PENDING, CLOSED, MEMORY, BUSY, NO_CALL, BAD_ARGUMENT, NO_FRAME, SHORT_BUFFER, FIXED, DYNAMIC}
+use Rattle.ivy_embedded.specs.declared.status.TheConstants.{LOAD, STORE, SWAP, COMPARE_AND_SWAP, FETCH_AND_ADD, COUNT, ADVANCE, AWAIT, ALLOCATE, FREE}
+
+-- these numbers ask for this call
+abbrev pub IsRequest : ℕ → ℕ → ℕ → ℕ → ℕ → Call → Type 0
+IsRequest kind width place operand expected (Load w addr) =
+    (kind ≡ LOAD) × (w ≡ width) × (addr ≡ place)
+IsRequest kind width place operand expected (Store w addr value) =
+    (kind ≡ STORE) × (w ≡ width) × (addr ≡ place) × (value ≡ operand)
+IsRequest kind width place operand expected (Swap w addr value) =
+    (kind ≡ SWAP) × (w ≡ width) × (addr ≡ place) × (value ≡ operand)
+IsRequest kind width place operand expected (Cas w addr old value) =
+    (kind ≡ COMPARE_AND_SWAP) × (w ≡ width) × (addr ≡ place) × (old ≡ expected)
+    × (value ≡ operand)
+IsRequest kind width place operand expected (FetchAdd w addr value) =
+    (kind ≡ FETCH_AND_ADD) × (w ≡ width) × (addr ≡ place) × (value ≡ operand)
+IsRequest kind width place operand expected (Count k) = (kind ≡ COUNT) × (k ≡ place)
+IsRequest kind width place operand expected (Advance k) = (kind ≡ ADVANCE) × (k ≡ place)
+IsRequest kind width place operand expected (Await k least) =
+    (kind ≡ AWAIT) × (k ≡ place) × (least ≡ operand)
+IsRequest kind width place operand expected (Alloc size) = (kind ≡ ALLOCATE) × (size ≡ operand)
+IsRequest kind width place operand expected (Free addr) = (kind ≡ FREE) × (addr ≡ place)
+
+-- the number names the kind of manager
+abbrev pub IsManager : ℕ → Kind → Type 0
+IsManager number Fixed = number ≡ FIXED
+IsManager number Dynamic = number ≡ DYNAMIC
+
+-- the numbers are those of the configuration
+abbrev pub IsConfigOf : ℕ → ℕ → ℕ → ℕ → Config → Type 0
+IsConfigOf nodes pages page_size manager c = (c.nodes ≡ nodes) × (c.pages ≡ pages)
+    × (c.page_size ≡ page_size) × IsManager manager c.manager
+
+-- the call that a turn is about: the one in progress, or the one that begins
+abbrev pub IsCallOf : Shown → Call → Type 0
+IsCallOf s call = MatchOption s.node.core.memory.asked (step_of s.node.core.process ≡ Asks call)
+    (λ asked. asked ≡ call)
+
+-- a turn, after which the reply to this call is recorded, once
+pub record Replies (call : Call) (reply : Reply) (old new : Shown) : Type 0 where
+  pub turns : SiteTurns old new
+  pub recorded : new.node.core.history ≡ old.node.core.history
+      ++ record { node = number_of old.node.core; call = call; reply = reply } ∷ []
+
+-- nothing changed, or a turn that recorded no reply
+abbrev pub Waits : Shown → Shown → Type 0
+Waits old new =
+    (new ≡ old) ⊎ (SiteTurns old new × (new.node.core.history ≡ old.node.core.history))
+
+-- a turn of a node that has a call: it gave this reply, or none yet
+abbrev pub AfterCall : Option Reply → Shown → Shown → Type 0
+AfterCall None old new = Waits old new
+AfterCall (Some reply) old new = (call : Call) × IsCallOf old call × Replies call reply old new
+
+-- the call is handed in, and the node has a turn
+abbrev pub AfterBegin : Call → Option Reply → Shown → Shown → Type 0
+AfterBegin call None old new = Waits (site_handed (call ∷ []) old) new
+AfterBegin call (Some reply) old new = Replies call reply (site_handed (call ∷ []) old) new
+
+-- the status, and the value, which was the one before, tell the reply
+abbrev pub Tells : Reply → ℕ → ℕ → ℕ → Type 0
+Tells (Value number) status before value = (status ≡ DONE) × (value ≡ number)
+Tells Done status before value = (status ≡ DONE) × (value ≡ before)
+Tells (Refused number) status before value =
+    (status ≡ number) × (number < 256) × (value ≡ before)
+
+-- the status tells whether there is a reply, and which
+abbrev pub TellsProgress : Option Reply → ℕ → ℕ → ℕ → Type 0
+TellsProgress None status before value = (status ≡ PENDING) × (value ≡ before)
+TellsProgress (Some reply) status before value = Tells reply status before value
+
+-- a call on a closed handle says so; one on an open handle leaves a node there, which is as `Does`
+-- says, or as it was where the call is refused for such a reason
+abbrev pub Answers : ℕ → Option Embedded → Option Embedded → (Embedded → Embedded → Type 0)
+    → (Embedded → Type 0) → Type 0
+Answers status None new Does Refuses = (status ≡ CLOSED) × (new ≡ None)
+Answers status (Some s) None Does Refuses = ⊥
+Answers status (Some s) (Some t) Does Refuses = Does s t ⊎ (Refuses s × (t ≡ s))
+
+-- the status of a fault that is no reply
+abbrev pub IsStatus : ℕ → Fault → Type 0
+IsStatus status fault = status ≡ 256 + fault_number fault
+
+-- memory or message numbers ran out
+abbrev pub TellsWant : ℕ → Type 0
+TellsWant status = (fault : Fault) × IsWant fault × IsStatus status fault
+
+-- the node changes so, and the string that was looked at stays
+abbrev pub OfSite : (Shown → Shown → Type 0) → Embedded → Embedded → Type 0
+OfSite Does s t = (t.first ≡ s.first) × Does s.site t.site
+
+-- the call of these numbers is handed in, and the status tells what came of it
+abbrev pub Begins : (Call → Type 0) → ℕ → ℕ → ℕ → Embedded → Embedded → Type 0
+Begins Asked status before value s t = (call : Call) × Asked call × (progress : Option Reply)
+    × TellsProgress progress status before value × OfSite (AfterBegin call progress) s t
+
+-- why a call is not begun: no memory; the one before is in progress; there is no such call
+abbrev pub RefusesCall : (Call → Type 0) → ℕ → Embedded → Type 0
+RefusesCall Asked status s = (status ≡ MEMORY)
+    ⊎ ((status ≡ BUSY)
+    × ((IsFree s.site.node.core.process × (s.site.node.core.memory.asked ≡ None)) → ⊥))
+    ⊎ (status ≡ BAD_ARGUMENT)
+
+-- the call in progress is asked for its reply
+abbrev pub Polls : ℕ → ℕ → ℕ → Embedded → Embedded → Type 0
+Polls status before value s t = (progress : Option Reply)
+    × TellsProgress progress status before value × OfSite (AfterCall progress) s t
+
+-- why it has none: memory or numbers ran out; each call has its reply
+abbrev pub RefusesPoll : ℕ → Embedded → Type 0
+RefusesPoll status s =
+    TellsWant status ⊎ ((status ≡ NO_CALL) × IsFree s.site.node.core.process)
+
+-- the number of a verdict
+abbrev pub verdict_number : Verdict → ℕ
+verdict_number verdict.Next = 0
+verdict_number verdict.Repeat = 1
+verdict_number verdict.Ahead = 2
+verdict_number verdict.NotMine = 3
+
+-- the string was delivered, by this verdict
+abbrev pub Delivers : List ℕ → ℕ → ℕ → Embedded → Embedded → Type 0
+Delivers bytes status what s t = (status ≡ DONE) × (v : Verdict) × (what ≡ verdict_number v)
+    × OfSite (AfterDelivery bytes v) s t
+
+-- why it was not: the string spells no frame, or memory or numbers ran out
+abbrev pub RefusesString : List ℕ → ℕ → Embedded → Type 0
+RefusesString bytes status s = MatchResult (checked s.site.config bytes) (λ _. TellsWant status)
+    (IsStatus status)
+
+-- the node pulsed to another one
+abbrev pub Pulses : ℕ → ℕ → Embedded → Embedded → Type 0
+Pulses to status s t = (status ≡ DONE) × (to < s.site.config.nodes) × (to ≢ s.site.me)
+    × OfSite (λ old new. new ≡ after_pulse_to old to (pulsing old.node to)) s t
+
+-- why it did not: no memory, or there is no such other node
+abbrev pub RefusesPulse : ℕ → ℕ → Embedded → Type 0
+RefusesPulse to status s = (status ≡ MEMORY)
+    ⊎ ((status ≡ BAD_ARGUMENT) × ((s.site.config.nodes ≤ to) ⊎ (to ≡ s.site.me)))
+
+-- nothing changed but which strings wait
+abbrev pub ChangesWaiting : Embedded → Embedded → Type 0
+ChangesWaiting s t = t.site ≡ record s.site { waiting = t.site.waiting }
+
+-- the first string that waits stands at the head of the buffer, and waits no more
+abbrev pub Gives : List ℕ → ℕ → ℕ → Embedded → Embedded → Type 0
+Gives buffer len dest s t = (waiting_in s ≡ take len buffer ∷ waiting_in t)
+    × IfSome (dest_of (take len buffer)) (λ d. dest ≡ d)
+
+-- the first string that waits is longer than the buffer, and all wait as before
+abbrev pub IsTooLong : List ℕ → ℕ → Embedded → Embedded → Type 0
+IsTooLong buffer len s t = (waiting_in t ≡ waiting_in s) × (length buffer < len)
+    × IfSome (slice_get (waiting_in s) 0) (λ string. len ≡ length string)
+
+-- what came of a look for a string, at an open handle
+abbrev pub Takes : ℕ → List ℕ → ℕ → ℕ → Embedded → Embedded → Type 0
+Takes status buffer len dest s t = ChangesWaiting s t
+    × (((status ≡ DONE) × Gives buffer len dest s t)
+    ⊎ ((status ≡ SHORT_BUFFER) × IsTooLong buffer len s t)
+    ⊎ ((status ≡ NO_FRAME) × (waiting_in s ≡ []) × (waiting_in t ≡ [])))
+
+-- and at any handle
+abbrev pub TakesAt : ℕ → List ℕ → ℕ → ℕ → Option Embedded → Option Embedded → Type 0
+TakesAt status buffer len dest None new = (status ≡ CLOSED) × (new ≡ None)
+TakesAt status buffer len dest (Some s) None = ⊥
+TakesAt status buffer len dest (Some s) (Some t) = Takes status buffer len dest s t

@@ -1,0 +1,4 @@
+pub mod Nodes
+pub mod Exports
+pub mod Taking
+pub use Rattle.ivy_site.specs as ivy_site

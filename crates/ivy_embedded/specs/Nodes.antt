@@ -1,0 +1,23 @@
+-- What a handle holds: a node with own code, and the string that was looked at and not taken yet.
+use Rattle.std.specs.Prelude.{ℕ, List, [], ◌∷◌, Option, Some, None}
+use Rattle.ivy_model.specs.declared.Config.{Config}
+use Rattle.ivy_site.specs.Shown.{Shown}
+use Rattle.ivy_site.specs.Sites.{first_keeping}
+use Rattle.ivy_moves.specs.declared.Keep.TheVariants.{Nothing}
+use Rattle.ivy_program.specs.Programs.{Called}
+
+pub record Embedded : Type 0 where
+  pub site : Shown
+  pub first : Option (List ℕ)
+
+-- the strings that wait, the first first
+abbrev pub strings_of : Option (List ℕ) → List (List ℕ) → List (List ℕ)
+strings_of None waiting = waiting
+strings_of (Some string) waiting = string ∷ waiting
+
+abbrev pub waiting_in : Embedded → List (List ℕ)
+waiting_in e = strings_of e.first e.site.waiting
+
+-- node `me`, which has made no call yet
+abbrev pub first_embedded : Config → ℕ → Embedded
+first_embedded c me = record { site = first_keeping Nothing c me (Called []); first = None }

@@ -1,0 +1,198 @@
+//! A node with own code, and the string that its owner looked at and has not taken.
+ghost use Rattle.std.specs.Prelude.{◌≡◌, ◌≢◌, ◌↔◌, ◌≤◌, ◌⊎◌, ◌-◌, ◌∷◌, [], ◌<◌, None, Some, Err, take, length, slice_get, IfOk, IfErr, IsTrue, IsFalse, MatchOption, MatchResult, IsOkUnless};
+ghost use Rattle.ivy_model.specs.Config.{IsConfig};
+ghost use Rattle.ivy_model.specs.Legal.{HasWidth};
+ghost use Rattle.ivy_model.specs.Wants.{IsWant};
+ghost use Rattle.ivy_moves.specs.Nodes.{pulsing};
+ghost use Rattle.ivy_program.specs.Owned.{IsFree};
+ghost use Rattle.ivy_site.specs.Shown.{after_pulse_to};
+ghost use Rattle.ivy_site.specs.Sites.{AfterDelivery};
+ghost use Rattle.ivy_wire.specs.Faults.{checked};
+ghost use Rattle.ivy_embedded.specs.Taking.{IsTaken};
+ghost use Rattle.ivy_embedded.specs.Nodes.{first_embedded, waiting_in};
+ghost use Rattle.ivy_embedded.specs.Exports.{AfterCall, AfterBegin, ChangesWaiting, OfSite};
+
+use ivy_model::{Call, Config, Fault, Reply};
+use ivy_site::{Keep, Site, Turn, Verdict};
+use ivy_wire::{Bytes, destination};
+use std::alloc::Global;
+use std::marker::Model;
+
+/// A node with own code, with the first string that waits, where it was taken out of the node and
+/// not handed on.
+#[derive(Drop)]
+pub struct Embedded {
+    site: Site<Global>,
+    first: Option<Bytes<Global>>,
+}
+
+impl Model for Embedded {
+    ghost use Rattle.ivy_embedded.specs.Nodes as nodes;
+    ghost use Rattle.std.specs.Coded.{codes};
+    ghost use Rattle.ivy_pagetable.specs.NodeSets.{nodes_code};
+    ghost use Rattle.ivy_site.specs.ivy_alloc.Heap.{heap_state_code};
+
+    ghost Value = { nodes.Embedded };
+
+    ghost coded = { Prim.hlevel (codes, nodes_code, heap_state_code) };
+
+    ghost view = { λ e. record { site = e.site; first = e.first } };
+}
+
+/// What came of a look at the first string that waits.
+pub enum Taken {
+    /// It was written out: its length, and the node that it is for.
+    Given(usize, u8),
+    /// It is so long, which is longer than the buffer.
+    TooLong(usize),
+    /// None waits.
+    Nothing,
+}
+
+/// One turn of a node that has a call [1, 17]: its reply, or none yet.
+#[tactic(auto, using(crate::proofs::Recording::none_recorded, crate::proofs::Recording::reply_recorded, crate::proofs::Recording::reply_there))]
+fn turn(site: &mut Site<Global>) -> Result<Option<Reply>, Fault>
+    ensures done { MatchResult result (λ progress. AfterCall progress site.old site.new) (λ _. site.new ≡ site.old) }
+    ensures want { IfErr result IsWant }
+{
+    let before = site.records();
+    match site.program_turn()? {
+        Turn::Idle | Turn::Ended => return Ok(None),
+        Turn::Moved => {}
+    }
+    if site.records() == before {
+        return Ok(None);
+    }
+    match site.last_record() {
+        Some(record) => Ok(Some(record.reply)),
+        None => Ok(None),
+    }
+}
+
+/// Hands a call to a node that has none, which it begins [1, 18]: its reply, or none yet. A call
+/// whose first turn is refused is in progress: the next turn tries again.
+#[tactic(auto, using(crate::proofs::Recording::begun))]
+fn begin(site: &mut Site<Global>, call: Call) -> Result<Option<Reply>, Fault>
+    requires width { HasWidth call }
+    ensures done { MatchResult result (λ progress. AfterBegin call progress site.old site.new) (λ _. site.new ≡ site.old) }
+    ensures busy { result ≡ Err Fault.Busy → (IsFree site.old.node.core.process × (site.old.node.core.memory.asked ≡ None)) → ⊥ }
+    ensures few { IfErr result (λ fault. (fault ≡ Fault.Memory) ⊎ (fault ≡ Fault.Busy)) }
+{
+    if !site.is_free() || site.asked().is_some() {
+        return Err(Fault::Busy);
+    }
+    site.hand(call)?;
+    match turn(site) {
+        Ok(progress) => Ok(progress),
+        Err(_) => Ok(None),
+    }
+}
+
+/// Writes a string to the head of a buffer, where it fits, and says whether it does.
+fn write_out(string: &[u8], buffer: &mut [u8]) -> bool
+    ensures fits { IsTrue result → take (length string.now) buffer.new ≡ string.now }
+    ensures none { IsFalse result → length buffer.new < length string.now }
+{
+    let len = string.len();
+    if buffer.len() < len {
+        return false;
+    }
+    buffer[..len].copy_from_slice(string);
+    true
+}
+
+impl Embedded {
+    /// A node that has made no call yet [1]. The configuration is within its limits, and `me` is
+    /// one of its nodes.
+    pub fn open(alloc: Global, config: &Config, me: u8) -> Result<Embedded, Fault>
+        requires limits { IsConfig config.now }
+        requires here { me < config.now.nodes }
+        ensures first { IfOk result (λ e. e ≡ first_embedded config.now me) }
+        ensures memory { IsOkUnless result Fault.Memory }
+    {
+        Ok(Embedded {
+            site: Site::open_keeping(alloc, config, me, Keep::Nothing)?,
+            first: None,
+        })
+    }
+
+    /// Hands in a call, and begins it, as [`begin`] says [1, 18].
+    pub fn begin(&mut self, call: Call) -> Result<Option<Reply>, Fault>
+        requires width { HasWidth call }
+        ensures done { MatchResult result (λ progress. OfSite (AfterBegin call progress) self.old self.new) (λ _. self.new ≡ self.old) }
+        ensures busy { result ≡ Err Fault.Busy → (IsFree self.old.site.node.core.process × (self.old.site.node.core.memory.asked ≡ None)) → ⊥ }
+        ensures few { IfErr result (λ fault. (fault ≡ Fault.Memory) ⊎ (fault ≡ Fault.Busy)) }
+    {
+        begin(&mut self.site, call)
+    }
+
+    /// Whether each call has its reply.
+    pub fn is_free(&self) -> bool
+        ensures { IsTrue result ↔ IsFree self.now.site.node.core.process }
+    {
+        self.site.is_free()
+    }
+
+    /// Asks the call in progress for its reply [1, 17].
+    pub fn poll(&mut self) -> Result<Option<Reply>, Fault>
+        ensures done { MatchResult result (λ progress. OfSite (AfterCall progress) self.old self.new) (λ _. self.new ≡ self.old) }
+        ensures want { IfErr result IsWant }
+    {
+        turn(&mut self.site)
+    }
+
+    /// A string comes, any bytes at all [1, 11 to 17].
+    pub fn deliver(&mut self, bytes: &[u8]) -> Result<Verdict, Fault>
+        ensures done { MatchResult result (λ verdict. OfSite (AfterDelivery bytes.now verdict) self.old self.new) (λ _. self.new ≡ self.old) }
+        ensures refused { MatchResult (checked self.old.site.config bytes.now) (λ _. IfErr result IsWant) (λ fault. result ≡ Err fault) }
+    {
+        self.site.deliver(bytes)
+    }
+
+    /// Whether there is such another node.
+    pub fn is_peer(&self, to: u8) -> bool
+        ensures yes { IsTrue result → (to < self.now.site.config.nodes) × (to ≢ self.now.site.me) }
+        ensures no { IsFalse result → (self.now.site.config.nodes ≤ to) ⊎ (to ≡ self.now.site.me) }
+    {
+        to < self.site.config().nodes && to != self.site.me()
+    }
+
+    /// A pulse to another node [1].
+    pub fn pulse(&mut self, to: u8) -> Result<(), Fault>
+        requires to { to < self.old.site.config.nodes }
+        requires other { to ≢ self.old.site.me }
+        ensures done { MatchResult result (λ _. OfSite (λ old new. new ≡ after_pulse_to old to (pulsing old.node to)) self.old self.new) (λ _. self.new ≡ self.old) }
+        ensures memory { IsOkUnless result Fault.Memory }
+    {
+        self.site.pulse(to)
+    }
+
+    /// Takes the first string that waits out of the node, where none is taken out.
+    fn look(&mut self)
+        ensures waiting { waiting_in self.new ≡ waiting_in self.old }
+        ensures node { ChangesWaiting self.old self.new }
+        ensures none { self.new.first ≡ None → waiting_in self.new ≡ [] }
+    {
+        if self.first.is_none() {
+            self.first = self.site.take_frame();
+        }
+    }
+
+    /// The first string that waits is written to the head of the buffer, where it fits, and waits
+    /// no more.
+    pub fn take_into(&mut self, buffer: &mut [u8]) -> Taken
+        ensures { IsTaken result buffer.new self.old self.new }
+    {
+        self.look();
+        let Some(string) = &self.first else {
+            return Taken::Nothing;
+        };
+        let len = string.bytes().len();
+        if !write_out(string.bytes(), buffer) {
+            return Taken::TooLong(len);
+        }
+        let dest = destination(string.bytes()).unwrap_or(0);
+        self.first = None;
+        Taken::Given(len, dest)
+    }
+}

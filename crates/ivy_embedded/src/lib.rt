@@ -1,0 +1,15 @@
+//! One node as a value for programs that bring threads, locks, clocks and a transport of their own,
+//! in numbers that other languages can pass: calls by kind and operands, statuses, strings.
+//!
+//! In a comment, numbers in brackets as [1, 2] are the fault numbers that a call may answer.
+#![tactic(auto)]
+
+mod embedded;
+mod status;
+
+pub use embedded::{Embedded, Taken};
+pub use status::{
+    ADVANCE, ALLOCATE, AWAIT, BAD_ARGUMENT, BAD_CONFIG, BUSY, CLOSED, COMPARE_AND_SWAP, COUNT,
+    DONE, DYNAMIC, FETCH_AND_ADD, FIXED, FREE, LOAD, MEMORY, NO_CALL, NO_FRAME, NO_REPLY, OPEN,
+    PENDING, SHORT_BUFFER, STORE, SWAP, call_of, config_of, status_of, tell, verdict_number,
+};

@@ -1,0 +1,184 @@
+//! The numbers that C knows statuses, calls and verdicts by.
+ghost use Rattle.std.specs.Prelude.{◌≡◌, ◌≢◌, ◌+◌, IfSome, MatchOption, MatchResult};
+ghost use Rattle.ivy_model.specs.Config.{IsConfig};
+ghost use Rattle.ivy_model.specs.Legal.{HasWidth, IsWidth};
+ghost use Rattle.ivy_model.specs.Numbers.{fault_number};
+ghost use Rattle.ivy_embedded.specs.Exports.{IsConfigOf, IsRequest, IsStatus, Tells, TellsProgress, verdict_number};
+
+use ivy_model::{Call, Config, Fault, Kind, Reply};
+use ivy_site::Verdict;
+
+/// The memory carried the call out, or the function did what it says.
+pub const DONE: u32 = 0;
+
+/// The statuses from here on are no replies of the memory.
+pub const NO_REPLY: u32 = 256;
+
+/// The allocator gives no memory.
+pub const MEMORY: u32 = 257;
+
+/// The configuration is out of its limits.
+pub const BAD_CONFIG: u32 = 258;
+
+/// A call is in progress already.
+pub const BUSY: u32 = 274;
+
+/// The call is in progress.
+pub const PENDING: u32 = 300;
+
+/// No call is in progress.
+pub const NO_CALL: u32 = 301;
+
+/// No string waits.
+pub const NO_FRAME: u32 = 302;
+
+/// The buffer is shorter than the string.
+pub const SHORT_BUFFER: u32 = 303;
+
+/// There is no such call, node, or kind of manager.
+pub const BAD_ARGUMENT: u32 = 304;
+
+/// The handle has no node.
+pub const CLOSED: u32 = 305;
+
+/// The handle has a node already.
+pub const OPEN: u32 = 306;
+
+/// Managers that keep the owner of each page at a fixed node.
+pub const FIXED: u32 = 0;
+
+/// Managers that follow hints.
+pub const DYNAMIC: u32 = 1;
+
+/// The kinds of calls.
+pub const LOAD: u32 = 0;
+
+pub const STORE: u32 = 1;
+
+pub const SWAP: u32 = 2;
+
+pub const COMPARE_AND_SWAP: u32 = 3;
+
+pub const FETCH_AND_ADD: u32 = 4;
+
+pub const COUNT: u32 = 5;
+
+pub const ADVANCE: u32 = 6;
+
+pub const AWAIT: u32 = 7;
+
+pub const ALLOCATE: u32 = 8;
+
+pub const FREE: u32 = 9;
+
+/// The configuration of these numbers, where there is one within its limits.
+pub fn config_of(nodes: u32, pages: u32, page_size: u32, manager: u32) -> Option<Config>
+    ensures { IfSome result (λ c. IsConfigOf nodes pages page_size manager c × IsConfig c) }
+{
+    let manager = match manager {
+        FIXED => Kind::Fixed,
+        DYNAMIC => Kind::Dynamic,
+        _ => return None,
+    };
+    let config = Config {
+        nodes: u8::try_from(nodes).ok()?,
+        pages,
+        page_size,
+        manager,
+    };
+    config.check().ok()?;
+    Some(config)
+}
+
+/// The width of a word, where it is one.
+fn width_of(width: u32) -> Option<u8>
+    ensures { IfSome result (λ w. (w ≡ width) × IsWidth w) }
+{
+    match width {
+        1 => Some(1),
+        2 => Some(2),
+        4 => Some(4),
+        8 => Some(8),
+        _ => None,
+    }
+}
+
+/// The access to a word that is asked for.
+fn access_of(kind: u32, width: u8, addr: u64, value: u64, expected: u64) -> Option<Call>
+    requires { IsWidth width }
+    ensures { IfSome result (λ call. IsRequest kind width addr value expected call × HasWidth call) }
+{
+    match kind {
+        LOAD => Some(Call::Load { width, addr }),
+        STORE => Some(Call::Store { width, addr, value }),
+        SWAP => Some(Call::Swap { width, addr, value }),
+        COMPARE_AND_SWAP => Some(Call::Cas {
+            width,
+            addr,
+            expected,
+            value,
+        }),
+        FETCH_AND_ADD => Some(Call::FetchAdd { width, addr, value }),
+        _ => None,
+    }
+}
+
+/// The call that is asked for, if there is one.
+pub fn call_of(kind: u32, width: u32, place: u64, operand: u64, expected: u64) -> Option<Call>
+    ensures { IfSome result (λ call. IsRequest kind width place operand expected call × HasWidth call) }
+{
+    match kind {
+        COUNT => Some(Call::Count { k: place }),
+        ADVANCE => Some(Call::Advance { k: place }),
+        AWAIT => Some(Call::Await {
+            k: place,
+            least: operand,
+        }),
+        ALLOCATE => Some(Call::Alloc { size: operand }),
+        FREE => Some(Call::Free { addr: place }),
+        _ => access_of(kind, width_of(width)?, place, operand, expected),
+    }
+}
+
+/// The status of a fault.
+pub fn status_of(fault: Fault) -> u32
+    ensures { IsStatus result fault }
+{
+    NO_REPLY + u32::from(fault.number())
+}
+
+/// Tells a reply: its status is the answer.
+fn tell_reply(reply: Reply, value: &mut u64) -> u32
+    ensures { Tells reply result value.old value.new }
+{
+    match reply {
+        Reply::Value(number) => {
+            *value = number;
+            DONE
+        }
+        Reply::Done => DONE,
+        Reply::Refused(number) => u32::from(number),
+    }
+}
+
+/// Tells whether there is a reply, and which.
+pub fn tell(progress: Option<Reply>, value: &mut u64) -> u32
+    ensures { TellsProgress progress result value.old value.new }
+{
+    match progress {
+        Some(reply) => tell_reply(reply, value),
+        None => PENDING,
+    }
+}
+
+/// The number of a verdict.
+pub fn verdict_number(verdict: Verdict) -> u32
+    ensures { result ≡ verdict_number verdict }
+{
+    match verdict {
+        Verdict::Next => 0,
+        Verdict::Repeat => 1,
+        Verdict::Ahead => 2,
+        Verdict::NotMine => 3,
+    }
+}

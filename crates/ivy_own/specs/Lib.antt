@@ -1,0 +1,4 @@
+pub mod Owned
+pub mod Ended
+pub mod Faults
+pub mod Reports

@@ -1,0 +1,151 @@
+//! The memory of a session as the worker of one node has it.
+ghost use Rattle.std.specs.Prelude.{◌≡◌, Some, IfErr, MatchResult};
+ghost use Rattle.ivy_model.specs.Legal.{HasWidth};
+ghost use Rattle.ivy_seating.specs.Faults.{IsStop};
+ghost use Rattle.ivy_own.specs.Owned.{grown};
+
+use crate::owned::OwnSeat;
+use ivy_calls::{Answer, SharedMemory};
+use ivy_model::{Call, Fault, Reply};
+use ivy_session::{ProgramWorker, Turnstile};
+use ivy_twin::{Half, Naming, Tie};
+use std::alloc::Allocator;
+use std::marker::Model;
+use std::sync::Wait;
+
+/// The memory of a session as the worker of one node has it. It keeps no record.
+///
+/// Contracts see the node's number, and what it was answered.
+#[derive(Drop)]
+pub(crate) struct OwnMemory<'r, 's, 'g, 'a, 't, T, J: Naming, A: Allocator, R, G> {
+    worker: ProgramWorker<'r, 's, 'g, 'a, T, A, R, G>,
+    tie: &'t Tie<Answer, J, A>,
+    mine: Half<Answer, J>,
+    me: u8,
+}
+
+impl<'r, 's, 'g, 'a, 't, T, J: Naming, A: Allocator, R, G> Model
+    for OwnMemory<'r, 's, 'g, 'a, 't, T, J, A, R, G> {
+    ghost use Rattle.std.specs.Prelude.{◌≡◌};
+    ghost use Rattle.ivy_twin.specs.Known.{Listed};
+    ghost use Rattle.ivy_calls.specs.declared.answer.Answer.{Answer};
+
+    ghost Value = { Listed Answer };
+
+    ghost view = { λ m. m.mine };
+
+    ghost invariant = { λ m. m.mine.number ≡ m.me };
+}
+
+impl<'r, 's, 'g, 'a, 't, T, J, A, R, G> OwnMemory<'r, 's, 'g, 'a, 't, T, J, A, R, G>
+where
+    T: OwnSeat<J, A>,
+    J: Naming,
+    A: Allocator + Copy,
+    R: Wait,
+    G: Turnstile,
+{
+    /// The memory of node `me`, by its worker, where `mine` is the worker's half of the list of its answers.
+    pub(crate) fn new(
+        worker: ProgramWorker<'r, 's, 'g, 'a, T, A, R, G>,
+        tie: &'t Tie<Answer, J, A>,
+        mine: Half<Answer, J>,
+        me: u8,
+    ) -> Self
+        requires { mine.number ≡ me }
+        ensures { result ≡ mine }
+    {
+        OwnMemory {
+            worker,
+            tie,
+            mine,
+            me,
+        }
+    }
+
+    /// The worker's half of the list.
+    pub(crate) fn into_mine(self) -> Half<Answer, J>
+        ensures { result ≡ self.entry }
+    {
+        let OwnMemory {
+            worker: _,
+            tie: _,
+            mine,
+            me: _,
+        } = self;
+        mine
+    }
+
+    /// The number of the node.
+    pub(crate) fn me(&self) -> u8
+        ensures { result ≡ self.now.number }
+    {
+        self.me
+    }
+
+    /// The first turn for a call [1, 17, 21]. It gives the reply, where that is there then.
+    fn begin(&mut self, call: Call) -> Result<Option<Reply>, Fault>
+        requires { HasWidth call }
+        ensures grows { MatchResult result (λ reply. self.new ≡ grown call reply self.old) (λ _. self.new ≡ self.old) }
+        ensures stop { IfErr result IsStop }
+    {
+        let Some(mut seat) = self.worker.enter() else {
+            return Err(Fault::TurnLimit);
+        };
+        let came = seat.begin(self.tie, &mut self.mine, self.me, call);
+        self.worker.leave(seat);
+        came
+    }
+
+    /// A later turn for the call [1, 17, 21]. It gives the reply, where that is there then.
+    fn go_on(&mut self, call: Call) -> Result<Option<Reply>, Fault>
+        ensures grows { MatchResult result (λ reply. self.new ≡ grown call reply self.old) (λ _. self.new ≡ self.old) }
+        ensures stop { IfErr result IsStop }
+    {
+        let Some(mut seat) = self.worker.enter() else {
+            return Err(Fault::TurnLimit);
+        };
+        let came = seat.go_on(self.tie, &mut self.mine, self.me, call);
+        self.worker.leave(seat);
+        came
+    }
+
+    /// Rests and makes turns until the call has its reply [1, 17, 21].
+    fn wait_for(&mut self, call: Call) -> Result<Reply, Fault>
+        ensures grows { MatchResult result (λ reply. self.new ≡ grown call (Some reply) self.old) (λ _. self.new ≡ self.old) }
+        ensures stop { IfErr result IsStop }
+    {
+        for _ in 0..u64::MAX {
+            self.worker.rest();
+            let came = self.go_on(call)?;
+            if let Some(reply) = came {
+                return Ok(reply);
+            }
+        }
+        Err(Fault::TurnLimit)
+    }
+}
+
+impl<'r, 's, 'g, 'a, 't, T, J, A, R, G> SharedMemory
+    for OwnMemory<'r, 's, 'g, 'a, 't, T, J, A, R, G>
+where
+    T: OwnSeat<J, A>,
+    J: Naming,
+    A: Allocator + Copy,
+    R: Wait,
+    G: Turnstile,
+{
+    ghost use Rattle.ivy_seating.specs.Faults.{IsStop};
+
+    ghost answers = { λ m. m.list };
+
+    ghost can_fail = { λ _ fault. IsStop fault };
+
+    fn call(&mut self, call: Call) -> Result<Reply, Fault> {
+        let came = self.begin(call)?;
+        match came {
+            Some(reply) => Ok(reply),
+            None => self.wait_for(call),
+        }
+    }
+}

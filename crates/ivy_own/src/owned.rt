@@ -1,0 +1,270 @@
+//! The place of a node with own code, as it stands behind its lock.
+ghost use Rattle.std.specs.Prelude.{◌≡◌, IfErr, IfOk, IsTrue, MatchResult};
+ghost use Rattle.ivy_model.specs.Legal.{HasWidth};
+ghost use Rattle.ivy_calls.specs.Answers.{answers};
+ghost use Rattle.ivy_seating.specs.Faults.{IsStop};
+ghost use Rattle.ivy_own.specs.Owned.{IsOwned, IsNext, IsReady, IsAsked, MakesCalls, TurnsOwn, grown, last_reply_in};
+
+use ivy_calls::Answer;
+use ivy_model::{Call, Fault, Reply};
+use ivy_seating::ivy_ether::Setup;
+use ivy_seating::{Home, Homed, Seated, Site, WireTurn};
+use ivy_session::{Pulses, Seat};
+use ivy_twin::{Half, Naming, Tie};
+use std::alloc::Allocator;
+use std::marker::{Model, PhantomData};
+use std::sync::Wait;
+
+/// A place whose program is own code, as the worker of the node has it, which has the other half of the list of the
+/// node's answers.
+pub(crate) trait OwnSeat<J: Naming, A: Allocator>: Seat {
+    /// The worker of node `me` makes a call, and its first turn [1, 17, 21]. It gives the reply, where that is there then.
+    fn begin(
+        &mut self,
+        tie: &Tie<Answer, J, A>,
+        mine: &mut Half<Answer, J>,
+        me: u8,
+        call: Call,
+    ) -> Result<Option<Reply>, Fault>
+        requires width { HasWidth call }
+        requires mine { mine.old.number ≡ me }
+        ensures grows { MatchResult result (λ reply. mine.new ≡ grown call reply mine.old) (λ _. mine.new ≡ mine.old) }
+        ensures stop { IfErr result IsStop };
+
+    /// One turn more for the call of node `me` that is in progress [1, 17, 21]. It gives the reply, where that is there then.
+    fn go_on(
+        &mut self,
+        tie: &Tie<Answer, J, A>,
+        mine: &mut Half<Answer, J>,
+        me: u8,
+        call: Call,
+    ) -> Result<Option<Reply>, Fault>
+        requires mine { mine.old.number ≡ me }
+        ensures grows { MatchResult result (λ reply. mine.new ≡ grown call reply mine.old) (λ _. mine.new ≡ mine.old) }
+        ensures stop { IfErr result IsStop };
+}
+
+/// The reply in the last record of a site.
+fn last_reply<A: Allocator + Copy>(site: &Site<A>) -> Option<Reply>
+    ensures { result ≡ last_reply_in site.now.node.core.history }
+{
+    match site.last_record() {
+        Some(record) => Some(record.reply),
+        None => None,
+    }
+}
+
+/// One turn of the program of a site with own code for this call [1, 17]. It gives the reply, where the call has it then.
+fn turn_once<S: Setup, A: Allocator + Copy>(
+    seated: &mut Seated<'_, S, A>,
+    call: Call,
+) -> Result<Option<Reply>, Fault>
+    requires next { IsNext call seated.old.site }
+    requires makes { MakesCalls seated.old.site.node.core.process }
+    ensures ether { seated.new.ether ≡ seated.old.ether }
+    ensures done { MatchResult result (λ reply. TurnsOwn call reply seated.old.site seated.new.site) (λ _. seated.new ≡ seated.old) }
+    ensures stop { IfErr result IsStop }
+{
+    let _ = call;
+    let before = seated.records();
+    seated.program_turn()?;
+    if seated.records() == before {
+        return Ok(None);
+    }
+    Ok(last_reply(seated.site()))
+}
+
+/// The same, where both halves of the list of the node's answers know the reply.
+fn turn<S: Setup, J: Naming, A: Allocator + Copy>(
+    seated: &mut Seated<'_, S, A>,
+    half: &mut Half<Answer, J>,
+    tie: &Tie<Answer, J, A>,
+    mine: &mut Half<Answer, J>,
+    call: Call,
+) -> Result<Option<Reply>, Fault>
+    requires owned { IsOwned seated.old.site half.old }
+    requires next { IsNext call seated.old.site }
+    requires mine { mine.old.number ≡ half.old.number }
+    ensures ether { seated.new.ether ≡ seated.old.ether }
+    ensures owned { IsOwned seated.new.site half.new }
+    ensures grows { MatchResult result (λ reply. mine.new ≡ grown call reply mine.old) (λ _. mine.new ≡ mine.old) }
+    ensures stop { IfErr result IsStop }
+{
+    let came = turn_once(seated, call)?;
+    let Some(reply) = came else {
+        return Ok(None);
+    };
+    tie.push(half, mine, &Answer { call, reply });
+    Ok(Some(reply))
+}
+
+/// Whether the site is of node `me`, whose owner may make a call.
+fn is_ready<A: Allocator + Copy>(site: &Site<A>, me: u8) -> bool
+    ensures { IsTrue result → IsReady me site.now }
+{
+    site.me() == me && site.asked().is_none() && site.is_free()
+}
+
+/// Whether the site is of node `me`, and this call is in progress there.
+fn is_asked<A: Allocator + Copy>(site: &Site<A>, me: u8, call: Call) -> bool
+    ensures { IsTrue result → IsAsked me call site.now }
+{
+    site.me() == me && site.asked() == Some(call) && !site.ended()
+}
+
+/// The owner of node `me` makes a call, and its first turn [1, 17, 21].
+fn begin_at<S: Setup, J: Naming, A: Allocator + Copy>(
+    seated: &mut Seated<'_, S, A>,
+    half: &mut Half<Answer, J>,
+    tie: &Tie<Answer, J, A>,
+    mine: &mut Half<Answer, J>,
+    me: u8,
+    call: Call,
+) -> Result<Option<Reply>, Fault>
+    requires owned { IsOwned seated.old.site half.old }
+    requires width { HasWidth call }
+    requires mine { mine.old.number ≡ me }
+    ensures ether { seated.new.ether ≡ seated.old.ether }
+    ensures owned { IsOwned seated.new.site half.new }
+    ensures grows { MatchResult result (λ reply. mine.new ≡ grown call reply mine.old) (λ _. mine.new ≡ mine.old) }
+    ensures stop { IfErr result IsStop }
+{
+    if !is_ready(seated.site(), me) {
+        return Err(Fault::TurnLimit);
+    }
+    seated.hand(call)?;
+    turn(seated, half, tie, mine, call)
+}
+
+/// One turn more for the call of node `me` that is in progress [1, 17, 21].
+fn go_on_at<S: Setup, J: Naming, A: Allocator + Copy>(
+    seated: &mut Seated<'_, S, A>,
+    half: &mut Half<Answer, J>,
+    tie: &Tie<Answer, J, A>,
+    mine: &mut Half<Answer, J>,
+    me: u8,
+    call: Call,
+) -> Result<Option<Reply>, Fault>
+    requires owned { IsOwned seated.old.site half.old }
+    requires mine { mine.old.number ≡ me }
+    ensures ether { seated.new.ether ≡ seated.old.ether }
+    ensures owned { IsOwned seated.new.site half.new }
+    ensures grows { MatchResult result (λ reply. mine.new ≡ grown call reply mine.old) (λ _. mine.new ≡ mine.old) }
+    ensures stop { IfErr result IsStop }
+{
+    if !is_asked(seated.site(), me, call) {
+        return Err(Fault::TurnLimit);
+    }
+    turn(seated, half, tie, mine, call)
+}
+
+/// A seated site whose program is own code, with one half of the list of its answers. The node's worker has the other.
+///
+/// Contracts see that half.
+#[derive(Drop)]
+pub(crate) struct Owned<'e, S: Setup, H: Home, J: Naming, A: Allocator> {
+    seated: Seated<'e, S, A>,
+    half: Half<Answer, J>,
+    of: PhantomData<H>,
+}
+
+impl<'e, S: Setup, H: Home, J: Naming, A: Allocator> Model for Owned<'e, S, H, J, A> {
+    ghost use Rattle.std.specs.Prelude.{◌≡◌};
+    ghost use Rattle.ivy_twin.specs.Known.{Listed};
+    ghost use Rattle.ivy_calls.specs.declared.answer.Answer.{Answer};
+    ghost use Rattle.ivy_own.specs.Owned.{IsOwned};
+
+    ghost Value = { Listed Answer };
+
+    ghost view = { λ o. o.half };
+
+    ghost invariant = { λ o. (o.seated.ether ≡ H.ether) × IsOwned o.seated.site o.half };
+}
+
+impl<'e, S: Setup, H: Home, J: Naming, A: Allocator + Copy> Owned<'e, S, H, J, A> {
+    /// The seated site, with one half of what it was answered.
+    pub(crate) fn new(seated: Seated<'e, S, A>, half: Half<Answer, J>) -> Self
+        requires home { seated.ether ≡ H.ether }
+        requires owned { IsOwned seated.site half }
+    {
+        Owned {
+            seated,
+            half,
+            of: PhantomData,
+        }
+    }
+
+    /// Takes what is left in the ether, so many items at most.
+    pub(crate) fn drain<R: Wait>(&mut self, rt: &R, most: u64) {
+        self.seated.drain(rt, most);
+    }
+
+    /// The seated site, where it is of this node [21]. The worker's half knows what the node was answered.
+    pub(crate) fn agree(
+        self,
+        tie: &Tie<Answer, J, A>,
+        mine: Half<Answer, J>,
+        node: u8,
+    ) -> Result<Homed<'e, S, H, A>, Fault>
+        requires { mine.number ≡ node }
+        ensures answers { IfOk result (λ homed. mine.list ≡ answers homed.seated.site.node.core.history) }
+        ensures stop { IfErr result IsStop }
+    {
+        let Owned {
+            seated,
+            mut half,
+            of: _,
+        } = self;
+        let mut mine = mine;
+        if seated.site().me() != node {
+            return Err(Fault::TurnLimit);
+        }
+        tie.agree(&mut half, &mut mine);
+        Ok(Homed::new(seated))
+    }
+}
+
+impl<'e, S: Setup, H: Home, J: Naming, A: Allocator + Copy> Seat for Owned<'e, S, H, J, A> {
+    fn records(&self) -> u64 {
+        self.seated.records()
+    }
+
+    fn waiting(&self) -> Option<u8> {
+        if self.seated.has_frame() {
+            Some(self.seated.next_destination().unwrap_or(u8::MAX))
+        } else {
+            None
+        }
+    }
+
+    fn wire_turn<R: Wait>(
+        &mut self,
+        rt: &R,
+        pulses: &mut Pulses,
+    ) -> Result<(WireTurn, Option<u8>), Fault> {
+        pulses.turn(rt, &mut self.seated)
+    }
+}
+
+impl<'e, S: Setup, H: Home, J: Naming, A: Allocator + Copy> OwnSeat<J, A>
+    for Owned<'e, S, H, J, A> {
+    fn begin(
+        &mut self,
+        tie: &Tie<Answer, J, A>,
+        mine: &mut Half<Answer, J>,
+        me: u8,
+        call: Call,
+    ) -> Result<Option<Reply>, Fault> {
+        begin_at(&mut self.seated, &mut self.half, tie, mine, me, call)
+    }
+
+    fn go_on(
+        &mut self,
+        tie: &Tie<Answer, J, A>,
+        mine: &mut Half<Answer, J>,
+        me: u8,
+        call: Call,
+    ) -> Result<Option<Reply>, Fault> {
+        go_on_at(&mut self.seated, &mut self.half, tie, mine, me, call)
+    }
+}

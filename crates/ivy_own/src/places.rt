@@ -1,0 +1,196 @@
+//! How the nodes of a session of own code are seated, and how their sites are taken at its end.
+ghost use Rattle.std.specs.Prelude.{◌≡◌, ◌<◌, ◌≤◌, ◌+◌, ℕ, [], true, Some, All, IfErr, IfOk, IfSome, length, map, slice_get, vec_len};
+ghost use Rattle.ivy_model.specs.Config.{IsConfig};
+ghost use Rattle.ivy_calls.specs.Answers.{answers};
+ghost use Rattle.ivy_twin.specs.Known.{listed};
+ghost use Rattle.ivy_model.specs.declared.Config.{Config};
+ghost use Rattle.ivy_program.specs.Programs.{Called};
+ghost use Rattle.ivy_seating.specs.ivy_site.Sites.{first_keeping};
+ghost use Rattle.ivy_seating.specs.ivy_ether.Rule.{times};
+ghost use Rattle.ivy_seating.specs.ivy_ether.Views.{beginner, with_issued};
+ghost use Rattle.ivy_seating.specs.ivy_ether.Words.{IsNewcomer};
+ghost use Rattle.ivy_seating.specs.Faults.{IsStop};
+ghost use Rattle.ivy_seating.specs.Reports.{report_of, AllKeep};
+ghost use Rattle.ivy_seating.specs.Told.{TellsOf, AreTold};
+ghost use Rattle.ivy_own.specs.Ended.{AreFresh, AreClosed, HasEnded};
+ghost use Rattle.ivy_own.specs.Reports.{all_open};
+
+use crate::joined::Ended;
+use crate::owned::Owned;
+use ivy_calls::{Answer, Work};
+use ivy_model::{Config, Fault};
+use ivy_seating::ivy_ether::{Ether, Pass, Setup, Wired};
+use ivy_seating::{Home, Keep, Seated, Site, close_seat};
+use ivy_twin::{Half, Naming, Starter, Tie};
+use std::alloc::Allocator;
+use std::sync::{Mutex, Wait};
+
+/// The places of the nodes, and their workers' halves of the lists of their answers.
+#[derive(Drop)]
+pub(crate) struct Places<'e, S: Setup, H: Home, J: Naming, A: Allocator> {
+    pub(crate) seats: Vec<Mutex<Owned<'e, S, H, J, A>>, A>,
+    pub(crate) mines: Vec<Half<Answer, J>, A>,
+}
+
+/// Seats a node with own code [1, 21]: its seat is issued and taken, and its site is made, which keeps these lists of its
+/// own past.
+fn seat_one<'e, S: Setup, A: Allocator + Copy, R: Wait>(
+    rt: &R,
+    alloc: A,
+    ether: &'e Ether<S, A>,
+    config: &Config,
+    starter: &mut Pass<Wired<A>>,
+    pass: Pass<Wired<A>>,
+    node: u8,
+    keep: Keep,
+) -> Result<Seated<'e, S, A>, Fault>
+    requires config { config.now ≡ S.config }
+    requires limits { IsConfig config.now }
+    requires programs { S.programs ≡ all_open S.config }
+    requires starter { (starter.old.ether ≡ ether.now) × (starter.old.known.starts ≡ true) }
+    requires pass { IsNewcomer ether.now pass }
+    requires node { node < config.now.nodes }
+    requires new { times node starter.old.known.issued ≡ 0 }
+    ensures starter { starter.new.ether ≡ starter.old.ether }
+    ensures issued { IfOk result (λ _. starter.new.known ≡ with_issued starter.old.known node) }
+    ensures ether { IfOk result (λ seated. seated.ether ≡ ether.now) }
+    ensures site { IfOk result (λ seated. seated.site ≡ first_keeping keep config.now node (Called [])) }
+    ensures stop { IfErr result IsStop }
+{
+    let mut pass = pass;
+    if !ether.issue_seat(rt, starter, node) {
+        return Err(Fault::TurnLimit);
+    }
+    let Some(found) = ether.take_seat(rt, &mut pass) else {
+        return Err(Fault::TurnLimit);
+    };
+    if found != node {
+        return Err(Fault::TurnLimit);
+    }
+    let site = Site::open_keeping(alloc, config, node, keep)?;
+    Ok(Seated::new(ether, site, pass))
+}
+
+/// Puts a seated site in its place, and begins the list of its answers.
+fn place_one<'e, S: Setup, H: Home, J: Naming, A: Allocator + Copy>(
+    tie: &Tie<Answer, J, A>,
+    lists: &mut Starter<Answer, J>,
+    seated: Seated<'e, S, A>,
+    node: u8,
+    keep: Keep,
+) -> (Owned<'e, S, H, J, A>, Half<Answer, J>)
+    requires home { seated.ether ≡ H.ether }
+    requires lists { lists.old ≡ node }
+    requires site { (config : Config) × (seated.site ≡ first_keeping keep config node (Called [])) }
+    ensures mine { result.1 ≡ listed node [] }
+    ensures next { lists.new ≡ node + 1 }
+{
+    let _ = keep;
+    let (half, mine) = tie.begin(lists);
+    (Owned::new(seated, half), mine)
+}
+
+/// Seats all nodes [1, 21], with a pass for each. Each keeps these lists of its own past.
+pub(crate) fn seat_all<'e, S: Setup, H: Home, J: Naming, A: Allocator + Copy, R: Wait>(
+    rt: &R,
+    alloc: A,
+    ether: &'e Ether<S, A>,
+    tie: &Tie<Answer, J, A>,
+    lists: &mut Starter<Answer, J>,
+    config: &Config,
+    starter: &mut Pass<Wired<A>>,
+    passes: Vec<Pass<Wired<A>>, A>,
+    keep: Keep,
+) -> Result<Places<'e, S, H, J, A>, Fault>
+    requires home { ether.now ≡ H.ether }
+    requires config { config.now ≡ S.config }
+    requires limits { IsConfig config.now }
+    requires programs { S.programs ≡ all_open S.config }
+    requires lists { lists.old ≡ 0 }
+    requires starter { (starter.old.ether ≡ ether.now) × (starter.old.known ≡ beginner) }
+    requires passes { All (IsNewcomer ether.now) passes.items }
+    requires enough { vec_len passes ≡ config.now.nodes }
+    ensures starter { starter.new.ether ≡ starter.old.ether }
+    ensures mines { IfOk result (λ places. vec_len places.mines ≡ config.now.nodes) }
+    ensures fresh { IfOk result (λ places. AreFresh places.mines.items) }
+    ensures stop { IfErr result IsStop }
+{
+    let mut passes = passes;
+    let mut seats = Vec::new(alloc);
+    let mut mines = Vec::new(alloc);
+    for node in 0..config.nodes {
+        let Some(pass) = passes.pop() else {
+            unreachable!()
+        };
+        seats.reserve(1)?;
+        mines.reserve(1)?;
+        let seated = seat_one(rt, alloc, ether, config, starter, pass, node, keep)?;
+        let (owned, mine) = place_one(tie, lists, seated, node, keep);
+        seats.push_reserved(Mutex::new(owned));
+        mines.push_reserved(mine);
+    }
+    Ok(Places { seats, mines })
+}
+
+/// Closes a node that keeps these lists, and hands out its site [21], whose answers the worker's half knows.
+fn close_one<S: Setup, H: Home, J: Naming, A: Allocator + Copy>(
+    ether: &Ether<S, A>,
+    starter: &mut Pass<Wired<A>>,
+    tie: &Tie<Answer, J, A>,
+    owned: Owned<'_, S, H, J, A>,
+    mine: Half<Answer, J>,
+    node: u8,
+    keep: Keep,
+) -> Result<Site<A>, Fault>
+    requires home { ether.now ≡ H.ether }
+    requires starter { starter.old.ether ≡ ether.now }
+    requires mine { mine.number ≡ node }
+    ensures ether { starter.new.ether ≡ starter.old.ether }
+    ensures told { IfOk result (λ site. TellsOf S.config S.programs starter.old.known node (report_of site) starter.new.known) }
+    ensures keep { IfOk result (λ site. site.keep ≡ keep) }
+    ensures answers { IfOk result (λ site. mine.list ≡ answers site.node.core.history) }
+    ensures stop { IfErr result IsStop }
+{
+    let homed = owned.agree(tie, mine, node)?;
+    close_seat(ether, starter, homed, node, keep)
+}
+
+/// Closes all nodes, each of which keeps these lists, and hands out their sites with what their works gave [1, 21].
+pub(crate) fn close_all<S: Setup, H: Home, J: Naming, A: Allocator + Copy, W: Work>(
+    alloc: A,
+    ether: &Ether<S, A>,
+    starter: &mut Pass<Wired<A>>,
+    tie: &Tie<Answer, J, A>,
+    work: &W,
+    seats: Vec<Mutex<Owned<'_, S, H, J, A>>, A>,
+    all: Vec<Ended<W::Out, J>, A>,
+    keep: Keep,
+) -> Result<(Vec<Site<A>, A>, Vec<W::Out, A>), Fault>
+    requires home { ether.now ≡ H.ether }
+    requires starter { starter.old.ether ≡ ether.now }
+    requires few { vec_len all < 256 }
+    requires done { (i : ℕ) (e : _) → slice_get all.items i ≡ Some e → HasEnded (W.done work.now) i e.mine e.out }
+    ensures starter { starter.new.ether ≡ starter.old.ether }
+    ensures all { IfOk result (λ r. (vec_len r.0 ≡ vec_len all) × (vec_len r.1 ≡ vec_len all)) }
+    ensures told { IfOk result (λ r. AreTold S.config S.programs starter.new.known (map report_of r.0.items)) }
+    ensures keep { IfOk result (λ r. AllKeep keep (map report_of r.0.items)) }
+    ensures done { IfOk result (λ r. AreClosed (W.done work.now) (map report_of r.0.items) r.1.items) }
+    ensures stop { IfErr result IsStop }
+{
+    let _ = work;
+    let mut seats = seats.into_iter();
+    let mut sites = Vec::with_capacity(alloc, all.len())?;
+    let mut outs = Vec::with_capacity(alloc, all.len())?;
+    let mut node = 0u8;
+    for ended in all {
+        let Some(seat) = seats.next() else {
+            return Err(Fault::TurnLimit);
+        };
+        let Ended { mine, out } = ended;
+        let site = close_one(ether, starter, tie, seat.into_inner(), mine, node, keep)?;
+        sites.push_reserved(site);
+        outs.push_reserved(out);
+        node = node.wrapping_add(1);
+    }
+    Ok((sites, outs))
+}

@@ -1,0 +1,282 @@
+//! Sessions of own code.
+ghost use Rattle.std.specs.Prelude.{◌≡◌, ◌↔◌, ◌<◌, ℕ, true, Some, All, IsErrOf, IfOk, IfErr, slice_get, vec_len};
+ghost use Rattle.ivy_model.specs.Config.{IsConfig};
+ghost use Rattle.ivy_seating.specs.ivy_ether.Views.{beginner};
+ghost use Rattle.ivy_seating.specs.ivy_ether.Words.{IsNewcomer};
+ghost use Rattle.ivy_session.specs.Limits.{AreLimits};
+ghost use Rattle.ivy_seating.specs.Faults.{IsStop};
+ghost use Rattle.ivy_seating.specs.Reports.{AllKeep};
+ghost use Rattle.ivy_own.specs.Ended.{AreFresh, HasEnded};
+ghost use Rattle.ivy_own.specs.Faults.{IsOwnFault, IsOwnStop};
+ghost use Rattle.ivy_own.specs.Reports.{IsOwnReport, all_open};
+
+use crate::fault::OwnFault;
+use crate::joined::{Ended, first_given_up, take_ended};
+use crate::owned::{OwnSeat, Owned};
+use crate::places::{Places, close_all, seat_all};
+use crate::report::OwnReport;
+use crate::workers::run_crew;
+use ivy_calls::{Answer, Work};
+use ivy_model::{Config, Fault};
+use ivy_seating::ivy_ether::{Ether, Pass, Setup, Wired};
+use ivy_seating::{Home, Keep, Report};
+use ivy_session::{Crew, Gate, Limits, Shared};
+use ivy_twin::{Half, Naming, Opened, Tie};
+use std::alloc::Allocator;
+use std::marker::Brand;
+use std::sync::{Mutex, Wait};
+use std::thread::Threads;
+
+/// Runs the workers of all nodes [1, 17, 21], and gives what their works gave.
+fn run_workers<T, J, A, R, G, W>(
+    rt: &R,
+    alloc: A,
+    tie: &Tie<Answer, J, A>,
+    work: &W,
+    seats: &[Mutex<T>],
+    mines: Vec<Half<Answer, J>, A>,
+    limits: Limits,
+    gate: &G,
+) -> Result<Vec<Ended<W::Out, J>, A>, OwnFault>
+where
+    T: OwnSeat<J, A> + Send,
+    J: Naming + Send + Sync,
+    A: Allocator + Copy + Send + Sync,
+    R: Threads + Wait + Sync,
+    G: Gate,
+    W: Work + Sync,
+    requires fresh { AreFresh mines.items }
+    requires few { vec_len mines < 256 }
+    ensures all { IfOk result (λ all. vec_len all ≡ vec_len mines) }
+    ensures done { IfOk result (λ all. (i : ℕ) (e : _) → slice_get all.items i ≡ Some e → HasEnded (W.done work.now) i e.mine e.out) }
+    ensures fault { IfErr result (IsOwnStop (vec_len mines)) }
+{
+    let shared = Shared::new(rt, alloc, seats.len(), limits)?;
+    let crew = Crew {
+        rt,
+        seats,
+        gate,
+        shared: &shared,
+        limits,
+    };
+    let joined = run_crew(&crew, alloc, tie, work, mines);
+    let stop = shared.into_stop();
+    let all = joined?;
+    if let Some(given_up) = first_given_up(&all) {
+        return Err(given_up);
+    }
+    if let Some(fault) = stop {
+        return Err(OwnFault::Session(fault));
+    }
+    let all = take_ended(alloc, work, all)?;
+    Ok(all)
+}
+
+/// Closes the nodes, and hands out what their sites tell together, with what their works gave [1, 21].
+fn collect<S: Setup, H: Home, J: Naming, A: Allocator + Copy, W: Work>(
+    alloc: A,
+    ether: &Ether<S, A>,
+    starter: Pass<Wired<A>>,
+    tie: &Tie<Answer, J, A>,
+    work: &W,
+    seats: Vec<Mutex<Owned<'_, S, H, J, A>>, A>,
+    all: Vec<Ended<W::Out, J>, A>,
+    keep: Keep,
+) -> Result<OwnReport<W::Out, A>, Fault>
+    requires limits { IsConfig S.config }
+    requires programs { S.programs ≡ all_open S.config }
+    requires home { ether.now ≡ H.ether }
+    requires starter { starter.ether ≡ ether.now }
+    requires nodes { vec_len all ≡ S.config.nodes }
+    requires done { (i : ℕ) (e : _) → slice_get all.items i ≡ Some e → HasEnded (W.done work.now) i e.mine e.out }
+    ensures report { IfOk result (λ report. IsOwnReport S.config (W.done work.now) report.nodes report.outs.items) }
+    ensures keep { IfOk result (λ report. AllKeep keep report.nodes) }
+    ensures stop { IfErr result IsStop }
+{
+    let mut starter = starter;
+    let (sites, outs) = close_all(alloc, ether, &mut starter, tie, work, seats, all, keep)?;
+    let nodes = Report::new(sites);
+    ether.learn(&mut starter);
+    Ok(OwnReport { nodes, outs })
+}
+
+/// Seats the nodes at their ether, runs their workers, and closes them [1, 17, 21].
+fn play_tied<S, H, J, A, R, G, W>(
+    rt: &R,
+    alloc: A,
+    config: &Config,
+    ether: &Ether<S, A>,
+    opened: Opened<Answer, A>,
+    starter: Pass<Wired<A>>,
+    passes: Vec<Pass<Wired<A>>, A>,
+    work: &W,
+    limits: Limits,
+    gate: &G,
+    keep: Keep,
+) -> Result<OwnReport<W::Out, A>, OwnFault>
+where
+    S: Setup + Send + Sync,
+    H: Home + Send + Sync,
+    J: Naming + Send + Sync,
+    A: Allocator + Copy + Send + Sync,
+    R: Threads + Wait + Sync,
+    G: Gate,
+    W: Work + Sync,
+    requires config { config.now ≡ S.config }
+    requires limits { IsConfig config.now }
+    requires programs { S.programs ≡ all_open S.config }
+    requires home { ether.now ≡ H.ether }
+    requires named { opened ≡ J.table }
+    requires starter { (starter.ether ≡ ether.now) × (starter.known ≡ beginner) }
+    requires passes { All (IsNewcomer ether.now) passes.items }
+    requires enough { vec_len passes ≡ config.now.nodes }
+    ensures report { IfOk result (λ report. IsOwnReport S.config (W.done work.now) report.nodes report.outs.items) }
+    ensures keep { IfOk result (λ report. AllKeep keep report.nodes) }
+    ensures fault { IfErr result (IsOwnStop S.config.nodes) }
+{
+    let (tie, mut lists) = opened.named::<J>();
+    let mut starter = starter;
+    let Places { seats, mines } = seat_all::<S, H, J, A, R>(
+        rt,
+        alloc,
+        ether,
+        &tie,
+        &mut lists,
+        config,
+        &mut starter,
+        passes,
+        keep,
+    )?;
+    let all = run_workers(rt, alloc, &tie, work, &seats, mines, limits, gate)?;
+    if let Some(first) = seats.first() {
+        first.lock(rt).drain(rt, limits.capacity);
+    }
+    let report = collect(alloc, ether, starter, &tie, work, seats, all, keep)?;
+    Ok(report)
+}
+
+/// Begins the lists of the nodes' answers, and runs the works of the nodes at their ether [1, 17, 21].
+fn play_at<S, H, A, R, G, W>(
+    rt: &R,
+    alloc: A,
+    config: &Config,
+    ether: &Ether<S, A>,
+    starter: Pass<Wired<A>>,
+    passes: Vec<Pass<Wired<A>>, A>,
+    work: &W,
+    limits: Limits,
+    gate: &G,
+    keep: Keep,
+) -> Result<OwnReport<W::Out, A>, OwnFault>
+where
+    S: Setup + Send + Sync,
+    H: Home + Send + Sync,
+    A: Allocator + Copy + Send + Sync,
+    R: Threads + Wait + Sync,
+    G: Gate,
+    W: Work + Sync,
+    requires config { config.now ≡ S.config }
+    requires limits { IsConfig config.now }
+    requires programs { S.programs ≡ all_open S.config }
+    requires home { ether.now ≡ H.ether }
+    requires starter { (starter.ether ≡ ether.now) × (starter.known ≡ beginner) }
+    requires passes { All (IsNewcomer ether.now) passes.items }
+    requires enough { vec_len passes ≡ config.now.nodes }
+    ensures report { IfOk result (λ report. IsOwnReport S.config (W.done work.now) report.nodes report.outs.items) }
+    ensures keep { IfOk result (λ report. AllKeep keep report.nodes) }
+    ensures fault { IfErr result (IsOwnStop S.config.nodes) }
+{
+    let Ok(opened) = Opened::new(alloc) else {
+        return Err(OwnFault::Session(Fault::Memory));
+    };
+    play_tied::<S, H, Brand, A, R, G, W>(
+        rt, alloc, config, ether, opened, starter, passes, work, limits, gate, keep,
+    )
+}
+
+/// Lays the ether, and runs the works of the nodes there [1, 17, 21].
+fn play<S, A, R, G, W>(
+    rt: &R,
+    alloc: A,
+    config: &Config,
+    work: &W,
+    limits: Limits,
+    gate: &G,
+    keep: Keep,
+) -> Result<OwnReport<W::Out, A>, OwnFault>
+where
+    S: Setup + Send + Sync,
+    A: Allocator + Copy + Send + Sync,
+    R: Threads + Wait + Sync,
+    G: Gate,
+    W: Work + Sync,
+    requires config { config.now ≡ S.config }
+    requires limits { IsConfig config.now }
+    requires programs { S.programs ≡ all_open S.config }
+    requires capacity { 0 < limits.capacity }
+    ensures report { IfOk result (λ report. IsOwnReport S.config (W.done work.now) report.nodes report.outs.items) }
+    ensures keep { IfOk result (λ report. AllKeep keep report.nodes) }
+    ensures fault { IfErr result (IsOwnStop S.config.nodes) }
+{
+    let capacity = limits.capacity as usize;
+    let passes = usize::from(config.nodes) + 1;
+    let (ether, mut passes) = Ether::<S, A>::open(alloc, config, capacity, passes)?;
+    let Some(starter) = passes.pop() else {
+        unreachable!()
+    };
+    play_at::<S, Brand, A, R, G, W>(
+        rt, alloc, config, &ether, starter, passes, work, limits, gate, keep,
+    )
+}
+
+/// Runs the work of each node in a thread of its own, over one shared memory, until all have done theirs
+/// [1, 2, 17, 21]. The report has what each gave.
+///
+/// By its own answers, which are its part of an order that one flat memory makes, each node has done what the work says.
+/// Where the work of a node gives up the session ends, and the fault names that node and its fault.
+pub fn run_with<A, R, G, W>(
+    rt: &R,
+    alloc: A,
+    config: Config,
+    work: &W,
+    limits: Limits,
+    gate: &G,
+) -> Result<OwnReport<W::Out, A>, OwnFault>
+where
+    A: Allocator + Copy + Send + Sync,
+    R: Threads + Wait + Sync,
+    G: Gate,
+    W: Work + Sync,
+    ensures report { IfOk result (λ report. IsOwnReport config (W.done work.now) report.nodes report.outs.items) }
+    ensures bad { IsErrOf result (OwnFault.Session Fault.BadConfig) ↔ ¬ (IsConfig config × AreLimits limits) }
+    ensures keep { IfOk result (λ report. AllKeep Keep.Nothing report.nodes) }
+    ensures fault { IfErr result (IsOwnFault config.nodes) }
+{
+    run_with_keeping(rt, alloc, config, work, limits, gate, Keep::Nothing)
+}
+
+/// The same, where each node keeps these lists of its own past, which the report has [1, 2, 17, 21].
+pub fn run_with_keeping<A, R, G, W>(
+    rt: &R,
+    alloc: A,
+    config: Config,
+    work: &W,
+    limits: Limits,
+    gate: &G,
+    keep: Keep,
+) -> Result<OwnReport<W::Out, A>, OwnFault>
+where
+    A: Allocator + Copy + Send + Sync,
+    R: Threads + Wait + Sync,
+    G: Gate,
+    W: Work + Sync,
+    ensures report { IfOk result (λ report. IsOwnReport config (W.done work.now) report.nodes report.outs.items) }
+    ensures bad { IsErrOf result (OwnFault.Session Fault.BadConfig) ↔ ¬ (IsConfig config × AreLimits limits) }
+    ensures keep { IfOk result (λ report. AllKeep keep report.nodes) }
+    ensures fault { IfErr result (IsOwnFault config.nodes) }
+{
+    if config.check().is_err() || !limits.are_fair() {
+        return Err(OwnFault::Session(Fault::BadConfig));
+    }
+    play::<Brand, A, R, G, W>(rt, alloc, &config, work, limits, gate, keep)
+}

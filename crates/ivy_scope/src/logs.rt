@@ -1,0 +1,52 @@
+//! The logs of a session's nodes, as nodes in processes of their own write them.
+
+use crate::failure::Failure;
+use ivy_files::FilesOf;
+use ivy_lines::{Head, push_log};
+use ivy_model::{Config, Fault};
+use ivy_watched::ReportSoFar;
+use std::alloc::Global;
+use std::fs;
+use std::io::ErrorKind;
+use std::rt::Files;
+
+/// What takes the logs of nodes.
+pub trait Logs {
+    /// Writes the log of a node into a folder. It says whether the folder takes it. 1 where a growth was refused.
+    fn write_log(&self, folder: &str, node: u64, text: &str) -> Result<bool, Fault>;
+}
+
+impl<R: Files + AllocGlobal> Logs for FilesOf<'_, R> {
+    fn write_log(&self, folder: &str, node: u64, text: &str) -> Result<bool, Fault> {
+        let name = format!(in self.runtime.alloc(); "{folder}/{node}.log")?;
+        match fs::write(self.runtime, name.as_str(), text) {
+            Ok(()) => Ok(true),
+            Err(error) => match error.kind() {
+                ErrorKind::OutOfMemory => Err(Fault::Memory),
+                _ => Ok(false),
+            },
+        }
+    }
+}
+
+/// Writes the logs of a session's nodes into a folder.
+pub(crate) fn write_logs<'a, L: Logs>(
+    alloc: Global,
+    config: Config,
+    report: &ReportSoFar<Global>,
+    logs: &L,
+    folder: &'a str,
+) -> Result<(), Failure<'a>> {
+    for node in 0..report.nodes() {
+        let head = Head {
+            me: node.min(255) as u8,
+            config,
+        };
+        let mut text = String::new(alloc);
+        push_log(alloc, &mut text, &head, report.events(node))?;
+        if !logs.write_log(folder, node, text.as_str())? {
+            return Err(Failure::CannotWrite(folder));
+        }
+    }
+    Ok(())
+}

@@ -1,0 +1,112 @@
+//! Why a command was not carried out.
+
+use ivy_model::Fault;
+use ivy_process::ivy_join::Unjoined;
+use std::alloc::{AllocError, AllocFailed};
+use std::fmt;
+use std::io::{self, ErrorKind, Write};
+
+/// Why a command was not carried out. Its text is what standard error is told.
+#[derive(Debug, Drop)]
+pub enum Failure {
+    /// The words of the command line are no command.
+    BadCommandLine(&'static str),
+    /// The file of this name can't be read as UTF-8, or a log can't be written.
+    CannotRead(String),
+    /// A file is at fault.
+    AtFault(String, Fault),
+    /// A call was refused.
+    Refused(Fault),
+    /// A node stopped before its input ended.
+    Stopped(ivy_process::Failure),
+    /// The logs are not the parts of one run.
+    Unjoined(Unjoined),
+    /// Standard output took no more.
+    Unwritten,
+}
+
+impl Failure {
+    /// The exit status: 2 where the command line, a file or the configuration is at fault, 3 where logs are not the parts
+    /// of one run, else 1.
+    pub fn status(&self) -> u8 {
+        match self {
+            Failure::BadCommandLine(_) | Failure::CannotRead(_) | Failure::AtFault(_, _) => 2,
+            Failure::Refused(Fault::BadConfig | Fault::ProgramFault(_)) => 2,
+            Failure::Stopped(ivy_process::Failure::NotItsLog(_)) => 2,
+            Failure::Unjoined(why) => status_of(*why),
+            Failure::Refused(_) | Failure::Stopped(_) | Failure::Unwritten => 1,
+        }
+    }
+
+    /// Tells standard error of the failure, and gives the exit status.
+    pub fn report<E: Write>(&self, err: &mut E) -> u8 {
+        // The status tells of the failure also where standard error takes nothing.
+        let _ = writeln!(err, "ivynode: {self}");
+        self.status()
+    }
+}
+
+fn status_of(why: Unjoined) -> u8 {
+    match why {
+        Unjoined::Refused(Fault::BadConfig) => 2,
+        Unjoined::Refused(_) => 1,
+        Unjoined::Missing(_) | Unjoined::Twice(_) | Unjoined::Differs(_) => 2,
+        _ => 3,
+    }
+}
+
+impl fmt::Display for Failure {
+    fn fmt<W: fmt::Write>(&self, f: &mut fmt::Formatter<W>) -> fmt::Result {
+        match self {
+            Failure::BadCommandLine(why) => write!(f, "bad command line: {why} (see --help)"),
+            Failure::CannotRead(name) => write!(f, "cannot read {name}"),
+            Failure::AtFault(name, fault) => write!(f, "{name}: {fault}"),
+            Failure::Refused(fault) => write!(f, "{fault}"),
+            Failure::Stopped(why) => write!(f, "{why}"),
+            Failure::Unjoined(why) => write!(f, "{why}"),
+            Failure::Unwritten => write!(f, "standard output took no more"),
+        }
+    }
+}
+
+impl From<Fault> for Failure {
+    fn from(fault: Fault) -> Self {
+        Failure::Refused(fault)
+    }
+}
+
+impl From<AllocError> for Failure {
+    fn from(_error: AllocError) -> Self {
+        Failure::Refused(Fault::Memory)
+    }
+}
+
+impl<T: Drop> From<AllocFailed<T>> for Failure {
+    fn from(_error: AllocFailed<T>) -> Self {
+        Failure::Refused(Fault::Memory)
+    }
+}
+
+impl From<ivy_process::Failure> for Failure {
+    fn from(why: ivy_process::Failure) -> Self {
+        match why {
+            ivy_process::Failure::Refused(fault) => Failure::Refused(fault),
+            _ => Failure::Stopped(why),
+        }
+    }
+}
+
+impl From<Unjoined> for Failure {
+    fn from(why: Unjoined) -> Self {
+        Failure::Unjoined(why)
+    }
+}
+
+impl From<io::Error> for Failure {
+    fn from(error: io::Error) -> Self {
+        match error.kind() {
+            ErrorKind::OutOfMemory => Failure::Refused(Fault::Memory),
+            _ => Failure::Unwritten,
+        }
+    }
+}

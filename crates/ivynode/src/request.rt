@@ -1,0 +1,126 @@
+//! What a command line asks for.
+
+use crate::failure::Failure;
+use crate::words::Words;
+use ivy_model::Kind;
+use ivy_process::ivy_join::ivy_lines::ivy_texts::Settings;
+use ivy_process::{Harm, Limits};
+use ivy_program::parse_number;
+use std::alloc::Global;
+
+/// What is told of the program.
+#[derive(Clone, Copy, Debug, PartialEq, Eq)]
+pub(crate) enum Help {
+    Usage,
+    Version,
+}
+
+/// A node that is to run.
+#[derive(Clone, Copy, Debug, PartialEq, Eq)]
+pub(crate) struct Asked<'a> {
+    pub(crate) file: &'a str,
+    pub(crate) node: u64,
+    pub(crate) settings: Settings,
+    pub(crate) log: Option<&'a str>,
+    pub(crate) is_synced: bool,
+    pub(crate) limits: Limits,
+}
+
+/// What a command line asks for.
+#[derive(Drop)]
+pub(crate) enum Request<'a> {
+    Help(Help),
+    Run(Asked<'a>),
+    Join { file: &'a str, logs: Vec<&'a str> },
+    Router { harm: Harm, seed: u64 },
+}
+
+const RUN_VALUES: [&str; 7] = [
+    "--pages",
+    "--page-size",
+    "--manager",
+    "--log",
+    "--pulse-ms",
+    "--turns",
+    "--kept",
+];
+
+const ROUTER_VALUES: [&str; 4] = ["--lose", "--repeat", "--reorder", "--seed"];
+
+/// The most that a number can be which has no limit of its own.
+const MOST: u64 = u64::MAX;
+
+fn manager_of(word: Option<&str>) -> Result<Kind, Failure> {
+    match word {
+        None | Some("dynamic") => Ok(Kind::Dynamic),
+        Some("fixed") => Ok(Kind::Fixed),
+        Some(_) => Err(Failure::BadCommandLine("no such manager")),
+    }
+}
+
+fn run<'a>(alloc: Global, words: &'a [String]) -> Result<Request<'a>, Failure> {
+    let words = Words::new(alloc, words, &RUN_VALUES, &["--sync"])?;
+    let [file, node] = *words.plain.as_slice() else {
+        return Err(Failure::BadCommandLine("run takes a file and a node"));
+    };
+    let Some(node) = parse_number(node) else {
+        return Err(Failure::BadCommandLine("the node is no number"));
+    };
+    Ok(Request::Run(Asked {
+        file,
+        node,
+        settings: Settings {
+            pages: words.number("--pages", 16, 0, MOST)?,
+            page_size: words.number("--page-size", 256, 0, MOST)?,
+            manager: manager_of(words.value("--manager")?)?,
+        },
+        log: words.value("--log")?,
+        is_synced: words.value("--sync")?.is_some(),
+        limits: Limits {
+            pulse_millis: words.number("--pulse-ms", 20, 1, 60_000)?,
+            turns: words.number("--turns", 100_000_000, 1, MOST)?,
+            kept: words.number("--kept", 1_000_000, 1, MOST)?,
+        },
+    }))
+}
+
+fn join<'a>(alloc: Global, words: &'a [String]) -> Result<Request<'a>, Failure> {
+    let words = Words::new(alloc, words, &[], &[])?;
+    let Some((file, logs)) = words.plain.split_first() else {
+        return Err(Failure::BadCommandLine("join takes a file and logs"));
+    };
+    Ok(Request::Join {
+        file: *file,
+        logs: Vec::from_slice(alloc, logs)?,
+    })
+}
+
+fn router<'a>(alloc: Global, words: &'a [String]) -> Result<Request<'a>, Failure> {
+    let words = Words::new(alloc, words, &ROUTER_VALUES, &[])?;
+    if !words.plain.is_empty() {
+        return Err(Failure::BadCommandLine("router takes no file"));
+    }
+    Ok(Request::Router {
+        harm: Harm {
+            lose: words.number("--lose", 0, 0, 100)?,
+            repeat: words.number("--repeat", 0, 0, 100)?,
+            reorder: words.number("--reorder", 0, 0, 65_536)?,
+        },
+        seed: words.number("--seed", 1, 0, MOST)?,
+    })
+}
+
+/// What the words ask for. The first is the program's name.
+pub(crate) fn read<'a>(alloc: Global, words: &'a [String]) -> Result<Request<'a>, Failure> {
+    let Some((command, rest)) = words.get(1..).unwrap_or(&[]).split_first() else {
+        return Err(Failure::BadCommandLine("a command is missing"));
+    };
+    match command.as_str() {
+        "run" => run(alloc, rest),
+        "join" => join(alloc, rest),
+        "router" => router(alloc, rest),
+        "--help" | "-h" | "help" => Ok(Request::Help(Help::Usage)),
+        "--version" | "-V" => Ok(Request::Help(Help::Version)),
+        _ => Err(Failure::BadCommandLine("no such command")),
+    }
+}

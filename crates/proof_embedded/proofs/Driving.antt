@@ -1,0 +1,370 @@
+-- Nodes that a program drives are the nodes of a world that moves lead to: each request makes moves
+-- of its node, or none.
+use Rattle.std.proofs.Common.{◌≡◌, ◌≢◌, ◌⊎◌, ℕ, zero, suc, ◌+◌, ◌<◌, List, [], ◌∷◌, ◌++◌, length, length-set, map, set, slice_get, take, Option, Some, None, Contains, append-nil, refl, sym, ap, subst, ◌∙◌, arith, inl, inr, ⊎_elim, option_map}
+use Rattle.std.proofs.lemmas.List.{map-set, set-set}
+use Rattle.std.proofs.lemmas.List.Elements.{Contains-append_left, Contains-append_right, Contains-append_cases, Contains-push_cases}
+use Rattle.std.proofs.lemmas.Option.{same_Some, none-some, slice_get-map, slice_get_read}
+use Rattle.ivy_model.specs.declared.Call.{Call}
+use Rattle.ivy_model.specs.declared.Config.{Config}
+use Rattle.ivy_model.specs.declared.Reply as reply
+use Rattle.ivy_model.specs.Config.{IsConfig}
+use Rattle.ivy_program.specs.Programs.{Program, Called}
+use Rattle.ivy_moves.specs.Nodes.{pulsing}
+use Rattle.ivy_moves.specs.declared.Move.{Move}
+use Rattle.ivy_moves.specs.declared.Move.TheVariants as move
+use Rattle.ivy_moves.specs.declared.keep.Keep.TheVariants.{History}
+use Rattle.ivy_moves.specs.ivy_link.declared.Verdict.{Verdict}
+use Rattle.ivy_moves.proofs.Places.{set-cases, set-there, set-same}
+use Rattle.ivy_embedded.specs.ivy_site.declared.turn.Turn.TheVariants.{Moved}
+use Rattle.ivy_embedded.specs.ivy_site.Handed.{site_handed}
+use Rattle.ivy_embedded.specs.ivy_site.Shown.{Shown, after_pulse_to}
+use Rattle.ivy_embedded.specs.ivy_site.Sites.{SiteTurns, AfterDelivery, first_keeping}
+use Rattle.ivy_embedded.specs.Nodes.{Embedded, first_embedded, strings_of, waiting_in}
+use Rattle.ivy_embedded.specs.Exports.{AfterBegin, AfterCall, ChangesWaiting, Takes}
+use Rattle.ivy_embedded.specs.declared.status.TheConstants.{DONE, SHORT_BUFFER, NO_FRAME}
+use Rattle.proof_headline.specs.Keeping.{Keeps}
+use Rattle.ivy_world.specs.WorldSites.{programs_of, world_of, run_of, IsRunning, first_sites_from}
+use Rattle.ivy_world.proofs.GoingOn.{Moved as HasMoved, went_there, delivery_went}
+use Rattle.ivy_world.proofs.Making.{turn_went, pulse_went}
+use Rattle.ivy_world.proofs.Handed.{handed_running}
+use Rattle.ivy_world.proofs.Worlds.{first_running-of, running_each, runs_on}
+use Rattle.proof_headline.proofs.Headline.{keeps-reached}
+use Rattle.proof_embedded.specs.Driven.{Request, Begin, Reply, Deliver, NextFrame, Pulse, Driven, TakesOut, Does, Asks, DrivesTo, first_from, opened, node_in, program_in, AreOfOneRun, DrivenNodesAreOfOneRun}
+use Rattle.proof_embedded.proofs.Emptied.{with_strings, turn_carries, delivery_carries, pulse_carries}
+
+-- the node as a site whose strings are on the wire
+abbrev seen : Embedded → Shown
+seen e = with_strings [] e.site
+
+-- the nodes are those of a world that runs, and whatever was taken out of them or waits there was
+-- sent
+record AreDriven (c : Config) (nodes : List Embedded) (strings : List (List ℕ)) : Type 0 where
+  sent : List (List ℕ)
+  running : IsRunning c (map seen nodes) sent
+  taken : (bytes : List ℕ) → Contains strings bytes → Contains sent bytes
+  waits : (i : ℕ) (e : Embedded) → slice_get nodes i ≡ Some e → (bytes : List ℕ)
+      → Contains (waiting_in e) bytes → Contains sent bytes
+
+-- one site of a world goes on
+
+module _ (c : Config) (sites : List Shown) (sent : List (List ℕ)) (i : ℕ) (old : Shown)
+    (there : slice_get sites i ≡ Some (with_strings [] old)) (h : IsRunning c sites sent) where
+  -- the site went on: it has these strings more, and the world runs on
+  record Further (new : Shown) : Type 0 where
+    more : List (List ℕ)
+    waiting : new.waiting ≡ old.waiting ++ more
+    running : IsRunning c (set sites i (with_strings [] new)) (sent ++ more)
+
+  here : (new : Shown) (more : List (List ℕ)) (step : Move)
+      → HasMoved c sites (set sites i (with_strings [] new)) sent (sent ++ more) step
+      → IsRunning c (set sites i (with_strings [] new)) (sent ++ more)
+  here new more step m =
+      runs_on c sites (set sites i (with_strings [] new)) sent (sent ++ more) step h m.are
+      (length-set sites i (with_strings [] new) ∙ h.count) m.programs m.made
+
+  stayed : (new : Shown) → new ≡ old → Further new
+  stayed new same = record {
+    more = [];
+    waiting = ap (λ (s : Shown). s.waiting) same ∙ sym (append-nil old.waiting);
+    running = subst (IsRunning c (set sites i (with_strings [] new))) (sym (append-nil sent))
+        (subst (λ ss. IsRunning c ss sent)
+        (sym (set-same sites i (with_strings [] old) there)
+        ∙ ap (λ s. set sites i (with_strings [] s)) (sym same)) h);
+  }
+
+  turned : (new : Shown) → SiteTurns old new → Further new
+  turned new t =
+      let k = turn_carries old new t in record {
+        more = k.more;
+        waiting = k.waiting;
+        running = here new k.more (move.Turn i)
+            (went_there c sites (set sites i (with_strings [] new)) sent (sent ++ k.more) (move.Turn i)
+            (turn_went c sites sent i (with_strings [] old) (with_strings k.more new)
+            (with_strings [] new) Moved (move.Turn i) (sent ++ k.more) h.nodes there (k.goes []) refl
+            refl refl));
+      }
+
+  turned_once : (new : Shown) → (new ≡ old) ⊎ SiteTurns old new → Further new
+  turned_once new w = ⊎_elim (stayed new) (turned new) w
+
+  delivered : (new : Shown) (bytes : List ℕ) (v : Verdict) → Contains sent bytes
+      → AfterDelivery bytes v old new → Further new
+  delivered new bytes v in_sent d =
+      let k = delivery_carries bytes v old new d in record {
+        more = k.more;
+        waiting = k.waiting;
+        running = here new k.more (move.Deliver in_sent.0 i)
+            (delivery_went c sites sent in_sent.0 i (with_strings [] old) (with_strings k.more new)
+            (with_strings [] new) bytes v (move.Deliver in_sent.0 i) (sent ++ k.more) h.limits h.nodes
+            there (slice_get_read sent (length sent) in_sent.0 bytes refl in_sent.1 (sym in_sent.2))
+            (k.goes []) refl refl refl);
+      }
+
+  pulsed : (new : Shown) (to : ℕ) → to < old.config.nodes → to ≢ old.me
+      → new ≡ after_pulse_to old to (pulsing old.node to) → Further new
+  pulsed new to within other p =
+      let k = pulse_carries to old new p in
+      let config : old.config ≡ c = h.nodes.config i (with_strings [] old) there in
+      let me : old.me ≡ i = h.nodes.me i (with_strings [] old) there in
+      let inside : to < length sites =
+      subst (λ n. to < n) (ap (λ (k : Config). k.nodes) config ∙ sym h.count) within in
+      let apart : i ≢ to = λ e. other (sym e ∙ sym me) in record {
+        more = k.more;
+        waiting = k.waiting;
+        running = here new k.more (move.Pulse i to)
+            (went_there c sites (set sites i (with_strings [] new)) sent (sent ++ k.more)
+            (move.Pulse i to)
+            (pulse_went c sites sent i to (with_strings [] old) (with_strings k.more new)
+            (with_strings [] new) (move.Pulse i to) (sent ++ k.more) h.nodes there inside apart
+            (k.goes []) refl refl refl));
+      }
+
+-- the call is handed in first
+module _ (c : Config) (sites : List Shown) (sent : List (List ℕ)) (i : ℕ) (old : Shown)
+    (there : slice_get sites i ≡ Some (with_strings [] old)) (h : IsRunning c sites sent) where
+  handed : (call : Call) (new : Shown)
+      → (new ≡ site_handed (call ∷ []) old) ⊎ SiteTurns (site_handed (call ∷ []) old) new
+      → Further c sites sent i old there h new
+  handed call new w =
+      let mid : Shown = site_handed (call ∷ []) old in
+      let after : List Shown = set sites i (with_strings [] mid) in
+      let at : slice_get after i ≡ Some (with_strings [] mid) =
+      set-there sites i (with_strings [] mid) (with_strings [] old) there in
+      let f = turned_once c after sent i mid at
+      (handed_running c sites sent i (with_strings [] old) there (call ∷ []) h) new w in record {
+        more = f.more;
+        waiting = f.waiting;
+        running = subst (λ ss. IsRunning c ss (sent ++ f.more))
+            (set-set sites i (with_strings [] mid) (with_strings [] new)) f.running;
+      }
+
+-- what waits at a node with more strings
+
+strings_more : (first : Option (List ℕ)) (waiting more : List (List ℕ))
+    → strings_of first (waiting ++ more) ≡ strings_of first waiting ++ more
+strings_more None waiting more = refl
+strings_more (Some string) waiting more = refl
+
+waits_more : (s t : Embedded) (more : List (List ℕ)) → t.first ≡ s.first
+    → t.site.waiting ≡ s.site.waiting ++ more → waiting_in t ≡ waiting_in s ++ more
+waits_more s t more first waiting =
+    (λ k. strings_of (first k) (waiting k)) ∙ strings_more s.first s.site.waiting more
+
+-- no status is two
+done_short : (status : ℕ) → status ≡ DONE → status ≡ SHORT_BUFFER → ⊥
+done_short status done short = omega (arith, done, short)
+
+done_none : (status : ℕ) → status ≡ DONE → status ≡ NO_FRAME → ⊥
+done_none status done none = omega (arith, done, none)
+
+-- one of the nodes goes on
+
+module _ (c : Config) (nodes : List Embedded) (strings : List (List ℕ)) (i : ℕ) (s : Embedded)
+    (there : slice_get nodes i ≡ Some s) (d : AreDriven c nodes strings) where
+  seen_there : slice_get (map seen nodes) i ≡ Some (seen s)
+  seen_there = slice_get-map seen nodes i ∙ ap (option_map seen) there
+
+  abbrev Goes : Shown → Type 0
+  Goes new = Further c (map seen nodes) d.sent i s.site seen_there d.running new
+
+  -- what waits at the nodes was sent, where it was at the one before or is among what was sent
+  -- since
+  waits_on : (t : Embedded) (sent : List (List ℕ))
+      → ((bytes : List ℕ) → Contains d.sent bytes → Contains sent bytes)
+      → ((bytes : List ℕ) → Contains (waiting_in t) bytes → Contains sent bytes)
+      → (j : ℕ) (e : Embedded) → slice_get (set nodes i t) j ≡ Some e → (bytes : List ℕ)
+      → Contains (waiting_in e) bytes → Contains sent bytes
+  waits_on t sent before own j e at bytes has =
+      ⊎_elim (λ p. own bytes (subst (λ (x : Embedded). Contains (waiting_in x) bytes) p.1 has))
+      (λ q. before bytes (d.waits j e q bytes has)) (set-cases nodes i j t e at)
+
+  further : (t : Embedded) → t.first ≡ s.first → Goes t.site → AreDriven c (set nodes i t) strings
+  further t first f =
+      let more = waits_more s t f.more first f.waiting in
+      let before : (bytes : List ℕ) → Contains d.sent bytes → Contains (d.sent ++ f.more) bytes =
+      λ bytes has. Contains-append_left d.sent f.more bytes has in
+      let own : (bytes : List ℕ) → Contains (waiting_in t) bytes → Contains (d.sent ++ f.more) bytes =
+      λ bytes has. ⊎_elim (λ old. before bytes (d.waits i s there bytes old))
+      (λ new. Contains-append_right d.sent f.more bytes new)
+      (Contains-append_cases (waiting_in s) f.more bytes
+      (subst (λ l. Contains l bytes) more has)) in record {
+        sent = d.sent ++ f.more;
+        running = subst (λ ss. IsRunning c ss (d.sent ++ f.more)) (sym (map-set seen nodes i t))
+            f.running;
+        taken = λ bytes has. before bytes (d.taken bytes has);
+        waits = waits_on t (d.sent ++ f.more) before own;
+      }
+
+  unchanged : (t : Embedded) → t ≡ s → AreDriven c (set nodes i t) strings
+  unchanged t same =
+      subst (λ ns. AreDriven c ns strings)
+      (sym (set-same nodes i s there) ∙ ap (set nodes i) (sym same)) d
+
+  -- by what a turn that has a call comes to
+  begun : (call : Call) (progress : Option reply.Reply) (t : Embedded)
+      → AfterBegin call progress s.site t.site → Goes t.site
+  begun call None t a =
+      handed c (map seen nodes) d.sent i s.site seen_there d.running call t.site
+      (⊎_elim inl (λ w. inr w.0) a)
+  begun call (Some r) t a =
+      handed c (map seen nodes) d.sent i s.site seen_there d.running call t.site (inr a.turns)
+
+  polled : (progress : Option reply.Reply) (t : Embedded) → AfterCall progress s.site t.site
+      → Goes t.site
+  polled None t a =
+      turned_once c (map seen nodes) d.sent i s.site seen_there d.running t.site
+      (⊎_elim inl (λ w. inr w.0) a)
+  polled (Some r) t a =
+      turned c (map seen nodes) d.sent i s.site seen_there d.running t.site a.2.turns
+
+  -- a string was taken out, or none was
+  seen_same : (t : Embedded) → ChangesWaiting s t → seen t ≡ seen s
+  seen_same t same = ap (with_strings []) same
+
+  less_waits : (t : Embedded) (more : List (List ℕ)) → ChangesWaiting s t
+      → ((bytes : List ℕ) → Contains (waiting_in t) bytes → Contains (waiting_in s) bytes)
+      → ((bytes : List ℕ) → Contains more bytes → Contains d.sent bytes)
+      → AreDriven c (set nodes i t) more
+  less_waits t more same fewer taken = record {
+    sent = d.sent;
+    running = subst (λ ss. IsRunning c ss d.sent)
+        (sym (map-set seen nodes i t ∙ ap (set (map seen nodes) i) (seen_same t same)
+        ∙ set-same (map seen nodes) i (seen s) seen_there)) d.running;
+    taken = taken;
+    waits = waits_on t d.sent (λ bytes has. has) (λ bytes has. d.waits i s there bytes (fewer bytes has));
+  }
+
+  -- the one that stood in the buffer waited there
+  gave : (t : Embedded) (string : List ℕ) (more : List (List ℕ)) → ChangesWaiting s t
+      → waiting_in s ≡ string ∷ waiting_in t
+      → (more ≡ strings ++ string ∷ []) ⊎ (more ≡ strings) → AreDriven c (set nodes i t) more
+  gave t string more same gives is =
+      let fewer : (bytes : List ℕ) → Contains (waiting_in t) bytes → Contains (waiting_in s) bytes =
+      λ bytes has. subst (λ l. Contains l bytes) (sym gives)
+      (Contains-append_right (string ∷ []) (waiting_in t) bytes has) in
+      let own : Contains (waiting_in s) string =
+      subst (λ l. Contains l string) (sym gives)
+      (Contains-append_left (string ∷ []) (waiting_in t) string (0, omega arith, refl)) in
+      less_waits t more same fewer
+      (λ bytes has. ⊎_elim
+      (λ added. ⊎_elim (d.taken bytes)
+      (λ e. subst (Contains d.sent) e (d.waits i s there string own))
+      (Contains-push_cases strings string bytes (subst (λ l. Contains l bytes) added has)))
+      (λ none. d.taken bytes (subst (λ l. Contains l bytes) none has)) is)
+
+  kept_strings : (t : Embedded) (more : List (List ℕ)) → ChangesWaiting s t
+      → waiting_in t ≡ waiting_in s → more ≡ strings → AreDriven c (set nodes i t) more
+  kept_strings t more same waiting none =
+      less_waits t more same (λ bytes has. subst (λ l. Contains l bytes) waiting has)
+      (λ bytes has. d.taken bytes (subst (λ l. Contains l bytes) none has))
+
+  took : (status len dest : ℕ) (buffer : List ℕ) (t : Embedded) (more : List (List ℕ))
+      → Takes status buffer len dest s t → TakesOut status buffer len strings more
+      → AreDriven c (set nodes i t) more
+  took status len dest buffer t more h out =
+      let either : (more ≡ strings ++ take len buffer ∷ []) ⊎ (more ≡ strings) =
+      ⊎_elim (λ p. inl p.1) (λ p. inr p.1) out in
+      ⊎_elim (λ given. gave t (take len buffer) more h.0 given.1.0 either)
+      (λ rest. ⊎_elim
+      (λ short. kept_strings t more h.0 short.1.0
+      (⊎_elim (λ p. absurd (done_short status p.0 short.0)) (λ p. p.1) out))
+      (λ none. kept_strings t more h.0 (none.2 ∙ sym none.1)
+      (⊎_elim (λ p. absurd (done_none status p.0 none.0)) (λ p. p.1) out)) rest) h.1
+
+  -- each request makes moves of its node, or none
+  did : (request : Request) (t : Embedded) (more : List (List ℕ)) → Does request strings s t more
+      → AreDriven c (set nodes i t) more
+  did (Begin kind width place operand expected) t more h =
+      rw h.0 (⊎_elim
+      (λ does. further t does.4.0 (begun does.0 does.2 t does.4.1))
+      (λ refused. unchanged t refused.1) h.1.3)
+  did Reply t more h =
+      rw h.0 (⊎_elim (λ does. further t does.2.0 (polled does.0 t does.2.1))
+      (λ refused. unchanged t refused.1) h.1.3)
+  did (Deliver bytes) t more h =
+      rw h.0 (⊎_elim
+      (λ does. further t does.3.0
+      (delivered c (map seen nodes) d.sent i s.site seen_there d.running t.site bytes does.1
+      (d.taken bytes h.1) does.3.1))
+      (λ refused. unchanged t refused.1) h.2.2)
+  did NextFrame t more h = took h.0 h.1 h.2 h.3 t more h.4 h.5
+  did (Pulse to) t more h =
+      rw h.0 (⊎_elim
+      (λ does. further t does.3.0
+      (pulsed c (map seen nodes) d.sent i s.site seen_there d.running t.site to does.1 does.2 does.3.1))
+      (λ refused. unchanged t refused.1) h.1.1)
+
+-- one request, and one after another
+
+asked : (c : Config) (request : ℕ × Request) (old new : Driven) → Asks request.0 request.1 old new
+    → AreDriven c old.nodes old.strings → AreDriven c new.nodes new.strings
+asked c request old new a d =
+    subst (λ ns. AreDriven c ns new.strings) (sym a.nodes)
+    (did c old.nodes old.strings request.0 a.before a.there d request.1 a.after new.strings a.does)
+
+driven_on : (c : Config) (requests : List (ℕ × Request)) (old end : Driven)
+    → DrivesTo old requests end → AreDriven c old.nodes old.strings
+    → AreDriven c end.nodes end.strings
+driven_on c [] old end same d = subst (λ (x : Driven). AreDriven c x.nodes x.strings) (sym same) d
+driven_on c (request ∷ requests) old end h d =
+    driven_on c requests h.0 end h.2 (asked c request old h.0 h.1 d)
+
+-- the nodes as they begin
+
+no_programs : ℕ → List Program
+no_programs zero = []
+no_programs (suc left) = Called [] ∷ no_programs left
+
+so_many : (left : ℕ) → length (no_programs left) ≡ left
+unfolding no_programs
+so_many zero = refl
+so_many (suc left) = ap suc (so_many left)
+
+first_seen : (c : Config) (me left : ℕ)
+    → map seen (first_from c me left) ≡ first_sites_from c me (no_programs left)
+unfolding no_programs
+first_seen c me zero = refl
+first_seen c me (suc left) =
+    ap (λ l. first_keeping History c me (Called []) ∷ l) (first_seen c (me + 1) left)
+
+none_waits : (c : Config) (me left i : ℕ) (e : Embedded) → slice_get (first_from c me left) i ≡ Some e
+    → waiting_in e ≡ []
+none_waits c me zero i e at = absurd (none-some e at)
+none_waits c me (suc left) zero e at =
+    ap waiting_in (sym (same_Some (first_embedded c me) e at))
+none_waits c me (suc left) (suc i) e at = none_waits c (me + 1) left i e at
+
+first_driven : (c : Config) → IsConfig c → AreDriven c (first_from c 0 c.nodes) []
+first_driven c limits = record {
+  sent = [];
+  running = first_running-of c (no_programs c.nodes) (map seen (first_from c 0 c.nodes)) [] limits
+      (so_many c.nodes) (first_seen c 0 c.nodes) refl;
+  taken = λ bytes has. has;
+  waits = λ i e at bytes has. subst (λ l. Contains l bytes) (none_waits c 0 c.nodes i e at) has;
+}
+
+-- what is promised of a world that runs
+
+nodes_seen : (nodes : List Embedded) → map (λ (s : Shown). s.node) (map seen nodes) ≡ map node_in nodes
+nodes_seen [] = refl
+nodes_seen (e ∷ es) = ap (λ l. e.site.node ∷ l) (nodes_seen es)
+
+programs_seen : (nodes : List Embedded) → programs_of (map seen nodes) ≡ map program_in nodes
+programs_seen [] = refl
+programs_seen (e ∷ es) = ap (λ l. program_in e ∷ l) (programs_seen es)
+
+of_one_run : (c : Config) (d : Driven) → AreDriven c d.nodes d.strings → AreOfOneRun c d
+of_one_run c d h =
+    let sites = map seen d.nodes in record {
+      world = world_of sites h.sent;
+      keeps = subst (λ ps. Keeps (record { config = c; programs = ps; world = world_of sites h.sent }))
+          (programs_seen d.nodes)
+          (keeps-reached (run_of c sites h.sent) h.running.limits
+          (running_each c sites h.sent h.running) h.running.reached);
+      nodes = nodes_seen d.nodes;
+      sent = h.taken;
+    }
+
+pub driven_nodes_are_of_one_run : DrivenNodesAreOfOneRun
+driven_nodes_are_of_one_run c limits requests d led =
+    of_one_run c d (driven_on c requests (opened c) d led (first_driven c limits))

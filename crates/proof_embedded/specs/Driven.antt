@@ -1,0 +1,92 @@
+-- Nodes that a program drives by the functions of a C header.
+use Rattle.std.specs.Prelude.{◌≡◌, ◌≢◌, ◌⊎◌, ℕ, zero, suc, ◌+◌, List, [], ◌∷◌, ◌++◌, take, map, slice_get, slice_set, Some, Contains}
+use Rattle.ivy_model.specs.declared.Config.{Config}
+use Rattle.ivy_model.specs.Config.{IsConfig}
+use Rattle.ivy_program.specs.Programs.{Program}
+use Rattle.ivy_moves.specs.Nodes.{Node}
+use Rattle.ivy_moves.specs.Worlds.{World}
+use Rattle.ivy_embedded.specs.ivy_site.ivy_host.Hosts.{Host}
+use Rattle.ivy_embedded.specs.ivy_site.ivy_host.Managers.{Managed}
+use Rattle.ivy_embedded.specs.Nodes.{Embedded, first_embedded}
+use Rattle.ivy_embedded.specs.Exports.{Answers, Begins, Delivers, IsRequest, Polls, Pulses, RefusesCall, RefusesPoll, RefusesPulse, RefusesString, TakesAt}
+use Rattle.ivy_embedded.specs.declared.status.TheConstants.{DONE}
+use Rattle.proof_headline.specs.Keeping.{Keeps}
+
+-- what the program asks of a node; the five numbers are those that a call is begun with
+pub data Request : Type 0 where
+  Begin : ℕ → ℕ → ℕ → ℕ → ℕ → Request
+  Reply : Request
+  Deliver : List ℕ → Request
+  NextFrame : Request
+  Pulse : ℕ → Request
+
+-- the nodes by number, and the strings that were taken out of them
+pub record Driven : Type 0 where
+  pub nodes : List Embedded
+  pub strings : List (List ℕ)
+
+-- the string in the buffer was taken out, where the status says so
+abbrev pub TakesOut : ℕ → List ℕ → ℕ → List (List ℕ) → List (List ℕ) → Type 0
+TakesOut status buffer len strings more =
+    ((status ≡ DONE) × (more ≡ strings ++ take len buffer ∷ []))
+    ⊎ ((status ≢ DONE) × (more ≡ strings))
+
+-- what the function does to the node, by its contract, whatever it answers; only a string that was
+-- taken out before is delivered
+abbrev pub Does : Request → List (List ℕ) → Embedded → Embedded → List (List ℕ) → Type 0
+Does (Begin kind width place operand expected) strings s t more = (more ≡ strings)
+    × ((status before value : ℕ) × Answers status (Some s) (Some t)
+    (Begins (IsRequest kind width place operand expected) status before value)
+    (RefusesCall (IsRequest kind width place operand expected) status))
+Does Reply strings s t more = (more ≡ strings)
+    × ((status before value : ℕ) × Answers status (Some s) (Some t) (Polls status before value)
+    (RefusesPoll status))
+Does (Deliver bytes) strings s t more = (more ≡ strings) × Contains strings bytes
+    × ((status what : ℕ) × Answers status (Some s) (Some t) (Delivers bytes status what)
+    (RefusesString bytes status))
+Does NextFrame strings s t more = (status len dest : ℕ) × (buffer : List ℕ)
+    × TakesAt status buffer len dest (Some s) (Some t) × TakesOut status buffer len strings more
+Does (Pulse to) strings s t more = (more ≡ strings)
+    × ((status : ℕ) × Answers status (Some s) (Some t) (Pulses to status) (RefusesPulse to status))
+
+-- the request is made of node i, and the other nodes stay as they are
+pub record Asks (i : ℕ) (request : Request) (old new : Driven) : Type 0 where
+  pub before : Embedded
+  pub there : slice_get old.nodes i ≡ Some before
+  pub after : Embedded
+  pub does : Does request old.strings before after new.strings
+  pub nodes : new.nodes ≡ slice_set old.nodes i after
+
+-- the requests, each with its node, made one after another, lead from the one to the other
+abbrev pub DrivesTo : Driven → List (ℕ × Request) → Driven → Type 0
+DrivesTo d [] end = end ≡ d
+DrivesTo d (request ∷ requests) end =
+    (mid : Driven) × Asks request.0 request.1 d mid × DrivesTo mid requests end
+
+-- nodes from this number on, so many, none of which made a call yet
+abbrev pub first_from : Config → ℕ → ℕ → List Embedded
+first_from c me zero = []
+first_from c me (suc left) = first_embedded c me ∷ first_from c (me + 1) left
+
+-- all nodes of a configuration, and no string was taken out
+abbrev pub opened : Config → Driven
+opened c = record { nodes = first_from c 0 c.nodes; strings = [] }
+
+abbrev pub node_in : Embedded → Node (Host Managed)
+node_in e = e.site.node
+
+-- the calls that were begun at the node
+abbrev pub program_in : Embedded → Program
+program_in e = e.site.node.core.process.program
+
+-- they are the nodes of a world that moves lead to from the opening of programs that make the
+-- calls begun, all that is promised of such a world holds of it, and the strings were sent in it
+pub record AreOfOneRun (c : Config) (d : Driven) : Type 0 where
+  pub world : World (Host Managed)
+  pub keeps : Keeps (record { config = c; programs = map program_in d.nodes; world = world })
+  pub nodes : world.nodes ≡ map node_in d.nodes
+  pub sent : (bytes : List ℕ) → Contains d.strings bytes → Contains world.sent bytes
+
+abbrev pub DrivenNodesAreOfOneRun : Type 0
+DrivenNodesAreOfOneRun = (c : Config) → IsConfig c → (requests : List (ℕ × Request)) (d : Driven)
+    → DrivesTo (opened c) requests d → AreOfOneRun c d

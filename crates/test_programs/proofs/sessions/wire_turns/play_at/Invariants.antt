@@ -1,0 +1,4 @@
+use Rattle.test_programs.proofs.sessions.wire_turns.play_at.Given as goal
+
+abbrev pub ghosts-play : goal.ghosts-play
+ghosts-play g a = record { config = a.config.now; programs = a.programs.items }
