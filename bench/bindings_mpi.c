@@ -52,12 +52,12 @@ static double miss(ivy_process *ivy, int me) {
   return median();
 }
 
-/* Each takes the page from the other one by turns: two faults that write go to and fro. */
+/* Each raises the number by turns, with the page in its hands: one fault that writes for each time that it goes over. */
 static double handed(ivy_process *ivy, int me) {
   for (uint64_t i = 0; i < TIMES; i++) {
+    uint64_t own = 2 * i + (uint64_t)me;
     double begun = MPI_Wtime();
-    while (ivy_load(ivy, 8, PAGE + 8) != 2 * i + (uint64_t)me) { }
-    ivy_store(ivy, 8, PAGE + 8, 2 * i + (uint64_t)me + 1);
+    while (ivy_compare_and_swap(ivy, 8, PAGE + 8, own, own + 1) != own) ivy_progress_now(ivy);
     took[i] = (MPI_Wtime() - begun) / 2;
   }
   return median();
@@ -75,7 +75,7 @@ int main(int argc, char **argv) {
   if (me) {
     printf("MPI, pages of %d: a read miss %.2f us, a request and its reply %.2f, ratio %.1f\n", PAGE, missed, asked,
            missed / asked);
-    printf("MPI, pages of %d: a page handed over by two that wait for it %.2f us, a ping-pong one way %.2f, ratio %.1f\n",
+    printf("MPI, pages of %d: a page handed to and fro by two that write by turns, one way %.2f us, a ping-pong one way %.2f, ratio %.1f\n",
            PAGE, by_turns, to_and_fro, by_turns / to_and_fro);
   }
   ivy_leave(ivy);

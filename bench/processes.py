@@ -11,7 +11,7 @@ from dataclasses import dataclass
 from pathlib import Path
 
 from loops import PAGE_SIZE, LARGE_PAGE, loop
-from timing import write_lines
+from timing import peak_of, weighed, write_lines
 
 LINES = Path(__file__).resolve().parent / "lines.c"
 # A frame with a page has 41 bytes beside it, two digits each, and its line two characters and an LF.
@@ -40,9 +40,14 @@ class Pair:
 
     def __init__(self, program, file, words, logs):
         ends = [os.pipe(), os.pipe()]
+        runs = [
+            weighed(f"node-{node}", [program, "run", file, str(node), *words, "--log", logs[node]])
+            for node in range(2)
+        ]
+        self.told = [told for _, told in runs]
         self.nodes = [
             subprocess.Popen(
-                [program, "run", file, str(node), *words, "--log", logs[node]],
+                runs[node][0],
                 stdin=ends[node][0],
                 stdout=ends[1 - node][1],
                 stderr=subprocess.PIPE,
@@ -62,11 +67,9 @@ class Pair:
         began = time.monotonic()
         for node in self.nodes:
             node.terminate()
-        memories = []
         for node in self.nodes:
-            _, _, usage = os.wait4(node.pid, 0)
-            node.returncode = 0
-            memories.append(usage.ru_maxrss / 1024)
+            node.wait()
+        memories = [peak_of(told) for told in self.told]
         for pair in self.ends:
             for end in pair:
                 os.close(end)

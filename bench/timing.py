@@ -1,12 +1,15 @@
 """What a measure is, and one run of a program, timed."""
 
+import functools
 import os
 import subprocess
 import sys
+import tempfile
 from collections.abc import Callable
 from dataclasses import dataclass
 from pathlib import Path
 
+PEAK = Path(__file__).resolve().parent / "peak.c"
 LINEAR = 2.3
 LEAST_RUNS = 3
 LEAST_SECONDS = 2
@@ -33,14 +36,36 @@ def write_lines(file, lines):
     return file
 
 
+@functools.cache
+def peak_folder():
+    """A folder that goes when this script ends, with the program that says how much memory another one had. What the
+    system would say of a child of this script is no less than what this script had.
+    """
+    folder = tempfile.TemporaryDirectory()
+    subprocess.run(["cc", "-O2", PEAK, "-o", Path(folder.name) / "peak"], check=True)
+    return folder
+
+
+def weighed(told, words):
+    """The words of a run that also writes the greatest memory that it had into a file of this name, and that file."""
+    room = Path(peak_folder().name)
+    return [room / "peak", room / told, *words], room / told
+
+
+def peak_of(told):
+    """The greatest memory that such a run had, in MiB."""
+    return int(told.read_text()) / 1024
+
+
 def run_once(words, status):
     """The processor seconds that a run takes, and the greatest memory that it had, in MiB."""
-    run = subprocess.Popen(words, stdout=subprocess.DEVNULL, stderr=subprocess.DEVNULL)
+    command, told = weighed("memory", words)
+    run = subprocess.Popen(command, stdout=subprocess.DEVNULL, stderr=subprocess.DEVNULL)
     _, ended, usage = os.wait4(run.pid, 0)
     run.returncode = os.waitstatus_to_exitcode(ended)
     if run.returncode != status:
         sys.exit(f"{' '.join(map(str, words))}: status {run.returncode}")
-    return usage.ru_utime + usage.ru_stime, usage.ru_maxrss / 1024
+    return usage.ru_utime + usage.ru_stime, peak_of(told)
 
 
 def best(words, status):

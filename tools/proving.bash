@@ -121,13 +121,13 @@ lines_of() {
 # A crate with fewer is lemmas alone, or little else.
 few_lines=120
 
-# How many jobs the check of a crate may have. Each job begins with all that lies below, so where there
-# is little code four jobs take twice the processor time of one, and no less by the clock.
+# How many jobs the check of a crate may have, at most so many. Each job begins with all that lies below, so
+# where there is little code four jobs take twice the processor time of one, and no less by the clock.
 jobs_of() {
     if (($(lines_of "$1") < few_lines)); then
         echo 1
     else
-        echo "$jobs"
+        echo "${2:-$jobs}"
     fi
 }
 
@@ -233,9 +233,9 @@ prove() {
     done
 }
 
-# Starts what can begin, the longest way first. A crate near the longest way of those that are not proved
-# may have many jobs, and there is always a place for it. One far from it has one job, and takes what time
-# the others leave.
+# Starts what can begin, the longest way first. The crate on the longest way of those that are not proved may
+# have all jobs, and one near it half of them: more end sooner, but take more of the processors. There is
+# always a place for both. One far from it has one job, and takes what time the others leave.
 start_ready() {
     local crate it first=
     for crate in "${left[@]}"; do
@@ -245,8 +245,10 @@ start_ready() {
         for it in ${below[$crate]}; do
             [[ -z ${open[$it]-} ]] || continue 2
         done
-        if ((way[$crate] * 4 >= way[$first] * 3)); then
-            ((${#running[@]} >= places)) || start "$crate" "$(jobs_of "$crate")" 0
+        if [[ $crate == "$first" ]]; then
+            start "$crate" "$(jobs_of "$crate")" 0
+        elif ((way[$crate] * 4 >= way[$first] * 3)); then
+            ((${#running[@]} >= places)) || start "$crate" "$(jobs_of "$crate" $(((jobs + 1) / 2)))" 0
         else
             ((${#running[@]} > 0 && ${#running[@]} >= places - 1)) || start "$crate" 1 5
         fi

@@ -7,10 +7,10 @@
 
 enum { PLACES = 64, ROOM = 8192, TAG = 1989 };
 
-/* Strings under way; where all places are taken the string is lost, and a pulse sends it again. */
+/* Strings under way, and one that is to come. Where all places are taken a string is lost, and a pulse sends it again. */
 typedef struct {
-  uint8_t bytes[PLACES][ROOM];
-  MPI_Request under_way[PLACES];
+  uint8_t bytes[PLACES][ROOM], next[ROOM];
+  MPI_Request under_way[PLACES], coming;
 } mpi;
 
 static void mpi_send(void *state, uint32_t to, const uint8_t *bytes, size_t len) {
@@ -25,19 +25,26 @@ static void mpi_send(void *state, uint32_t to, const uint8_t *bytes, size_t len)
   }
 }
 
+/* The receive is asked for before the string comes, so MPI puts it in its place at once. */
+static void expect_next(mpi *m) {
+  MPI_Irecv(m->next, ROOM, MPI_BYTE, MPI_ANY_SOURCE, TAG, MPI_COMM_WORLD, &m->coming);
+}
+
 static size_t mpi_receive(void *state, uint8_t *bytes, size_t room, long wait_us) {
-  double last = MPI_Wtime() + (double)wait_us / 1e6;
-  (void)state;
+  mpi *m = (mpi *)state;
+  double last = wait_us ? MPI_Wtime() + (double)wait_us / 1e6 : 0;
   for (;;) {
     MPI_Status status;
     int is_there = 0, len = 0;
-    MPI_Iprobe(MPI_ANY_SOURCE, TAG, MPI_COMM_WORLD, &is_there, &status);
+    MPI_Test(&m->coming, &is_there, &status);
     if (is_there) {
-      MPI_Recv(bytes, (int)room, MPI_BYTE, status.MPI_SOURCE, TAG, MPI_COMM_WORLD, &status);
       MPI_Get_count(&status, MPI_BYTE, &len);
+      if ((size_t)len > room) len = 0;
+      memcpy(bytes, m->next, (size_t)len);
+      expect_next(m);
       return (size_t)len;
     }
-    if (MPI_Wtime() >= last) return 0;
+    if (!wait_us || MPI_Wtime() >= last) return 0;
     sched_yield();
   }
 }
@@ -57,6 +64,8 @@ static void mpi_close(void *state) {
     mpi_receive(m, bytes, sizeof bytes, 0);
     MPI_Test(&barrier, &is_over, MPI_STATUS_IGNORE);
   }
+  MPI_Cancel(&m->coming);
+  MPI_Wait(&m->coming, MPI_STATUS_IGNORE);
   free(m);
 }
 
@@ -64,6 +73,7 @@ ivy_transport ivy_mpi(void) {
   mpi *m = (mpi *)malloc(sizeof *m);
   if (!m) MPI_Abort(MPI_COMM_WORLD, 2);
   for (int i = 0; i < PLACES; i++) m->under_way[i] = MPI_REQUEST_NULL;
+  expect_next(m);
   ivy_transport t = { m, mpi_send, mpi_receive, mpi_close };
   return t;
 }

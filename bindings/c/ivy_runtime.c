@@ -7,7 +7,7 @@
 #include <string.h>
 #include <time.h>
 
-enum { MOST_NODES = 32, ROOM = 8192 };
+enum { MOST_NODES = 32, ROOM = 8192, MANY = 64 };
 enum { PULSE_US = 2000, HELLO_US = 20000, LISTEN_US = 500 };
 
 /* The first byte of what the runtime sends: a frame of a node, or a word of its own. */
@@ -147,11 +147,11 @@ static void keep_time(ivy_process *p) {
     if (i != p->me && !(p->done >> i & 1u) && p->heard[i] && now - p->heard[i] > p->death_us) told_dead(p, i);
 }
 
-/* Hears what came, waiting so long for the first string; the lock is held, but not while it waits. */
-static int serve(ivy_process *p, long wait_us) {
+/* Hears what came, so many strings at most, waiting so long for the first one; the lock is held, but not while it waits. */
+static int serve(ivy_process *p, long wait_us, int most) {
   uint8_t bytes[ROOM];
   int heard = 0;
-  for (int i = 0; i < 64; i++) {
+  for (int i = 0; i < most; i++) {
     if (p->progress == IVY_BY_THREAD) pthread_mutex_unlock(&p->lock);
     size_t len = p->transport.receive(p->transport.state, bytes, sizeof bytes, heard ? 0 : wait_us);
     if (p->progress == IVY_BY_THREAD) pthread_mutex_lock(&p->lock);
@@ -167,16 +167,16 @@ static void *serve_on(void *argument) {
   ivy_process *p = (ivy_process *)argument;
   pthread_mutex_lock(&p->lock);
   while (!p->ending) {
-    if (serve(p, LISTEN_US)) pthread_cond_broadcast(&p->served);
+    if (serve(p, LISTEN_US, MANY)) pthread_cond_broadcast(&p->served);
   }
   pthread_mutex_unlock(&p->lock);
   return NULL;
 }
 
-/* Waits until something was heard. */
+/* Waits until something was heard: one string, since it may be what is waited for. */
 static void wait_on(ivy_process *p) {
   if (p->progress == IVY_BY_THREAD) pthread_cond_wait(&p->served, &p->lock);
-  else serve(p, LISTEN_US);
+  else serve(p, LISTEN_US, 1);
 }
 
 ivy_process *ivy_join(const ivy_config *config, uint32_t me, ivy_transport transport, ivy_progress progress, long start_ms,
@@ -201,7 +201,7 @@ ivy_process *ivy_join(const ivy_config *config, uint32_t me, ivy_transport trans
   pthread_cond_init(&p->served, NULL);
   int64_t last = now_us() + start_ms * 1000;
   while (p->known_here != p->all || p->here != p->all) {
-    serve(p, LISTEN_US);
+    serve(p, LISTEN_US, MANY);
     if (p->here == p->all) p->known_here |= 1u << me;
     if (now_us() > last) {
       fprintf(stderr, "ivy: node %u: others are not here: those of the set %x are\n", me, p->here);
@@ -235,7 +235,7 @@ void ivy_leave(ivy_process *p) {
 uint32_t ivy_call(ivy_process *p, uint32_t kind, uint32_t width, uint64_t place, uint64_t operand, uint64_t expected,
                   uint64_t *value) {
   if (p->progress == IVY_BY_THREAD) pthread_mutex_lock(&p->lock);
-  else if (++p->calls % 64 == 0) serve(p, 0);
+  else if (++p->calls % 64 == 0) serve(p, 0, MANY);
   uint32_t status;
   while ((status = ivy_begin(&p->node, kind, width, place, operand, expected, value)) == IVY_MEMORY) wait_on(p);
   if (status == IVY_PENDING) send_frames(p);
@@ -249,7 +249,7 @@ uint32_t ivy_call(ivy_process *p, uint32_t kind, uint32_t width, uint64_t place,
 }
 
 void ivy_progress_now(ivy_process *p) {
-  if (p->progress == IVY_IN_CALLS) serve(p, 0);
+  if (p->progress == IVY_IN_CALLS) serve(p, 0, MANY);
 }
 
 static uint64_t sure(ivy_process *p, uint32_t kind, uint32_t width, uint64_t place, uint64_t operand, uint64_t expected) {

@@ -1,2 +1,3 @@
 pub mod Cursors
 pub mod Wholes
+pub mod Owned

@@ -1,3 +1,4 @@
 pub mod Spelled
 pub mod Printed
 pub mod Cursors
+pub mod Own

@@ -6,7 +6,7 @@ ghost use Rattle.ivy_program.specs.Lines.{IsNumberWord};
 ghost use Rattle.ivy_program.specs.Texts.{IsRefusal};
 ghost use Rattle.ivy_program.specs.Words.{words_of};
 ghost use Rattle.ivy_texts.specs.Spelled.{worded};
-ghost use Rattle.ivy_lines.specs.Spelled.{kind_word, HasWholeLines, IsHexOf, SpellsHead, SpellsEvent, SpellsLog};
+ghost use Rattle.ivy_lines.specs.Spelled.{kind_word, HasWholeLines, IsHexOf, SpellsHead, SpellsEvent, SpellsLog, SpellsNode};
 
 use hex::FromHexError;
 use ivy_model::{Config, Fault, Kind};
@@ -16,7 +16,7 @@ use ivy_wire::Bytes;
 use std::alloc::Allocator;
 
 /// The most words that a log's first line can have.
-const HEAD_WORDS: usize = 7;
+pub(crate) const HEAD_WORDS: usize = 7;
 
 /// The most words that the line of an event can have.
 const EVENT_WORDS: usize = 2;
@@ -53,7 +53,7 @@ pub(crate) fn decode<A: Allocator>(alloc: A, word: &str) -> Result<Option<Vec<u8
 }
 
 /// A number of one byte.
-fn parse_byte(word: &str) -> Option<u8>
+pub(crate) fn parse_byte(word: &str) -> Option<u8>
     ensures { IfSome result (IsNumberWord word.now) }
 {
     u8::try_from(parse_number(word)?).ok()
@@ -77,20 +77,35 @@ fn parse_kind(word: &str) -> Option<Kind>
     }
 }
 
+/// What these words say, of a node's number and of a configuration.
+pub(crate) fn parse_node(
+    me: &str,
+    nodes: &str,
+    pages: &str,
+    page_size: &str,
+    manager: &str,
+) -> Option<Head>
+    ensures { IfSome result (SpellsNode (me.now ∷ nodes.now ∷ pages.now ∷ page_size.now ∷ manager.now ∷ [])) }
+{
+    Some(Head {
+        me: parse_byte(me)?,
+        config: Config {
+            nodes: parse_byte(nodes)?,
+            pages: parse_size(pages)?,
+            page_size: parse_size(page_size)?,
+            manager: parse_kind(manager)?,
+        },
+    })
+}
+
 /// What the words of a first line say, where they are one.
 fn parse_head(words: &[&str]) -> Option<Head>
     ensures { IfSome result (SpellsHead (map (λ w. w.now) words.now)) }
 {
     match *words {
-        ["ivy", "log", me, nodes, pages, page_size, manager] => Some(Head {
-            me: parse_byte(me)?,
-            config: Config {
-                nodes: parse_byte(nodes)?,
-                pages: parse_size(pages)?,
-                page_size: parse_size(page_size)?,
-                manager: parse_kind(manager)?,
-            },
-        }),
+        ["ivy", "log", me, nodes, pages, page_size, manager] => {
+            parse_node(me, nodes, pages, page_size, manager)
+        }
         _ => None,
     }
 }
@@ -130,7 +145,7 @@ fn taken<A: Allocator + Copy>(alloc: A, digits: &str) -> Result<Option<Event<Byt
 }
 
 /// The event of a line, where its words are one [1].
-fn parse_event<A: Allocator + Copy>(
+pub(crate) fn parse_event<A: Allocator + Copy>(
     alloc: A,
     words: &[&str],
 ) -> Result<Option<Event<Bytes<A>>>, Fault>
@@ -146,7 +161,7 @@ fn parse_event<A: Allocator + Copy>(
 }
 
 /// The whole lines of a text, without the last LF: what stands behind it is none.
-fn whole_lines(text: &str) -> &str
+pub(crate) fn whole_lines(text: &str) -> &str
     ensures { HasWholeLines text.now result.now }
 {
     match text.rsplit_once('\n') {

@@ -2,6 +2,7 @@
 ghost use Rattle.std.specs.Prelude.{◌≡◌, ◌++◌, OnOk, string_bytes};
 ghost use Rattle.hex.specs.Hex.{encode_lower};
 ghost use Rattle.ivy_lines.specs.Printed.{event_line, frame_line, head_line, log_text};
+ghost use Rattle.ivy_lines.specs.Spelled.{kind_word};
 
 use crate::log::Head;
 use ivy_model::Kind;
@@ -37,6 +38,16 @@ pub fn push_frame<A: Allocator + Copy>(
     text.push('\n')
 }
 
+/// The word of a kind of manager.
+pub(crate) fn manager_word(kind: Kind) -> &'static str
+    ensures { result.now ≡ kind_word kind }
+{
+    match kind {
+        Kind::Fixed => "fixed",
+        Kind::Dynamic => "dynamic",
+    }
+}
+
 /// Writes the first line of a log behind a text. Err only where the allocator has no memory.
 pub fn push_head<A: Allocator>(text: &mut String<A>, head: &Head) -> Result<(), AllocError>
     ensures { OnOk result (string_bytes text.new ≡ string_bytes text.old ++ head_line head.now) }
@@ -47,10 +58,7 @@ pub fn push_head<A: Allocator>(text: &mut String<A>, head: &Head) -> Result<(), 
     );
     let pages = Decimal(u64::from(head.config.pages));
     let page_size = Decimal(u64::from(head.config.page_size));
-    let manager = match head.config.manager {
-        Kind::Fixed => "fixed",
-        Kind::Dynamic => "dynamic",
-    };
+    let manager = manager_word(head.config.manager);
     writeln!(text, "ivy log {me} {nodes} {pages} {page_size} {manager}")
 }
 

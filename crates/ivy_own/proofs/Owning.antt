@@ -27,7 +27,7 @@ use Rattle.ivy_seating.specs.ivy_site.Handed.{site_handed}
 use Rattle.ivy_seating.specs.ivy_site.Sites.{AfterTurn, first_keeping}
 use Rattle.ivy_seating.specs.ivy_site.declared.turn.Turn as turn
 use Rattle.ivy_seating.specs.ivy_site.declared.turn.Turn.TheVariants.{Idle, Moved, Ended}
-use Rattle.ivy_session.specs.Turns.{KeepsAnswers}
+use Rattle.ivy_seating.specs.Turns.{KeepsAnswers}
 use Rattle.ivy_own.proofs.Each.{got_last}
 use Rattle.ivy_own.specs.Owned.{MakesCalls, IsOwned, IsNext, TurnsOwn, came, grown, last_reply_in}
 

@@ -1,6 +1,6 @@
 -- Why a session of own code gives nothing.
 use Rattle.std.specs.Prelude.{◌<◌, ℕ}
-use Rattle.ivy_seating.specs.Faults.{IsStop}
+use Rattle.ivy_workers.specs.Stops.{IsStop}
 use Rattle.ivy_session.specs.Faults.{IsSessionFault}
 use Rattle.ivy_own.specs.declared.fault.OwnFault.{OwnFault}
 use Rattle.ivy_own.specs.declared.fault.OwnFault.TheVariants.{Session, GaveUp}

@@ -1,6 +1,6 @@
 //! What the workers of the nodes give, one after another.
 ghost use Rattle.std.specs.Prelude.{◌≡◌, ◌<◌, ◌≤◌, ℕ, Some, IfErr, IfOk, IfSome, length, slice_get, vec_len, vec_capacity};
-ghost use Rattle.ivy_seating.specs.Faults.{IsStop};
+ghost use Rattle.ivy_workers.specs.Stops.{IsStop};
 ghost use Rattle.ivy_own.specs.Ended.{HasEnded};
 ghost use Rattle.ivy_own.specs.Faults.{IsOwnStop};
 

@@ -1,14 +1,14 @@
 //! The memory of a session as the worker of one node has it.
 ghost use Rattle.std.specs.Prelude.{◌≡◌, Some, IfErr, MatchResult};
 ghost use Rattle.ivy_model.specs.Legal.{HasWidth};
-ghost use Rattle.ivy_seating.specs.Faults.{IsStop};
+ghost use Rattle.ivy_workers.specs.Stops.{IsStop};
 ghost use Rattle.ivy_own.specs.Owned.{grown};
 
 use crate::owned::OwnSeat;
 use ivy_calls::{Answer, SharedMemory};
 use ivy_model::{Call, Fault, Reply};
-use ivy_session::{ProgramWorker, Turnstile};
 use ivy_twin::{Half, Naming, Tie};
+use ivy_workers::{ProgramWorker, Turnstile};
 use std::alloc::Allocator;
 use std::marker::Model;
 use std::sync::Wait;
@@ -135,7 +135,7 @@ where
     R: Wait,
     G: Turnstile,
 {
-    ghost use Rattle.ivy_seating.specs.Faults.{IsStop};
+    ghost use Rattle.ivy_workers.specs.Stops.{IsStop};
 
     ghost answers = { λ m. m.list };
 

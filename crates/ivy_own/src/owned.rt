@@ -2,15 +2,15 @@
 ghost use Rattle.std.specs.Prelude.{◌≡◌, IfErr, IfOk, IsTrue, MatchResult};
 ghost use Rattle.ivy_model.specs.Legal.{HasWidth};
 ghost use Rattle.ivy_calls.specs.Answers.{answers};
-ghost use Rattle.ivy_seating.specs.Faults.{IsStop};
+ghost use Rattle.ivy_workers.specs.Stops.{IsStop};
 ghost use Rattle.ivy_own.specs.Owned.{IsOwned, IsNext, IsReady, IsAsked, MakesCalls, TurnsOwn, grown, last_reply_in};
 
 use ivy_calls::Answer;
 use ivy_model::{Call, Fault, Reply};
 use ivy_seating::ivy_ether::Setup;
-use ivy_seating::{Home, Homed, Seated, Site, WireTurn};
-use ivy_session::{Pulses, Seat};
+use ivy_seating::{Home, Homed, Seated, Site, turn_on_wire};
 use ivy_twin::{Half, Naming, Tie};
+use ivy_workers::{Pulses, Seat, Traffic};
 use std::alloc::Allocator;
 use std::marker::{Model, PhantomData};
 use std::sync::Wait;
@@ -237,12 +237,8 @@ impl<'e, S: Setup, H: Home, J: Naming, A: Allocator + Copy> Seat for Owned<'e, S
         }
     }
 
-    fn wire_turn<R: Wait>(
-        &mut self,
-        rt: &R,
-        pulses: &mut Pulses,
-    ) -> Result<(WireTurn, Option<u8>), Fault> {
-        pulses.turn(rt, &mut self.seated)
+    fn wire_turn<R: Wait>(&mut self, rt: &R, pulses: &mut Pulses) -> Result<Traffic, Fault> {
+        turn_on_wire(rt, &mut self.seated, pulses)
     }
 }
 

@@ -9,7 +9,7 @@ ghost use Rattle.ivy_seating.specs.ivy_site.Sites.{first_keeping};
 ghost use Rattle.ivy_seating.specs.ivy_ether.Rule.{times};
 ghost use Rattle.ivy_seating.specs.ivy_ether.Views.{beginner, with_issued};
 ghost use Rattle.ivy_seating.specs.ivy_ether.Words.{IsNewcomer};
-ghost use Rattle.ivy_seating.specs.Faults.{IsStop};
+ghost use Rattle.ivy_workers.specs.Stops.{IsStop};
 ghost use Rattle.ivy_seating.specs.Reports.{report_of, AllKeep};
 ghost use Rattle.ivy_seating.specs.Told.{TellsOf, AreTold};
 ghost use Rattle.ivy_own.specs.Ended.{AreFresh, AreClosed, HasEnded};

@@ -1,8 +1,8 @@
 -- Own code as a program that runs.
-use Rattle.std.specs.Prelude.{◌≤◌, ℕ, ◌+◌, List, length, All}
+use Rattle.std.specs.Prelude.{List, [], ◌∷◌, ◌++◌, length, Option, Some, None}
 use Rattle.ivy_model.specs.declared.Call.{Call}
-use Rattle.ivy_model.specs.Legal.{HasWidth}
-use Rattle.ivy_program.specs.Programs.{IsCalled, handed}
+use Rattle.ivy_program.specs.Programs.{Called, IsCalled, handed}
+use Rattle.ivy_program.specs.States.{first_state, gone_to}
 use Rattle.ivy_program.specs.Steps.{Process, HasEnded}
 
 -- its owner makes these further calls
@@ -14,9 +14,14 @@ pub record IsFree (p : Process) : Type 0 where
   pub called : IsCalled p.program
   pub ended : HasEnded p
 
--- calls were made, each of a width that a word can have, and so many have their replies: all, or all
--- but the last
-pub record AreMade (calls : List Call) (answered : ℕ) : Type 0 where
-  pub widths : All HasWidth calls
-  pub within : answered ≤ length calls
-  pub single : length calls ≤ answered + 1
+-- own code that was answered these calls, and has made this one more, if there is one, that has no
+-- reply yet
+abbrev pub asking : List Call → Option Call → Process
+asking answered None = record {
+  program = Called answered;
+  state = gone_to first_state (length answered);
+}
+asking answered (Some call) = record {
+  program = Called (answered ++ call ∷ []);
+  state = gone_to first_state (length answered);
+}

@@ -1,35 +1,34 @@
 //! Own code as a program: the calls that a node's owner makes, one at a time.
-ghost use Rattle.std.specs.Prelude.{◌≡◌, ◌↔◌, [], ◌∷◌, IsTrue, OnOk, OnErr, IsOkUnless};
-ghost use Rattle.ivy_model.specs.declared.Fault.TheVariants.{Memory};
+ghost use Rattle.std.specs.Prelude.{◌≡◌, ◌↔◌, [], ◌∷◌, IsTrue};
 
 use crate::machine::Next;
-use ivy_model::{Call, Fault};
-use std::alloc::Allocator;
+use crate::story::Story;
+use ivy_model::Call;
 use std::marker::Model;
 
-/// The calls that were made so far. At most the last one has no reply yet.
+/// The calls that were made so far, of which none is kept but the one that has no reply yet.
 ///
 /// Contracts see the program that they are, and its state.
 #[derive(Drop)]
-pub(crate) struct Caller<A: Allocator> {
-    calls: Vec<Call, A>,
-    answered: usize,
+pub(crate) struct Caller {
+    answered: Story,
+    waiting: Option<Call>,
 }
 
-impl<A: Allocator> Model for Caller<A> {
-    ghost use Rattle.ivy_program.specs.Programs.{Called};
-    ghost use Rattle.ivy_program.specs.Owned.{AreMade};
-    ghost use Rattle.ivy_program.specs.States.{first_state, gone_to};
+impl Model for Caller {
+    ghost use Rattle.std.specs.Prelude.{IfSome};
+    ghost use Rattle.ivy_model.specs.Legal.{HasWidth};
+    ghost use Rattle.ivy_program.specs.Owned.{asking};
     ghost use Rattle.ivy_program.specs.Steps.{Process};
 
     ghost Value = { Process };
 
-    ghost view = { λ c. record { program = Called c.calls.items; state = gone_to first_state c.answered } };
+    ghost view = { λ c. asking c.answered.calls c.waiting };
 
-    ghost invariant = { λ c. AreMade c.calls.items c.answered };
+    ghost invariant = { λ c. IfSome c.waiting HasWidth };
 }
 
-impl<A: Allocator + Copy> Caller<A> {
+impl Caller {
     ghost use Rattle.ivy_program.specs.Calls.{NamesWidth};
     ghost use Rattle.ivy_program.specs.Owned.{process_handed};
     ghost use Rattle.ivy_program.specs.Programs.{Called, IsCalled};
@@ -39,12 +38,12 @@ impl<A: Allocator + Copy> Caller<A> {
     ghost use Rattle.ivy_model.specs.declared.Reply.{Reply};
 
     /// No call was made.
-    pub(crate) fn new(alloc: A) -> Caller<A>
+    pub(crate) fn new() -> Caller
         ensures { result ≡ record { program = Called []; state = first_state } }
     {
         Caller {
-            calls: Vec::new(alloc),
-            answered: 0,
+            answered: Story::new(),
+            waiting: None,
         }
     }
 
@@ -53,8 +52,8 @@ impl<A: Allocator + Copy> Caller<A> {
         ensures step { TellsStep result self.now self.now }
         ensures call { NamesWidth result }
     {
-        match self.calls.get(self.answered) {
-            Some(call) => Next::Call(*call),
+        match self.waiting {
+            Some(call) => Next::Call(call),
             None => Next::Ended,
         }
     }
@@ -64,33 +63,32 @@ impl<A: Allocator + Copy> Caller<A> {
         requires { IsAsking self.old }
         ensures { (reply : Reply) → self.new ≡ answered_with self.old reply }
     {
-        self.answered += 1;
+        if let Some(call) = self.waiting.take() {
+            self.answered.push(&call);
+        }
     }
 
     /// Whether each call has its reply.
     pub(crate) fn ended(&self) -> bool
         ensures { IsTrue result ↔ HasEnded self.now }
     {
-        self.answered >= self.calls.len()
+        self.waiting.is_none()
     }
 
     /// Nothing is printed.
     pub(crate) fn output(&self) -> &[u64]
         ensures { result.now ≡ self.now.state.output }
     {
-        let _ = &self.calls;
+        let _ = &self.waiting;
         &[]
     }
 
-    /// One more call is made [1].
-    pub(crate) fn hand(&mut self, call: Call) -> Result<(), Fault>
+    /// One more call is made.
+    pub(crate) fn hand(&mut self, call: Call)
         requires free { HasEnded self.old }
         requires width { HasWidth call }
-        ensures ok { OnOk result (self.new ≡ process_handed (call ∷ []) self.old) }
-        ensures err { OnErr result (self.new ≡ self.old) }
-        ensures want { IsOkUnless result Memory }
+        ensures { self.new ≡ process_handed (call ∷ []) self.old }
     {
-        self.calls.push(call)?;
-        Ok(())
+        self.waiting = Some(call);
     }
 }

@@ -10,6 +10,7 @@ mod line;
 mod machine;
 mod parser;
 mod program;
+mod story;
 mod words;
 
 pub use instruction::{Instruction, Operation, Register, Width};

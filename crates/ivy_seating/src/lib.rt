@@ -8,16 +8,20 @@
 
 mod homed;
 mod report;
+mod seat;
 mod seated;
 mod seating;
+mod wire;
 mod wire_turn;
 
 pub use homed::{Home, Homed};
 pub use ivy_ether;
 pub use ivy_moves::ivy_link;
 pub use report::Report;
+pub use seat::ProgramSeat;
 pub use seated::Seated;
 pub use seating::{close_seat, close_seats, seat_all};
+pub use wire::turn_on_wire;
 pub use wire_turn::WireTurn;
 
 // the site itself, what it keeps of its own past, and what a turn of its program came to

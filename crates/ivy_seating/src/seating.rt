@@ -4,7 +4,7 @@ ghost use Rattle.ivy_model.specs.Config.{IsConfig};
 ghost use Rattle.ivy_ether.specs.Rule.{times};
 ghost use Rattle.ivy_ether.specs.Views.{beginner, with_issued};
 ghost use Rattle.ivy_ether.specs.Words.{IsNewcomer};
-ghost use Rattle.ivy_seating.specs.Faults.{IsStop};
+ghost use Rattle.ivy_workers.specs.Stops.{IsStop};
 ghost use Rattle.ivy_seating.specs.Places.{IsSeated};
 ghost use Rattle.ivy_seating.specs.Reports.{report_of, AllKeep};
 ghost use Rattle.ivy_seating.specs.Told.{TellsOf, AreTold};

@@ -3,21 +3,20 @@ ghost use Rattle.std.specs.Prelude.{◌≡◌, ◌↔◌, ◌<◌, ◌+◌, All,
 ghost use Rattle.ivy_model.specs.Config.{IsConfig};
 ghost use Rattle.ivy_seating.specs.ivy_ether.Views.{beginner};
 ghost use Rattle.ivy_seating.specs.ivy_ether.Words.{AreFresh, room_of};
-ghost use Rattle.ivy_seating.specs.Faults.{IsStop};
+ghost use Rattle.ivy_workers.specs.Stops.{IsStop};
 ghost use Rattle.ivy_program.specs.Programs.{IsWritten};
 ghost use Rattle.ivy_seating.specs.ivy_ether.Words.{IsNewcomer};
 ghost use Rattle.ivy_seating.specs.Reports.{IsReport, IsHandedReport, AllKeep};
 ghost use Rattle.ivy_session.specs.Faults.{IsSessionFault};
-ghost use Rattle.ivy_session.specs.Limits.{AreLimits};
+ghost use Rattle.ivy_workers.specs.Limits.{AreLimits};
 
-use crate::gate::Gate;
-use crate::limits::Limits;
 use crate::report::collect;
 use crate::workers::run_workers;
 use ivy_model::{Config, Fault};
 use ivy_program::Program;
 use ivy_seating::ivy_ether::{Ether, Pass, Setup, Wired};
 use ivy_seating::{Home, Keep, Report, seat_all};
+use ivy_workers::{Gate, Limits};
 use std::alloc::Allocator;
 use std::marker::Brand;
 use std::sync::Wait;

@@ -1,35 +1,25 @@
-//! The workers of a session, two for each node.
+//! The workers of a session whose programs are written down, two for each node.
 ghost use Rattle.std.specs.Prelude.{IfErr};
-ghost use Rattle.ivy_seating.specs.Faults.{IsStop};
+ghost use Rattle.ivy_workers.specs.Stops.{IsStop};
 
-use crate::bells::Bells;
-use crate::gate::{Gate, Role, Turnstile};
-use crate::limits::Limits;
-use crate::pulses::Pulses;
-use crate::seat::{ProgramSeat, Seat};
-use crate::shared::Shared;
-use crate::turns::{ProgramWorker, lock_looks, lock_soon};
-use crate::watch::Watch;
 use ivy_model::Fault;
-use ivy_seating::Turn;
+use ivy_seating::{ProgramSeat, Turn};
+use ivy_workers::{Crew, Gate, Limits, Shared, Turnstile};
 use std::alloc::Allocator;
-use std::sync::{Mutex, MutexGuard, Wait};
+use std::sync::{Mutex, Wait};
 use std::thread;
 use std::thread::Threads;
 
 /// Makes the turns of a node's program, one turn a lock, until it has ended.
 fn run_program<T: ProgramSeat, A: Allocator + Copy, R: Wait, G: Turnstile>(
-    rt: &R,
+    crew: &Crew<'_, '_, '_, '_, T, A, R, G>,
     seat: &Mutex<T>,
     node: u8,
-    limits: Limits,
-    shared: &Shared<A>,
-    gate: &G,
 ) {
-    let Some(mut worker) = ProgramWorker::new(rt, seat, gate, shared, node, limits.turns) else {
+    let Some(mut worker) = crew.program_worker(seat, node) else {
         return;
     };
-    for _ in 0..limits.turns {
+    for _ in 0..crew.limits.turns {
         let Some(mut seated) = worker.enter() else {
             return;
         };
@@ -39,119 +29,19 @@ fn run_program<T: ProgramSeat, A: Allocator + Copy, R: Wait, G: Turnstile>(
             Ok(Turn::Moved) => {}
             Ok(Turn::Idle) => worker.rest(),
             Ok(Turn::Ended) => {
-                shared.end(rt);
+                crew.shared.end(crew.rt);
                 return;
             }
             Err(fault) => {
-                shared.stop(rt, fault);
+                crew.shared.stop(crew.rt, fault);
                 return;
             }
         }
     }
-    if seat.lock(rt).has_ended() {
-        shared.end(rt);
+    if seat.lock(crew.rt).has_ended() {
+        crew.shared.end(crew.rt);
     } else {
-        shared.stop(rt, Fault::TurnLimit);
-    }
-}
-
-/// Locks a node's site for its wire worker. Where the program worker has it, that one lets the wire worker go next.
-fn lock_for_wire<'m, T, R: Wait>(
-    rt: &R,
-    seat: &'m Mutex<T>,
-    bells: &Bells,
-    looks: u32,
-) -> MutexGuard<'m, T> {
-    if let Some(seated) = seat.try_lock() {
-        return seated;
-    }
-    bells.want(true);
-    let seated = lock_soon(rt, seat, looks);
-    bells.want(false);
-    seated
-}
-
-/// Makes the turns of a node on the wire, one turn a lock, until all programs have ended.
-fn run_wire<T: Seat, A: Allocator + Copy, R: Wait, G: Turnstile>(
-    rt: &R,
-    seat: &Mutex<T>,
-    node: u8,
-    limits: Limits,
-    shared: &Shared<A>,
-    gate: &G,
-) {
-    let Some(bells) = shared.bells(node) else {
-        return;
-    };
-    let looks = lock_looks(shared.looks());
-    let mut watch = Watch::new(node, shared.looks());
-    let mut pulses = Pulses::new(limits.pulse_every);
-    for _ in 0..limits.turns {
-        if shared.is_over() {
-            return;
-        }
-        let changes = shared.line().changes();
-        let mut seated = lock_for_wire(rt, seat, bells, looks);
-        gate.pass(node, Role::Wire, seated.records());
-        let turn = seated.wire_turn(rt, &mut pulses);
-        bells.set_waiting(seated.waiting());
-        drop(seated);
-        match turn {
-            Ok((turn, to)) => {
-                shared.tell(bells, node, turn, to);
-                watch.note(shared, turn, changes);
-            }
-            Err(fault) => {
-                shared.stop(rt, fault);
-                return;
-            }
-        }
-        watch.rest(rt, shared, bells);
-    }
-    shared.stop(rt, Fault::TurnLimit);
-}
-
-/// What the workers of a session share. Each reference has a lifetime of its own.
-#[derive(Drop)]
-pub struct Crew<'r, 's, 'g, 'a, T, A: Allocator, R, G> {
-    /// The runtime.
-    pub rt: &'r R,
-    /// The places of the nodes, each behind its lock, in the order of the nodes.
-    pub seats: &'s [Mutex<T>],
-    /// What is told of each turn.
-    pub gate: &'g G,
-    /// What the workers tell one another.
-    pub shared: &'a Shared<A>,
-    /// What the session may use.
-    pub limits: Limits,
-}
-
-impl<'r, 's, 'g, 'a, T, A, R, G> Crew<'r, 's, 'g, 'a, T, A, R, G>
-where
-    T: Seat,
-    A: Allocator + Copy,
-    R: Wait,
-    G: Turnstile,
-{
-    /// The program worker of a node, whose place this is. None where the session has no such node.
-    pub fn program_worker<'p>(
-        &self,
-        seat: &'p Mutex<T>,
-        node: u8,
-    ) -> Option<ProgramWorker<'r, 'p, 'g, 'a, T, A, R, G>> {
-        ProgramWorker::new(
-            self.rt,
-            seat,
-            self.gate,
-            self.shared,
-            node,
-            self.limits.turns,
-        )
-    }
-
-    /// Makes the turns of a node on the wire, whose place this is, one turn a lock, until all programs have ended.
-    pub fn run_wire(&self, seat: &Mutex<T>, node: u8) {
-        run_wire(self.rt, seat, node, self.limits, self.shared, self.gate);
+        crew.shared.stop(crew.rt, Fault::TurnLimit);
     }
 }
 
@@ -167,9 +57,7 @@ where
         let mut next = 0u8;
         for seat in all.seats {
             let node = next;
-            let program = scope.spawn(move || run_program(
-                all.rt, seat, node, all.limits, all.shared, all.gate,
-            ));
+            let program = scope.spawn(move || run_program(all, seat, node));
             let wire = scope.spawn(move || all.run_wire(seat, node));
             if program.is_err() || wire.is_err() {
                 all.shared.stop(all.rt, Fault::Memory);

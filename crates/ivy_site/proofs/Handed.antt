@@ -1,6 +1,5 @@
 -- What holds of a site holds where its owner makes further calls.
-use Rattle.std.proofs.Common.{◌≡◌, List, Contains, Result, Ok, Err, OnOk, OnErr, sym, ap, subst}
-use Rattle.ivy_model.specs.declared.Fault.{Fault}
+use Rattle.std.proofs.Common.{◌≡◌, List, Contains, sym, ap, subst}
 use Rattle.ivy_model.specs.declared.Call.{Call}
 use Rattle.ivy_host.specs.Handing.{handing}
 use Rattle.ivy_host.specs.Hosts.{host_rules}
@@ -65,13 +64,10 @@ abbrev with_process : Shown → Process → Shown
 with_process v p =
     shown_of v.keep (host_of v.node.core.memory p v.node.core.history) (box_of v) v.events
 
--- it is so whether the call was handed in or refused
-pub after_hand : (more : List Call) (v n : Shown) → v ≡ n → (r : Result (Unit {0}) Fault)
-    → (p : Process) → OnOk r (p ≡ process_handed more v.node.core.process)
-    → OnErr r (p ≡ v.node.core.process) → IsSite v → IsFree n.node.core.process
+-- it is so once the calls were handed in
+pub after_hand : (more : List Call) (v n : Shown) → v ≡ n → (p : Process)
+    → p ≡ process_handed more v.node.core.process → IsSite v → IsFree n.node.core.process
     → IsSite (with_process v p)
-after_hand more v n same (Ok u) p ok err h free =
-    subst (λ q. IsSite (with_process v q)) (sym ok)
+after_hand more v n same p is h free =
+    subst (λ q. IsSite (with_process v q)) (sym is)
     (handed_site more v h (subst (λ (x : Shown). IsFree x.node.core.process) (sym same) free))
-after_hand more v n same (Err e) p ok err h free =
-    subst (λ q. IsSite (with_process v q)) (sym err) h

@@ -214,7 +214,7 @@ impl<A: Allocator + Copy> Site<A> {
         ensures first { IfOk result (λ site. site ≡ first_keeping keep config.now me (Called [])) }
         ensures memory { IsOkUnless result Fault.Memory }
     {
-        Site::with_machine(alloc, config, me, Machine::open(alloc), keep)
+        Site::with_machine(alloc, config, me, Machine::open(), keep)
     }
 
     /// Node `me` with a machine that has done nothing yet.
@@ -259,7 +259,8 @@ impl<A: Allocator + Copy> Site<A> {
         ensures err { OnErr result (self.new ≡ self.old) }
         ensures memory { IsOkUnless result Fault.Memory }
     {
-        self.machine.hand(call)
+        self.machine.hand(call);
+        Ok(())
     }
 
     /// What the program was answered so far, in order, where the site keeps that; else nothing. It takes no memory.

@@ -1,7 +1,7 @@
 //! How the nodes of a watched session are closed, whether their programs have ended or not.
 ghost use Rattle.std.specs.Prelude.{◌≡◌, IsTrue, IfOk, IfErr, OnOk, length};
 ghost use Rattle.ivy_model.specs.Config.{IsConfig};
-ghost use Rattle.ivy_session.specs.ivy_seating.Faults.{IsStop};
+ghost use Rattle.ivy_workers.specs.Stops.{IsStop};
 ghost use Rattle.ivy_session.specs.ivy_seating.Places.{IsSeated};
 ghost use Rattle.ivy_watched.specs.SoFar.{so_far_of, AllKeepSoFar, IsHandedSoFar};
 ghost use Rattle.ivy_watched.specs.Told.{TellsSoFar, AreToldSoFar};

@@ -5,7 +5,7 @@
 //! sent, by these notes, was delivered, none has changed since: the first that did was delivered a message that is in no
 //! note, so it was sent by a node that changed before. Then nothing is under way, and no turn will ever do anything.
 ghost use Rattle.std.specs.Prelude.{IfErr};
-ghost use Rattle.ivy_session.specs.ivy_seating.Faults.{IsStop};
+ghost use Rattle.ivy_workers.specs.Stops.{IsStop};
 
 use crate::watch::End;
 use ivy_model::{Fault, MOST_NODES};

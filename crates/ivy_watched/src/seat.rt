@@ -4,9 +4,8 @@ use crate::notes::Notes;
 use crate::watch::Watch;
 use ivy_model::{Fault, Record};
 use ivy_session::ivy_seating::ivy_ether::Setup;
-use ivy_session::ivy_seating::ivy_link::Verdict;
-use ivy_session::ivy_seating::{Home, Homed, Turn};
-use ivy_session::{ProgramSeat, Pulses, Seat, WireTurn};
+use ivy_session::ivy_seating::{Home, Homed, ProgramSeat, Turn};
+use ivy_workers::{Pulses, Seat, Traffic};
 use std::alloc::Allocator;
 use std::sync::Wait;
 
@@ -124,19 +123,13 @@ where
         self.homed.waiting()
     }
 
-    fn wire_turn<X: Wait>(
-        &mut self,
-        rt: &X,
-        pulses: &mut Pulses,
-    ) -> Result<(WireTurn, Option<u8>), Fault> {
-        let done = self.homed.wire_turn(rt, pulses)?;
-        if done.0 == WireTurn::Served(Verdict::Next)
-            && self.is_noted
-            && !self.goes_on_after_message()
-        {
+    fn wire_turn<X: Wait>(&mut self, rt: &X, pulses: &mut Pulses) -> Result<Traffic, Fault> {
+        let traffic = self.homed.wire_turn(rt, pulses)?;
+        let was_served = traffic == Traffic::Taken { served: true };
+        if was_served && self.is_noted && !self.goes_on_after_message() {
             return Err(Fault::TurnLimit);
         }
-        Ok(done)
+        Ok(traffic)
     }
 }
 

@@ -1,6 +1,6 @@
 //! What a watched session tells, and why it ended.
 use ivy_model::Record;
-use ivy_session::Gate;
+use ivy_workers::Gate;
 
 /// Is told of each turn, and of each reply that a node records, by the worker that makes the turn.
 pub trait Watch: Gate {

@@ -56,6 +56,12 @@ pub record Comes (c : Config) (w : World (Host Managed)) (index to : ℕ) : Type
 abbrev pub NoneComes : Config → World (Host Managed) → ℕ → Type 0
 NoneComes c w end = (index to : ℕ) → index < end → Comes c w index to → ⊥
 
+-- the move delivers the first string that comes to a node
+abbrev pub IsComing : Config → World (Host Managed) → Move → Type 0
+IsComing c w (Turn i) = ⊥
+IsComing c w (Deliver index to) = Comes c w index to × NoneComes c w index
+IsComing c w (Pulse i j) = ⊥
+
 -- no string before the place comes to a node any more
 pub record IsPassed (c : Config) (w : World (Host Managed)) (passed : ℕ) : Type 0 where
   pub within : passed ≤ length w.sent

@@ -1,5 +1,5 @@
 //! All nodes, and every string ever sent between them.
-ghost use Rattle.std.specs.Prelude.{◌≡◌, ◌+◌, ◌<◌, ◌≤◌, ◌↔◌, ◌++◌, ◌∷◌, [], true, false, Some, Ok, length, slice_get, slice_set, vec_len, vec_capacity, IsTrue, IfOk, IfErr, IfSome, OnOk, OnErr, IsErrOf, IsOkUnless};
+ghost use Rattle.std.specs.Prelude.{◌≡◌, ◌+◌, ◌<◌, ◌≤◌, ◌↔◌, ◌++◌, ◌∷◌, [], true, false, Some, Ok, length, slice_get, slice_set, vec_len, vec_capacity, IsTrue, IfOk, IfErr, IfNone, IfSome, OnOk, OnErr, IsErrOf, IsOkUnless};
 ghost use Rattle.ivy_model.specs.Config.{IsConfig};
 ghost use Rattle.ivy_model.specs.Legal.{HasWidth};
 ghost use Rattle.ivy_program.specs.Owned.{IsFree};
@@ -18,7 +18,7 @@ ghost use Rattle.ivy_site.specs.Handed.{site_handed};
 ghost use Rattle.ivy_site.specs.Sites.{await_in};
 ghost use Rattle.proof_headline.specs.proof_progress.Still.{HasNothingUnderWay};
 ghost use Rattle.ivy_world.specs.Settling.{StandsStill, HasSettledBy, Settles, HasSettled, IsFoundStill};
-ghost use Rattle.ivy_world.specs.Rounds.{DoesNothing, DoesSomething, IsRoundMove, IsInRound, StaysStill, HasMadeOne, HasRefusedOne};
+ghost use Rattle.ivy_world.specs.Rounds.{DoesNothing, DoesSomething, IsComing, NoneComes, IsRoundMove, IsInRound, StaysStill, HasMadeOne, HasRefusedOne};
 ghost use Rattle.ivy_model.specs.Wants.{IsWant};
 ghost use Rattle.ivy_world.specs.WorldSites.{programs_of, world_of, AreSites, IsMemory, IsWorldWant, AreFirst};
 
@@ -323,8 +323,9 @@ impl<A: Allocator + Copy> World<A> {
         self.sites[node as usize].waits()
     }
 
-    /// Makes one move, or changes nothing. It says whether it did anything.
-    fn make(&mut self, step: Move) -> Result<bool, Fault>
+    /// Makes one move, or changes nothing [1, 17, 19]. It says whether it did anything, which a turn alone may not. What
+    /// [`World::keeps`] says holds of the world after it, too.
+    pub fn make(&mut self, step: Move) -> Result<bool, Fault>
         ensures stays { IsSameRun self.old self.new }
         ensures ok { OnOk result (Moves (host_rules managed_ops) self.old.config self.old.world step self.new.world) }
         ensures idle { result ≡ Ok false → DoesNothing self.old.world step × (self.new ≡ self.old) }
@@ -405,8 +406,8 @@ impl<A: Allocator + Copy> World<A> {
         result
     }
 
-    /// Whether all that nodes sent to each other was delivered.
-    fn is_delivered(&self) -> bool
+    /// Whether all that nodes sent to each other was delivered. It takes no memory.
+    pub fn is_delivered(&self) -> bool
         ensures { IsTrue result ↔ HasNothingUnderWay self.now.world }
     {
         is_delivered(&self.sites, &self.config)
@@ -420,6 +421,19 @@ impl<A: Allocator + Copy> World<A> {
         ensures next { IsRoundMove self.old.config self.old.world round.turn result }
     {
         next_move(&self.sites, &self.sent, &mut self.passed, round)
+    }
+
+    /// The delivery of the first string that is under way, where one is: its destination awaits it. It takes no memory.
+    pub fn next_delivery(&mut self) -> Option<Move>
+        ensures same { self.new ≡ self.old }
+        ensures comes { IfSome result (IsComing self.old.config self.old.world) }
+        ensures none { IfNone result (NoneComes self.old.config self.old.world (length self.old.world.sent)) }
+    {
+        self.reached();
+        match self.next_move(Round::first()) {
+            Move::Turn(_) => None,
+            step => Some(step),
+        }
     }
 
     /// Makes the next move of a round, or changes nothing. It says whether the world stands still.

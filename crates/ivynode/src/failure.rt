@@ -1,4 +1,5 @@
 //! Why a command was not carried out.
+ghost use Rattle.std.specs.Prelude.{◌≤◌};
 
 use ivy_model::Fault;
 use ivy_process::ivy_join::Unjoined;
@@ -28,7 +29,9 @@ pub enum Failure {
 impl Failure {
     /// The exit status: 2 where the command line, a file or the configuration is at fault, 3 where logs are not the parts
     /// of one run, else 1.
-    pub fn status(&self) -> u8 {
+    pub fn status(&self) -> u8
+        ensures { 1 ≤ result }
+    {
         match self {
             Failure::BadCommandLine(_) | Failure::CannotRead(_) | Failure::AtFault(_, _) => 2,
             Failure::Refused(Fault::BadConfig | Fault::ProgramFault(_)) => 2,
@@ -39,14 +42,18 @@ impl Failure {
     }
 
     /// Tells standard error of the failure, and gives the exit status.
-    pub fn report<E: Write>(&self, err: &mut E) -> u8 {
+    pub fn report<E: Write>(&self, err: &mut E) -> u8
+        ensures { 1 ≤ result }
+    {
         // The status tells of the failure also where standard error takes nothing.
         let _ = writeln!(err, "ivynode: {self}");
         self.status()
     }
 }
 
-fn status_of(why: Unjoined) -> u8 {
+fn status_of(why: Unjoined) -> u8
+    ensures { 1 ≤ result }
+{
     match why {
         Unjoined::Refused(Fault::BadConfig) => 2,
         Unjoined::Refused(_) => 1,

@@ -1,4 +1,6 @@
 //! The files that a command line names.
+ghost use Rattle.std.specs.Prelude.{IfOk};
+ghost use Rattle.ivynode.specs.Joined.{AreSpelled};
 
 use crate::failure::Failure;
 use ivy_model::Fault;
@@ -56,7 +58,9 @@ fn text_if_there<R: Files + AllocGlobal>(rt: &R, name: &str) -> Result<Option<St
 pub(crate) fn programs_of<R: Files + AllocGlobal>(
     rt: &R,
     name: &str,
-) -> Result<Vec<Program<Global>>, Failure> {
+) -> Result<Vec<Program<Global>>, Failure>
+    ensures { IfOk result (λ programs. AreSpelled programs.items) }
+{
     let text = text_of(rt, name)?;
     match parse(rt.alloc(), text.as_str()) {
         Ok(programs) => Ok(programs),

@@ -1,37 +1,80 @@
 //! The joining of logs.
+ghost use Rattle.std.specs.Prelude.{◌++◌, IfOk, OnOk};
+ghost use Rattle.std.specs.List.{All};
+ghost use Rattle.std.specs.Io.KnownBytes.{Appends};
+ghost use Rattle.ivy_simulation.specs.Nodes.{outputs_text};
+ghost use Rattle.ivynode.specs.Joined.{IsSpelled, PrintsJoined, outputs_in, ends_in};
 
 use crate::failure::Failure;
 use crate::files::{fault_in, programs_of, text_of};
-use ivy_process::ivy_join::ivy_lines::ivy_texts::{print_end, print_output};
 use ivy_process::ivy_join::ivy_lines::{Log, parse_log};
 use ivy_process::ivy_join::{Joined, Unjoined, join};
+use ivy_simulation::{Outputs, print_outputs};
+use ivy_texts::print_end;
 use std::alloc::Global;
 use std::io::{self, Write};
 use std::rt::Files;
 
+/// The log of this text, which is that of a file.
+fn log_of(alloc: Global, name: &str, text: &str) -> Result<Log<Global>, Failure>
+    ensures { IfOk result (λ log. IsSpelled log.head log.events.items) }
+{
+    match parse_log(alloc, text) {
+        Ok(log) => Ok(log),
+        Err(fault) => Err(fault_in(alloc, name, fault)),
+    }
+}
+
 /// The logs of these files, by the numbers of their nodes.
-fn logs_of<R: Files + AllocGlobal>(rt: &R, names: &[&str]) -> Result<Vec<Log<Global>>, Failure> {
+fn logs_of<R: Files + AllocGlobal>(rt: &R, names: &[&str]) -> Result<Vec<Log<Global>>, Failure>
+    ensures { IfOk result (λ logs. All (λ l. IsSpelled l.head l.events.items) logs.items) }
+{
     let mut logs = Vec::new(rt.alloc());
     for name in names {
         let text = text_of(rt, name)?;
-        match parse_log(rt.alloc(), text.as_str()) {
-            Ok(log) => logs.push(log)?,
-            Err(fault) => return Err(fault_in(rt.alloc(), name, fault)),
-        }
+        logs.push(log_of(rt.alloc(), name, text.as_str())?)?;
     }
     logs.sort_by_key(|log| log.head.me)?;
     Ok(logs)
 }
 
-/// Prints what each program printed, and which of them have ended.
-fn print_joined<W: Write>(joined: &Joined<Global>, out: &mut W) -> io::Result<()> {
-    for node in 0..joined.nodes() {
-        print_output(node, joined.output(node), out)?;
+/// The nodes of a run at its end.
+#[derive(Drop)]
+struct Nodes<'a>(&'a Joined<Global>);
+
+impl Outputs for Nodes<'_> {
+    ghost use Rattle.std.specs.Prelude.{length};
+    ghost use Rattle.ivynode.specs.Joined.{outputs_in};
+
+    ghost count = { λ n. length n.0.now };
+
+    ghost outputs = { λ n. outputs_in n.0.now };
+
+    fn nodes(&self) -> u64 {
+        self.0.nodes()
     }
+
+    fn output(&self, node: u64) -> &[u64] {
+        self.0.output(node)
+    }
+}
+
+/// Prints which programs have ended.
+fn print_ends<W: Write>(joined: &Joined<Global>, out: &mut W) -> io::Result<()>
+    ensures { OnOk result (Appends (W.contents out.old) (W.contents out.new) (ends_in joined.now)) }
+{
     for node in 0..joined.nodes() {
         print_end(node, joined.ended(node), out)?;
     }
     Ok(())
+}
+
+/// Prints what each program printed, and which of them have ended.
+fn print_joined<W: Write>(joined: &Joined<Global>, out: &mut W) -> io::Result<()>
+    ensures { OnOk result (Appends (W.contents out.old) (W.contents out.new) (outputs_text (outputs_in joined.now) ++ ends_in joined.now)) }
+{
+    print_outputs(&Nodes(joined), out)?;
+    print_ends(joined, out)
 }
 
 /// Joins the logs of these files, and prints what the programs printed.
@@ -40,7 +83,9 @@ pub(crate) fn join_files<R: Files + AllocGlobal, W: Write>(
     file: &str,
     names: &[&str],
     out: &mut W,
-) -> Result<(), Failure> {
+) -> Result<(), Failure>
+    ensures { OnOk result (PrintsJoined (W.contents out.old) (W.contents out.new)) }
+{
     let programs = programs_of(rt, file)?;
     let logs = logs_of(rt, names)?;
     let Some(first) = logs.first() else {

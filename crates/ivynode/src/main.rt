@@ -2,6 +2,10 @@
 //! joining of their logs.
 #![tactic(auto)]
 
+ghost use Rattle.std.specs.Prelude.{◌≡◌, IsOk, MatchResult, map, string_bytes};
+ghost use Rattle.ivynode.specs.Joined.{PrintsJoined};
+ghost use Rattle.ivynode.specs.Requests.{AsksToJoin, IsJoin};
+
 mod failure;
 mod files;
 mod joining;
@@ -16,7 +20,7 @@ use request::{Help, Request, read};
 use running::{run, run_router};
 use std::env;
 use std::fs::File;
-use std::io::{BufWriter, Write};
+use std::io::{self, BufWriter, Write};
 use std::process::ExitCode;
 use std::rt::{Clock, Env, Files, Stdin};
 use std::sync::Wait;
@@ -44,6 +48,30 @@ Options of router, in percent but for K and S:
   --lose P, --repeat P, --reorder K, --seed S          0, 0, 0, 1
 ";
 
+/// Carries out a request, and gives the exit status.
+fn carry_out<R, O, E>(
+    rt: R,
+    request: Request<'_>,
+    stdin: Stdin,
+    out: &mut O,
+    err: &mut E,
+) -> Result<u8, Failure>
+where
+    R: Files<File = File> + Clock + AllocGlobal + Threads + Wait + Copy + Send + 'static,
+    O: Write,
+    E: Write,
+    ensures { IsJoin request.entry → MatchResult result (λ status. PrintsJoined (O.contents out.old) (O.contents out.new)) (λ _. Unit {0}) }
+{
+    match request {
+        Request::Help(Help::Usage) => write!(out, "{HELP}")?,
+        Request::Help(Help::Version) => writeln!(out, "ivynode 1")?,
+        Request::Run(asked) => return run(rt, &asked, stdin, out, err),
+        Request::Router { harm, seed } => run_router(rt, harm, seed, stdin, out)?,
+        Request::Join { file, logs } => join_files(&rt, file, &logs, out)?,
+    }
+    Ok(0)
+}
+
 /// Carries out what the words ask for, and gives the exit status.
 fn obey<R, O, E>(
     rt: R,
@@ -56,19 +84,42 @@ where
     R: Files<File = File> + Clock + AllocGlobal + Threads + Wait + Copy + Send + 'static,
     O: Write,
     E: Write,
+    ensures { AsksToJoin (map (λ w. string_bytes w) words.now) → MatchResult result (λ status. PrintsJoined (O.contents out.old) (O.contents out.new)) (λ _. Unit {0}) }
 {
-    match read(rt.alloc(), words)? {
-        Request::Help(Help::Usage) => write!(out, "{HELP}")?,
-        Request::Help(Help::Version) => writeln!(out, "ivynode 1")?,
-        Request::Run(asked) => return run(rt, &asked, stdin, out, err),
-        Request::Router { harm, seed } => run_router(rt, harm, seed, stdin, out)?,
-        Request::Join { file, logs } => join_files(&rt, file, &logs, out)?,
-    }
-    Ok(0)
+    let request = read(rt.alloc(), words)?;
+    carry_out(rt, request, stdin, out, err)
 }
 
-/// Carries out the command.
-fn performed<R, O, E>(rt: R, stdin: Stdin, out: O, err: &mut E) -> Result<u8, Failure>
+/// The exit status of a command that ended so, where standard output then took all of it or not. Standard error is told
+/// of a failure.
+fn concluded<E: Write>(done: Result<u8, Failure>, flushed: io::Result<()>, err: &mut E) -> u8
+    ensures { result ≡ 0 → IsOk done }
+{
+    match (done, flushed) {
+        (Ok(status), Ok(())) => status,
+        (Ok(_), Err(error)) => Failure::from(error).report(err),
+        (Err(failure), _) => failure.report(err),
+    }
+}
+
+/// Carries out the command of these words, of which the first is the program's name, and gives its exit status.
+///
+/// Where that is 0 and the command was to join logs, they are the parts of one run of the programs, and what is printed
+/// is what the programs printed in it, and which of them have ended there.
+fn perform<R, O, E>(rt: R, words: &[String], stdin: Stdin, out: &mut O, err: &mut E) -> u8
+where
+    R: Files<File = File> + Clock + AllocGlobal + Threads + Wait + Copy + Send + 'static,
+    O: Write,
+    E: Write,
+    ensures { AsksToJoin (map (λ w. string_bytes w) words.now) → result ≡ 0 → PrintsJoined (O.contents out.old) (O.contents out.new) }
+{
+    let done = obey(rt, words, stdin, out, err);
+    let flushed = out.flush();
+    concluded(done, flushed, err)
+}
+
+/// Carries out the command. Err only where memory is short before it begins, or a word is not UTF-8.
+fn performed<R, O, E>(rt: R, stdin: Stdin, out: O, err: &mut E) -> io::Result<u8>
 where
     R: Env + Files<File = File> + Clock + AllocGlobal + Threads + Wait + Copy + Send + 'static,
     O: Write + Drop,
@@ -76,9 +127,7 @@ where
 {
     let words: Vec<String> = env::args(&rt)?.collect(rt.alloc())?;
     let mut out = BufWriter::new(rt.alloc(), out)?;
-    let status = obey(rt, &words, stdin, &mut out, err)?;
-    out.flush()?;
-    Ok(status)
+    Ok(perform(rt, &words, stdin, &mut out, err))
 }
 
 fn main(rt: HostRuntime) -> ExitCode {
@@ -86,7 +135,7 @@ fn main(rt: HostRuntime) -> ExitCode {
     let out = LineByLine { out: rt.stdout() };
     let status = match performed(rt, rt.stdin(), out, &mut err) {
         Ok(status) => status,
-        Err(failure) => failure.report(&mut err),
+        Err(error) => Failure::from(error).report(&mut err),
     };
     ExitCode::from(status)
 }

@@ -1,4 +1,6 @@
 //! What a command line asks for.
+ghost use Rattle.std.specs.Prelude.{IfOk, map, string_bytes};
+ghost use Rattle.ivynode.specs.Requests.{AsksToJoin, IsJoin};
 
 use crate::failure::Failure;
 use crate::words::Words;
@@ -84,7 +86,9 @@ fn run<'a>(alloc: Global, words: &'a [String]) -> Result<Request<'a>, Failure> {
     }))
 }
 
-fn join<'a>(alloc: Global, words: &'a [String]) -> Result<Request<'a>, Failure> {
+fn join<'a>(alloc: Global, words: &'a [String]) -> Result<Request<'a>, Failure>
+    ensures { IfOk result IsJoin }
+{
     let words = Words::new(alloc, words, &[], &[])?;
     let Some((file, logs)) = words.plain.split_first() else {
         return Err(Failure::BadCommandLine("join takes a file and logs"));
@@ -111,10 +115,13 @@ fn router<'a>(alloc: Global, words: &'a [String]) -> Result<Request<'a>, Failure
 }
 
 /// What the words ask for. The first is the program's name.
-pub(crate) fn read<'a>(alloc: Global, words: &'a [String]) -> Result<Request<'a>, Failure> {
-    let Some((command, rest)) = words.get(1..).unwrap_or(&[]).split_first() else {
+pub(crate) fn read<'a>(alloc: Global, words: &'a [String]) -> Result<Request<'a>, Failure>
+    ensures { AsksToJoin (map (λ w. string_bytes w) words.now) → IfOk result IsJoin }
+{
+    let Some(command) = words.get(1) else {
         return Err(Failure::BadCommandLine("a command is missing"));
     };
+    let rest = &words[2..];
     match command.as_str() {
         "run" => run(alloc, rest),
         "join" => join(alloc, rest),

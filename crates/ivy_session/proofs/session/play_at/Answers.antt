@@ -1,6 +1,6 @@
 use Rattle.std.proofs.Common.{◌≡◌, length, sym, ap, ◌∙◌, arith}
 use Rattle.ivy_model.specs.declared.Config.{Config}
-use Rattle.ivy_session.proofs.Stopped.{stops}
+use Rattle.ivy_workers.proofs.Stopped.{stops}
 use Rattle.ivy_session.proofs.session.play_at.Goals as goal
 
 pub collect-requires-clause-each : goal.collect-requires-clause-each

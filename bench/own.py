@@ -1,0 +1,271 @@
+"""Own code in Rattle: what its calls, locks, barriers and queues cost, beside a plain lock and the same as a text.
+
+The program that is timed lies in `bench/own`, in files that end in `.rattle`, since the gate takes a `.rt` file for one
+that no check reads. It is proved and built here in a root of its own, with the crates of the repository as hard links.
+"""
+
+import os
+import re
+import shutil
+import subprocess
+import sys
+import tempfile
+from collections.abc import Callable
+from dataclasses import dataclass
+from pathlib import Path
+
+from loops import PAGE_SIZE, loop
+from memories import FEW_CALLS, MOST_APART, SWAP, TIMES
+from sessions import barrier
+from timing import write_lines
+
+ROOT = Path(__file__).resolve().parent.parent
+EXAMPLE = ROOT / "examples" / "producer_consumer.ivy"
+SOURCES = ROOT / "bench" / "own"
+NAME = "bench_own"
+BUILT = Path("out", "rlib")
+LINE = f"{NAME}: ivy_model ivy_calls ivy_sync ivy_programs ivy_program ivy_session ivy_own anyhow"
+RUNS = 5
+# How many times fewer units an unproved program does, which is checked as it runs.
+FEWER = 100
+TRY_SECONDS = 600
+PLACES = 64
+ROWS = 32
+SUMMING = 4
+
+
+def crates_below(lines, name):
+    """The crates of the repository that this one stands on, each after those below it, and then it."""
+    found = []
+    for used in lines[name].partition(":")[2].split():
+        if used in lines:
+            found += [it for it in crates_below(lines, used) if it not in found]
+    return [*found, name]
+
+
+def listed():
+    """The line of each crate, the program's among them."""
+    told = [line.partition("#")[0].strip() for line in (ROOT / "crates.txt").read_text().splitlines()]
+    lines = {re.split("[ :]", line, maxsplit=1)[0]: line for line in told if line}
+    return {**lines, NAME: LINE}
+
+
+def link(folder, to):
+    """Makes a folder anew, with hard links to the files of another one, if there is one."""
+    shutil.rmtree(to, ignore_errors=True)
+    if folder.is_dir():
+        shutil.copytree(folder, to, copy_function=os.link)
+
+
+def is_newer(file, other):
+    """Whether a file is there, and newer than another one or alone."""
+    return file.is_file() and (not other.is_file() or file.stat().st_mtime > other.stat().st_mtime)
+
+
+def make_root(top, lines, crates):
+    """A root with these crates, and what is built of them. What an earlier call built there stays."""
+    top.mkdir(parents=True, exist_ok=True)
+    (top / "crates.txt").write_text("".join(f"{lines[it]}\n" for it in crates))
+    shutil.copy(ROOT / "HANDLES", top)
+    for crate in crates[:-1]:
+        here, there = ROOT / "crates" / crate, top / "crates" / crate
+        for part in ("src", "specs", "proofs"):
+            link(here / part, there / part)
+        if is_newer(here / BUILT / "stamp", there / BUILT / "stamp"):
+            link(here / BUILT, there / BUILT)
+    folder = top / "crates" / NAME
+    shutil.rmtree(folder / "src", ignore_errors=True)
+    (folder / "src").mkdir(parents=True)
+    for file in SOURCES.glob("*.rattle"):
+        shutil.copy(file, folder / "src" / f"{file.stem}.rt")
+    return folder
+
+
+def ran(command, folder):
+    """A command that has ended, with what it printed."""
+    return subprocess.run(command, cwd=folder, stdin=subprocess.DEVNULL, capture_output=True, text=True)
+
+
+class Program:
+    """The program that runs own code and texts."""
+
+    def __init__(self, top, unproved):
+        lines = listed()
+        crates = crates_below(lines, NAME)
+        self.unproved = unproved
+        self.folder = make_root(top, lines, crates)
+        if unproved:
+            return
+        missing = [it for it in crates[:-1] if not (top / "crates" / it / BUILT).is_dir()]
+        if missing:
+            sys.exit(f"own: not proved yet: {' '.join(missing)}: run rt lib in their folders, or use --unproved")
+        print("own: the program is proved and built, which takes minutes where it is new", file=sys.stderr)
+        done = ran(["rt", "run", "--", "mutex", "1", "1"], self.folder)
+        if done.returncode:
+            sys.exit(f"own: the program could not be built\n{done.stderr}")
+
+    def run(self, *words):
+        """The nanoseconds that a run counts, and its greatest memory in MiB."""
+        command = [self.folder / "out" / NAME, *words]
+        if self.unproved:
+            command = ["rt", "try", "--seconds", TRY_SECONDS, "--", *words]
+        done = ran(list(map(str, command)), self.folder)
+        if done.returncode:
+            sys.exit(f"own: {' '.join(map(str, words))}: status {done.returncode}\n{done.stderr}")
+        nanoseconds, peak = done.stdout.splitlines()[:2]
+        return int(nanoseconds), int(peak.split()[1]) / 1024
+
+    def text(self, lines):
+        """The same of a text of programs."""
+        # `rt try` hands over files that lie in the program's folder.
+        file = write_lines(self.folder / "text", lines)
+        return self.run("text", "text" if self.unproved else file)
+
+
+@dataclass(frozen=True)
+class Own:
+    """What own code does so often, how many units that is, and beside what it is timed."""
+
+    name: str
+    unit: str
+    count: int
+    words: Callable[[int], tuple]
+    beside: Callable[[Program, int], tuple]
+    limit: float
+    # Units of the words' count, and of what it is beside: the nanoseconds of one are compared.
+    units: int = 1
+    other_units: int = 1
+    # Whether the ratio may be no less than its limit.
+    least: bool = False
+    runs: int = RUNS
+
+
+def words(kind, nodes):
+    return lambda count: (kind, count, nodes)
+
+
+def own(kind, nodes):
+    """Beside the same program, which does something else."""
+    return lambda program, count: program.run(kind, count, nodes)
+
+
+def text(lines):
+    """Beside a session of a text."""
+    return lambda program, count: program.text(lines(count))
+
+
+def queue(count):
+    """The producer and the consumer of the examples, with so many numbers and as many places as own code has."""
+    written = EXAMPLE.read_text()
+    for found, new in (
+        ("set r7 10 ", f"set r7 {count} "),
+        ("set r7 10\n", f"set r7 {count}\n"),
+        ("set r3 288", f"set r3 {PAGE_SIZE + 8 * PLACES}"),
+        ("advance r1\n" * 3, "advance r1\n" * (PLACES - 1)),
+    ):
+        if found not in written:
+            sys.exit(f"own: {EXAMPLE} lacks {found!r}")
+        written = written.replace(found, new)
+    return written.splitlines()
+
+
+def small_queue(count):
+    """The producer and the consumer of the examples, with so many numbers."""
+    return EXAMPLE.read_text().replace("set r7 10", f"set r7 {count}").splitlines()
+
+
+def sums(count):
+    """Nodes that raise a number under a lock, each so often."""
+    take, give = SWAP
+    for node in range(SUMMING):
+        yield from (f"node {node}", f"set r1 {PAGE_SIZE}", f"set r2 {2 * PAGE_SIZE}", "set r3 1", "set r4 0")
+        yield from loop(count, [*take, "load 8 r6 r2", "add r6 r6 r3", "store 8 r2 r6", *give])
+
+
+def draws(count):
+    """Eight nodes, of which each draws an eighth of so many jobs."""
+    for node in range(8):
+        yield from (f"node {node}", f"set r1 {PAGE_SIZE}", "set r2 1")
+        yield from loop(count // 8, ["fadd 8 r3 r1 r2"])
+
+
+def product(_):
+    """As many nodes as rows: each stores its row of the matrix on the right, meets the others, and prints its row of
+    the product. What is on the left it makes as it goes.
+    """
+    for node in range(ROWS):
+        yield from (f"node {node}", f"set r1 {PAGE_SIZE * (1 + node)}", "set r2 8", f"set r3 {ROWS * node}")
+        yield from loop(ROWS, ["store 8 r1 r3", "add r1 r1 r2", "add r3 r3 r15"], "share")
+        yield from ("set r4 0", "advance r4", f"set r5 {ROWS}", "await r6 r4 r5", f"set r4 {8 * ROWS}")
+        yield from (f"set r7 {ROWS}", f"set r8 {PAGE_SIZE}", "label column")
+        yield from ("set r9 0", f"set r10 {ROWS * node}", "mov r11 r8")
+        body = ["load 8 r13 r11", "mul r13 r13 r10", "add r9 r9 r13", "add r10 r10 r15", "add r11 r11 r4"]
+        yield from loop(ROWS, body, "entry")
+        yield from ("print r9", "add r8 r8 r2", "sub r7 r7 r15", "jumpz r7 done", "jump column", "label done")
+
+
+OWN = (
+    Own("own-hit", "hit", 2_000_000, words("hits", 1), own("mutex", 1), 2.0, units=2),
+    Own("own-eight", "hit", 500_000, words("hits", 8), own("hits", 1), 3.4, units=16, other_units=2, least=True),
+    Own("own-lock", "lock, unlock", 2_000_000, words("lock", 1), own("hits", 1), 4.0, other_units=2),
+    Own("own-barrier", "meeting of 8", 1_000, words("barrier", 8), text(barrier), 1.3),
+    Own("own-queue", "number", 10_000, words("queue", 2), text(small_queue), 1.0),
+    Own("own-queue-64", "number", 10_000, words("queue", 2), text(queue), 1.0),
+    Own("own-sum", "addition of 4", 5_000, words("sum", SUMMING), text(sums), 1.0),
+    Own("own-draws", "job", 200_000, words("draws", 8), text(draws), 1.0),
+    Own("own-product", "product of 32", 1, words("product", ROWS), text(product), 1.1, runs=15),
+)
+ROW = "{:<14} {:<14} {:>9} {:>12} {:>12} {:>7} {:>6} {:>6}"
+HEAD = ("own code", "unit", "K", "ns each", "other's", "ratio", "limit", "load")
+
+
+def least_of(program, measure, count):
+    """The least nanoseconds of several runs, of own code and of what it is beside, one after the other."""
+    times = 1 if program.unproved else measure.runs
+    runs = [(program.run(*measure.words(count))[0], measure.beside(program, count)[0]) for _ in range(times)]
+    return min(mine for mine, _ in runs), min(other for _, other in runs)
+
+
+def time_own(program, measure):
+    """Prints a row. Whether the ratio is within its limit."""
+    count = max(1, measure.count // FEWER) if program.unproved else measure.count
+    mine, other = least_of(program, measure, count)
+    mine, other = mine / count / measure.units, other / count / measure.other_units
+    ratio = other / mine if measure.least else mine / other
+    load = f"{os.getloadavg()[0]:.1f}"
+    shown = (measure.name, measure.unit, count, f"{mine:.1f}", f"{other:.1f}", f"{ratio:.2f}", measure.limit, load)
+    within = program.unproved or (ratio >= measure.limit if measure.least else ratio <= measure.limit)
+    print(ROW.format(*shown), "" if within else "BEYOND ITS LIMIT", flush=True)
+    return within
+
+
+@dataclass(frozen=True)
+class Flat:
+    """The greatest memory at so many calls and at ten times as many."""
+
+    name: str
+
+
+def weigh_own(program, measure):
+    """Prints both. Whether they are the same."""
+    calls = FEW_CALLS // FEWER if program.unproved else FEW_CALLS
+    few, many = (program.run("hits", times * calls // 2, 1)[1] for times in (1, TIMES))
+    within = program.unproved or many - few <= MOST_APART
+    shown = f"{measure.name}: after {calls} calls {few:.2f} MiB, after {TIMES * calls} calls {many:.2f} MiB"
+    print(shown, "" if within else "BEYOND ITS LIMIT", flush=True)
+    return within
+
+
+MEASURES = (*OWN, Flat("own-memory"))
+
+
+def measure_own(chosen, unproved):
+    """Runs the measures. Whether each is within its limit."""
+    kept = ROOT / ".git" / "ivy-bench"
+    with tempfile.TemporaryDirectory() as room:
+        # What is built stays where the gate does not look, and is built anew where there is no such folder.
+        program = Program(kept if kept.parent.is_dir() else Path(room), unproved)
+        if any(isinstance(measure, Own) for measure in chosen):
+            print(ROW.format(*HEAD), flush=True)
+        within = [(time_own if isinstance(it, Own) else weigh_own)(program, it) for it in chosen]
+    return all(within)

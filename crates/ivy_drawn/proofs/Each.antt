@@ -1,0 +1,46 @@
+-- What holds of each element by its number.
+use Rattle.std.proofs.Common.{◌≡◌, ◌+◌, ℕ, zero, suc, List, [], ◌∷◌, ◌++◌, length, slice_get, Some, subst, ◌∙◌, ap, sym, arith}
+use Rattle.std.proofs.lemmas.Option.{same_Some, none-some}
+
+-- and of one more
+pub push_each : {X : Type 0} (P : ℕ → X → Type 0) (xs : List X) (x : X)
+    → ((i : ℕ) (y : X) → slice_get xs i ≡ Some y → P i y) → P (length xs) x → (i : ℕ) (y : X)
+    → slice_get (xs ++ x ∷ []) i ≡ Some y → P i y
+push_each P [] x all last zero y at = subst (P 0) (same_Some x y at) last
+push_each P [] x all last (suc i) y at = absurd (none-some y at)
+push_each P (z ∷ xs) x all last zero y at = all 0 y at
+push_each P (z ∷ xs) x all last (suc i) y at =
+    push_each (λ k. P (suc k)) xs x (λ k. all (suc k)) last i y at
+
+module _ {X : Type 0} (P : ℕ → X → Type 0) where
+  -- of none
+  pub none_got : (xs : List X) → xs ≡ [] → (i : ℕ) (y : X) → slice_get xs i ≡ Some y → P i y
+  none_got xs none i y at = absurd (none-some y (ap (λ l. slice_get l i) (sym none) ∙ at))
+
+  -- and of one more
+  pub got_more : (n : ℕ) (xs more : List X) (x : X) → n ≡ length xs → more ≡ xs ++ x ∷ []
+      → ((i : ℕ) (y : X) → slice_get xs i ≡ Some y → P i y) → P n x → (i : ℕ) (y : X)
+      → slice_get more i ≡ Some y → P i y
+  got_more n xs more x count is all last i y at =
+      push_each P xs x all (subst (λ m. P m x) count last) i y
+      (subst (λ l. slice_get l i ≡ Some y) is at)
+
+  -- of those that are left, from number n on
+  pub left_all : (n : ℕ) (xs all : List X) → n ≡ 0 → xs ≡ all
+      → ((k : ℕ) (y : X) → slice_get all k ≡ Some y → P k y) → (k : ℕ) (y : X)
+      → slice_get xs k ≡ Some y → P (n + k) y
+  left_all n xs all none is each k y at =
+      subst (λ m. P m y) (omega (arith, none))
+      (each k y (subst (λ l. slice_get l k ≡ Some y) is at))
+
+  pub left_first : (n : ℕ) (x : X) (xs rest : List X) → xs ≡ x ∷ rest
+      → ((k : ℕ) (y : X) → slice_get xs k ≡ Some y → P (n + k) y) → P n x
+  left_first n x xs rest is each =
+      subst (λ m. P m x) (omega arith) (each 0 x (ap (λ l. slice_get l 0) is))
+
+  pub left_more : (n more : ℕ) (x : X) (xs rest : List X) → xs ≡ x ∷ rest → more ≡ n + 1
+      → ((k : ℕ) (y : X) → slice_get xs k ≡ Some y → P (n + k) y) → (k : ℕ) (y : X)
+      → slice_get rest k ≡ Some y → P (more + k) y
+  left_more n more x xs rest is next each k y at =
+      subst (λ m. P m y) (omega (arith, next))
+      (each (suc k) y (ap (λ l. slice_get l (suc k)) is ∙ at))

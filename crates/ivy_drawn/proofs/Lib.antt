@@ -1,0 +1,4 @@
+mod Each
+mod Playing
+pub mod Stops
+mod Reported

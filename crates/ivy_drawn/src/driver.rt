@@ -1,0 +1,136 @@
+//! The driver, which makes the moves, and lets a worker run where its node has a turn.
+ghost use Rattle.std.specs.Prelude.{IfErr};
+ghost use Rattle.ivy_drawn.specs.Faults.{IsPlayStop};
+
+use crate::baton::Baton;
+use crate::source::MoveSource;
+use crate::stage::{Setting, Stage};
+use ivy_model::Fault;
+use ivy_world::Move;
+use std::alloc::Allocator;
+use std::sync::{Mutex, Wait};
+
+/// What all threads of a play share. Each reference has a lifetime of its own.
+#[derive(Drop)]
+pub(crate) struct Play<'r, 's, 'b, S: Setting, A: Allocator, R> {
+    pub(crate) rt: &'r R,
+    pub(crate) alloc: A,
+    pub(crate) stage: &'s Mutex<Stage<S, A>>,
+    pub(crate) baton: &'b Baton<A>,
+}
+
+/// How far a round of settling has come.
+#[derive(Clone, Copy)]
+struct Round {
+    /// So many moves are left.
+    left: u64,
+    /// Whether a turn of this round did anything.
+    stirred: bool,
+}
+
+impl<'r, 's, 'b, S: Setting, A: Allocator + Copy, R: Wait> Play<'r, 's, 'b, S, A, R> {
+    /// Whether each call of a node has its reply.
+    fn is_free(&self, node: u8) -> bool {
+        self.stage.lock(self.rt).is_free(node)
+    }
+
+    /// Where each call of a node has its reply, its work goes on, until it makes a call or ends.
+    fn let_run(&self, node: u64) {
+        let Ok(node) = u8::try_from(node) else {
+            return;
+        };
+        if self.is_free(node) {
+            self.baton.let_run(self.rt, node);
+        }
+    }
+
+    /// Makes a move, before which the work of the node that has a turn goes on; or changes nothing [1, 17, 19]. It says
+    /// whether the move did anything.
+    fn make(&self, step: Move) -> Result<bool, Fault>
+        ensures { IfErr result IsPlayStop }
+    {
+        if let Move::Turn(node) = step {
+            self.let_run(node);
+        }
+        self.stage.lock(self.rt).make(step)
+    }
+
+    /// The next move of this source [1].
+    fn next<M: MoveSource>(&self, source: &mut M) -> Result<Option<Move>, Fault>
+        ensures { IfErr result IsPlayStop }
+    {
+        self.stage.lock(self.rt).next(source)
+    }
+
+    /// Makes the moves of this source, and then lets the world settle, with at most so many moves [1, 17, 19].
+    pub(crate) fn drive<M: MoveSource + Drop>(&self, source: M, most: u64) -> Result<(), Fault>
+        ensures { IfErr result IsPlayStop }
+    {
+        let mut source = source;
+        for _ in 0..u64::MAX {
+            let Some(step) = self.next(&mut source)? else {
+                break;
+            };
+            self.make(step)?;
+        }
+        self.stage.lock(self.rt).begin_settling();
+        self.settle(most)
+    }
+
+    /// Delivers what is under way.
+    fn deliver_all(&self, left: u64) -> Result<u64, Fault>
+        ensures { IfErr result IsPlayStop }
+    {
+        for made in 0..left {
+            let delivered = self.stage.lock(self.rt).deliver_next()?;
+            if !delivered {
+                return Ok(left - made);
+            }
+        }
+        Ok(0)
+    }
+
+    /// Gives each node a turn, before which its work goes on.
+    fn turn_all(&self, nodes: u64, left: u64) -> Result<Round, Fault>
+        ensures { IfErr result IsPlayStop }
+    {
+        let mut round = Round {
+            left,
+            stirred: false,
+        };
+        for node in 0..nodes {
+            if round.left == 0 {
+                return Ok(round);
+            }
+            round.left -= 1;
+            if self.make(Move::Turn(node))? {
+                round.stirred = true;
+            }
+        }
+        Ok(round)
+    }
+
+    /// Lets the world come to rest, with at most so many moves: it delivers what is under way until nothing is, gives each
+    /// node a turn, and begins again, until the world stands still.
+    fn settle(&self, most: u64) -> Result<(), Fault>
+        ensures { IfErr result IsPlayStop }
+    {
+        let nodes = self.stage.lock(self.rt).nodes();
+        let mut left = most;
+        for _ in 0..most {
+            left = self.deliver_all(left)?;
+            let round = self.turn_all(nodes, left)?;
+            if round.left < nodes {
+                return Ok(());
+            }
+            left = round.left;
+            if !round.stirred {
+                left -= nodes;
+                if self.stage.lock(self.rt).stands_still()? {
+                    return Ok(());
+                }
+            }
+        }
+        Ok(())
+    }
+}

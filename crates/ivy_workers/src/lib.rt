@@ -1,0 +1,28 @@
+//! The workers of a session, two for each node: when each makes a turn, when it sleeps, and what they tell one another.
+//!
+//! What a turn does is known to a node's place alone ([`Seat`]). No contract above speaks of workers: what is promised of
+//! a session holds whoever makes the turns, and in whatever order.
+//!
+//! In a comment, numbers in brackets as [1, 17] are the fault numbers that a call may answer.
+#![tactic(auto)]
+
+mod bells;
+mod crew;
+mod gate;
+mod limits;
+mod line;
+mod pulses;
+mod seat;
+mod shared;
+mod traffic;
+mod turns;
+mod watch;
+
+pub use crew::Crew;
+pub use gate::{Gate, OpenGate, Role, Turnstile};
+pub use limits::Limits;
+pub use pulses::Pulses;
+pub use seat::Seat;
+pub use shared::Shared;
+pub use traffic::Traffic;
+pub use turns::ProgramWorker;

@@ -1,0 +1,305 @@
+//! What the workers of a session tell one another.
+ghost use Rattle.std.specs.Prelude.{IfSome, IfErr};
+ghost use Rattle.ivy_workers.specs.Stops.{IsStop};
+
+use crate::bells::{Bells, ring};
+use crate::limits::Limits;
+use crate::line::Line;
+use crate::traffic::Traffic;
+use ivy_model::Fault;
+use std::alloc::Allocator;
+use std::sync::atomic::{AtomicBool, AtomicU64, Ordering};
+use std::sync::{Mutex, Wait};
+use std::thread;
+use std::thread::Threads;
+
+/// So many turns a round of pulses has at most.
+const MOST_ROUND: u64 = 32_768;
+
+/// So often a worker looks for something to do before it sleeps, where there is a processor for each worker. What one
+/// worker waits for the next one does soon then, and a sleep would cost more. Where there are more workers than
+/// processors a worker that looks takes the processor from one that has something to do.
+const LOOKS: u32 = 8_000;
+
+/// So many places of an ether are kept, if it has twice as many, for the node that the first frame is for. It has to put
+/// its frames before it takes.
+const KEPT_PLACES: u64 = 3;
+
+/// So many frames behind the first one are looked at for one that can be taken.
+const MOST_BEHIND: u64 = 64;
+
+/// Where so few places of the ether are left, whoever waits for one is woken when one may have come.
+const FEW_PLACES: u64 = 8;
+
+/// So many processors a session may use, where that is known.
+fn processors<R: Threads>(rt: &R) -> u64 {
+    match thread::available_parallelism(rt) {
+        Ok(found) => found.get() as u64,
+        Err(_) => 1,
+    }
+}
+
+/// Why a session ends before its programs do.
+#[derive(Drop)]
+struct Stop {
+    fault: Fault,
+    ghost why: { IsStop fault },
+}
+
+/// How many programs have ended, and why the session stops before they all have, if it does.
+#[derive(Drop)]
+struct Standing {
+    ended: u64,
+    stop: Option<Stop>,
+}
+
+/// How a session stands, how many frames were lost, whom the frames on the ether are for, and what the workers sleep on.
+#[derive(Drop)]
+pub struct Shared<A: Allocator> {
+    programs: u64,
+    pulse_every: u64,
+    kept_places: u64,
+    looks: u32,
+    over: AtomicBool,
+    stopped: AtomicBool,
+    standing: Mutex<Standing>,
+    losses: AtomicU64,
+    line: Line<A>,
+    bells: Vec<Bells, A>,
+}
+
+impl<A: Allocator + Copy> Shared<A> {
+    /// Of a session of so many programs, of which none has ended yet [1].
+    pub fn new<R: Threads>(rt: &R, alloc: A, programs: usize, limits: Limits) -> Result<Self, Fault>
+        ensures { IfErr result IsStop }
+    {
+        let line = Line::new(alloc, limits.capacity, programs)?;
+        let mut bells = Vec::new(alloc);
+        for _ in 0..programs {
+            bells.reserve(1)?;
+            bells.push_reserved(Bells::new());
+        }
+        Ok(Shared {
+            programs: programs as u64,
+            pulse_every: limits.pulse_every,
+            kept_places: KEPT_PLACES.min(limits.capacity / 2),
+            looks: if (programs as u64) <= processors(rt) / 2 {
+                LOOKS
+            } else {
+                0
+            },
+            over: AtomicBool::new(false),
+            stopped: AtomicBool::new(false),
+            standing: Mutex::new(Standing {
+                ended: 0,
+                stop: None,
+            }),
+            losses: AtomicU64::new(0),
+            line,
+            bells,
+        })
+    }
+}
+
+impl<A: Allocator> Shared<A> {
+    /// One more program has ended.
+    pub fn end<R: Wait>(&self, rt: &R) {
+        let mut standing = self.standing.lock(rt);
+        standing.ended = standing.ended.saturating_add(1);
+        let all = standing.ended >= self.programs;
+        drop(standing);
+        if all {
+            self.over.store(true, Ordering::SeqCst);
+            self.wake_all();
+        }
+    }
+
+    /// The session stops with this fault, unless all programs have ended, or it has stopped with another one. It tells
+    /// whether it stops with this one.
+    pub fn stop<R: Wait>(&self, rt: &R, fault: Fault) -> bool
+        requires { IsStop fault }
+    {
+        let mut standing = self.standing.lock(rt);
+        if standing.ended >= self.programs {
+            return false;
+        }
+        let is_first = standing.stop.is_none();
+        if is_first {
+            standing.stop = Some(Stop { fault });
+        }
+        drop(standing);
+        self.stopped.store(true, Ordering::SeqCst);
+        self.over.store(true, Ordering::SeqCst);
+        self.wake_all();
+        is_first
+    }
+
+    /// Whether the session stops before all programs have ended.
+    pub(crate) fn is_stopped(&self) -> bool {
+        self.stopped.load(Ordering::SeqCst)
+    }
+
+    /// Whether all programs have ended, or the session stops before.
+    pub(crate) fn is_over(&self) -> bool {
+        self.over.load(Ordering::SeqCst)
+    }
+
+    /// In so many turns a wire worker pulses to each other node, but for a bound.
+    pub(crate) fn round(&self) -> u64 {
+        self.programs
+            .saturating_mul(self.pulse_every)
+            .min(MOST_ROUND)
+    }
+
+    /// So many turns a wire worker makes that nobody has woken for a while, so that a pulse comes.
+    pub(crate) fn nap_round(&self) -> u64 {
+        self.pulse_every.min(MOST_ROUND)
+    }
+
+    /// So often a worker looks for something to do before it sleeps, at most.
+    pub(crate) fn looks(&self) -> u32 {
+        self.looks
+    }
+
+    /// Wakes all workers, so that they see how the session stands.
+    fn wake_all(&self) {
+        for bells in &self.bells {
+            bells.wake();
+        }
+    }
+
+    /// What the workers of a node sleep on.
+    pub(crate) fn bells(&self, node: u8) -> Option<&Bells> {
+        self.bells.get(usize::from(node))
+    }
+
+    /// Whom the frames on the ether are for.
+    pub(crate) fn line(&self) -> &Line<A> {
+        &self.line
+    }
+
+    /// So many frames were lost, of those that anybody knows of.
+    pub(crate) fn losses(&self) -> u64 {
+        self.losses.load(Ordering::SeqCst)
+    }
+
+    /// A frame is lost. All wire workers pulse, so that it is sent again.
+    fn lose(&self) {
+        self.losses.fetch_add(1, Ordering::SeqCst);
+        self.wake_all();
+    }
+
+    fn has_frame(&self, node: u8) -> bool {
+        match self.bells(node) {
+            None => false,
+            Some(bells) => bells.waiting().is_some(),
+        }
+    }
+
+    /// Whether there is a place for a frame of this node.
+    pub(crate) fn has_place(&self, node: u8) -> bool {
+        let places = self.line.places();
+        if places > self.kept_places {
+            return true;
+        }
+        match self.line.first() {
+            None => true,
+            Some(first) => first == node && places > 0,
+        }
+    }
+
+    /// The node that is to put back what is before its frame, where the first frame's node can take nothing: it has a
+    /// frame to put, and there is no place.
+    pub(crate) fn turner(&self) -> Option<u8> {
+        if self.line.places() > 0 || !self.has_frame(self.line.first()?) {
+            return None;
+        }
+        for others in 1..MOST_BEHIND {
+            let node = self.line.behind(others)?;
+            if !self.has_frame(node) {
+                return Some(node);
+            }
+        }
+        None
+    }
+
+    /// Wakes a node's wire worker.
+    fn wake_wire(&self, node: Option<u8>) {
+        let Some(node) = node else {
+            return;
+        };
+        if let Some(bells) = self.bells(node) {
+            ring(&bells.wire);
+        }
+    }
+
+    /// Wakes the wire worker that waits for a place and may have it, the next one after this node round.
+    fn wake_for_place(&self, after: u8) {
+        let mut place = usize::from(after);
+        for _ in 0..self.bells.len() {
+            let next = place.saturating_add(1);
+            place = if next < self.bells.len() { next } else { 0 };
+            let node = place.min(255) as u8;
+            if self.has_frame(node) && self.has_place(node) {
+                self.wake_wire(Some(node));
+                return;
+            }
+        }
+    }
+
+    /// A frame was put, which is for this node, if it is a frame.
+    fn put(&self, to: Option<u8>) {
+        if let Some(to) = to {
+            self.line.add(to);
+        }
+    }
+
+    /// Tells the workers what a node's turn on the wire came to: `own` are its bells.
+    pub(crate) fn tell(&self, own: &Bells, node: u8, traffic: Traffic) {
+        match traffic {
+            Traffic::Lost | Traffic::Nothing => return,
+            Traffic::Sent { to } => self.put(to),
+            Traffic::Returned { to } => {
+                self.line.strike_out();
+                self.put(to);
+            }
+            Traffic::Taken { served } => {
+                self.line.strike_out();
+                if served {
+                    own.count_served();
+                }
+            }
+            Traffic::Dropped => {
+                self.line.strike_out();
+                self.lose();
+            }
+        }
+        self.wake_wire(self.line.first());
+        if self.line.places() < FEW_PLACES {
+            self.wake_for_place(node);
+            self.wake_wire(self.turner());
+        }
+    }
+
+    /// Why the session stopped, if it did.
+    pub fn into_stop(self) -> Option<Fault>
+        ensures { IfSome result IsStop }
+    {
+        let Shared {
+            programs: _,
+            pulse_every: _,
+            kept_places: _,
+            looks: _,
+            over: _,
+            stopped: _,
+            standing,
+            losses: _,
+            line: _,
+            bells: _,
+        } = self;
+        match standing.into_inner().stop {
+            None => None,
+            Some(stop) => Some(stop.fault),
+        }
+    }
+}
