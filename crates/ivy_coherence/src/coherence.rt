@@ -6,7 +6,7 @@ ghost use Rattle.ivy_wire.specs.Spelling.{FitsMessage};
 ghost use Rattle.ivy_wire.specs.Posts.{IsPostOf, HasPosted, HasRefused};
 ghost use Rattle.ivy_pagetable.specs.Tables.{entry_at, page_at};
 ghost use Rattle.ivy_pagetable.specs.Words.{IsWord, needs_write};
-ghost use Rattle.ivy_coherence.specs.Faults.{suffices, IsIdleAt, HasToAsk, fault_entry, fault_posted, begun};
+ghost use Rattle.ivy_coherence.specs.Faults.{suffices, IsIdleAt, HasToAsk, fault_entry, fault_posted, faulted, begun};
 ghost use Rattle.ivy_coherence.specs.Sound.{first_coherent, IsSound};
 
 use crate::need::Need;
@@ -190,7 +190,39 @@ impl<M: Manager, A: Allocator> Coherence<M, A> {
         Ok(Entry::AwaitWrite(AwaitWrite::new(had_copy, waiting)))
     }
 
+    /// The word waits at its page's entry from now on, and what it lacks is asked for.
+    ///
+    /// It stands apart from [`Coherence::need`], so that a word that hits clears no room for what is put off.
+    #[cold]
+    #[inline(never)]
+    fn start<P: Post>(
+        &mut self,
+        page: u32,
+        word: Word,
+        call: u64,
+        idle: Idle,
+        post: &mut P,
+    ) -> Result<(), Fault>
+        requires page { page < self.old.config.pages }
+        requires word { IsWord self.old.config.page_size word }
+        requires free { self.old.locked ≡ None }
+        requires idle { IsIdleAt self.old.table page idle }
+        requires short { suffices idle.access word ≡ false }
+        requires call { 1 ≤ call }
+        requires post { IsPostOf P.ops post.old self.old.config self.old.me }
+        ensures ok { OnOk result (self.new ≡ (faulted M.ops self.old page word call idle).after) }
+        ensures posted { HasPosted P.ops post.old post.new result
+            (fault_posted M.ops self.old page word call idle) }
+        ensures err { OnErr result (self.new ≡ self.old) }
+    {
+        let entry = self.fault(page, word, call, &idle, post)?;
+        self.table.set_entry(page, entry);
+        self.locked = Some(page);
+        Ok(())
+    }
+
     #[tactic(auto, unfolding(crate::specs::Faults::begun))]
+    #[inline(always)]
     /// An access of this node's program to a word of a page, by the call of this number [1, 17].
     ///
     /// The word lies within the page and is aligned; the page is below the number of pages. Where access
@@ -226,9 +258,8 @@ impl<M: Manager, A: Allocator> Coherence<M, A> {
                 if suffices(idle.access(), word) {
                     return Ok(Need::Have(self.table.carry_out(page, word)));
                 }
-                let entry = self.fault(page, word, call, idle, post)?;
-                self.table.set_entry(page, entry);
-                self.locked = Some(page);
+                let idle = idle.copied();
+                self.start(page, word, call, idle, post)?;
                 Ok(Need::Started)
             }
             Entry::AwaitRead(_) | Entry::AwaitWrite(_) | Entry::AwaitAcks(_) => Ok(Need::Busy),

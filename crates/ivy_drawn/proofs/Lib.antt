@@ -2,3 +2,4 @@ mod Each
 mod Playing
 pub mod Stops
 mod Reported
+mod Ending

@@ -19,15 +19,6 @@ pub(crate) struct Play<'r, 's, 'b, S: Setting, A: Allocator, R> {
     pub(crate) baton: &'b Baton<A>,
 }
 
-/// How far a round of settling has come.
-#[derive(Clone, Copy)]
-struct Round {
-    /// So many moves are left.
-    left: u64,
-    /// Whether a turn of this round did anything.
-    stirred: bool,
-}
-
 impl<'r, 's, 'b, S: Setting, A: Allocator + Copy, R: Wait> Play<'r, 's, 'b, S, A, R> {
     /// Whether each call of a node has its reply.
     fn is_free(&self, node: u8) -> bool {
@@ -77,58 +68,51 @@ impl<'r, 's, 'b, S: Setting, A: Allocator + Copy, R: Wait> Play<'r, 's, 'b, S, A
         self.settle(most)
     }
 
-    /// Delivers what is under way.
-    fn deliver_all(&self, left: u64) -> Result<u64, Fault>
-        ensures { IfErr result IsPlayStop }
-    {
-        for made in 0..left {
-            let delivered = self.stage.lock(self.rt).deliver_next()?;
-            if !delivered {
-                return Ok(left - made);
-            }
-        }
-        Ok(0)
+    /// How many moves are left of so many that let the world settle.
+    fn left(&self, most: u64) -> u64 {
+        self.stage.lock(self.rt).left(most)
     }
 
-    /// Gives each node a turn, before which its work goes on.
-    fn turn_all(&self, nodes: u64, left: u64) -> Result<Round, Fault>
+    /// Delivers what is under way, with at most so many moves in all.
+    fn deliver_all(&self, most: u64) -> Result<(), Fault>
         ensures { IfErr result IsPlayStop }
     {
-        let mut round = Round {
-            left,
-            stirred: false,
-        };
-        for node in 0..nodes {
-            if round.left == 0 {
-                return Ok(round);
-            }
-            round.left -= 1;
-            if self.make(Move::Turn(node))? {
-                round.stirred = true;
+        for _ in 0..most {
+            if self.left(most) == 0 || !self.stage.lock(self.rt).deliver_next()? {
+                return Ok(());
             }
         }
-        Ok(round)
+        Ok(())
+    }
+
+    /// Gives each node a turn, before which its work goes on, with at most so many moves in all. It says whether a turn did
+    /// anything.
+    fn turn_all(&self, nodes: u64, most: u64) -> Result<bool, Fault>
+        ensures { IfErr result IsPlayStop }
+    {
+        let mut stirred = false;
+        for node in 0..nodes {
+            if self.left(most) > 0 && self.make(Move::Turn(node))? {
+                stirred = true;
+            }
+        }
+        Ok(stirred)
     }
 
     /// Lets the world come to rest, with at most so many moves: it delivers what is under way until nothing is, gives each
-    /// node a turn, and begins again, until the world stands still.
+    /// node a turn, and begins again, until the world stands still, or fewer moves are left than there are nodes.
     fn settle(&self, most: u64) -> Result<(), Fault>
         ensures { IfErr result IsPlayStop }
     {
         let nodes = self.stage.lock(self.rt).nodes();
-        let mut left = most;
         for _ in 0..most {
-            left = self.deliver_all(left)?;
-            let round = self.turn_all(nodes, left)?;
-            if round.left < nodes {
+            self.deliver_all(most)?;
+            let stirred = self.turn_all(nodes, most)?;
+            if self.left(most) < nodes {
                 return Ok(());
             }
-            left = round.left;
-            if !round.stirred {
-                left -= nodes;
-                if self.stage.lock(self.rt).stands_still()? {
-                    return Ok(());
-                }
+            if !stirred && self.stage.lock(self.rt).stands_still()? {
+                return Ok(());
             }
         }
         Ok(())

@@ -14,6 +14,7 @@ mod joined;
 mod memory;
 mod play;
 mod report;
+mod rested;
 mod source;
 mod stage;
 mod workers;

@@ -112,7 +112,10 @@ where
                 Ok(reply)
             }
             Err(fault) => {
-                self.is_cut = true;
+                // a call that found no memory was not made
+                if fault != Fault::Memory {
+                    self.is_cut = true;
+                }
                 Err(fault)
             }
         }

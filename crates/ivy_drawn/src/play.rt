@@ -4,12 +4,14 @@ ghost use Rattle.ivy_model.specs.Config.{IsConfig};
 ghost use Rattle.ivy_drawn.specs.Faults.{IsPlayFault, IsPlayStop};
 ghost use Rattle.ivy_drawn.specs.Played.{own_opening};
 ghost use Rattle.ivy_drawn.specs.Reports.{IsPlayReport};
+ghost use Rattle.ivy_drawn.specs.Endings.{ComesToRest};
 
 use crate::baton::Baton;
 use crate::close::outcomes_of;
 use crate::driver::Play;
 use crate::joined::{Ended, GivenUp};
 use crate::report::PlayReport;
+use crate::rested::rested;
 use crate::source::{Drawn, Listed, MoveSource};
 use crate::stage::{Played, Setting, Stage};
 use crate::workers::run_all;
@@ -27,20 +29,25 @@ fn close<S: Setting, A: Allocator + Copy, W: Work>(
     work: &W,
     stage: Stage<S, A>,
     all: Vec<Result<Ended<W::Out, A>, GivenUp>, A>,
+    settle: u64,
 ) -> Result<PlayReport<W::Out, A>, Fault>
     requires all { vec_len all ≡ S.config.nodes }
     requires done { (i : ℕ) (r : _) → slice_get all.items i ≡ Some r → IfOk r (λ ended. W.done work.now i ended.answers.items ended.out) }
     ensures report { IfOk result (λ report. IsPlayReport S.config (W.done work.now) report.moves.items report.world report.outcomes.items report.rest) }
+    ensures rests { IfOk result (λ report. ComesToRest S.config settle report.moves.items report.drawn report.world.world report.outcomes.items report.rest) }
     ensures stop { IfErr result IsPlayStop }
 {
+    let played = stage.into_played();
+    played.world.keeps();
+    let outcomes = outcomes_of(alloc, &played.world, work, all)?;
+    let ended = rested(played, &outcomes, settle)?;
+    ended.world.keeps();
     let Played {
         world,
         moves,
         drawn,
         rest,
-    } = stage.into_played();
-    world.keeps();
-    let outcomes = outcomes_of(alloc, &world, work, all)?;
+    } = ended;
     Ok(PlayReport {
         world,
         moves,
@@ -69,6 +76,7 @@ where
     requires config { config ≡ S.config }
     requires opens { world ≡ own_opening S.config }
     ensures report { IfOk result (λ report. IsPlayReport S.config (W.done work.now) report.moves.items report.world report.outcomes.items report.rest) }
+    ensures rests { IfOk result (λ report. ComesToRest S.config settle report.moves.items report.drawn report.world.world report.outcomes.items report.rest) }
     ensures stop { IfErr result IsPlayStop }
 {
     let stage = Mutex::new(Stage::<S, A>::new(alloc, world));
@@ -80,11 +88,12 @@ where
         baton: &baton,
     };
     let all = run_all(&play, work, config.nodes, source, settle)?;
-    close::<S, A, W>(alloc, work, stage.into_inner(), all)
+    close::<S, A, W>(alloc, work, stage.into_inner(), all, settle)
 }
 
 /// Runs the work of each node over one shared memory, in a world that makes the moves of this source [1, 2, 17, 19], and
-/// then settles, with at most so many more. A call waits until its node's turns have answered it.
+/// then settles, with at most so many more. A call waits until its node's turns have answered it. It ends with fewer of these
+/// left than there are nodes, or where the world stands still and each work that has not ended has a call in progress.
 ///
 /// One legal order of records explains what all nodes were answered, and each work that has ended has done what it says,
 /// with exactly its node's part of that order as what it was answered. It is 2 exactly where the configuration is out of
@@ -103,6 +112,7 @@ where
     M: MoveSource + Drop,
     W: Work + Sync,
     ensures report { IfOk result (λ report. IsPlayReport config (W.done work.now) report.moves.items report.world report.outcomes.items report.rest) }
+    ensures rests { IfOk result (λ report. ComesToRest config settle report.moves.items report.drawn report.world.world report.outcomes.items report.rest) }
     ensures bad { IsErrOf result Fault.BadConfig ↔ ¬ IsConfig config }
     ensures fault { IfErr result IsPlayFault }
 {
@@ -125,6 +135,7 @@ where
     R: Threads + Wait + Sync,
     W: Work + Sync,
     ensures report { IfOk result (λ report. IsPlayReport config (W.done work.now) report.moves.items report.world report.outcomes.items report.rest) }
+    ensures rests { IfOk result (λ report. ComesToRest config settle report.moves.items report.drawn report.world.world report.outcomes.items report.rest) }
     ensures bad { IsErrOf result Fault.BadConfig ↔ ¬ IsConfig config }
     ensures fault { IfErr result IsPlayFault }
 {
@@ -145,6 +156,7 @@ where
     R: Threads + Wait + Sync,
     W: Work + Sync,
     ensures report { IfOk result (λ report. IsPlayReport config (W.done work.now) report.moves.items report.world report.outcomes.items report.rest) }
+    ensures rests { IfOk result (λ report. ComesToRest config settle report.moves.items report.drawn report.world.world report.outcomes.items report.rest) }
     ensures bad { IsErrOf result Fault.BadConfig ↔ ¬ IsConfig config }
     ensures fault { IfErr result IsPlayFault }
 {

@@ -1,7 +1,10 @@
 //! The world of a play behind its lock, with the moves that were made.
-ghost use Rattle.std.specs.Prelude.{◌≡◌, Ok, false, true, IfErr, IfSome};
+ghost use Rattle.std.specs.Prelude.{◌≡◌, ◌+◌, Ok, false, true, length, IfErr, IfSome, OnErr, OnOk};
 ghost use Rattle.ivy_model.specs.declared.Config.{Config};
 ghost use Rattle.ivy_model.specs.Legal.{HasWidth};
+ghost use Rattle.ivy_moves.specs.Worlds.{Moves};
+ghost use Rattle.ivy_world.specs.ivy_host.Hosts.{host_rules};
+ghost use Rattle.ivy_world.specs.ivy_host.Managers.{managed_ops};
 ghost use Rattle.ivy_world.specs.Rounds.{DoesNothing};
 ghost use Rattle.ivy_world.specs.Runs.{IsSameRun};
 ghost use Rattle.ivy_world.specs.Settling.{HasSettled};
@@ -48,13 +51,16 @@ fn reply_of<A: Allocator + Copy>(
 }
 
 /// Makes a move, and lists it; or changes nothing [1, 17, 19]. It says whether it did anything.
-fn play_move<A: Allocator + Copy>(
+pub(crate) fn play_move<A: Allocator + Copy>(
     world: &mut World<A>,
     moves: &mut Vec<Move, A>,
     step: Move,
 ) -> Result<bool, Fault>
     ensures stays { IsSameRun world.old world.new }
     ensures idle { result ≡ Ok false → DoesNothing world.old.world step × (world.new ≡ world.old) }
+    ensures made { OnOk result (Moves (host_rules managed_ops) world.old.config world.old.world step world.new.world) }
+    ensures longer { OnOk result (length moves.new.items ≡ length moves.old.items + 1) }
+    ensures refused { OnErr result ((world.new ≡ world.old) × (moves.new.items ≡ moves.old.items)) }
     ensures played { (c : Config) → IsPlayed c moves.old.items world.old → IsPlayed c moves.new.items world.new }
     ensures stop { IfErr result IsPlayStop }
 {
@@ -177,6 +183,11 @@ impl<S: Setting, A: Allocator + Copy> Stage<S, A> {
     /// The moves from here on let the world settle.
     pub(crate) fn begin_settling(&mut self) {
         self.drawn = self.moves.len();
+    }
+
+    /// How many moves are left of so many that let the world settle.
+    pub(crate) fn left(&self, most: u64) -> u64 {
+        most.saturating_sub(self.moves.len().saturating_sub(self.drawn) as u64)
     }
 
     /// Delivers the first string that is under way [1, 17]. It says whether one was.

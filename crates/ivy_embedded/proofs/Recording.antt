@@ -1,25 +1,22 @@
 -- What a turn of a node that has a call records: its reply, once, or nothing.
-use Rattle.std.proofs.Common.{◌≡◌, ◌≢◌, ℕ, zero, suc, ◌+◌, ◌-◌, ◌^◌, Bool, true, false, List, [], ◌∷◌, ◌++◌, length, slice_get, Option, Some, None, nat_lt, refl, sym, ap, ◌∙◌, subst, inr, arith, option_map, if◌then◌else◌}
+use Rattle.std.proofs.Common.{◌≡◌, ◌≢◌, ℕ, ◌+◌, ◌-◌, ◌^◌, Bool, true, false, List, [], ◌∷◌, ◌++◌, length, slice_get, Option, Some, None, nat_lt, refl, sym, ap, ◌∙◌, subst, inr, arith, option_map, if◌then◌else◌}
 use Rattle.std.specs.Prelude.{MatchOption}
 use Rattle.std.proofs.lemmas.Option.{same_Some, none-some}
 use Rattle.ivy_model.specs.declared.Call.{Call}
 use Rattle.ivy_model.specs.declared.Record.{Record}
 use Rattle.ivy_model.specs.declared.Reply.{Reply}
 use Rattle.ivy_moves.specs.Cores.{Outcome}
-use Rattle.ivy_program.specs.Owned.{IsFree, process_handed}
-use Rattle.ivy_program.specs.Programs.{Program, Written, Called, IsCalled, handed, has_width}
-use Rattle.ivy_program.specs.States.{State}
-use Rattle.ivy_program.specs.Steps.{Step, Local, Asks, Ends, step, step_of, called_at}
+use Rattle.ivy_program.specs.Steps.{Step, Local, Asks, Ends, step_of}
 use Rattle.ivy_site.specs.ivy_host.ivy_heap.declared.Answer.{Answer}
 use Rattle.ivy_site.specs.ivy_host.ivy_heap.declared.Answer.TheVariants.{Given, Awaited, Unserved}
 use Rattle.ivy_site.specs.ivy_host.ivy_memory.Memories.{CallBegun, call_begun, polled}
 use Rattle.ivy_site.specs.ivy_host.Managers.{Managed, managed_ops}
 use Rattle.ivy_site.specs.ivy_host.Hosts.{Host, number_of, begins_as, begins_with, steps, turned_at, turn_of}
-use Rattle.ivy_site.specs.Handed.{site_handed}
+use Rattle.ivy_site.specs.Calls.{BeginsCall}
 use Rattle.ivy_site.specs.Shown.{Shown}
 use Rattle.ivy_site.specs.Sites.{SiteTurns}
 use Rattle.ivy_site.proofs.of_ivy_host.Programs.{posting-core}
-use Rattle.ivy_embedded.specs.Exports.{IsCallOf, Replies, AfterCall, AfterBegin}
+use Rattle.ivy_embedded.specs.Exports.{AfterCall, AfterBegin}
 
 abbrev H : Type 0
 H = Host Managed
@@ -153,49 +150,8 @@ pub reply_there : (old new : Shown) (before after : ℕ) → SiteTurns old new
 reply_there old new before after t b a more o is last =
     some_recorded old new t (λ e. more (a ∙ (e ∙ sym b))) None (sym is ∙ last)
 
-abbrev IsEnd : Step → Type 0
-IsEnd (Local s) = ⊥
-IsEnd (Asks c) = ⊥
-IsEnd Ends = Unit {0}
-
-abbrev call_or : Call → Step → Call
-call_or d (Local s) = d
-call_or d (Asks c) = c
-call_or d Ends = d
-
-ends_asks : (c : Call) → Ends ≡ Asks c → ⊥
-ends_asks c e = subst IsEnd e tt
-
-width_asks : (call c : Call) (b : Bool) → (if b then Asks call else Ends) ≡ Asks c → c ≡ call
-width_asks call c true e = sym (ap (call_or call) e)
-width_asks call c false e = absurd (ends_asks c e)
-
-next_call : (calls : List Call) (place : ℕ) (call c : Call)
-    → called_at (slice_get calls place) ≡ Ends
-    → called_at (slice_get (calls ++ call ∷ []) place) ≡ Asks c → c ≡ call
-next_call [] zero call c ended asks = width_asks call c (has_width call) asks
-next_call [] (suc i) call c ended asks = absurd (ends_asks c asks)
-next_call (x ∷ xs) zero call c ended asks = absurd (ends_asks c (sym ended ∙ asks))
-next_call (x ∷ xs) (suc i) call c ended asks = next_call xs i call c ended asks
-
--- own code that has made one more call asks for that one
-only_call : (program : Program) (s : State) (call c : Call) → IsCalled program
-    → step program s ≡ Ends → step (handed (call ∷ []) program) s ≡ Asks c → c ≡ call
-only_call (Written is) s call c called ended asks = absurd called
-only_call (Called calls) s call c called ended asks = next_call calls s.place call c ended asks
-
-asked_call : (call c : Call) (old : Shown) → IsFree old.node.core.process
-    → old.node.core.memory.asked ≡ None → IsCallOf (site_handed (call ∷ []) old) c → c ≡ call
-asked_call call c old free idle about =
-    only_call old.node.core.process.program old.node.core.process.state call c free.called free.ended
-    (subst (λ (x : Option Call). MatchOption x
-    (step_of (process_handed (call ∷ []) old.node.core.process) ≡ Asks c) (λ asked. asked ≡ c)) idle about)
-
--- the turn of a node that was free, and was handed a call, is about that one
-pub begun : (call : Call) (old new : Shown) (progress : Option Reply) → IsFree old.node.core.process
-    → old.node.core.memory.asked ≡ None → AfterCall progress (site_handed (call ∷ []) old) new
-    → AfterBegin call progress old new
-begun call old new None free idle after = after
-begun call old new (Some r) free idle (c, about, replies) =
-    subst (λ (k : Call). Replies k r (site_handed (call ∷ []) old) new)
-    (asked_call call c old free idle about) replies
+-- a call that a node's owner made is begun
+pub begun : (call : Call) (progress : Option Reply) (old new : Shown)
+    → BeginsCall call progress old new → AfterBegin call progress old new
+begun call None old new b = inr (b.turns, b.recorded)
+begun call (Some r) old new b = record { turns = b.turns; recorded = b.recorded }

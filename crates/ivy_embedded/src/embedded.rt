@@ -69,8 +69,8 @@ fn turn(site: &mut Site<Global>) -> Result<Option<Reply>, Fault>
     }
 }
 
-/// Hands a call to a node that has none, which it begins [1, 18]: its reply, or none yet. A call
-/// whose first turn is refused is in progress: the next turn tries again.
+/// A call begins at a node that has none [1, 18]: its reply, or none yet. A call whose first turn is
+/// refused is in progress: the next turn tries again.
 #[tactic(auto, using(crate::proofs::Recording::begun))]
 fn begin(site: &mut Site<Global>, call: Call) -> Result<Option<Reply>, Fault>
     requires width { HasWidth call }
@@ -78,13 +78,15 @@ fn begin(site: &mut Site<Global>, call: Call) -> Result<Option<Reply>, Fault>
     ensures busy { result ≡ Err Fault.Busy → (IsFree site.old.node.core.process × (site.old.node.core.memory.asked ≡ None)) → ⊥ }
     ensures few { IfErr result (λ fault. (fault ≡ Fault.Memory) ⊎ (fault ≡ Fault.Busy)) }
 {
-    if !site.is_free() || site.asked().is_some() {
+    if !site.is_free() {
         return Err(Fault::Busy);
     }
-    site.hand(call)?;
-    match turn(site) {
+    match site.call(call) {
         Ok(progress) => Ok(progress),
-        Err(_) => Ok(None),
+        Err(_) => {
+            site.hand(call)?;
+            Ok(None)
+        }
     }
 }
 

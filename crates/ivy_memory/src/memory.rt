@@ -96,6 +96,7 @@ impl<M: Manager, A: Allocator + Copy> Memory<M, A> {
     }
 
     #[tactic(auto, unfolding(crate::specs::Memories::call_begun))]
+    #[inline(always)]
     /// A call begins, as the one of this number [1, 17, 18]: it is answered at once, or it is in progress from now on.
     ///
     /// Refused with 18 exactly where a call is in progress already. Else only a call that other nodes have to be asked

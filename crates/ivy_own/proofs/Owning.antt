@@ -24,6 +24,7 @@ use Rattle.ivy_seating.specs.ivy_ether.ivy_host.Hosts.{Host, begins_as, begins_w
 use Rattle.ivy_seating.specs.ivy_ether.ivy_host.Managers.{Managed, managed_ops}
 use Rattle.ivy_seating.specs.ivy_site.Shown.{Shown}
 use Rattle.ivy_seating.specs.ivy_site.Handed.{site_handed}
+use Rattle.ivy_seating.specs.ivy_site.Calls.{BeginsCall}
 use Rattle.ivy_seating.specs.ivy_site.Sites.{AfterTurn, first_keeping}
 use Rattle.ivy_seating.specs.ivy_site.declared.turn.Turn as turn
 use Rattle.ivy_seating.specs.ivy_site.declared.turn.Turn.TheVariants.{Idle, Moved, Ended}
@@ -237,6 +238,30 @@ handed_owned call s half o free width = record {
   list = o.list;
   makes = handed_makes call s.node.core.process o.makes free width;
 }
+
+-- a call that its owner makes, with the first turn for it
+module _ (call : Call) (old new : Shown) (makes : MakesCalls old.node.core.process)
+    (free : IsFree old.node.core.process) (width : HasWidth call)
+    (idle : old.node.core.memory.asked ≡ None) where
+  made_came : (came : Option Reply) → BeginsCall call came old new → CameSite call (site_handed (call ∷ []) old) new
+  made_came came b =
+      site_came call Moved (site_handed (call ∷ []) old) new (handed_next call old makes free width idle)
+      (handed_makes call old.node.core.process makes free width) b.turns
+
+  pub call_made : (reply : Option Reply) → BeginsCall call reply old new
+      → TurnsOwn call reply old new
+  call_made None b = record {
+    me = (made_came None b).0;
+    answers = ap answers b.recorded ∙ sym (append-nil (answers old.node.core.history));
+    makes = (made_came None b).2;
+  }
+  call_made (Some reply) b =
+      let r : Record = record { node = number_of old.node.core; call = call; reply = reply } in
+      record {
+        me = (made_came (Some reply) b).0;
+        answers = ap answers b.recorded ∙ map-append answer old.node.core.history (r ∷ []);
+        makes = (made_came (Some reply) b).2;
+      }
 
 -- a turn that changed nothing of it
 pub wired_owned : (old new : Shown) (half : Listed Answer) → IsOwned old half → KeepsAnswers old new

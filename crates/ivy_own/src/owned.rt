@@ -1,6 +1,7 @@
 //! The place of a node with own code, as it stands behind its lock.
-ghost use Rattle.std.specs.Prelude.{◌≡◌, IfErr, IfOk, IsTrue, MatchResult};
+ghost use Rattle.std.specs.Prelude.{◌≡◌, None, IfErr, IfOk, IsTrue, MatchResult};
 ghost use Rattle.ivy_model.specs.Legal.{HasWidth};
+ghost use Rattle.ivy_program.specs.Owned.{IsFree};
 ghost use Rattle.ivy_calls.specs.Answers.{answers};
 ghost use Rattle.ivy_workers.specs.Stops.{IsStop};
 ghost use Rattle.ivy_own.specs.Owned.{IsOwned, IsNext, IsReady, IsAsked, MakesCalls, TurnsOwn, grown, last_reply_in};
@@ -54,6 +55,23 @@ fn last_reply<A: Allocator + Copy>(site: &Site<A>) -> Option<Reply>
     }
 }
 
+/// The owner of a site makes a call, and has its first turn [1, 17]. It gives the reply, where the call has it then.
+fn begin_once<S: Setup, A: Allocator + Copy>(
+    seated: &mut Seated<'_, S, A>,
+    call: Call,
+) -> Result<Option<Reply>, Fault>
+    requires free { IsFree seated.old.site.node.core.process }
+    requires idle { seated.old.site.node.core.memory.asked ≡ None }
+    requires width { HasWidth call }
+    requires makes { MakesCalls seated.old.site.node.core.process }
+    ensures ether { seated.new.ether ≡ seated.old.ether }
+    ensures done { MatchResult result (λ reply. TurnsOwn call reply seated.old.site seated.new.site) (λ _. seated.new ≡ seated.old) }
+    ensures stop { IfErr result IsStop }
+{
+    let came = seated.call(call)?;
+    Ok(came)
+}
+
 /// One turn of the program of a site with own code for this call [1, 17]. It gives the reply, where the call has it then.
 fn turn_once<S: Setup, A: Allocator + Copy>(
     seated: &mut Seated<'_, S, A>,
@@ -74,7 +92,24 @@ fn turn_once<S: Setup, A: Allocator + Copy>(
     Ok(last_reply(seated.site()))
 }
 
-/// The same, where both halves of the list of the node's answers know the reply.
+/// Both halves of the list of a node's answers know the reply to a call, where it has one.
+fn tell<J: Naming, A: Allocator + Copy>(
+    tie: &Tie<Answer, J, A>,
+    half: &mut Half<Answer, J>,
+    mine: &mut Half<Answer, J>,
+    call: Call,
+    came: Option<Reply>,
+)
+    requires mine { mine.old.number ≡ half.old.number }
+    ensures half { half.new ≡ grown call came half.old }
+    ensures mine { mine.new ≡ grown call came mine.old }
+{
+    if let Some(reply) = came {
+        tie.push(half, mine, &Answer { call, reply });
+    }
+}
+
+/// One turn for the call, after which both halves of the list of the node's answers know the reply.
 fn turn<S: Setup, J: Naming, A: Allocator + Copy>(
     seated: &mut Seated<'_, S, A>,
     half: &mut Half<Answer, J>,
@@ -91,11 +126,8 @@ fn turn<S: Setup, J: Naming, A: Allocator + Copy>(
     ensures stop { IfErr result IsStop }
 {
     let came = turn_once(seated, call)?;
-    let Some(reply) = came else {
-        return Ok(None);
-    };
-    tie.push(half, mine, &Answer { call, reply });
-    Ok(Some(reply))
+    tell(tie, half, mine, call, came);
+    Ok(came)
 }
 
 /// Whether the site is of node `me`, whose owner may make a call.
@@ -132,8 +164,9 @@ fn begin_at<S: Setup, J: Naming, A: Allocator + Copy>(
     if !is_ready(seated.site(), me) {
         return Err(Fault::TurnLimit);
     }
-    seated.hand(call)?;
-    turn(seated, half, tie, mine, call)
+    let came = begin_once(seated, call)?;
+    tell(tie, half, mine, call, came);
+    Ok(came)
 }
 
 /// One turn more for the call of node `me` that is in progress [1, 17, 21].
@@ -166,6 +199,8 @@ pub(crate) struct Owned<'e, S: Setup, H: Home, J: Naming, A: Allocator> {
     seated: Seated<'e, S, A>,
     half: Half<Answer, J>,
     of: PhantomData<H>,
+    /// Unused bytes: what each turn reads here lies on no line of the cache with the lock of the next place.
+    apart: [u64; 8],
 }
 
 impl<'e, S: Setup, H: Home, J: Naming, A: Allocator> Model for Owned<'e, S, H, J, A> {
@@ -191,6 +226,7 @@ impl<'e, S: Setup, H: Home, J: Naming, A: Allocator + Copy> Owned<'e, S, H, J, A
             seated,
             half,
             of: PhantomData,
+            apart: [0; 8],
         }
     }
 
@@ -214,6 +250,7 @@ impl<'e, S: Setup, H: Home, J: Naming, A: Allocator + Copy> Owned<'e, S, H, J, A
             seated,
             mut half,
             of: _,
+            apart: _,
         } = self;
         let mut mine = mine;
         if seated.site().me() != node {

@@ -163,6 +163,7 @@ impl Word {
     }
 
     /// Carries the word out on the bytes of its page.
+    #[inline(always)]
     pub fn carry_out(self, bytes: &mut [u8]) -> Out
         requires { IsWord (length bytes.old) self }
         ensures out { result ≡ (carried_out self bytes.old).out }
@@ -216,7 +217,12 @@ fn number_at(bytes: &[u8], width: u8, offset: u32) -> u64
     requires within { offset + width ≤ length bytes.now }
     ensures { result ≡ number_at width offset bytes.now }
 {
-    BigEndian::read_uint(&bytes[offset as usize..], usize::from(width))
+    let word = &bytes[offset as usize..];
+    // the width of most words, whose bytes are one load
+    if width == 8 {
+        return BigEndian::read_u64(word);
+    }
+    BigEndian::read_uint(word, usize::from(width))
 }
 
 fn overwrite(bytes: &mut [u8], width: u8, offset: u32, value: u64)
@@ -225,6 +231,11 @@ fn overwrite(bytes: &mut [u8], width: u8, offset: u32, value: u64)
     ensures { bytes.new ≡ overwrite bytes.old offset (big_bytes width value) }
 {
     let start = offset as usize;
+    // the width of most words, whose bytes are one store
+    if width == 8 {
+        bytes[start..start + 8].copy_from_slice(&value.to_be_bytes());
+        return;
+    }
     let width = usize::from(width);
     bytes[start..start + width].copy_from_slice(&value.to_be_bytes()[8 - width..]);
 }

@@ -1,4 +1,5 @@
 pub mod Widths
+pub mod Nexts
 pub mod Handing
 pub mod Running
 pub mod Places

@@ -19,23 +19,27 @@ pub data Step : Type 0 where
   Asks : Call → Step
   Ends : Step
 
+-- the access that an instruction makes to a word of the heap, if it makes one
+abbrev pub access_of : State → Instruction → Option Call
+access_of s (Load width to addr) = Some (call.Load (bytes_in width) (value_in s addr))
+access_of s (Store width addr from) =
+    Some (call.Store (bytes_in width) (value_in s addr) (value_in s from))
+access_of s (Swap width to addr from) =
+    Some (call.Swap (bytes_in width) (value_in s addr) (value_in s from))
+access_of s (Cas width to addr expected from) =
+    Some (call.Cas (bytes_in width) (value_in s addr) (value_in s expected) (value_in s from))
+access_of s (FetchAdd width to addr from) =
+    Some (call.FetchAdd (bytes_in width) (value_in s addr) (value_in s from))
+access_of s _ = None
+
 -- the call that an instruction makes, if it makes one
 abbrev pub call_of : State → Instruction → Option Call
-call_of s (Load width to addr) = Some (call.Load (bytes_in width) (value_in s addr))
-call_of s (Store width addr from) =
-    Some (call.Store (bytes_in width) (value_in s addr) (value_in s from))
-call_of s (Swap width to addr from) =
-    Some (call.Swap (bytes_in width) (value_in s addr) (value_in s from))
-call_of s (Cas width to addr expected from) =
-    Some (call.Cas (bytes_in width) (value_in s addr) (value_in s expected) (value_in s from))
-call_of s (FetchAdd width to addr from) =
-    Some (call.FetchAdd (bytes_in width) (value_in s addr) (value_in s from))
 call_of s (Count to count) = Some (call.Count (value_in s count))
 call_of s (Advance count) = Some (call.Advance (value_in s count))
 call_of s (Await to count least) = Some (call.Await (value_in s count) (value_in s least))
 call_of s (Alloc to size) = Some (call.Alloc (value_in s size))
 call_of s (Free addr) = Some (call.Free (value_in s addr))
-call_of s _ = None
+call_of s i = access_of s i
 
 -- what an instruction without a call writes: a register, or the output
 abbrev pub after_instruction : State → Instruction → State

@@ -30,7 +30,7 @@ impl Model for Caller {
 
 impl Caller {
     ghost use Rattle.ivy_program.specs.Calls.{NamesWidth};
-    ghost use Rattle.ivy_program.specs.Owned.{process_handed};
+    ghost use Rattle.ivy_program.specs.Owned.{AsksNext, process_handed};
     ghost use Rattle.ivy_program.specs.Programs.{Called, IsCalled};
     ghost use Rattle.ivy_program.specs.States.{first_state};
     ghost use Rattle.ivy_program.specs.Steps.{IsAsking, HasEnded, TellsStep, answered_with};
@@ -71,6 +71,15 @@ impl Caller {
     /// Whether each call has its reply.
     pub(crate) fn ended(&self) -> bool
         ensures { IsTrue result ↔ HasEnded self.now }
+    {
+        self.waiting.is_none()
+    }
+
+    /// Whether each call has its reply, so that the owner may make one.
+    #[tactic(auto, using(crate::proofs::Nexts::asks_next))]
+    pub(crate) fn is_free(&self) -> bool
+        ensures ended { IsTrue result ↔ HasEnded self.now }
+        ensures next { IsTrue result → AsksNext self.now }
     {
         self.waiting.is_none()
     }

@@ -25,6 +25,8 @@ pub struct Homed<'e, S: Setup, H: Home, A: Allocator> {
     /// The seated site.
     pub seated: Seated<'e, S, A>,
     of: PhantomData<H>,
+    /// Unused bytes: what each turn reads here lies on no line of the cache with the lock of the next place.
+    apart: [u64; 8],
     ghost home: { seated.ether ≡ H.ether },
 }
 
@@ -37,6 +39,7 @@ impl<'e, S: Setup, H: Home, A: Allocator> Homed<'e, S, H, A> {
         Homed {
             seated,
             of: PhantomData,
+            apart: [0; 8],
         }
     }
 
@@ -45,7 +48,11 @@ impl<'e, S: Setup, H: Home, A: Allocator> Homed<'e, S, H, A> {
         ensures same { result ≡ self.entry.seated }
         ensures home { result.ether ≡ H.ether }
     {
-        let Homed { seated, of: _ } = self;
+        let Homed {
+            seated,
+            of: _,
+            apart: _,
+        } = self;
         seated
     }
 }

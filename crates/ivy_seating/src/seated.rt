@@ -6,6 +6,7 @@ ghost use Rattle.ivy_moves.specs.Nodes.{pulsing, verdict_of};
 ghost use Rattle.ivy_model.specs.Legal.{HasWidth};
 ghost use Rattle.ivy_program.specs.Owned.{IsFree};
 ghost use Rattle.ivy_program.specs.Steps.{HasEnded};
+ghost use Rattle.ivy_site.specs.Calls.{BeginsCall};
 ghost use Rattle.ivy_site.specs.Handed.{site_handed};
 ghost use Rattle.ivy_ether.specs.Views.{with_handed};
 ghost use Rattle.ivy_site.specs.ivy_outbox.Outboxes.{next_dest};
@@ -16,7 +17,7 @@ ghost use Rattle.ivy_seating.specs.Wire.{AfterWire, Drains, RefusesString, IsPut
 
 use crate::wire_turn::WireTurn;
 use ivy_ether::{Ether, Item, Pass, Put, Setup, Wired};
-use ivy_model::{Call, Fault};
+use ivy_model::{Call, Fault, Reply};
 use ivy_moves::ivy_link::Verdict;
 use ivy_site::{Site, Turn};
 use ivy_wire::{Bytes, destination};
@@ -151,6 +152,22 @@ impl<'e, S: Setup, A: Allocator + Copy> Seated<'e, S, A> {
         self.site.hand(call)?;
         self.ether.hand(&mut self.pass, call);
         Ok(())
+    }
+
+    /// The node's owner makes a call, and its first turn [1, 17, 18]. It gives the reply, where that is there then; else
+    /// later turns ask for it. A refused call was not made, and changes nothing. Err 18 exactly where a call before has no
+    /// reply, or the program is no own code.
+    pub fn call(&mut self, call: Call) -> Result<Option<Reply>, Fault>
+        requires width { HasWidth call }
+        ensures ether { self.new.ether ≡ self.old.ether }
+        ensures done { MatchResult result (λ reply. BeginsCall call reply self.old.site self.new.site) (λ _. self.new ≡ self.old) }
+        ensures pass { OnOk result (self.new.pass.known ≡ with_handed self.old.pass.known call) }
+        ensures busy { (IsFree self.old.site.node.core.process → ⊥) → result ≡ Err Fault.Busy }
+        ensures want { IsFree self.old.site.node.core.process → IfErr result IsWant }
+    {
+        let reply = self.site.call(call)?;
+        self.ether.hand(&mut self.pass, call);
+        Ok(reply)
     }
 
     /// One turn of the site's program [1, 17]. A refused turn changes nothing.

@@ -1,5 +1,5 @@
 -- A call of the program that begins, or is asked for its reply, as the code has it.
-use Rattle.std.proofs.Common.{◌≡◌, ℕ, ◌+◌, ◌<◌, ◌≤◌, ◌^◌, ◌⊎◌, inl, inr, Bool, true, false, List, [], ◌∷◌}
+use Rattle.std.proofs.Common.{◌≡◌, ◌≢◌, ℕ, ◌+◌, ◌<◌, ◌≤◌, ◌^◌, ◌⊎◌, inl, inr, Bool, true, false, List, [], ◌∷◌}
 use Rattle.std.proofs.Common.{◌++◌, length, Option, Some, None, Result, Ok, Err, OnErr, refl, sym}
 use Rattle.std.proofs.Common.{ap, ◌∙◌, subst, arith, if◌then◌else◌}
 use Rattle.std.proofs.lemmas.Bool.{lt-ltb}
@@ -96,6 +96,12 @@ pub unposted : {B C D : Type 0} {box new : Outbox} → (B × C × (new ≡ box))
     → new ≡ box
 unposted (inl grows) = grows.2
 unposted (inr refuses) = refuses.1
+
+-- what is not Unserved is served
+pub serves : (answer : Answer) → answer ≢ Unserved → is_served answer ≡ true
+serves (Given r) not = refl
+serves Awaited not = refl
+serves Unserved not = absurd (not refl)
 
 -- few strings are added
 pub called_few : (box after : Outbox) (posted : List Parcel) → length posted ≤ most_posted

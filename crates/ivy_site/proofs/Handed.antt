@@ -1,5 +1,5 @@
 -- What holds of a site holds where its owner makes further calls.
-use Rattle.std.proofs.Common.{◌≡◌, List, Contains, sym, ap, subst}
+use Rattle.std.proofs.Common.{◌≡◌, ◌∙◌, List, Option, Some, None, Contains, refl, sym, ap, subst}
 use Rattle.ivy_model.specs.declared.Call.{Call}
 use Rattle.ivy_host.specs.Handing.{handing}
 use Rattle.ivy_host.specs.Hosts.{host_rules}
@@ -9,7 +9,7 @@ use Rattle.ivy_host.proofs.Handed.{unseen}
 use Rattle.ivy_moves.specs.Carrying.{EventsCarryOver, node_changed, effect_changed}
 use Rattle.ivy_moves.proofs.Unseen.{events-over}
 use Rattle.ivy_program.specs.Owned.{IsFree, process_handed}
-use Rattle.ivy_program.specs.Steps.{Process}
+use Rattle.ivy_program.specs.Steps.{Process, Asks, Ends, HasEnded, step_of}
 use Rattle.ivy_site.specs.Inside.{host_of}
 use Rattle.ivy_site.specs.Shown.{Shown, box_of, shown_of}
 use Rattle.ivy_site.specs.Handed.{site_handed}
@@ -58,6 +58,17 @@ handed_site more s h free = record {
   made = handed_made more s h.made;
   held = handed_held more s h.made h.held;
 }
+
+idle_by : (p : Process) (asked : Option Call)
+    → ((call : Call) → asked ≡ Some call → step_of p ≡ Asks call) → HasEnded p → asked ≡ None
+idle_by p None asking ended = refl
+idle_by p (Some call) asking ended =
+    (let apart : Asks call ≡ Ends = sym (asking call refl) ∙ ended in absurd cc)
+
+-- a site that is free has no call in progress
+pub free_idle : (s : Shown) → IsSite s → IsFree s.node.core.process
+    → s.node.core.memory.asked ≡ None
+free_idle s h free = idle_by s.node.core.process s.node.core.memory.asked h.asking free.ended
 
 -- the site with this program, which has come this far
 abbrev with_process : Shown → Process → Shown

@@ -1,5 +1,5 @@
 -- What the calls inside a site do, of which its own calls are made.
-use Rattle.std.specs.Prelude.{◌≡◌, ◌≢◌, ℕ, List, [], ◌∷◌, ◌++◌, MatchOption, Bool, true, false, Option, Some, None, Contains}
+use Rattle.std.specs.Prelude.{◌≡◌, ◌≢◌, ℕ, List, MatchOption, Bool, true, false, Option, Some, None, Contains}
 use Rattle.ivy_model.specs.declared.Call.{Call}
 use Rattle.ivy_model.specs.declared.Fault.{Fault}
 use Rattle.ivy_model.specs.declared.Fault.TheVariants.{NumbersSpent}
@@ -18,6 +18,7 @@ use Rattle.ivy_host.specs.ivy_memory.Memories as memories
 use Rattle.ivy_outbox.specs.Outboxes.{Outbox, HasNumbers, posted_by}
 use Rattle.ivy_host.specs.Hosts.{Host, turn_of}
 use Rattle.ivy_moves.specs.ivy_link.Holding.{ready_of}
+use Rattle.ivy_site.specs.Calls.{reply_in, recorded_by}
 use Rattle.ivy_site.specs.Shown.{Shown, holding_at}
 use Rattle.ivy_site.specs.Sites.{early_at, SiteDelivers, holding_in, GoesOnOnce}
 
@@ -72,8 +73,7 @@ is_served answer = true
 
 -- the history with a record of the reply, where one was given
 abbrev pub kept_by : List Record → ℕ → Call → Answer → List Record
-kept_by history node k (Given r) = history ++ record { node = node; call = k; reply = r } ∷ []
-kept_by history node k answer = history
+kept_by history node k answer = recorded_by history node k (reply_in answer)
 
 -- the process goes on with the reply, where one was given
 abbrev pub told_by : Process → Answer → Process

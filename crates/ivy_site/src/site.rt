@@ -4,7 +4,7 @@ ghost use Rattle.std.specs.Prelude.{IsTrue, IsSome, IfOk, IfErr, OnOk, OnErr, If
 ghost use Rattle.ivy_model.specs.Config.{IsConfig};
 ghost use Rattle.ivy_model.specs.Wants.{IsWant};
 ghost use Rattle.ivy_wire.specs.Faults.{checked};
-ghost use Rattle.ivy_program.specs.Owned.{IsFree};
+ghost use Rattle.ivy_program.specs.Owned.{AsksNext, IsFree, process_handed};
 ghost use Rattle.ivy_program.specs.Programs.{Called};
 ghost use Rattle.ivy_program.specs.States.{first_state};
 ghost use Rattle.ivy_program.specs.Steps.{HasEnded, Asks, step_of};
@@ -14,6 +14,7 @@ ghost use Rattle.ivy_moves.specs.ivy_link.Limits.{most_ahead};
 ghost use Rattle.ivy_moves.specs.ivy_link.Linked.{peer_at};
 ghost use Rattle.ivy_moves.specs.ivy_link.Holding.{ready_of};
 ghost use Rattle.ivy_outbox.specs.Outboxes.{next_dest};
+ghost use Rattle.ivy_site.specs.Calls.{BeginsCall, recorded_by, reply_in};
 ghost use Rattle.ivy_site.specs.Handed.{site_handed};
 ghost use Rattle.ivy_site.specs.Shown.{holding_at, after_pulse_to};
 ghost use Rattle.ivy_site.specs.Sites.{most_sent, most_delivered, first_shown, first_keeping, AfterTurn, AfterDelivery};
@@ -79,8 +80,19 @@ fn if_ahead<A: Allocator + Copy>(
     Ok(None)
 }
 
+/// The reply that an answer gives, if it gives one.
+fn reply_in(answer: Answer) -> Option<Reply>
+    ensures { result ≡ reply_in answer }
+{
+    match answer {
+        Answer::Given(reply) => Some(reply),
+        Answer::Awaited | Answer::Unserved => None,
+    }
+}
+
 /// Where a call was answered its reply is recorded, and the program goes on with it. It says whether the call
 /// was answered, or is in progress from now on.
+#[inline(always)]
 fn keep<A: Allocator + Copy>(
     history: &mut History<A>,
     machine: &mut Machine<A>,
@@ -97,8 +109,8 @@ fn keep<A: Allocator + Copy>(
 {
     match answer {
         Answer::Given(reply) => {
-            history.push(Record { node, call, reply });
             machine.answer(reply);
+            history.push(Record { node, call, reply });
             true
         }
         Answer::Awaited => true,
@@ -132,6 +144,38 @@ fn begin<A: Allocator + Copy>(
     let answer = memory.begin(call, number, outbox)?;
     let _ = keep(history, machine, outbox.me(), call, answer);
     Ok(())
+}
+
+/// Own code makes a call, which begins: it is answered at once, or in progress from now on [1, 17]. It gives the reply,
+/// where that is there. A refused one changes nothing.
+#[inline(always)]
+fn make<A: Allocator + Copy>(
+    memory: &mut Memory<NodeManager<A>, A>,
+    outbox: &mut Outbox<A>,
+    machine: &mut Machine<A>,
+    history: &mut History<A>,
+    call: Call,
+) -> Result<Option<Reply>, Fault>
+    requires room { IsTrue history.old.has_room }
+    requires idle { memory.old.asked ≡ None }
+    requires free { IsFree machine.old }
+    requires next { AsksNext machine.old }
+    requires width { HasWidth call }
+    requires config { outbox.old.config ≡ memory.old.coherence.config }
+    requires me { outbox.old.me ≡ memory.old.coherence.me }
+    ensures ok { OnOk result (HasTurn (host_of memory.old (process_handed (call ∷ []) machine.old) history.old.records) outbox.old (host_of memory.new machine.new history.new.records) outbox.new) }
+    ensures recorded { IfOk result (λ reply. history.new.records ≡ recorded_by history.old.records memory.old.coherence.me call reply) }
+    ensures err { OnErr result ((memory.new ≡ memory.old) × (outbox.new ≡ outbox.old) × (machine.new ≡ machine.old) × (history.new.records ≡ history.old.records)) }
+    ensures kept { history.new.kept ≡ history.old.kept }
+    ensures few { OnOk result (length outbox.new.waiting ≤ length outbox.old.waiting + most_posted) }
+    ensures spent { IfErr result (HasNoNumbers (host_of memory.old (process_handed (call ∷ []) machine.old) history.old.records) outbox.old) }
+    ensures want { IfErr result IsWant }
+{
+    let number = history.next_number();
+    let begun = memory.begin(call, number, outbox)?;
+    machine.hand(call);
+    let _ = keep(history, machine, outbox.me(), call, begun);
+    Ok(reply_in(begun))
 }
 
 /// The call in progress is asked for its reply [1, 17]. It says whether anything changed: the reply is recorded, or
@@ -261,6 +305,36 @@ impl<A: Allocator + Copy> Site<A> {
     {
         self.machine.hand(call);
         Ok(())
+    }
+
+    /// Own code makes a call, and has a turn, in which it begins [1, 17, 18]. It gives the reply, where that is there then;
+    /// else later turns ask for it. A width is 1, 2, 4 or 8. A refused call was not made, and changes nothing.
+    ///
+    /// It is [`Site::hand`] and [`Site::program_turn`] in one. Err 18 exactly where a call before has no reply, or the
+    /// node's program is no own code.
+    pub fn call(&mut self, call: Call) -> Result<Option<Reply>, Fault>
+        requires width { HasWidth call }
+        ensures same { IsSameNode self.old self.new }
+        ensures done { MatchResult result (λ reply. BeginsCall call reply self.old self.new) (λ _. self.new ≡ self.old) }
+        ensures busy { (IsFree self.old.node.core.process → ⊥) → result ≡ Err Fault.Busy }
+        ensures want { IsFree self.old.node.core.process → IfErr result IsWant }
+        ensures few { length self.new.waiting ≤ length self.old.waiting + most_sent }
+        ensures spent { IfErr result (IsSpentTurn (site_handed (call ∷ []) self.old)) }
+    {
+        if !self.machine.is_free() {
+            return Err(Fault::Busy);
+        }
+        self.history.reserve()?;
+        self.events.reserve()?;
+        let reply = make(
+            &mut self.memory,
+            &mut self.outbox,
+            &mut self.machine,
+            &mut self.history,
+            call,
+        )?;
+        self.events.push_turn();
+        Ok(reply)
     }
 
     /// What the program was answered so far, in order, where the site keeps that; else nothing. It takes no memory.

@@ -10,5 +10,6 @@ mod forged;
 mod growths_of_sites;
 mod growths_of_strings;
 mod keeping;
+mod own_code;
 mod site_alone;
 mod steps;

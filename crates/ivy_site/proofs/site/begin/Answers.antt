@@ -1,17 +1,9 @@
-use Rattle.std.proofs.Common.{rules, ◌≡◌, ◌≢◌, ◌<◌, ◌^◌, true, refl, subst, sym, ◌∙◌}
-use Rattle.ivy_host.specs.ivy_heap.declared.Answer.{Answer}
-use Rattle.ivy_host.specs.ivy_heap.declared.Answer.TheVariants.{Given, Awaited, Unserved}
+use Rattle.std.proofs.Common.{rules, ◌<◌, ◌^◌, refl, subst, sym, ◌∙◌}
 use Rattle.ivy_host.proofs.of_ivy_memory.Beginning.{err_there}
-use Rattle.ivy_site.specs.Inside.{host_of, is_served}
-use Rattle.ivy_site.proofs.Calling.{begin_call, cannot_begin, called, called_few, on_err, unposted}
+use Rattle.ivy_site.specs.Inside.{host_of}
+use Rattle.ivy_site.proofs.Calling.{begin_call, cannot_begin, called, called_few, on_err, serves, unposted}
 use Rattle.ivy_site.proofs.Turned.{has_turned}
 use Rattle.ivy_site.proofs.site.begin.Goals as goal
-
--- what is not Unserved is served
-serves : (answer : Answer) → answer ≢ Unserved → is_served answer ≡ true
-serves (Given r) not = refl
-serves Awaited not = refl
-serves Unserved not = absurd (not refl)
 
 pub returns-in_err-answer-clause-err : goal.returns-in_err-answer-clause-err
 returns-in_err-answer-clause-err g c =

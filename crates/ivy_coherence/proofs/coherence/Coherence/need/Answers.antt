@@ -1,6 +1,6 @@
 use Rattle.std.proofs.Common.{◌≡◌, false, sym, ◌∙◌, is_some}
 use Rattle.ivy_coherence.specs.Faults.{suffices}
-use Rattle.ivy_coherence.proofs.Opened.{asks, hit_sound, fault_sound, none_of}
+use Rattle.ivy_coherence.proofs.Opened.{asks, hit_sound, none_of}
 use Rattle.ivy_coherence.proofs.coherence.Coherence.need.Goals as goal
 
 pub invariant_of-self : goal.invariant_of-self
@@ -10,21 +10,8 @@ invariant_of-self g c = (
   c.self.invariant.1,
 )
 
-pub invariant_of-self-in-Idle-1 : goal.invariant_of-self-in-Idle-1
-invariant_of-self-in-Idle-1 g c =
-    let short : suffices c.in-Idle.idle.access c.args.word ≡ false =
-    rw c.access.ensures.access at (sym c.suffices.ensures ∙ c.if-suffices.false) in
-    let free : is_some c.self.inside.locked ≡ false = cc in (
-      fault_sound g.met.M.Manager.laws _ _ c.self.view_is c.self.invariant.0 c.args.page c.args.word
-          c.args.call c.in-Idle.idle _ _ c.requires.page c.requires.word c.requires.call
-          c.ranges.call.fits
-          (sym c.entry.ensures ∙ c.in-Idle.is) short (none_of c.self.inside.locked free)
-          c.in_ok-entry-in-Idle.ensures.entry c.set_entry.ensures,
-      c.self.invariant.1,
-    )
-
-pub returns-in_err-entry-in-Idle-clause-sure : goal.returns-in_err-entry-in-Idle-clause-sure
-returns-in_err-entry-in-Idle-clause-sure g c =
+pub returns-in_err-start-in-Idle-clause-sure : goal.returns-in_err-start-in-Idle-clause-sure
+returns-in_err-start-in-Idle-clause-sure g c =
     let short : suffices c.in-Idle.idle.access c.args.word ≡ false =
     rw c.access.ensures.access at (sym c.suffices.ensures ∙ c.if-suffices.false) in
     let free : is_some c.self.inside.locked ≡ false = cc in
