@@ -121,14 +121,13 @@ lines_of() {
 # A crate with fewer is lemmas alone, or little else.
 few_lines=120
 
-# How many jobs the check of a crate may have, at most so many, and one at least. Each job begins with all that lies
-# below, so where there is little code four jobs take twice the processor time of one, and no less by the clock.
+# How many jobs the check of a crate may have, at most so many. Each job begins with all that lies below, so
+# where there is little code four jobs take twice the processor time of one, and no less by the clock.
 jobs_of() {
-    local most=${2:-$jobs}
-    if (($(lines_of "$1") < few_lines || most < 1)); then
+    if (($(lines_of "$1") < few_lines)); then
         echo 1
     else
-        echo "$most"
+        echo "${2:-$jobs}"
     fi
 }
 
@@ -234,11 +233,11 @@ prove() {
     done
 }
 
-# Starts what can begin, the longest way first. The crate on the longest way of those that are not proved has the
-# jobs that others leave, and each other one has one: four jobs take 1.6 to 2.3 times as much of the processors as
-# one. There is always a place for that crate. One far from it takes what time the others leave.
+# Starts what can begin, the longest way first. The crate on the longest way of those that are not proved may
+# have all jobs, and one near it half of them: more end sooner, but take more of the processors. There is
+# always a place for both. One far from it has one job, and takes what time the others leave.
 start_ready() {
-    local crate it first= ready=()
+    local crate it first=
     for crate in "${left[@]}"; do
         [[ ${open[$crate]-} ]] || continue
         first=${first:-$crate}
@@ -246,13 +245,10 @@ start_ready() {
         for it in ${below[$crate]}; do
             [[ -z ${open[$it]-} ]] || continue 2
         done
-        ready+=("$crate")
-    done
-    for crate in "${ready[@]}"; do
         if [[ $crate == "$first" ]]; then
-            start "$crate" "$(jobs_of "$crate" $((jobs - ${#running[@]} - ${#ready[@]} + 1)))" 0
+            start "$crate" "$(jobs_of "$crate")" 0
         elif ((way[$crate] * 4 >= way[$first] * 3)); then
-            ((${#running[@]} >= places)) || start "$crate" 1 0
+            ((${#running[@]} >= places)) || start "$crate" "$(jobs_of "$crate" $(((jobs + 1) / 2)))" 0
         else
             ((${#running[@]} > 0 && ${#running[@]} >= places - 1)) || start "$crate" 1 5
         fi
