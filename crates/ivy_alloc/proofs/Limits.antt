@@ -17,8 +17,8 @@ pub heap_small : (c : Config) → IsConfig c → heap_end c < 2 ^ 32
 heap_small c h =
     let words = page_has_words c.page_size h.page_size in
     let most = words.most in
-    let top : c.pages * c.page_size ≤ 256 * 4096 =
-    mul-le c.pages c.page_size 256 4096 h.pages_to most in
+    let top : c.pages * c.page_size ≤ 65536 * 4096 =
+    mul-le c.pages c.page_size 65536 4096 h.pages_to most in
     omega arith
 
 heap_not_empty : (c : Config) → IsConfig c → c.page_size < heap_end c

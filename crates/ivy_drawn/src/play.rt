@@ -97,7 +97,7 @@ where
 ///
 /// One legal order of records explains what all nodes were answered, and each work that has ended has done what it says,
 /// with exactly its node's part of that order as what it was answered. It is 2 exactly where the configuration is out of
-/// its limits, and 19 only where a move that the source gives names a node or a string that is not there.
+/// the wide limits, and 19 only where a move that the source gives names a node or a string that is not there.
 pub fn play_with<A, R, M, W>(
     rt: &R,
     alloc: A,

@@ -10,8 +10,13 @@ most_nodes = 32
 abbrev pub least_pages : ℕ
 least_pages = 2
 
+-- of a narrow configuration
 abbrev pub most_pages : ℕ
 most_pages = 256
+
+-- of any configuration
+abbrev pub most_wide_pages : ℕ
+most_wide_pages = 65536
 
 -- the powers of two from 64 to 4,096
 abbrev pub page_sizes : List ℕ

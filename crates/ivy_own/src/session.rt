@@ -233,7 +233,8 @@ where
 /// [1, 2, 17, 21]. The report has what each gave.
 ///
 /// By its own answers, which are its part of an order that one flat memory makes, each node has done what the work says.
-/// Where the work of a node gives up the session ends, and the fault names that node and its fault.
+/// Where the work of a node gives up the session ends, and the fault names that node and its fault. It is 2 exactly where
+/// the configuration is out of the wide limits, or a limit of the run is out of its bounds.
 pub fn run_with<A, R, G, W>(
     rt: &R,
     alloc: A,
@@ -275,7 +276,7 @@ where
     ensures keep { IfOk result (λ report. AllKeep keep report.nodes) }
     ensures fault { IfErr result (IsOwnFault config.nodes) }
 {
-    if config.check().is_err() || !limits.are_fair() {
+    if config.check_wide().is_err() || !limits.are_fair() {
         return Err(OwnFault::Session(Fault::BadConfig));
     }
     play::<Brand, A, R, G, W>(rt, alloc, &config, work, limits, gate, keep)

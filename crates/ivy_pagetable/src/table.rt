@@ -167,6 +167,7 @@ impl<A: Allocator> PageTable<A> {
     }
 
     /// Carries a word out on the page.
+    #[inline(always)]
     pub fn carry_out(&mut self, page: u32, word: Word) -> Out
         requires page { page < length self.old.entries }
         requires word { IsWord self.old.page_size word }

@@ -1,6 +1,6 @@
 //! Sessions.
 ghost use Rattle.std.specs.Prelude.{◌≡◌, ◌↔◌, ◌<◌, ◌+◌, All, IsErrOf, IfOk, IfErr, length, vec_len};
-ghost use Rattle.ivy_model.specs.Config.{IsConfig};
+ghost use Rattle.ivy_model.specs.Config.{IsConfig, IsNarrow};
 ghost use Rattle.ivy_seating.specs.ivy_ether.Views.{beginner};
 ghost use Rattle.ivy_seating.specs.ivy_ether.Words.{AreFresh, room_of};
 ghost use Rattle.ivy_workers.specs.Stops.{IsStop};
@@ -140,6 +140,9 @@ pub fn are_written<A: Allocator + Copy>(programs: &[Program<A>])
 
 impl Session {
     /// Runs the programs, one for each node, until all have ended [1, 2, 17, 21]. The report has all histories and events.
+    ///
+    /// It is 2 exactly where the configuration is out of the narrow limits, there are not as many programs as nodes, or a
+    /// limit of the run is out of its bounds.
     pub fn run<A, R, G>(
         rt: &R,
         alloc: A,
@@ -153,7 +156,7 @@ impl Session {
         R: Threads + Wait + Sync,
         G: Gate,
         ensures report { IfOk result (λ report. IsReport config programs.items report) }
-        ensures bad { IsErrOf result Fault.BadConfig ↔ ¬ (IsConfig config × (length programs.items ≡ config.nodes) × AreLimits limits) }
+        ensures bad { IsErrOf result Fault.BadConfig ↔ ¬ (IsNarrow config × (length programs.items ≡ config.nodes) × AreLimits limits) }
         ensures keep { IfOk result (AllKeep Keep.All) }
         ensures fault { IfErr result IsSessionFault }
     {
@@ -177,11 +180,37 @@ impl Session {
         R: Threads + Wait + Sync,
         G: Gate,
         ensures report { IfOk result (λ report. IsReport config programs.items report) }
-        ensures bad { IsErrOf result Fault.BadConfig ↔ ¬ (IsConfig config × (length programs.items ≡ config.nodes) × AreLimits limits) }
+        ensures bad { IsErrOf result Fault.BadConfig ↔ ¬ (IsNarrow config × (length programs.items ≡ config.nodes) × AreLimits limits) }
         ensures keep { IfOk result (AllKeep keep) }
         ensures fault { IfErr result IsSessionFault }
     {
         config.check()?;
+        Session::run_wide(rt, alloc, config, programs, limits, gate, keep)
+    }
+
+    /// The same as [`Session::run_keeping`], with up to 65,536 pages [1, 2, 17, 21].
+    ///
+    /// It is 2 exactly where the configuration is out of the wide limits, there are not as many programs as nodes, or a
+    /// limit of the run is out of its bounds.
+    pub fn run_wide<A, R, G>(
+        rt: &R,
+        alloc: A,
+        config: Config,
+        programs: Vec<Program<A>, A>,
+        limits: Limits,
+        gate: &G,
+        keep: Keep,
+    ) -> Result<Report<A>, Fault>
+    where
+        A: Allocator + Copy + Send + Sync,
+        R: Threads + Wait + Sync,
+        G: Gate,
+        ensures report { IfOk result (λ report. IsReport config programs.items report) }
+        ensures bad { IsErrOf result Fault.BadConfig ↔ ¬ (IsConfig config × (length programs.items ≡ config.nodes) × AreLimits limits) }
+        ensures keep { IfOk result (AllKeep keep) }
+        ensures fault { IfErr result IsSessionFault }
+    {
+        config.check_wide()?;
         if programs.len() != usize::from(config.nodes) || !limits.are_fair() {
             return Err(Fault::BadConfig);
         }

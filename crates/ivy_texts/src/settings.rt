@@ -1,6 +1,6 @@
 //! The configuration that a command line asks for.
 ghost use Rattle.std.specs.Prelude.{◌≡◌, IfOk, IsOk, IsOkUnless};
-ghost use Rattle.ivy_model.specs.Config.{IsConfig};
+ghost use Rattle.ivy_model.specs.Config.{IsConfig, IsNarrow};
 
 use ivy_model::{Config, Fault, Kind};
 
@@ -16,11 +16,12 @@ pub struct Settings {
 }
 
 impl Settings {
-    /// The configuration of so many nodes. 2 where it is out of its limits.
+    /// The configuration of so many nodes. 2 exactly where it is out of the narrow limits.
     pub fn config(&self, nodes: usize) -> Result<Config, Fault>
         ensures limits { IfOk result IsConfig }
+        ensures narrow { IfOk result IsNarrow }
         ensures shown { IfOk result (λ c. c ≡ record { nodes = nodes; pages = self.now.pages; page_size = self.now.page_size; manager = self.now.manager }) }
-        ensures accepted { IsConfig (record { nodes = nodes; pages = self.now.pages; page_size = self.now.page_size; manager = self.now.manager }) → IsOk result }
+        ensures accepted { IsNarrow (record { nodes = nodes; pages = self.now.pages; page_size = self.now.page_size; manager = self.now.manager }) → IsOk result }
         ensures refused { IsOkUnless result Fault.BadConfig }
     {
         let config = Config {

@@ -1,6 +1,6 @@
 //! Watched sessions.
 ghost use Rattle.std.specs.Prelude.{◌≡◌, ◌↔◌, ◌<◌, ◌+◌, All, IsErrOf, IfOk, IfErr, OnOk, length, vec_len};
-ghost use Rattle.ivy_model.specs.Config.{IsConfig};
+ghost use Rattle.ivy_model.specs.Config.{IsConfig, IsNarrow};
 ghost use Rattle.ivy_program.specs.Programs.{IsWritten};
 ghost use Rattle.ivy_session.specs.Faults.{IsSessionFault};
 ghost use Rattle.ivy_workers.specs.Limits.{AreLimits};
@@ -171,7 +171,7 @@ where
     R: Threads + Wait + Sync,
     W: Watch,
     ensures report { IfOk result (λ r. IsReportSoFar config programs.items r.0) }
-    ensures bad { IsErrOf result Fault.BadConfig ↔ ¬ (IsConfig config × (length programs.items ≡ config.nodes) × AreLimits limits) }
+    ensures bad { IsErrOf result Fault.BadConfig ↔ ¬ (IsNarrow config × (length programs.items ≡ config.nodes) × AreLimits limits) }
     ensures keep { IfOk result (λ r. AllKeepSoFar keep r.0) }
     ensures still { IfOk result (λ r. r.1 ≡ End.Standstill → AreUnblockedSoFar config r.0) }
     ensures fault { IfErr result IsSessionFault }

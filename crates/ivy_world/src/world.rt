@@ -1,6 +1,6 @@
 //! All nodes, and every string ever sent between them.
 ghost use Rattle.std.specs.Prelude.{◌≡◌, ◌+◌, ◌<◌, ◌≤◌, ◌↔◌, ◌++◌, ◌∷◌, [], true, false, Some, Ok, length, slice_get, slice_set, vec_len, vec_capacity, IsTrue, IfOk, IfErr, IfNone, IfSome, OnOk, OnErr, IsErrOf, IsOkUnless};
-ghost use Rattle.ivy_model.specs.Config.{IsConfig};
+ghost use Rattle.ivy_model.specs.Config.{IsConfig, IsNarrow};
 ghost use Rattle.ivy_model.specs.Legal.{HasWidth};
 ghost use Rattle.ivy_program.specs.Owned.{IsFree};
 ghost use Rattle.ivy_program.specs.Steps.{HasEnded};
@@ -192,13 +192,25 @@ fn open_sites<A: Allocator + Copy>(alloc: A, config: &Config) -> Result<Vec<Site
 impl<A: Allocator + Copy> World<A> {
     /// The opening world of these programs, one for each node [1, 2].
     ///
-    /// It is 2 exactly where the configuration is out of its limits, or there are not as many programs as nodes.
+    /// It is 2 exactly where the configuration is out of the narrow limits, or there are not as many programs as nodes.
     pub fn new(alloc: A, config: Config, programs: Vec<Program<A>, A>) -> Result<World<A>, Fault>
+        ensures opens { IfOk result (λ world. world ≡ record { config = config; programs = programs.items; world = opening managed_ops config programs.items }) }
+        ensures bad { IsErrOf result Fault.BadConfig ↔ ¬ (IsNarrow config × (length programs.items ≡ config.nodes)) }
+        ensures want { IfErr result IsWorldWant }
+    {
+        config.check()?;
+        World::wide(alloc, config, programs)
+    }
+
+    /// The same, of up to 65,536 pages [1, 2].
+    ///
+    /// It is 2 exactly where the configuration is out of the wide limits, or there are not as many programs as nodes.
+    pub fn wide(alloc: A, config: Config, programs: Vec<Program<A>, A>) -> Result<World<A>, Fault>
         ensures opens { IfOk result (λ world. world ≡ record { config = config; programs = programs.items; world = opening managed_ops config programs.items }) }
         ensures bad { IsErrOf result Fault.BadConfig ↔ ¬ (IsConfig config × (length programs.items ≡ config.nodes)) }
         ensures want { IfErr result IsWorldWant }
     {
-        config.check()?;
+        config.check_wide()?;
         if programs.len() != usize::from(config.nodes) {
             return Err(Fault::BadConfig);
         }
@@ -213,13 +225,13 @@ impl<A: Allocator + Copy> World<A> {
 
     /// The opening world of own code alone, at each node of the configuration [1, 2].
     ///
-    /// It is 2 exactly where the configuration is out of its limits.
+    /// It is 2 exactly where the configuration is out of the wide limits.
     pub fn open(alloc: A, config: Config) -> Result<World<A>, Fault>
         ensures opens { IfOk result (λ world. world ≡ record { config = config; programs = own_code config.nodes; world = opening managed_ops config (own_code config.nodes) }) }
         ensures bad { IsErrOf result Fault.BadConfig ↔ ¬ IsConfig config }
         ensures want { IfErr result IsWorldWant }
     {
-        config.check()?;
+        config.check_wide()?;
         let sites = open_sites(alloc, &config)?;
         Ok(World {
             config,

@@ -108,6 +108,24 @@ fn limits(rt: HostRuntime) {
     expect_checked(&rt, &refused, Err(Fault::BadConfig));
 }
 
+#[test]
+fn wide_limits(rt: HostRuntime) {
+    let with_pages = |pages| Config { pages, ..SMALL };
+    for pages in [2, 256, 257, 65_536] {
+        expect_same(&rt, with_pages(pages).check_wide(), Ok(()));
+    }
+    for pages in [0, 1, 65_537, u32::MAX] {
+        expect_same(&rt, with_pages(pages).check_wide(), Err(Fault::BadConfig));
+    }
+    let nodes = Config { nodes: 33, ..SMALL };
+    expect_same(&rt, nodes.check_wide(), Err(Fault::BadConfig));
+    let page_size = Config {
+        page_size: 96,
+        ..SMALL
+    };
+    expect_same(&rt, page_size.check_wide(), Err(Fault::BadConfig));
+}
+
 /// That the memory, once it has given the answer before, answers a call right by the first reply and
 /// wrong by the second.
 fn expect_answer(

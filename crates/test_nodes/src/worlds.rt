@@ -119,3 +119,4 @@ mod settling;
 mod stores;
 mod swaps;
 mod thirty_two_nodes;
+mod wide;

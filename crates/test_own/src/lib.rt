@@ -10,3 +10,5 @@ mod library;
 mod programs;
 #[cfg(test)]
 mod refusals;
+#[cfg(test)]
+mod wide;

@@ -88,4 +88,5 @@ mod keeping;
 mod pulses;
 mod replays;
 mod rows;
+mod wide;
 mod wire_turns;

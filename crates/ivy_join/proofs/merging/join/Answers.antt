@@ -8,7 +8,7 @@ use Rattle.ivy_join.proofs.merging.join.Goals as goal
 
 pub play-requires-clause-played : goal.play-requires-clause-played
 play-requires-clause-played g c =
-    let limits : IsConfig c.args.config = c.in_ok-check.ensures.accepted.0 (search rules) in
+    let limits : IsConfig c.args.config = (c.in_ok-check.ensures.accepted.0 (search rules)).limits in
     let each : length c.args.programs.items ≡ c.args.config.nodes = search rules in
     subst (ArePlayed c.args.config c.in_ok-sites.sites.items) (sym c.new-sent.ensures)
     (first-played c.args.config c.args.programs.items c.in_ok-sites.sites.items limits each
@@ -16,7 +16,7 @@ play-requires-clause-played g c =
 
 pub play-requires-clause-logs : goal.play-requires-clause-logs
 play-requires-clause-logs g c =
-    let limits : IsConfig c.args.config = c.in_ok-check.ensures.accepted.0 (search rules) in
+    let limits : IsConfig c.args.config = (c.in_ok-check.ensures.accepted.0 (search rules)).limits in
     let each : length c.args.programs.items ≡ c.args.config.nodes = search rules in
     c.in_ok-check_heads.ensures.count
     ∙ sym (first-played c.args.config c.args.programs.items c.in_ok-sites.sites.items limits each
@@ -27,7 +27,7 @@ returns-clause-heads g c = c.in_ok-check_heads.ensures.each
 
 pub returns-clause-joined : goal.returns-clause-joined
 returns-clause-joined g c =
-    let limits : IsConfig c.args.config = c.in_ok-check.ensures.accepted.0 (search rules) in
+    let limits : IsConfig c.args.config = (c.in_ok-check.ensures.accepted.0 (search rules)).limits in
     let each : length c.args.programs.items ≡ c.args.config.nodes = search rules in
     let first = c.in_ok-sites.ensures.first in
     let began = first-played c.args.config c.args.programs.items c.in_ok-sites.sites.items limits each first in

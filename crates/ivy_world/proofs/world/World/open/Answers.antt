@@ -10,7 +10,7 @@ use Rattle.ivy_world.proofs.world.World.open.Goals as goal
 
 pub invariant_of-result : goal.invariant_of-result
 invariant_of-result g c =
-    let config : IsConfig c.args.config = c.in_ok-check.ensures.accepted.0 (search rules) in (
+    let config : IsConfig c.args.config = c.in_ok-check_wide.ensures.accepted.0 (search rules) in (
       first_running-of c.args.config (own_code c.args.config.nodes) c.in_ok-sites.sites.items
           c.new.result.items config (length-replicate c.args.config.nodes (Called []))
           c.in_ok-sites.ensures.first c.new.ensures.items,
@@ -24,5 +24,5 @@ returns-clause-opens g c =
 
 pub returns-clause-bad : goal.returns-clause-bad
 returns-clause-bad g c =
-    let config : IsConfig c.args.config = c.in_ok-check.ensures.accepted.0 (search rules) in
+    let config : IsConfig c.args.config = c.in_ok-check_wide.ensures.accepted.0 (search rules) in
     (λ e conf. search rules, λ n. absurd (n config))

@@ -3,11 +3,11 @@ use Rattle.ivy_model.specs.Config.{IsConfig}
 use Rattle.ivy_world.proofs.Worlds.{first_running-of, first_run-of}
 use Rattle.ivy_world.specs.WorldSites.{world_of}
 use Rattle.ivy_world.proofs.Coming.{passed_none}
-use Rattle.ivy_world.proofs.world.World.new.Goals as goal
+use Rattle.ivy_world.proofs.world.World.wide.Goals as goal
 
 pub invariant_of-result : goal.invariant_of-result
 invariant_of-result g c =
-    let config : IsConfig c.args.config = c.in_ok-check.ensures.accepted.0 (search rules) in (
+    let config : IsConfig c.args.config = c.in_ok-check_wide.ensures.accepted.0 (search rules) in (
       first_running-of c.args.config c.args.programs.items c.in_ok-sites.sites.items
           c.new.result.items config (search rules) c.in_ok-sites.ensures.first
           c.new.ensures.items,
@@ -21,5 +21,5 @@ returns-clause-opens g c =
 
 pub returns-clause-bad : goal.returns-clause-bad
 returns-clause-bad g c =
-    let config : IsConfig c.args.config = c.in_ok-check.ensures.accepted.0 (search rules) in
+    let config : IsConfig c.args.config = c.in_ok-check_wide.ensures.accepted.0 (search rules) in
     (λ e both. search rules, λ n. absurd (n (config, search rules)))

@@ -1,7 +1,7 @@
 use Rattle.std.proofs.Common.{subst, All}
 use Rattle.ivy_program.specs.Programs.{IsWritten}
 use Rattle.ivy_session.proofs.Reported.{if_written}
-use Rattle.ivy_session.proofs.session.Session.run_keeping.Goals as goal
+use Rattle.ivy_session.proofs.session.Session.run_wide.Goals as goal
 
 pub returns-clause-report : goal.returns-clause-report
 returns-clause-report g c =
