@@ -118,6 +118,11 @@ lines_of() {
     find "$crates/$1/src" -type f -exec cat {} + | wc -l
 }
 
+# The lines of its proofs.
+proof_lines_of() {
+    [[ ! -d $crates/$1/proofs ]] || find "$crates/$1/proofs" -type f -exec cat {} + | wc -l
+}
+
 # A crate with fewer is lemmas alone, or little else.
 few_lines=120
 
@@ -127,12 +132,12 @@ jobs_of() {
     if (($(lines_of "$1") < few_lines)); then
         echo 1
     else
-        echo "${2:-$jobs}"
+        echo "$2"
     fi
 }
 
-# The length of the longest way from a crate up to the program, in lines of code, of the crates that
-# are to be proved. The lines of proofs say little of how long a check takes.
+# The length of the longest way from a crate up to the program, of the crates that are to be proved, in lines of
+# code, of which a check takes as long to begin as about 150, and to check as many as four lines of proofs are.
 declare -A way=()
 
 # Takes those crates, each after those below it.
@@ -140,9 +145,8 @@ find_ways() {
     local list=("$@") at crate used lines
     for ((at = ${#list[@]} - 1; at >= 0; at--)); do
         crate=${list[at]}
-        lines=$(lines_of "$crate")
-        # A check also has to begin, which takes as long as about a hundred lines.
-        way[$crate]=$((${way[$crate]-0} + lines + 100))
+        lines=$(($(lines_of "$crate") + $(proof_lines_of "$crate") / 4 + 150))
+        way[$crate]=$((${way[$crate]-0} + lines))
         for used in ${below[$crate]}; do
             ((${way[$used]-0} >= way[$crate])) || way[$used]=${way[$crate]}
         done
@@ -186,17 +190,18 @@ clear_rooms() {
     rm -rf "$rooms"
 }
 
-# The process of each crate that is being proved.
-declare -A running=()
+# The process of each crate that is being proved, and how many jobs it has.
+declare -A running=() given=()
 
-# Starts the check of a crate with so many jobs. The higher the third word, the more it leaves to others.
+# Starts the check of a crate with so many jobs.
 start() {
     make_room "$1"
     (
         cd "$rooms/$1/crates/$1"
-        exec nice -n "$3" rt lib --jobs "$2"
+        exec rt lib --jobs "$2"
     ) </dev/null >"$rooms/$1/log" 2>&1 &
     running[$1]=$!
+    given[$1]=$2
 }
 
 stop_running() {
@@ -207,14 +212,13 @@ stop_running() {
     wait
 }
 
-# How many checks run side by side, and how many jobs each may have: a check takes 1 to 4 GB.
+# How many jobs run side by side in all: each takes 1 to 3 GB.
 plan() {
     local memory
     memory=$(free_memory)
     jobs=$(processors)
-    places=$((memory / 4 < jobs ? memory / 4 : jobs))
-    ((places > 0)) || places=1 jobs=1
-    ((jobs <= 4)) || jobs=4
+    ((memory / 3 >= jobs)) || jobs=$((memory / 3))
+    ((jobs > 0)) || jobs=1
 }
 
 # Proves crates, given each after those below it.
@@ -233,25 +237,37 @@ prove() {
     done
 }
 
-# Starts what can begin, the longest way first. The crate on the longest way of those that are not proved may
-# have all jobs, and one near it half of them: more end sooner, but take more of the processors. There is
-# always a place for both. One far from it has one job, and takes what time the others leave.
-start_ready() {
-    local crate it first=
+# Finds what can begin, the longest way first.
+find_ready() {
+    local crate it
+    ready=()
     for crate in "${left[@]}"; do
-        [[ ${open[$crate]-} ]] || continue
-        first=${first:-$crate}
-        [[ -z ${running[$crate]-} ]] || continue
+        [[ ${open[$crate]-} && -z ${running[$crate]-} ]] || continue
         for it in ${below[$crate]}; do
             [[ -z ${open[$it]-} ]] || continue 2
         done
-        if [[ $crate == "$first" ]]; then
-            start "$crate" "$(jobs_of "$crate")" 0
-        elif ((way[$crate] * 4 >= way[$first] * 3)); then
-            ((${#running[@]} >= places)) || start "$crate" "$(jobs_of "$crate" $(((jobs + 1) / 2)))" 0
-        else
-            ((${#running[@]} > 0 && ${#running[@]} >= places - 1)) || start "$crate" 1 5
-        fi
+        ready+=("$crate")
+    done
+}
+
+# Starts what can begin, as long as jobs are free, which it shares out. The first has two at least: the others wait
+# for it. No more than three help, since the end of a check is one job's work, which takes half of the time where
+# much lies below.
+start_ready() {
+    local crate at free=$jobs share ready
+    for crate in "${!running[@]}"; do
+        free=$((free - given[$crate]))
+    done
+    find_ready
+    for at in "${!ready[@]}"; do
+        ((free > 0)) || break
+        share=$((free / (${#ready[@]} - at)))
+        ((share <= 3)) || share=3
+        ((share >= 1)) || share=1
+        ((at > 0 || share >= 2 || jobs < 2)) || share=2
+        share=$(jobs_of "${ready[at]}" "$share")
+        free=$((free - share))
+        start "${ready[at]}" "$share"
     done
 }
 
