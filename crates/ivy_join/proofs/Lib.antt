@@ -3,5 +3,10 @@ pub mod Played
 pub mod Collected
 pub mod Ended
 pub mod Taken
+pub mod Handed
+pub mod Entries
+pub mod Calls
+pub mod Told
+pub mod Ordered
 pub use Rattle.ivy_lines.proofs as of_ivy_lines
 pub use Rattle.ivy_site.proofs as of_ivy_site

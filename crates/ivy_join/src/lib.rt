@@ -6,9 +6,11 @@
 //! In a comment, numbers in brackets as [1, 2] are the fault numbers that a call may answer.
 #![tactic(auto)]
 
+mod calling;
 mod joined;
 mod making;
 mod merging;
+mod owned;
 mod playing;
 mod remaking;
 mod strings;
@@ -19,5 +21,6 @@ pub use ivy_site;
 pub use joined::Joined;
 pub use making::make;
 pub use merging::join;
-pub use remaking::{NotPlayed, replay};
+pub use owned::join_own;
+pub use remaking::{NotPlayed, replay, replay_own};
 pub use unjoined::Unjoined;

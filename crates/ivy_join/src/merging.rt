@@ -10,7 +10,7 @@ use crate::joined::Joined;
 use crate::playing::play;
 use crate::strings::Strings;
 use crate::unjoined::Unjoined;
-use ivy_lines::{Log, are_same};
+use ivy_lines::{Head, Log, are_same};
 use ivy_model::{Config, Fault};
 use ivy_program::Program;
 use ivy_site::Site;
@@ -43,6 +43,36 @@ fn is_same(a: &Config, b: &Config) -> bool
     a.nodes == b.nodes && a.pages == b.pages && a.page_size == b.page_size && a.manager == b.manager
 }
 
+/// Whether a log is the one of this node, and names this configuration.
+pub(crate) fn check_head(config: &Config, node: u64, head: &Head) -> Result<(), Unjoined>
+    ensures { OnOk result (head.now ≡ record { me = node; config = config.now }) }
+{
+    let me = u64::from(head.me);
+    if me > node {
+        return Err(Unjoined::Missing(node));
+    }
+    if me < node {
+        return Err(Unjoined::Twice(me));
+    }
+    if !is_same(&head.config, config) {
+        return Err(Unjoined::Differs(node));
+    }
+    Ok(())
+}
+
+/// Whether there are as many logs as nodes.
+pub(crate) fn check_count(config: &Config, count: u64) -> Result<(), Unjoined>
+    ensures { OnOk result (count ≡ config.now.nodes) }
+{
+    if count < u64::from(config.nodes) {
+        return Err(Unjoined::Missing(count));
+    }
+    if count > u64::from(config.nodes) {
+        return Err(Unjoined::Twice(count));
+    }
+    Ok(())
+}
+
 /// Whether each log is the one of the node of its place, and names this configuration.
 fn check_heads<A: Allocator>(config: &Config, logs: &[Log<A>]) -> Result<(), Unjoined>
     ensures each { OnOk result (AreHeads config.now 0 (map (λ l. l.head) logs.now)) }
@@ -50,25 +80,10 @@ fn check_heads<A: Allocator>(config: &Config, logs: &[Log<A>]) -> Result<(), Unj
 {
     let mut node = 0u64;
     for log in logs {
-        let me = u64::from(log.head.me);
-        if me > node {
-            return Err(Unjoined::Missing(node));
-        }
-        if me < node {
-            return Err(Unjoined::Twice(me));
-        }
-        if !is_same(&log.head.config, config) {
-            return Err(Unjoined::Differs(node));
-        }
+        check_head(config, node, &log.head)?;
         node += 1;
     }
-    if node < u64::from(config.nodes) {
-        return Err(Unjoined::Missing(node));
-    }
-    if node > u64::from(config.nodes) {
-        return Err(Unjoined::Twice(node));
-    }
-    Ok(())
+    check_count(config, node)
 }
 
 /// Whether each site's events are those of its log.

@@ -15,7 +15,8 @@ use std::alloc::Allocator;
 
 /// What became of an event of a log.
 #[derive(Clone, Copy, Debug, PartialEq, Eq)]
-enum Outcome {
+pub(crate) enum Outcome {
+    /// It was made.
     Made,
     /// Its string was sent by nobody yet.
     Waits,
@@ -57,7 +58,7 @@ fn step<A: Allocator + Copy>(
 }
 
 /// Goes on with the next event of a node's log.
-fn play_event<A: Allocator + Copy>(
+pub(crate) fn play_event<A: Allocator + Copy>(
     config: &Config,
     sites: &mut Vec<Site<A>, A>,
     sent: &mut Strings<A>,

@@ -31,6 +31,9 @@ pub enum Unjoined {
     /// A node that is made again by its log lists other events.
     #[error("node {0}: other events than the log has")]
     OtherEvents(u64),
+    /// A node of own code that is made again by its log is answered otherwise than the log says.
+    #[error("node {0}: other answers than the log has")]
+    OtherAnswers(u64),
 }
 
 impl From<Fault> for Unjoined {

@@ -30,6 +30,15 @@ event_in (Answered answer) = []
 abbrev pub events_in : List Entry → List Event
 events_in entries = flat_map event_in entries
 
+-- the calls that the code made, in order
+abbrev pub call_in : Entry → List Call
+call_in (Did event) = []
+call_in (Asked call) = call ∷ []
+call_in (Answered answer) = []
+
+abbrev pub calls_in : List Entry → List Call
+calls_in entries = flat_map call_in entries
+
 -- what was answered, in order
 abbrev pub answer_in : Entry → List Answer
 answer_in (Did event) = []

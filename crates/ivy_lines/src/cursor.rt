@@ -2,7 +2,9 @@
 ghost use Rattle.std.specs.Prelude.{◌≡◌, ◌<◌, ◌++◌, IsTrue, IfSome, slice_get, Some, length};
 ghost use Rattle.ivy_moves.specs.Marks.{marks, marks_of, turns};
 ghost use Rattle.ivy_lines.specs.Cursors.{marks_to, IsBefore};
+ghost use Rattle.ivy_lines.specs.Own.{event_in, events_in};
 
+use crate::own::Entry;
 use ivy_moves::Event;
 use ivy_wire::Bytes;
 use std::alloc::Allocator;
@@ -122,6 +124,48 @@ pub fn are_same<A: Allocator>(events: &[Event<Bytes<A>>], others: &[Event<Bytes<
     ensures { IsTrue result → marks events.now ≡ marks others.now }
 {
     match behind_all(events, others) {
+        Some(end) => end.is_at_end(events),
+        None => false,
+    }
+}
+
+impl Cursor {
+    /// Behind the event of an entry, or none where another one stands next.
+    fn after_own<A: Allocator>(
+        self,
+        events: &[Event<Bytes<A>>],
+        entry: &Entry<Bytes<A>>,
+    ) -> Option<Cursor>
+        ensures to { IfSome result (λ next. marks_to events.now next ≡ marks_to events.now self ++ marks (event_in entry.now)) }
+        ensures within { IsBefore events.now self → IfSome result (IsBefore events.now) }
+    {
+        match entry {
+            Entry::Did(event) => self.after(events, event),
+            Entry::Asked(_) | Entry::Answered(_) => Some(self),
+        }
+    }
+}
+
+/// The cursor behind the events of all these entries, or none where others stand first.
+fn behind_entries<A: Allocator>(
+    events: &[Event<Bytes<A>>],
+    entries: &[Entry<Bytes<A>>],
+) -> Option<Cursor>
+    ensures to { IfSome result (λ cursor. marks_to events.now cursor ≡ marks (events_in entries.now)) }
+    ensures within { IfSome result (IsBefore events.now) }
+{
+    let mut cursor = Cursor::first();
+    for entry in entries {
+        cursor = cursor.after_own(events, entry)?;
+    }
+    Some(cursor)
+}
+
+/// Whether the events are those of these entries.
+pub fn are_listed<A: Allocator>(events: &[Event<Bytes<A>>], entries: &[Entry<Bytes<A>>]) -> bool
+    ensures { IsTrue result → marks events.now ≡ marks (events_in entries.now) }
+{
+    match behind_entries(events, entries) {
         Some(end) => end.is_at_end(events),
         None => false,
     }

@@ -17,7 +17,7 @@ mod log;
 mod own;
 mod print;
 
-pub use cursor::are_same;
+pub use cursor::{are_listed, are_same};
 pub use frame::{FrameLine, parse_frame};
 pub use ivy_calls;
 pub use ivy_texts;

@@ -1,0 +1,156 @@
+-- A site with own code goes on by the entries of its log.
+use Rattle.std.proofs.Common.{◌≡◌, ℕ, zero, suc, ◌+◌, ◌<◌, List, [], ◌∷◌, ◌++◌, length, take, get_or, Contains, Bool, Result, Ok, Err, IfOk, IsTrue, refl, sym, ap, subst, ◌∙◌, append-nil, append_assoc, arith}
+use Rattle.std.proofs.lemmas.List.{take_more}
+use Rattle.std.proofs.lemmas.List.Concat.{flat_map-append}
+use Rattle.std.proofs.lemmas.List.Elements.{Contains-append_left, Contains-append_right}
+use Rattle.ivy_model.specs.declared.Call.{Call}
+use Rattle.ivy_model.specs.declared.Fault.{Fault}
+use Rattle.ivy_model.specs.Config.{IsConfig}
+use Rattle.ivy_lines.specs.ivy_calls.declared.Answer.{Answer}
+use Rattle.ivy_lines.specs.declared.own.Entry.TheVariants.{Did, Asked, Answered}
+use Rattle.ivy_lines.specs.Own.{Entry, call_in, calls_in, event_in, events_in}
+use Rattle.ivy_lines.proofs.Owned.{marks-append}
+use Rattle.ivy_moves.specs.Events.{Event}
+use Rattle.ivy_moves.specs.Marks.{marks, marks_of}
+use Rattle.ivy_moves.specs.Parts.{AllCanBeMade}
+use Rattle.ivy_program.specs.Programs.{Program, Written, Called, handed}
+use Rattle.ivy_site.proofs.of_ivy_host.Handed.{handed_none}
+use Rattle.ivy_site.specs.Handed.{site_handed}
+use Rattle.ivy_site.specs.Shown.{Shown}
+use Rattle.ivy_join.specs.Joining.{program_in, taken_by, taken_in, CanBeTaken, CanGoOnBy, GoesOnBy}
+use Rattle.ivy_join.specs.Remade.{CanTake, GoesOnByEntries}
+use Rattle.ivy_join.proofs.Steps.{took-further}
+use Rattle.ivy_join.proofs.Taken.{can-more-strings, taken-own}
+
+-- further calls, and then others
+handed-further : (more rest : List Call) (p : Program) → handed rest (handed more p) ≡ handed (more ++ rest) p
+handed-further more rest (Written is) = refl
+handed-further more rest (Called calls) = ap Called (append_assoc calls more rest)
+
+-- what was delivered before
+abbrev Took : List (List ℕ) → Shown → Type 0
+Took sent s = AllCanBeMade sent s.config.nodes s.me s.events
+
+module _ (sent : List (List ℕ)) where
+  pub entries-begin : (s : Shown) → Took sent s → GoesOnByEntries sent [] s s
+  entries-begin s took = record {
+    me = refl;
+    config = refl;
+    program = sym (handed_none (program_in s));
+    events = sym (append-nil s.events);
+    took = took;
+  }
+
+  -- an event, a call and an answer
+  pub did-on : (event : Event) (s s' : Shown) → Took sent s → GoesOnBy sent s s'
+      → s'.events ≡ s.events ++ marks_of event → GoesOnByEntries sent (Did event ∷ []) s s'
+  did-on event s s' took on listed = record {
+    me = on.me;
+    config = on.config;
+    program = on.program ∙ sym (handed_none (program_in s));
+    events = listed ∙ ap (λ l. s.events ++ l) (sym (append-nil (marks_of event)));
+    took = took-further sent s s' took on;
+  }
+
+  pub asked-on : (call : Call) (s s' : Shown) → Took sent s → s' ≡ site_handed (call ∷ []) s
+      → GoesOnByEntries sent (Asked call ∷ []) s s'
+  asked-on call s s' took is = subst (GoesOnByEntries sent (Asked call ∷ []) s) (sym is) (record {
+    me = refl;
+    config = refl;
+    program = refl;
+    events = sym (append-nil s.events);
+    took = took;
+  })
+
+  pub answered-on : (answer : Answer) (s : Shown) → Took sent s
+      → GoesOnByEntries sent (Answered answer ∷ []) s s
+  answered-on answer s took = record {
+    me = refl;
+    config = refl;
+    program = sym (handed_none (program_in s));
+    events = sym (append-nil s.events);
+    took = took;
+  }
+
+  -- strings that wait are taken out
+  pub entries-emptied : (entries : List Entry) (a b d : Shown) → GoesOnByEntries sent entries a b
+      → record d { waiting = [] } ≡ record b { waiting = [] } → GoesOnByEntries sent entries a d
+  entries-emptied entries a b d x same =
+      let here : GoesOnByEntries sent entries a (record b { waiting = [] }) = record {
+        me = x.me;
+        config = x.config;
+        program = x.program;
+        events = x.events;
+        took = x.took;
+      } in
+      let there : GoesOnByEntries sent entries a (record d { waiting = [] }) =
+      subst (GoesOnByEntries sent entries a) (sym same) here in record {
+        me = there.me;
+        config = there.config;
+        program = there.program;
+        events = there.events;
+        took = there.took;
+      }
+
+  -- one entry more
+  pub entries-more : (entries : List Entry) (i : ℕ) (entry : Entry) (a b d : Shown)
+      → i < length entries → entry ≡ get_or entries i entry
+      → GoesOnByEntries sent (take i entries) a b → GoesOnByEntries sent (entry ∷ []) b d
+      → GoesOnByEntries sent (take (i + 1) entries) a d
+  entries-more entries i entry a b d below there x y =
+      let longer : take (i + 1) entries ≡ take i entries ++ entry ∷ [] =
+      take_more entries i entry below ∙ ap (λ z. take i entries ++ z ∷ []) (sym there) in
+      subst (λ l. GoesOnByEntries sent l a d) (sym longer) (record {
+        me = y.me ∙ x.me;
+        config = y.config ∙ x.config;
+        program = y.program ∙ ap (handed (calls_in (entry ∷ []))) x.program
+            ∙ handed-further (calls_in (take i entries)) (calls_in (entry ∷ [])) (program_in a)
+            ∙ ap (λ l. handed l (program_in a)) (sym (flat_map-append call_in (take i entries) (entry ∷ [])));
+        events = y.events ∙ ap (λ l. l ++ marks (events_in (entry ∷ []))) x.events
+            ∙ append_assoc a.events (marks (events_in (take i entries))) (marks (events_in (entry ∷ [])))
+            ∙ ap (λ l. a.events ++ l)
+            (sym (marks-append (events_in (take i entries)) (events_in (entry ∷ [])))
+            ∙ ap marks (sym (flat_map-append event_in (take i entries) (entry ∷ []))));
+        took = y.took;
+      })
+
+-- what is said of an event that was made
+pub did-made : (entry : Entry) (event : Event) (s s' : Shown) (made : Result Bool Fault)
+    → entry ≡ Did event → CanGoOnBy event s s'
+    → IfOk made (λ happens. IsTrue happens → s'.events ≡ s.events ++ marks_of event)
+    → IfOk made (λ happens. IsTrue happens → (sent : List (List ℕ)) → IsConfig s.config
+    → AllCanBeMade sent s.config.nodes s.me s.events → CanTake sent entry
+    → GoesOnByEntries sent (entry ∷ []) s s')
+did-made entry event s s' (Ok happens) is on made =
+    λ yes sent limits took can. subst (λ e. GoesOnByEntries sent (e ∷ []) s s') (sym is)
+    (did-on sent event s s' took (on sent limits took (subst (CanTake sent) is can)) (made yes))
+did-made entry event s s' (Err fault) is on made = tt
+
+entry-more : (strings others : List (List ℕ)) (entry : Entry)
+    → ((s : List ℕ) → Contains strings s → Contains others s) → CanTake strings entry
+    → CanTake others entry
+entry-more strings others (Did event) all can = can-more-strings strings others event all can
+entry-more strings others (Asked call) all can = tt
+entry-more strings others (Answered answer) all can = tt
+
+entry-own : (entry : Entry) → CanTake (taken_by (event_in entry)) entry
+entry-own (Did event) =
+    can-more-strings (taken_in event) (taken_by (event ∷ [])) event
+    (λ s there. Contains-append_left (taken_in event) [] s there) (taken-own event)
+entry-own (Asked call) = tt
+entry-own (Answered answer) = tt
+
+-- what an entry delivers is among the strings that the log delivers
+pub entry-taken : (log : List Entry) (i : ℕ) (entry : Entry) → i < length log → entry ≡ get_or log i entry
+    → CanTake (taken_by (events_in log)) entry
+entry-taken [] i entry below is = absurd (omega (arith, below))
+entry-taken (x ∷ xs) zero entry below is =
+    subst (CanTake (taken_by (event_in x ++ events_in xs))) (sym is)
+    (entry-more (taken_by (event_in x)) (taken_by (event_in x ++ events_in xs)) x
+    (λ s there. subst (λ l. Contains l s) (sym (flat_map-append taken_in (event_in x) (events_in xs)))
+    (Contains-append_left (taken_by (event_in x)) (taken_by (events_in xs)) s there)) (entry-own x))
+entry-taken (x ∷ xs) (suc i) entry below is =
+    entry-more (taken_by (events_in xs)) (taken_by (event_in x ++ events_in xs)) entry
+    (λ s there. subst (λ l. Contains l s) (sym (flat_map-append taken_in (event_in x) (events_in xs)))
+    (Contains-append_right (taken_by (event_in x)) (taken_by (events_in xs)) s there))
+    (entry-taken xs i entry (omega (arith, below)) is)

@@ -1,0 +1,104 @@
+-- One flat memory could have answered the nodes as their logs say.
+use Rattle.std.proofs.Common.{◌≡◌, ℕ, ◌<◌, List, [], ◌∷◌, ◌++◌, length, map, slice_get, Option, Some, None, option_map, refl, sym, ap, subst, ◌∙◌, append-nil, length-append, arith}
+use Rattle.std.proofs.lemmas.List.{length-map, nil_from_length}
+use Rattle.std.proofs.lemmas.Option.{none-some, slice_get-map, slice_get_within}
+use Rattle.ivy_model.specs.declared.Config.{Config}
+use Rattle.ivy_model.specs.declared.Record.{Record}
+use Rattle.ivy_model.specs.Config.{IsConfig}
+use Rattle.ivy_model.specs.Explains.{IsOwed}
+use Rattle.ivy_lines.specs.ivy_calls.declared.Answer.{Answer}
+use Rattle.ivy_lines.specs.ivy_calls.Answers.{answer, answers, answers_of}
+use Rattle.ivy_lines.specs.Own.{Entry, answers_in, events_in}
+use Rattle.ivy_moves.specs.declared.Move.{Move}
+use Rattle.ivy_moves.specs.Marks.{marks}
+use Rattle.ivy_moves.specs.Explained.{IsExplainedBy, GoesOn}
+use Rattle.ivy_moves.specs.Nodes.{Node}
+use Rattle.ivy_moves.specs.Worlds.{World, Leads}
+use Rattle.ivy_site.specs.ivy_host.Hosts.{Host, host_rules, answered_by}
+use Rattle.ivy_site.specs.ivy_host.Managers.{Managed, managed_ops}
+use Rattle.ivy_site.specs.ivy_host.Openings.{opening}
+use Rattle.ivy_site.specs.Shown.{Shown}
+use Rattle.ivy_world.specs.WorldSites.{programs_of}
+use Rattle.ivy_join.specs.Joining.{events_at, ArePlayed}
+use Rattle.ivy_join.specs.Joined.{part_in}
+use Rattle.ivy_join.specs.Owned.{programs_by, AreAllTold, AreAnswered, AreOwnJoined, AreTold, IsTold, Tells}
+use Rattle.ivy_join.proofs.Ended.{joined}
+use Rattle.ivy_join.proofs.Handed.{there_is}
+use Rattle.ivy_join.proofs.Told.{map-twice}
+
+-- the order at the end of a run
+explained_end : (c : Config) (w end : World (Host Managed)) (order : List Record) (moves : List Move)
+    → GoesOn (host_rules managed_ops) c answered_by w order moves
+    → Leads (host_rules managed_ops) c w moves end
+    → (whole : List Record) × IsExplainedBy (host_rules managed_ops) c answered_by end whole
+explained_end c w end order [] on lead =
+    (order, subst (λ v. IsExplainedBy (host_rules managed_ops) c answered_by v order) (sym lead) on)
+explained_end c w end order (m ∷ moves) on lead =
+    let next = on.1 lead.0 lead.1 in
+    explained_end c lead.0 end (order ++ next.0) moves next.1 lead.2
+
+-- nothing is owed where no call is in progress
+owed_none : (rest : List Record) → IsOwed None rest → rest ≡ []
+owed_none [] owed = refl
+owed_none (r ∷ []) owed = absurd (none-some r.call owed)
+owed_none (r ∷ s ∷ rest) owed = absurd owed
+
+-- the entries lack none of so many answers
+tells-all : (entries : List Entry) (history : List Record) → Tells entries history
+    → length history ≡ length (answers_in entries) → answers history ≡ answers_in entries
+tells-all entries history told many =
+    let long = length-append (answers_in entries) told.more in
+    let all = ap length told.are in
+    let as_many = length-map history answer in
+    let none : told.more ≡ [] = nil_from_length told.more (omega (arith, long, all, as_many, many)) in
+    told.are ∙ ap (λ l. answers_in entries ++ l) none ∙ append-nil (answers_in entries)
+
+module _ (c : Config) (logs : List (List Entry)) (sites : List Shown) (j : AreOwnJoined c logs sites)
+    (all : AreAllTold logs sites) where
+  whole : (order : List Record)
+      × IsExplainedBy (host_rules managed_ops) c answered_by j.joined.end order
+  whole =
+      let reached = j.joined.keeps.reached in
+      explained_end c (opening managed_ops c (programs_by logs)) j.joined.end [] reached.0
+      (j.joined.keeps.explained reached.0 reached.1) reached.1
+
+  each : (i : ℕ) (entries : List Entry) → slice_get logs i ≡ Some entries
+      → answers_of i whole.0 ≡ answers_in entries
+  each i entries log =
+      let many = j.joined.each in
+      let count = j.joined.count in
+      let size = length-map logs (λ es. marks (events_in es)) in
+      let inside = slice_get_within logs i entries log in
+      let l : i < length sites = omega (arith, many, count, size, inside) in
+      let at = there_is sites i l in
+      let s : Shown = at.0 in
+      let told : Tells entries s.node.core.history =
+      subst (λ o. IsTold o (Some s)) log (subst (IsTold (slice_get logs i)) at.1 (j.told i)) in
+      let done = all i entries s log at.1 in
+      let owed = whole.1.parts i (answered_by s.node.core)
+      (slice_get-map (λ (n : Node (Host Managed)). answered_by n.core) j.joined.end.nodes i
+      ∙ ap (option_map (λ (n : Node (Host Managed)). answered_by n.core)) (j.joined.nodes i s at.1)) in
+      let empty : owed.0 ≡ [] =
+      owed_none owed.0 (subst (λ o. IsOwed o owed.0) done.0 owed.2) in
+      ap answers
+      (owed.1 ∙ ap (λ r. s.node.core.history ++ r) empty ∙ append-nil s.node.core.history)
+      ∙ tells-all entries s.node.core.history told done.1
+
+  pub own-answered : AreAnswered c logs
+  own-answered = record { order = whole.0; legal = whole.1.legal; each = each }
+
+-- logs that were made again, and compared with what that gave
+module _ {X : Type 0} (f : X → List Entry) (c : Config) (logs : List X) (sites : List Shown)
+    (sent : List (List ℕ)) (played : ArePlayed c sites sent)
+    (called : programs_of sites ≡ programs_by (map f logs)) (count : length logs ≡ length sites)
+    (listed : (i : ℕ) → events_at sites i ≡ part_in (map (λ x. marks (events_in (f x))) logs) i)
+    (told : AreTold (map f logs) sites) where
+  pub own-joined : AreOwnJoined c (map f logs) sites
+  own-joined = record {
+    joined = joined c (programs_by (map f logs)) sites sent
+        (map (λ entries. marks (events_in entries)) (map f logs)) played called
+        (length-map (map f logs) _ ∙ length-map logs f ∙ count)
+        (λ i. listed i
+        ∙ ap (λ l. part_in l i) (sym (map-twice (λ entries. marks (events_in entries)) f logs)));
+    told = told;
+  }

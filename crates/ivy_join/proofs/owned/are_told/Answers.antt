@@ -1,0 +1,20 @@
+use Rattle.std.proofs.Common.{rules, ◌≡◌, ◌<◌, ◌≤◌, ◌++◌, length, ap, sym, ◌∙◌, take, arith}
+use Rattle.std.proofs.lemmas.List.{take_all}
+use Rattle.ivy_lines.specs.ivy_calls.Answers.{answers}
+use Rattle.ivy_lines.specs.Own.{answer_in, answers_in}
+use Rattle.ivy_join.proofs.of_ivy_lines.Owned.{flat-taken}
+use Rattle.ivy_join.proofs.Told.{tells}
+use Rattle.ivy_join.proofs.owned.are_told.Goals as goal
+
+pub loop-entry-preserved : goal.loop-entry-preserved
+loop-entry-preserved g c = record {
+  within = c.in-Some.ensures.within;
+  has = c.in-Some.ensures.has
+      ∙ ap (λ l. l ++ answer_in c.entry-item.result) c.loop-entry.invariant.has
+      ∙ sym (flat-taken answer_in c.args.entries.now c.loop-entry.entry-index c.entry-item.result
+      (search rules) c.entry-item.is);
+}
+
+pub returns : goal.returns
+returns g c = λ few. tells c.args.entries.now c.args.history.now c.loop-entry.place (search rules)
+    (c.loop-entry.invariant.has ∙ ap answers_in (take_all c.loop-entry.entry-index c.args.entries.now (search rules)))

@@ -1,0 +1,31 @@
+use Rattle.std.proofs.Common.{rules, ◌≡◌, ◌<◌, ◌≤◌, below_more, length, map, sym, ap, refl, subst, ◌∙◌, arith}
+use Rattle.std.proofs.lemmas.Option.{slice_get_read}
+use Rattle.ivy_model.specs.declared.Record.{Record}
+use Rattle.ivy_lines.specs.Own.{Entry}
+use Rattle.ivy_moves.specs.Keeping.{keeps_history, read_of}
+use Rattle.ivy_join.specs.Owned.{Tells}
+use Rattle.ivy_join.proofs.Told.{told-at, told-all}
+use Rattle.ivy_join.proofs.owned.check_answers.Goals as goal
+
+pub loop-node-preserved : goal.loop-node-preserved
+loop-node-preserved g c =
+    let site = slice_get_read c.args.sites.now (length c.args.sites.now) c.loop-node.node
+    c.index-sites-node.result refl (search rules) c.index-sites-node.is in
+    let log = slice_get_read c.args.logs.now (length c.args.logs.now) c.loop-node.node
+    c.index-logs-node.result refl (search rules) c.index-logs-node.is in
+    let same = rw (← c.index-logs-node.is) at c.deref.ensures.value in
+    let history : c.history.result.now ≡ c.index-sites-node.result.node.core.history =
+    c.history.ensures
+    ∙ ap (λ k. read_of (keeps_history k) c.index-sites-node.result.node.core.history)
+    (c.requires.kept c.loop-node.node c.index-sites-node.result site) in
+    below_more _ _ c.loop-node.invariant
+    (told-at _ c.args.logs.now c.args.sites.now c.loop-node.node c.index-logs-node.result
+    c.index-sites-node.result log site
+    (subst (λ es. Tells es c.index-sites-node.result.node.core.history) same
+    (subst (Tells c.deref.result.now) history (c.are_told.ensures (search rules)))))
+
+pub returns : goal.returns
+returns g c =
+    let past = c.loop-node-test.false in
+    told-all _ c.args.logs.now c.args.sites.now
+    (λ i below. c.loop-node.invariant i (omega (arith, below, past)))

@@ -1,0 +1,29 @@
+use Rattle.std.proofs.Common.{rules, ◌≡◌, ◌<◌, below_more, length, sym, ap, refl, ◌∙◌, arith}
+use Rattle.std.proofs.lemmas.Option.{slice_get_read}
+use Rattle.ivy_lines.specs.Own.{events_in}
+use Rattle.ivy_moves.specs.Keeping.{keeps_events, read_of}
+use Rattle.ivy_moves.specs.Marks.{marks}
+use Rattle.ivy_join.specs.Joining.{listed}
+use Rattle.ivy_join.proofs.Ended.{part-at, lists-all}
+use Rattle.ivy_join.proofs.owned.check_events.Goals as goal
+
+pub loop-node-preserved : goal.loop-node-preserved
+loop-node-preserved g c =
+    let site = slice_get_read c.args.sites.now (length c.args.sites.now) c.loop-node.node
+    c.index-sites-node.result refl (search rules) c.index-sites-node.is in
+    let log = slice_get_read c.args.logs.now (length c.args.logs.now) c.loop-node.node
+    c.index-logs-node.result refl (search rules) c.index-logs-node.is in
+    let same = rw (← c.index-logs-node.is) at c.deref.ensures.value in
+    below_more _ _ c.loop-node.invariant
+    (ap listed site
+    ∙ ap (λ k. read_of (keeps_events k) c.index-sites-node.result.events)
+    (sym (c.requires.kept c.loop-node.node c.index-sites-node.result site))
+    ∙ sym c.events.ensures.is ∙ c.are_listed.ensures (search rules)
+    ∙ ap (λ l. marks (events_in l)) same
+    ∙ sym (part-at _ c.args.logs.now c.loop-node.node c.index-logs-node.result log))
+
+pub returns : goal.returns
+returns g c =
+    let past = c.loop-node-test.false in
+    lists-all _ c.args.sites.now c.args.logs.now c.requires.each
+    (λ i below. c.loop-node.invariant i (omega (arith, below, past)))

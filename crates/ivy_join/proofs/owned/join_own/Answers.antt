@@ -1,0 +1,73 @@
+use Rattle.std.proofs.Common.{rules, ◌≡◌, [], length, map, ap, sym, subst, ◌∙◌}
+use Rattle.std.proofs.lemmas.List.{length-replicate}
+use Rattle.ivy_model.specs.Config.{IsConfig}
+use Rattle.ivy_program.specs.Programs.{Called}
+use Rattle.ivy_world.specs.Handed.{own_code}
+use Rattle.ivy_join.specs.Joining.{events_at, ArePlayed, AreKept}
+use Rattle.ivy_join.specs.Owned.{AreAllTold, AreOwnJoined, AreTold}
+use Rattle.ivy_join.proofs.Ended.{first-played, first-programs, are-kept}
+use Rattle.ivy_join.proofs.Ordered.{own-answered, own-joined}
+use Rattle.ivy_join.proofs.owned.join_own.Goals as goal
+
+pub play_own-requires-clause-played : goal.play_own-requires-clause-played
+play_own-requires-clause-played g c =
+    let limits : IsConfig c.args.config = c.in_ok-check_wide.ensures.accepted.0 (search rules) in
+    subst (ArePlayed c.args.config c.in_ok-sites.sites.items) (sym c.new-sent.ensures)
+    (first-played c.args.config (own_code c.args.config.nodes) c.in_ok-sites.sites.items limits
+    (length-replicate c.args.config.nodes (Called [])) c.in_ok-sites.ensures.first)
+
+pub play_own-requires-clause-logs : goal.play_own-requires-clause-logs
+play_own-requires-clause-logs g c =
+    let limits : IsConfig c.args.config = c.in_ok-check_wide.ensures.accepted.0 (search rules) in
+    c.in_ok-check_heads.ensures.count
+    ∙ sym (first-played c.args.config (own_code c.args.config.nodes) c.in_ok-sites.sites.items limits
+    (length-replicate c.args.config.nodes (Called [])) c.in_ok-sites.ensures.first).count
+
+pub play_own-requires-clause-own : goal.play_own-requires-clause-own
+play_own-requires-clause-own g c =
+    let limits : IsConfig c.args.config = c.in_ok-check_wide.ensures.accepted.0 (search rules) in
+    first-programs c.args.config (own_code c.args.config.nodes) c.in_ok-sites.sites.items limits
+    (length-replicate c.args.config.nodes (Called [])) c.in_ok-sites.ensures.first
+    ∙ ap own_code (sym c.in_ok-check_heads.ensures.count)
+
+pub check_events-requires-clause-kept : goal.check_events-requires-clause-kept
+check_events-requires-clause-kept g c =
+    subst AreKept (sym c.deref.ensures.value)
+    (are-kept c.args.config c.play_own.new.sites.items c.play_own.new.sent c.in_ok-play_own.ensures.played)
+
+pub check_answers-requires-clause-kept : goal.check_answers-requires-clause-kept
+check_answers-requires-clause-kept g c =
+    subst AreKept (sym c.deref-2.ensures.value)
+    (are-kept c.args.config c.play_own.new.sites.items c.play_own.new.sent c.in_ok-play_own.ensures.played)
+
+pub check_answers-requires-clause-each : goal.check_answers-requires-clause-each
+check_answers-requires-clause-each g c =
+    let limits : IsConfig c.args.config = c.in_ok-check_wide.ensures.accepted.0 (search rules) in
+    let began = first-played c.args.config (own_code c.args.config.nodes) c.in_ok-sites.sites.items limits
+    (length-replicate c.args.config.nodes (Called [])) c.in_ok-sites.ensures.first in
+    c.in_ok-check_heads.ensures.count ∙ sym began.count ∙ sym c.in_ok-play_own.ensures.count
+    ∙ ap length (sym c.deref-2.ensures.value)
+
+pub new-requires : goal.new-requires
+new-requires g c =
+    are-kept c.args.config c.play_own.new.sites.items c.play_own.new.sent c.in_ok-play_own.ensures.played
+
+pub returns-clause-heads : goal.returns-clause-heads
+returns-clause-heads g c = c.in_ok-check_heads.ensures.each
+
+pub returns-clause-joined : goal.returns-clause-joined
+returns-clause-joined g c =
+    let limits : IsConfig c.args.config = c.in_ok-check_wide.ensures.accepted.0 (search rules) in
+    let began = first-played c.args.config (own_code c.args.config.nodes) c.in_ok-sites.sites.items limits
+    (length-replicate c.args.config.nodes (Called [])) c.in_ok-sites.ensures.first in
+    subst (AreOwnJoined c.args.config (map (λ l. l.entries.items) c.args.logs.now)) (sym c.new.ensures)
+    (own-joined _ c.args.config c.args.logs.now c.play_own.new.sites.items c.play_own.new.sent
+    c.in_ok-play_own.ensures.played c.in_ok-play_own.ensures.called
+    (c.in_ok-check_heads.ensures.count ∙ sym began.count ∙ sym c.in_ok-play_own.ensures.count)
+    (λ i. ap (λ l. events_at l i) (sym c.deref.ensures.value) ∙ c.in_ok-check_events.ensures i)
+    (subst (AreTold (map (λ l. l.entries.items) c.args.logs.now)) c.deref-2.ensures.value
+    c.in_ok-check_answers.ensures))
+
+pub returns-clause-answered : goal.returns-clause-answered
+returns-clause-answered g c = own-answered c.args.config (map (λ l. l.entries.items) c.args.logs.now)
+    c.new.result (returns-clause-joined g c)

@@ -1,0 +1,34 @@
+-- A site with own code that is made again from its own log.
+use Rattle.std.specs.Prelude.{◌≡◌, ℕ, List, ◌++◌}
+use Rattle.ivy_lines.specs.declared.own.Entry.TheVariants.{Did, Asked, Answered}
+use Rattle.ivy_lines.specs.Own.{Entry, calls_in, events_in}
+use Rattle.ivy_moves.specs.Marks.{marks}
+use Rattle.ivy_moves.specs.Parts.{AllCanBeMade}
+use Rattle.ivy_program.specs.Programs.{handed}
+use Rattle.ivy_site.specs.Shown.{Shown}
+use Rattle.ivy_site.specs.Sites.{IsMadeByEvents}
+use Rattle.ivy_join.specs.Joining.{program_in, CanBeTaken}
+
+-- a string that the entry delivers is one of these
+abbrev pub CanTake : List (List ℕ) → Entry → Type 0
+CanTake sent (Did event) = CanBeTaken sent event
+CanTake sent (Asked call) = Unit {0}
+CanTake sent (Answered answer) = Unit {0}
+
+-- the site went on by the events of the entries, and its code made their calls; what was delivered to the site is
+-- among these strings
+pub record GoesOnByEntries (sent : List (List ℕ)) (entries : List Entry) (old new : Shown) : Type 0 where
+  pub me : new.me ≡ old.me
+  pub config : new.config ≡ old.config
+  pub program : program_in new ≡ handed (calls_in entries) (program_in old)
+  pub events : new.events ≡ old.events ++ marks (events_in entries)
+  pub took : AllCanBeMade sent new.config.nodes new.me new.events
+
+-- from its first event the site went on by those of the log, and by no other one, its code made the calls of the
+-- log, and no other one, and the site is what its events make of it
+pub record IsMadeByOwnLog (log : List Entry) (old new : Shown) : Type 0 where
+  pub me : new.me ≡ old.me
+  pub config : new.config ≡ old.config
+  pub program : program_in new ≡ handed (calls_in log) (program_in old)
+  pub events : new.events ≡ marks (events_in log)
+  pub made : IsMadeByEvents new
