@@ -11,20 +11,20 @@
 #![tactic(auto)]
 
 // a node: its program's turns, its deliveries and its pulses, and what of them its event list has
-pub use ivy_session::ivy_ether::{Event, Events};
+pub use ivy_own::ivy_session::ivy_ether::{Event, Events};
 pub use ivy_world::{Program, Site, Turn, Verdict, parse};
 
 // a world: nodes, and all strings that they sent
 pub use ivy_world::{Move, Rest, World};
 
 // a session: seated nodes, and what is told of their turns
-pub use ivy_session::{Gate, Limits, OpenGate, Report, Role, Seated, Session, WireTurn};
+pub use ivy_own::ivy_session::{Gate, Limits, OpenGate, Report, Role, Seated, Session, WireTurn};
 
 // a session of own code: what a node's function is given, and what all of them gave
 pub use ivy_own::{Answer, OwnFault, OwnReport, SharedMemory, Work, run_with, run_with_keeping};
 
 // the crates that these stand in, for what else they have
 pub use ivy_own;
-pub use ivy_session;
-pub use ivy_session::ivy_ether;
+pub use ivy_own::ivy_session;
+pub use ivy_own::ivy_session::ivy_ether;
 pub use ivy_world;

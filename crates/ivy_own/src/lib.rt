@@ -18,6 +18,7 @@ mod workers;
 
 pub use fault::OwnFault;
 pub use ivy_calls::{Answer, SharedMemory, Work};
+pub use ivy_session;
 pub use ivy_session::{Gate, Keep, Limits, OpenGate, Report, Role};
 pub use report::OwnReport;
 pub use session::{run_with, run_with_keeping};

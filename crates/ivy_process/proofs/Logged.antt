@@ -1,23 +1,17 @@
 -- A node goes on by events whose lines it notes, one after another, and writes them.
-use Rattle.std.proofs.Common.{◌≡◌, ℕ, zero, suc, List, [], ◌∷◌, ◌++◌, Option, refl, sym, ap, subst, ◌∙◌, append-nil, append_assoc}
-use Rattle.std.specs.Prelude.{flat_map, if◌then◌else◌}
+use Rattle.std.proofs.Common.{◌≡◌, ℕ, List, [], ◌∷◌, ◌++◌, Option, refl, sym, ap, subst, ◌∙◌, append-nil, append_assoc}
 use Rattle.std.specs.Io.KnownBytes.{Appends}
 use Rattle.std.proofs.KnownBytes.{Appends-nil, Appends-trans}
 use Rattle.std.proofs.lemmas.List.Concat.{flat_map-append}
 use Rattle.ivy_moves.specs.Events.{Event}
-use Rattle.ivy_moves.specs.declared.event.Event.TheVariants.{Turns, Delivered, Pulsed}
-use Rattle.ivy_moves.specs.Marks.{Mark, Delivery, marks, marks_of, turns}
+use Rattle.ivy_moves.specs.Marks.{Delivery, marks, marks_of}
 use Rattle.ivy_moves.specs.ivy_link.declared.Verdict.TheVariants as verdict
 use Rattle.ivy_join.specs.ivy_lines.Printed.{event_line}
 use Rattle.ivy_join.specs.ivy_site.Shown.{Shown}
 use Rattle.ivy_join.specs.ivy_site.Sites.{GoesOnOnce, without_ready}
+use Rattle.ivy_join.proofs.of_ivy_lines.Owned.{marks-append}
 use Rattle.ivy_join.proofs.Steps.{received-listed}
 use Rattle.ivy_process.specs.Logging.{Served, served, lines_of, GoesOn, IsEmptied, IsLogged, Streams, StreamsWhole}
-
-marks-append : (a b : List Event) → marks (a ++ b) ≡ marks a ++ marks b
-marks-append [] b = refl
-marks-append (e ∷ a) b =
-    ap (λ l. marks_of e ++ l) (marks-append a b) ∙ sym (append_assoc (marks_of e) (marks a) (marks b))
 
 -- no event
 pub stays : (s s' : Served) → s'.site.events ≡ s.site.events → s'.unlogged ≡ s.unlogged → GoesOn s s'

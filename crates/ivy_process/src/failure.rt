@@ -13,6 +13,12 @@ pub enum Failure {
     Kept(u8),
     /// The event in this line of the log does not happen at the node: it is the log of another node, or of another program.
     NotItsLog(u64),
+    /// The work of the node, started again, does not make the call in this line of its log.
+    Differs(u64),
+    /// The input ended before a call of own code had its reply.
+    Unanswered,
+    /// The work of the node gave up with this fault.
+    GaveUp(Fault),
     /// The log takes no more.
     Unlogged,
     /// Standard output takes no more.
@@ -25,6 +31,12 @@ impl fmt::Display for Failure {
             Failure::Refused(fault) => write!(f, "{fault}"),
             Failure::Kept(node) => write!(f, "kept messages to node {node}"),
             Failure::NotItsLog(line) => write!(f, "line {line} of the log: no such event"),
+            Failure::Differs(line) => write!(
+                f,
+                "line {line} of the log: the work makes another call"
+            ),
+            Failure::Unanswered => write!(f, "a call has no reply, and the input has ended"),
+            Failure::GaveUp(fault) => write!(f, "the work gave up: {fault}"),
             Failure::Unlogged => write!(f, "the log takes no more"),
             Failure::Unwritten => write!(f, "standard output takes no more"),
         }

@@ -9,10 +9,13 @@ mod limits;
 mod mail;
 mod node;
 mod reading;
+mod recalling;
 mod router;
 mod serving;
 mod sites;
+mod story;
 mod threads;
+mod working;
 
 pub use failure::Failure;
 pub use ivy_join;
@@ -22,3 +25,4 @@ pub use node::Node;
 pub use router::{Harm, Router, route};
 pub use serving::{Clockwork, Ending, serve};
 pub use threads::inbox_of;
+pub use working::{Worked, serve_work};

@@ -1,19 +1,28 @@
 //! A node that notes each event that it makes in lines for its log.
-ghost use Rattle.std.specs.Prelude.{◌≡◌, ◌++◌, ◌<◌, [], IfOk, OnOk};
+ghost use Rattle.std.specs.Prelude.{◌≡◌, ◌↔◌, ◌++◌, ◌<◌, [], IfOk, IsTrue, OnOk};
 ghost use Rattle.std.specs.Io.KnownBytes.{Appends};
 ghost use Rattle.ivy_model.specs.Config.{IsConfig};
+ghost use Rattle.ivy_model.specs.Legal.{HasWidth};
+ghost use Rattle.ivy_program.specs.Owned.{IsFree};
 ghost use Rattle.ivy_moves.specs.declared.keep.Keep.TheVariants.{Nothing};
 ghost use Rattle.ivy_join.specs.ivy_lines.Printed.{event_line, head_line};
+ghost use Rattle.ivy_join.specs.ivy_lines.declared.own.Entry.TheVariants.{Asked, Answered};
+ghost use Rattle.ivy_join.specs.ivy_lines.Own.{own_head_line};
 ghost use Rattle.ivy_join.specs.ivy_site.Sites.{first_keeping};
 ghost use Rattle.ivy_process.specs.Logging.{GoesOn, IsEmptied, IsLogged, IsRestarted, served};
+ghost use Rattle.ivy_process.specs.Owned.{IsOpened, Notes};
 
 use crate::failure::Failure;
 use crate::limits::{Limits, Told};
 use crate::sites::{make_turns, push_frames};
-use ivy_join::ivy_lines::{Head, Log, parse_frame, push_event, push_head};
+use ivy_join::ivy_lines::ivy_calls::Answer;
+use ivy_join::ivy_lines::{
+    Entry, Head, Log, OwnLog, parse_frame, push_answered, push_asked, push_event, push_head,
+    push_own_head,
+};
 use ivy_join::ivy_site::{Keep, Site, Verdict};
-use ivy_join::{NotPlayed, replay};
-use ivy_model::{Config, Fault};
+use ivy_join::{NotPlayed, replay, replay_own};
+use ivy_model::{Call, Config, Fault, Reply};
 use ivy_moves::Event;
 use ivy_moves::ivy_link::MOST_AHEAD;
 use ivy_program::Program;
@@ -68,10 +77,41 @@ impl Node {
         requires here { me < config.now.nodes }
         ensures { IfOk result (λ node. node ≡ served (first_keeping Nothing config.now me program) []) }
     {
-        let acknowledged = vec![in alloc; 0u64; usize::from(config.nodes)]?;
+        let site = Site::keeping(alloc, config, me, program, Keep::Nothing)?;
+        Node::at_beginning(alloc, site, limits)
+    }
+
+    /// The node with own code of this log, as it was when its log ended; where that has no entry, it has made no call yet.
+    /// It is what the events of the log make of it, and its code has made the calls of the log. Nothing that the events sent
+    /// is sent again, but for what pulses bring.
+    pub fn open(alloc: Global, log: &OwnLog<Global>, limits: Limits) -> Result<Node, Failure>
+        requires limits { IsConfig log.now.head.config }
+        requires here { log.now.head.me < log.now.head.config.nodes }
+        ensures { IfOk result (λ node. IsOpened log.now.head log.now.entries.items node) }
+    {
+        let Head { me, config } = log.head;
+        let site = Site::open_keeping(alloc, &config, me, Keep::Nothing)?;
+        let mut node = Node::at_beginning(alloc, site, limits)?;
+        match replay_own(&mut node.site, &log.entries) {
+            Ok(()) => {}
+            Err(NotPlayed::Refused(fault)) => return Err(Failure::Refused(fault)),
+            Err(NotPlayed::NoSuchEvent(place)) => {
+                let line = log.lines.get(place).copied().unwrap_or(0);
+                return Err(Failure::NotItsLog(line));
+            }
+        }
+        node.learn_told(log);
+        Ok(node)
+    }
+
+    /// The node of a site whose program is at its beginning.
+    fn at_beginning(alloc: Global, site: Site<Global>, limits: Limits) -> Result<Node, Failure>
+        ensures { IfOk result (λ node. node ≡ served site []) }
+    {
+        let acknowledged = vec![in alloc; 0u64; usize::from(site.config().nodes)]?;
         Ok(Node {
             alloc,
-            site: Site::keeping(alloc, config, me, program, Keep::Nothing)?,
+            site,
             limits,
             turns: 0,
             acknowledged,
@@ -112,22 +152,42 @@ impl Node {
         Ok(node)
     }
 
+    /// What a string that an event delivers acknowledges.
+    fn learn(&mut self, event: &Event<Bytes<Global>>)
+        ensures { self.new ≡ self.old }
+    {
+        let config = self.site.config();
+        if let Event::Delivered(string) = event {
+            if let Ok(frame) = read(&config, string.bytes()) {
+                self.acknowledge(frame.source, frame.ack);
+            }
+        }
+    }
+
     /// What the strings that a log delivers acknowledge.
     fn learn_acknowledged(&mut self, log: &Log<Global>)
         ensures { self.new ≡ self.old }
     {
-        let config = self.site.config();
         for event in &log.events {
-            if let Event::Delivered(string) = event {
-                if let Ok(frame) = read(&config, string.bytes()) {
-                    self.acknowledge(frame.source, frame.ack);
-                }
+            self.learn(event);
+        }
+    }
+
+    /// What the strings that a log of own code delivers acknowledge.
+    fn learn_told(&mut self, log: &OwnLog<Global>)
+        ensures { self.new ≡ self.old }
+    {
+        for entry in &log.entries {
+            if let Entry::Did(event) = entry {
+                self.learn(event);
             }
         }
     }
 
     /// The number of the node.
-    pub fn me(&self) -> u8 {
+    pub fn me(&self) -> u8
+        ensures { result ≡ self.now.site.me }
+    {
         self.site.me()
     }
 
@@ -310,6 +370,50 @@ impl Node {
         push_head(&mut text, &head)?;
         log.write_all(text.as_bytes()).map_err(Failure::of_log)?;
         log.flush().map_err(Failure::of_log)
+    }
+
+    /// Writes the first line of the log of own code.
+    pub fn begin_own_log<L: Write>(&self, log: &mut L) -> Result<(), Failure>
+        ensures { OnOk result (Appends (L.contents log.old) (L.contents log.new) (own_head_line (record { me = self.now.site.me; config = self.now.site.config }))) }
+    {
+        let mut text = String::new(self.alloc);
+        let head = Head {
+            me: self.site.me(),
+            config: self.site.config(),
+        };
+        push_own_head(&mut text, &head)?;
+        log.write_all(text.as_bytes()).map_err(Failure::of_log)?;
+        log.flush().map_err(Failure::of_log)
+    }
+
+    /// Whether each call of its code has its reply, so that it may make one.
+    pub(crate) fn is_free(&self) -> bool
+        ensures { IsTrue result ↔ IsFree self.now.site.node.core.process }
+    {
+        self.site.is_free()
+    }
+
+    /// Its code makes a call, which is noted. The call before has its reply.
+    pub(crate) fn ask(&mut self, call: Call) -> Result<(), Failure>
+        requires free { IsFree self.old.site.node.core.process }
+        requires width { HasWidth call }
+        ensures { OnOk result (Notes (Asked call) self.old self.new) }
+    {
+        self.site.hand(call)?;
+        push_asked(&mut self.lines, call)?;
+        Ok(())
+    }
+
+    /// The reply to this call of its code, which is noted.
+    pub(crate) fn answer(&mut self, call: Call) -> Result<Reply, Failure>
+        ensures { IfOk result (λ reply. Notes (Answered (record { call = call; reply = reply })) self.old self.new) }
+    {
+        let Some(record) = self.site.last_record() else {
+            return Err(Failure::Unanswered);
+        };
+        let reply = record.reply;
+        push_answered(&mut self.lines, Answer { call, reply })?;
+        Ok(reply)
     }
 
     /// Writes what the log lacks.

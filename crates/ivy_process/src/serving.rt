@@ -37,9 +37,9 @@ struct Heard {
 
 /// What a service has told and when it pulsed last.
 #[derive(Clone, Copy, Debug, PartialEq, Eq)]
-struct Service {
-    pulsed: u64,
-    was_told: bool,
+pub(crate) struct Service {
+    pub(crate) pulsed: u64,
+    pub(crate) was_told: bool,
 }
 
 /// Hears the lines that wait, so many at most.
@@ -81,7 +81,7 @@ fn tell_end<E: Write>(node: &Node, service: &mut Service, err: &mut E) {
 }
 
 /// Hears what waits, makes turns, speaks, and pulses where it is time. It says whether there is no more to do.
-fn serve_once<R: Wait, I: Inbox, C: Clockwork, L: Write, O: Write, E: Write>(
+pub(crate) fn serve_once<R: Wait, I: Inbox, C: Clockwork, L: Write, O: Write, E: Write>(
     rt: &R,
     clock: &C,
     inbox: &I,

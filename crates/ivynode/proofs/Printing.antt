@@ -2,17 +2,14 @@
 use Rattle.std.proofs.Common.{◌≡◌, List, [], ◌∷◌, map, refl, ap}
 use Rattle.std.specs.List.{All, AllZip}
 use Rattle.std.proofs.lemmas.List.Elements.{All-head, All-tail}
-use Rattle.ivy_moves.specs.Events.{Event}
-use Rattle.ivy_process.specs.ivy_join.ivy_lines.declared.log.Head.{Head}
-use Rattle.ivynode.specs.Joined.{IsSpelled}
 
-module _ {L : Type 0} (head : L → Head) (events : L → List Event) where
-  pub all-zipped : (logs : List L) → All (λ l. IsSpelled (head l) (events l)) logs
-      → AllZip IsSpelled (map head logs) (map events logs)
+module _ {L H E : Type 0} (Is : H → E → Type 0) (head : L → H) (entries : L → E) where
+  pub all-zipped : (logs : List L) → All (λ l. Is (head l) (entries l)) logs
+      → AllZip Is (map head logs) (map entries logs)
   all-zipped [] all = tt
   all-zipped (l ∷ logs) all = (
-    All-head (λ x. IsSpelled (head x) (events x)) l logs all,
-    all-zipped logs (All-tail (λ x. IsSpelled (head x) (events x)) l logs all),
+    All-head (λ x. Is (head x) (entries x)) l logs all,
+    all-zipped logs (All-tail (λ x. Is (head x) (entries x)) l logs all),
   )
 
 pub map-twice : {L M N : Type 0} (f : M → N) (g : L → M) (xs : List L)

@@ -4,11 +4,13 @@
 
 ghost use Rattle.std.specs.Prelude.{◌≡◌, IsOk, MatchResult, map, string_bytes};
 ghost use Rattle.ivynode.specs.Joined.{PrintsJoined};
-ghost use Rattle.ivynode.specs.Requests.{AsksToJoin, IsJoin};
+ghost use Rattle.ivynode.specs.OwnJoined.{PrintsOwnJoined};
+ghost use Rattle.ivynode.specs.Requests.{AsksToJoin, AsksToJoinOwn, IsJoin, IsJoinOwn};
 
 mod failure;
 mod files;
 mod joining;
+mod owning;
 mod request;
 mod running;
 mod words;
@@ -16,6 +18,7 @@ mod writing;
 
 use failure::Failure;
 use joining::join_files;
+use owning::join_own_files;
 use request::{Help, Request, read};
 use running::{run, run_router};
 use std::env;
@@ -34,6 +37,7 @@ ivynode: nodes of a shared memory in processes of their own
 Usage:
   ivynode run FILE I [options]    one node of the programs of FILE, with its number
   ivynode join FILE LOG..         whether the logs of all nodes are the parts of one run
+  ivynode join-own LOG..          the same of logs of own code
   ivynode router [options]        hands lines from standard input on, and mistreats them
 
 Options of run:
@@ -60,7 +64,8 @@ where
     R: Files<File = File> + Clock + AllocGlobal + Threads + Wait + Copy + Send + 'static,
     O: Write,
     E: Write,
-    ensures { IsJoin request.entry → MatchResult result (λ status. PrintsJoined (O.contents out.old) (O.contents out.new)) (λ _. Unit {0}) }
+    ensures joins { IsJoin request.entry → MatchResult result (λ status. PrintsJoined (O.contents out.old) (O.contents out.new)) (λ _. Unit {0}) }
+    ensures own { IsJoinOwn request.entry → MatchResult result (λ status. PrintsOwnJoined (O.contents out.old) (O.contents out.new)) (λ _. Unit {0}) }
 {
     match request {
         Request::Help(Help::Usage) => write!(out, "{HELP}")?,
@@ -68,6 +73,7 @@ where
         Request::Run(asked) => return run(rt, &asked, stdin, out, err),
         Request::Router { harm, seed } => run_router(rt, harm, seed, stdin, out)?,
         Request::Join { file, logs } => join_files(&rt, file, &logs, out)?,
+        Request::JoinOwn { logs } => join_own_files(&rt, &logs, out)?,
     }
     Ok(0)
 }
@@ -84,7 +90,8 @@ where
     R: Files<File = File> + Clock + AllocGlobal + Threads + Wait + Copy + Send + 'static,
     O: Write,
     E: Write,
-    ensures { AsksToJoin (map (λ w. string_bytes w) words.now) → MatchResult result (λ status. PrintsJoined (O.contents out.old) (O.contents out.new)) (λ _. Unit {0}) }
+    ensures joins { AsksToJoin (map (λ w. string_bytes w) words.now) → MatchResult result (λ status. PrintsJoined (O.contents out.old) (O.contents out.new)) (λ _. Unit {0}) }
+    ensures own { AsksToJoinOwn (map (λ w. string_bytes w) words.now) → MatchResult result (λ status. PrintsOwnJoined (O.contents out.old) (O.contents out.new)) (λ _. Unit {0}) }
 {
     let request = read(rt.alloc(), words)?;
     carry_out(rt, request, stdin, out, err)
@@ -105,13 +112,15 @@ fn concluded<E: Write>(done: Result<u8, Failure>, flushed: io::Result<()>, err: 
 /// Carries out the command of these words, of which the first is the program's name, and gives its exit status.
 ///
 /// Where that is 0 and the command was to join logs, they are the parts of one run of the programs, and what is printed
-/// is what the programs printed in it, and which of them have ended there.
+/// is what the programs printed in it, and which of them have ended there; of logs of own code, how many calls of each node
+/// were answered in it.
 fn perform<R, O, E>(rt: R, words: &[String], stdin: Stdin, out: &mut O, err: &mut E) -> u8
 where
     R: Files<File = File> + Clock + AllocGlobal + Threads + Wait + Copy + Send + 'static,
     O: Write,
     E: Write,
-    ensures { AsksToJoin (map (λ w. string_bytes w) words.now) → result ≡ 0 → PrintsJoined (O.contents out.old) (O.contents out.new) }
+    ensures joins { AsksToJoin (map (λ w. string_bytes w) words.now) → result ≡ 0 → PrintsJoined (O.contents out.old) (O.contents out.new) }
+    ensures own { AsksToJoinOwn (map (λ w. string_bytes w) words.now) → result ≡ 0 → PrintsOwnJoined (O.contents out.old) (O.contents out.new) }
 {
     let done = obey(rt, words, stdin, out, err);
     let flushed = out.flush();

@@ -1,6 +1,6 @@
 //! What a command line asks for.
 ghost use Rattle.std.specs.Prelude.{IfOk, map, string_bytes};
-ghost use Rattle.ivynode.specs.Requests.{AsksToJoin, IsJoin};
+ghost use Rattle.ivynode.specs.Requests.{AsksToJoin, AsksToJoinOwn, IsJoin, IsJoinOwn};
 
 use crate::failure::Failure;
 use crate::words::Words;
@@ -34,6 +34,7 @@ pub(crate) enum Request<'a> {
     Help(Help),
     Run(Asked<'a>),
     Join { file: &'a str, logs: Vec<&'a str> },
+    JoinOwn { logs: Vec<&'a str> },
     Router { harm: Harm, seed: u64 },
 }
 
@@ -99,6 +100,13 @@ fn join<'a>(alloc: Global, words: &'a [String]) -> Result<Request<'a>, Failure>
     })
 }
 
+fn join_own<'a>(alloc: Global, words: &'a [String]) -> Result<Request<'a>, Failure>
+    ensures { IfOk result IsJoinOwn }
+{
+    let words = Words::new(alloc, words, &[], &[])?;
+    Ok(Request::JoinOwn { logs: words.plain })
+}
+
 fn router<'a>(alloc: Global, words: &'a [String]) -> Result<Request<'a>, Failure> {
     let words = Words::new(alloc, words, &ROUTER_VALUES, &[])?;
     if !words.plain.is_empty() {
@@ -116,7 +124,8 @@ fn router<'a>(alloc: Global, words: &'a [String]) -> Result<Request<'a>, Failure
 
 /// What the words ask for. The first is the program's name.
 pub(crate) fn read<'a>(alloc: Global, words: &'a [String]) -> Result<Request<'a>, Failure>
-    ensures { AsksToJoin (map (λ w. string_bytes w) words.now) → IfOk result IsJoin }
+    ensures joins { AsksToJoin (map (λ w. string_bytes w) words.now) → IfOk result IsJoin }
+    ensures own { AsksToJoinOwn (map (λ w. string_bytes w) words.now) → IfOk result IsJoinOwn }
 {
     let Some(command) = words.get(1) else {
         return Err(Failure::BadCommandLine("a command is missing"));
@@ -125,6 +134,7 @@ pub(crate) fn read<'a>(alloc: Global, words: &'a [String]) -> Result<Request<'a>
     match command.as_str() {
         "run" => run(alloc, rest),
         "join" => join(alloc, rest),
+        "join-own" => join_own(alloc, rest),
         "router" => router(alloc, rest),
         "--help" | "-h" | "help" => Ok(Request::Help(Help::Usage)),
         "--version" | "-V" => Ok(Request::Help(Help::Version)),

@@ -14,3 +14,5 @@ mod lines;
 mod serves;
 #[cfg(test)]
 mod sessions;
+#[cfg(test)]
+mod works;

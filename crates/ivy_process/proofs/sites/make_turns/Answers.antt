@@ -1,4 +1,4 @@
-use Rattle.std.proofs.Common.{rules, ◌≡◌, arith}
+use Rattle.std.proofs.Common.{rules, arith}
 use Rattle.ivy_join.specs.ivy_site.declared.turn.Turn.TheVariants.{Moved}
 use Rattle.ivy_join.specs.ivy_site.Sites.{AfterTurn}
 use Rattle.ivy_join.proofs.Steps.{one-more}

@@ -2,6 +2,7 @@
 use Rattle.std.proofs.Common.{map, sym, subst}
 use Rattle.ivy_moves.specs.Marks.{marks}
 use Rattle.ivy_process.specs.ivy_join.Joined.{AreHeads, AreJoined}
+use Rattle.ivynode.specs.Joined.{IsSpelled}
 use Rattle.ivynode.proofs.Printing.{all-zipped, map-twice}
 use Rattle.ivynode.proofs.joining.join_files.Goals as goal
 
@@ -16,7 +17,7 @@ returns g c =
       spelled = c.in_ok-programs.ensures;
       heads = map (λ l. l.head) logs;
       events = map (λ l. l.events.items) logs;
-      logs = all-zipped (λ l. l.head) (λ l. l.events.items) logs c.in_ok-logs.ensures;
+      logs = all-zipped IsSpelled (λ l. l.head) (λ l. l.events.items) logs c.in_ok-logs.ensures;
       own = subst (λ ls. AreHeads config 0 (map (λ l. l.head) ls)) c.deref-2.ensures.value
           c.in_ok-joined.ensures.heads;
       sites = sites;

@@ -1,0 +1,184 @@
+-- A node with own code goes on by events, calls and answers, whose lines it notes and writes.
+use Rattle.std.proofs.Common.{◌≡◌, ℕ, ◌≤◌, List, [], ◌∷◌, ◌++◌, length, take, Option, None, map, refl, sym, ap, subst, ◌∙◌, append-nil, append_assoc, arith}
+use Rattle.std.specs.Io.KnownBytes.{Appends}
+use Rattle.std.proofs.KnownBytes.{Appends-nil, Appends-trans}
+use Rattle.std.proofs.lemmas.List.{take_all}
+use Rattle.std.proofs.lemmas.List.Concat.{flat_map-append}
+use Rattle.ivy_model.specs.declared.Call.{Call}
+use Rattle.ivy_model.specs.declared.Reply.{Reply}
+use Rattle.ivy_join.specs.ivy_lines.ivy_calls.declared.Answer.{Answer}
+use Rattle.ivy_moves.specs.Events.{Event}
+use Rattle.ivy_moves.specs.Marks.{marks}
+use Rattle.ivy_join.specs.ivy_lines.declared.own.Entry.TheVariants.{Did}
+use Rattle.ivy_join.specs.ivy_lines.Own.{Entry, answer_in, answers_in, entry_line, event_in, events_in, own_lines}
+use Rattle.ivy_join.specs.ivy_lines.Printed.{event_line}
+use Rattle.ivy_join.proofs.of_ivy_lines.Owned.{marks-append}
+use Rattle.ivy_process.specs.declared.failure.Failure.{Failure}
+use Rattle.ivy_process.specs.declared.recalling.Recalled.{Recalled}
+use Rattle.ivy_process.specs.declared.recalling.Recalled.TheVariants.{Told, Open, New}
+use Rattle.ivy_process.specs.Logging.{Served, lines_of, GoesOn, Streams, StreamsWhole}
+use Rattle.ivy_process.specs.Owned.{Begun, begun, HasResumed, HasWorked, IsRecalled, Notes, OwnStreams, Replies, Resumes, ResumesUnless}
+use Rattle.ivy_process.proofs.Logged.{goes-further, streams-begin}
+
+did-events : (events : List Event) → events_in (map Did events) ≡ events
+did-events [] = refl
+did-events (e ∷ es) = ap (λ l. e ∷ l) (did-events es)
+
+did-answers : (events : List Event) → answers_in (map Did events) ≡ []
+did-answers [] = refl
+did-answers (e ∷ es) = did-answers es
+
+did-lines : (events : List Event) → own_lines (map Did events) ≡ lines_of events
+did-lines [] = refl
+did-lines (e ∷ es) = ap (λ l. event_line e ++ l) (did-lines es)
+
+-- events alone
+pub streams-own : (past : List Entry) (b d : Served) (log log' : Option (List ℕ)) → Streams b d log log'
+    → OwnStreams (begun past b log) d log' []
+streams-own past b d log log' x = record {
+  entries = map Did x.events;
+  answers = did-answers x.events;
+  listed = x.listed ∙ ap (λ l. b.site.events ++ marks l) (sym (did-events x.events));
+  part = x.part;
+  written = x.written;
+  all = x.all ∙ ap (λ l. b.unlogged ++ l) (sym (did-lines x.events));
+}
+
+-- a call or an answer
+pub noted-own : (past : List Entry) (entry : Entry) (b d : Served) (log : Option (List ℕ))
+    → event_in entry ≡ [] → Notes entry b d → OwnStreams (begun past b log) d log (answer_in entry)
+noted-own past entry b d log none n = record {
+  entries = entry ∷ [];
+  answers = append-nil (answer_in entry);
+  listed = n.listed ∙ sym (append-nil b.site.events)
+      ∙ ap (λ l. b.site.events ++ marks l) (sym (append-nil (event_in entry) ∙ none));
+  part = [];
+  written = Appends-nil log;
+  all = n.noted ∙ ap (λ l. b.unlogged ++ l) (sym (append-nil (entry_line entry)));
+}
+
+-- first this, then that
+pub own-further : (from : Begun) (past : List Entry) (b d : Served) (log log' : Option (List ℕ))
+    (told more : List Answer) → OwnStreams from b log told → OwnStreams (begun past b log) d log' more
+    → OwnStreams from d log' (told ++ more)
+own-further from past b d log log' told more x y = record {
+  entries = x.entries ++ y.entries;
+  answers = flat_map-append answer_in x.entries y.entries
+      ∙ ap (λ l. l ++ answers_in y.entries) x.answers ∙ ap (λ l. told ++ l) y.answers;
+  listed = y.listed ∙ ap (λ l. l ++ marks (events_in y.entries)) x.listed
+      ∙ append_assoc from.events (marks (events_in x.entries)) (marks (events_in y.entries))
+      ∙ ap (λ l. from.events ++ l)
+      (sym (marks-append (events_in x.entries) (events_in y.entries))
+      ∙ ap marks (sym (flat_map-append event_in x.entries y.entries)));
+  part = x.part ++ y.part;
+  written = Appends-trans from.log log log' x.part y.part x.written y.written;
+  all = append_assoc x.part y.part d.unlogged ∙ ap (λ l. x.part ++ l) y.all
+      ∙ sym (append_assoc x.part b.unlogged (own_lines y.entries))
+      ∙ ap (λ l. l ++ own_lines y.entries) x.all
+      ∙ append_assoc from.unlogged (own_lines x.entries) (own_lines y.entries)
+      ∙ ap (λ l. from.unlogged ++ l) (sym (flat_map-append entry_line x.entries y.entries));
+}
+
+streams-of : (b d : Served) (log log' : Option (List ℕ)) → StreamsWhole b d log log'
+    → Streams b d log log'
+streams-of b d log log' x = record {
+  events = x.events;
+  listed = x.listed;
+  part = b.unlogged ++ lines_of x.events;
+  written = x.written;
+  all = ap (λ l. (b.unlogged ++ lines_of x.events) ++ l) x.whole
+      ∙ append-nil (b.unlogged ++ lines_of x.events);
+}
+
+-- its work was told nothing yet, and the node went on
+resumes-begin : (past : List Entry) (b d : Served) (log : Option (List ℕ)) → GoesOn b d
+    → Resumes (begun past b log) 0 d log []
+resumes-begin past b d log on = record {
+  within = omega arith;
+  fresh = [];
+  streams = streams-own past b d log log (streams-begin b d log on);
+  are = refl;
+  again = λ below. refl;
+}
+
+-- so it is where its node went on in two steps, and nothing was told
+pub resumes-first : (from : Begun) (past : List Entry) (b mid d : Served) (log : Option (List ℕ))
+    (told : List Answer) → begun past b log ≡ from → GoesOn b mid → GoesOn mid d → told ≡ []
+    → (past ≡ from.past) × (0 ≤ length past) × Resumes from 0 d log told
+resumes-first from past b mid d log told is x y none =
+    let first : Resumes from 0 d log [] =
+    subst (λ f. Resumes f 0 d log []) is (resumes-begin past b d log (goes-further b mid d x y)) in
+    (ap (λ (f : Begun). f.past) is, omega arith, subst (Resumes from 0 d log) (sym none) first)
+
+-- the log has no answer more
+abbrev HasNoAnswer : List Entry → ℕ → Type 0
+HasNoAnswer past place = answers_in past ≡ answers_in (take place past)
+
+none-recalled : (past : List Entry) (place : ℕ) (call : Call) (recalled : Recalled)
+    → ((reply : Reply) (next : ℕ) → recalled ≡ Told reply next → ⊥) → IsRecalled past place call recalled
+    → HasNoAnswer past place
+none-recalled past place call (Told reply next) other is = absurd (other reply next refl)
+none-recalled past place call Open other is = is
+none-recalled past place call New other is = is
+
+-- it is answered by the node
+answered-now : (from : Begun) (place end : ℕ) (b d : Served) (log log' : Option (List ℕ))
+    (told : List Answer) (call : Call) (reply : Reply) → Resumes from place b log told
+    → HasNoAnswer from.past place → end ≡ length from.past → Replies call reply b d log log'
+    → Resumes from end d log' (told ++ record { call = call; reply = reply } ∷ [])
+answered-now from place end b d log log' told call reply x none at replies =
+    let one : List Answer = record { call = call; reply = reply } ∷ [] in
+    let all : take end from.past ≡ from.past = take_all end from.past (omega (arith, at)) in record {
+      within = omega (arith, at);
+      fresh = x.fresh ++ one;
+      streams = own-further from [] b d log log' x.fresh one x.streams replies;
+      are = ap (λ l. l ++ one) (x.are ∙ ap (λ l. l ++ x.fresh) (sym none))
+          ∙ append_assoc (answers_in from.past) x.fresh one
+          ∙ ap (λ l. answers_in l ++ (x.fresh ++ one)) (sym all);
+      again = λ below. absurd (omega (arith, at, below));
+    }
+
+-- no call failed, the log has no answer to this one, and it is answered by the node
+pub answered-unless : (failure : Option Failure) (from : Begun) (past : List Entry) (place end : ℕ)
+    (b d : Served) (log log' : Option (List ℕ)) (told told' : List Answer) (call : Call) (reply : Reply)
+    (recalled : Recalled) → failure ≡ None
+    → (past ≡ from.past) × (place ≤ length past) × ResumesUnless failure from place b log told
+    → ((reply : Reply) (next : ℕ) → recalled ≡ Told reply next → ⊥) → IsRecalled past place call recalled
+    → end ≡ length past → told' ≡ told ++ record { call = call; reply = reply } ∷ []
+    → Replies call reply b d log log'
+    → (past ≡ from.past) × (end ≤ length past) × ResumesUnless failure from end d log' told'
+answered-unless failure from past place end b d log log' told told' call reply recalled ok is other said at
+    more replies =
+    let before : Resumes from place b log told =
+    subst (λ f. ResumesUnless f from place b log told) ok is.2 in
+    let none : HasNoAnswer from.past place =
+    subst (λ l. HasNoAnswer l place) is.0 (none-recalled past place call recalled other said) in
+    let after : Resumes from end d log' (told ++ record { call = call; reply = reply } ∷ []) =
+    answered-now from place end b d log log' told call reply before none (at ∙ ap length is.0) replies in (
+      is.0,
+      omega (arith, at),
+      subst (λ f. ResumesUnless f from end d log' told') (sym ok)
+          (subst (λ l. Resumes from end d log' l) (sym more) after),
+    )
+
+-- the work is done, and then the node serves until its input has ended
+pub has-worked : {Out : Type 0} (done : ℕ → List Answer → Out → Type 0) (past : List Entry)
+    (old mid new : Served) (log log' log'' : Option (List ℕ)) (told : List Answer) (out : Out)
+    → HasResumed (begun past old log) mid log' told → StreamsWhole mid new log' log''
+    → done old.site.me told out → HasWorked done past old new log log'' out
+has-worked done past old mid new log log' log'' told out x y did =
+    let z : OwnStreams (begun past old log) new log'' (x.fresh ++ []) =
+    own-further (begun past old log) past mid new log' log'' x.fresh [] x.streams
+    (streams-own past mid new log' log'' (streams-of mid new log' log'' y)) in
+    let all : z.part ≡ old.unlogged ++ own_lines z.entries =
+    sym (append-nil z.part) ∙ ap (λ l. z.part ++ l) (sym y.whole) ∙ z.all in
+    let answered : answers_in (past ++ z.entries) ≡ told =
+    flat_map-append answer_in past z.entries
+    ∙ ap (λ l. answers_in past ++ l) (z.answers ∙ append-nil x.fresh) ∙ sym x.are in
+    record {
+      entries = z.entries;
+      listed = z.listed;
+      written = subst (Appends log log'') all z.written;
+      whole = y.whole;
+      did = subst (λ l. done old.site.me l out) (sym answered) did;
+    }

@@ -1,0 +1,17 @@
+use Rattle.std.proofs.Common.{[], ◌∷◌, refl}
+use Rattle.std.proofs.lemmas.Result.{IfOk-weaker}
+use Rattle.ivy_join.specs.ivy_lines.declared.own.Entry.TheVariants.{Asked}
+use Rattle.ivy_process.specs.Owned.{begun}
+use Rattle.ivy_process.proofs.Owned.{noted-own, own-further}
+use Rattle.ivy_process.proofs.working.ask.Goals as goal
+
+pub returns : goal.returns
+returns g c =
+    let L = g.L.Write.contents in
+    IfOk-weaker c.hear_reply.result _ _
+    (λ reply replies.
+    own-further (begun [] c.args.node.now (L c.args.log.now)) [] c.ask.new.self c.hear_reply.new.node
+    (L c.args.log.now) (L c.hear_reply.new.log) [] (record { call = c.args.call; reply = reply } ∷ [])
+    (noted-own [] (Asked c.args.call) c.args.node.now c.ask.new.self (L c.args.log.now) refl c.in_ok-ask.ensures)
+    replies)
+    c.hear_reply.ensures

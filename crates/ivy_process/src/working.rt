@@ -1,0 +1,374 @@
+//! Own code at a node in a process: the memory that its work has, and the service around it.
+ghost use Rattle.std.specs.Prelude.{◌≡◌, ◌∷◌, [], IfOk, OnOk};
+ghost use Rattle.ivy_model.specs.Legal.{HasWidth};
+ghost use Rattle.ivy_process.specs.Logging.{Streams};
+ghost use Rattle.ivy_process.specs.Owned.{begun, HasResumed, HasWorked, Replies};
+
+use crate::failure::Failure;
+use crate::mail::Inbox;
+use crate::node::Node;
+use crate::recalling::{Recalled, check_told, recall};
+use crate::serving::{Clockwork, Service, serve, serve_once};
+use crate::story::Story;
+use ivy_join::ivy_lines::OwnLog;
+use ivy_join::ivy_lines::ivy_calls::{Answer, SharedMemory, Work};
+use ivy_model::{Call, Fault, Reply};
+use std::alloc::Global;
+use std::io::Write;
+use std::marker::{Brand, Model, PhantomData};
+use std::sync::Wait;
+
+/// Where a node's work began. Whoever begins one picks it, at `Brand`.
+pub trait Beginning {
+    ghost use Rattle.ivy_process.specs.Owned.{Begun};
+
+    ghost begun: { Begun };
+}
+
+impl Beginning for Brand {
+    ghost use Rattle.std.specs.Prelude.{[], None};
+
+    ghost begun = { record { past = []; events = []; unlogged = []; log = None } };
+}
+
+/// The memory of a node in a process as its work has it. A work that is begun again makes its calls again: those that the
+/// log has are answered as it says.
+///
+/// Contracts see what was answered. The log has it, unless a call failed.
+#[derive(Drop)]
+struct OwnMemory<'a, S: Beginning, R, C, I, L: Write, O, E> {
+    rt: &'a R,
+    clock: &'a C,
+    inbox: &'a I,
+    past: &'a OwnLog<Global>,
+    /// The place in the log behind what the work was told of it.
+    place: usize,
+    node: Node,
+    service: Service,
+    log: L,
+    out: O,
+    err: E,
+    told: Story,
+    failure: Option<Failure>,
+    of: PhantomData<S>,
+}
+
+impl<'a, S: Beginning, R, C, I, L: Write, O, E> Model for OwnMemory<'a, S, R, C, I, L, O, E> {
+    ghost use Rattle.std.specs.Prelude.{◌≡◌, ◌≤◌, List, length};
+    ghost use Rattle.ivy_join.specs.ivy_lines.ivy_calls.declared.Answer.{Answer};
+    ghost use Rattle.ivy_process.specs.Owned.{ResumesUnless};
+
+    ghost Value = { List Answer };
+
+    ghost view = { λ m. m.told };
+
+    ghost invariant = { λ m. (m.past.now.entries.items ≡ S.begun.past) × (m.place ≤ length m.past.now.entries.items) × ResumesUnless m.failure S.begun m.place m.node (L.contents m.log) m.told };
+}
+
+/// Serves until each call that was made has its reply.
+fn await_reply<R: Wait, C: Clockwork, I: Inbox, L: Write, O: Write, E: Write>(
+    rt: &R,
+    clock: &C,
+    inbox: &I,
+    node: &mut Node,
+    service: &mut Service,
+    log: &mut L,
+    out: &mut O,
+    err: &mut E,
+) -> Result<(), Failure>
+    ensures { OnOk result (Streams node.old node.new (L.contents log.old) (L.contents log.new)) }
+{
+    for _ in rt.forever() {
+        if node.is_free() {
+            return Ok(());
+        }
+        if serve_once(rt, clock, inbox, node, service, log, out, err)? {
+            break;
+        }
+    }
+    Err(Failure::Unanswered)
+}
+
+/// Serves until the call that was made has its reply.
+fn hear_reply<R: Wait, C: Clockwork, I: Inbox, L: Write, O: Write, E: Write>(
+    rt: &R,
+    clock: &C,
+    inbox: &I,
+    node: &mut Node,
+    service: &mut Service,
+    log: &mut L,
+    out: &mut O,
+    err: &mut E,
+    call: Call,
+) -> Result<Reply, Failure>
+    ensures { IfOk result (λ reply. Replies call reply node.old node.new (L.contents log.old) (L.contents log.new)) }
+{
+    await_reply(rt, clock, inbox, node, service, log, out, err)?;
+    node.answer(call)
+}
+
+/// Makes a call, and serves until it has its reply.
+fn ask<R: Wait, C: Clockwork, I: Inbox, L: Write, O: Write, E: Write>(
+    rt: &R,
+    clock: &C,
+    inbox: &I,
+    node: &mut Node,
+    service: &mut Service,
+    log: &mut L,
+    out: &mut O,
+    err: &mut E,
+    call: Call,
+) -> Result<Reply, Failure>
+    requires width { HasWidth call }
+    ensures { IfOk result (λ reply. Replies call reply node.old node.new (L.contents log.old) (L.contents log.new)) }
+{
+    if !node.is_free() {
+        return Err(Failure::Unanswered);
+    }
+    node.ask(call)?;
+    hear_reply(rt, clock, inbox, node, service, log, out, err, call)
+}
+
+/// Answers a call that the log has or lacks, but for its reply.
+fn reply_to<R: Wait, C: Clockwork, I: Inbox, L: Write, O: Write, E: Write>(
+    rt: &R,
+    clock: &C,
+    inbox: &I,
+    node: &mut Node,
+    service: &mut Service,
+    log: &mut L,
+    out: &mut O,
+    err: &mut E,
+    call: Call,
+    recalled: Recalled,
+) -> Result<Reply, Failure>
+    requires width { HasWidth call }
+    ensures { IfOk result (λ reply. Replies call reply node.old node.new (L.contents log.old) (L.contents log.new)) }
+{
+    match recalled {
+        Recalled::New => ask(rt, clock, inbox, node, service, log, out, err, call),
+        _ => hear_reply(rt, clock, inbox, node, service, log, out, err, call),
+    }
+}
+
+/// The line of an entry of a log.
+fn line_of(log: &OwnLog<Global>, place: usize) -> u64 {
+    log.lines.get(place).copied().unwrap_or(0)
+}
+
+impl<'a, S, R, C, I, L, O, E> SharedMemory for OwnMemory<'a, S, R, C, I, L, O, E>
+where
+    S: Beginning,
+    R: Wait,
+    C: Clockwork,
+    I: Inbox,
+    L: Write,
+    O: Write,
+    E: Write,
+{
+    ghost use Rattle.std.specs.Prelude.{◌≡◌};
+    ghost use Rattle.ivy_model.specs.declared.Fault.TheVariants.{TurnLimit};
+
+    ghost answers = { λ m. m };
+
+    ghost can_fail = { λ _ fault. fault ≡ TurnLimit };
+
+    fn call(&mut self, call: Call) -> Result<Reply, Fault> {
+        if self.failure.is_some() {
+            return Err(Fault::TurnLimit);
+        }
+        let recalled = match recall(&self.past.entries, self.place, call) {
+            Ok(recalled) => recalled,
+            Err(at) => {
+                self.failure = Some(Failure::Differs(line_of(self.past, at)));
+                return Err(Fault::TurnLimit);
+            }
+        };
+        if let Recalled::Told { reply, next } = recalled {
+            self.place = next;
+            self.told.push(&Answer { call, reply });
+            return Ok(reply);
+        }
+        let replied = reply_to(
+            self.rt,
+            self.clock,
+            self.inbox,
+            &mut self.node,
+            &mut self.service,
+            &mut self.log,
+            &mut self.out,
+            &mut self.err,
+            call,
+            recalled,
+        );
+        match replied {
+            Ok(reply) => {
+                self.place = self.past.entries.len();
+                self.told.push(&Answer { call, reply });
+                Ok(reply)
+            }
+            Err(failure) => {
+                self.failure = Some(failure);
+                Err(Fault::TurnLimit)
+            }
+        }
+    }
+}
+
+/// A node whose work is done, with what it speaks to.
+#[derive(Drop)]
+struct Parts<L, O, E> {
+    node: Node,
+    log: L,
+    out: O,
+    err: E,
+}
+
+impl<'a, S, R, C, I, L, O, E> OwnMemory<'a, S, R, C, I, L, O, E>
+where
+    S: Beginning,
+    L: Write + Drop,
+    O: Drop,
+    E: Drop,
+{
+    /// The node, its log and its streams, where no call failed, and the work has made all calls that the log has.
+    fn into_parts(self) -> Result<Parts<L, O, E>, Failure>
+        ensures { IfOk result (λ parts. HasResumed S.begun parts.node (L.contents parts.log) self.entry) }
+    {
+        let OwnMemory {
+            past,
+            place,
+            node,
+            log,
+            out,
+            err,
+            told: _,
+            failure,
+            ..
+        } = self;
+        if let Some(failure) = failure {
+            return Err(failure);
+        }
+        match check_told(&past.entries, place) {
+            Ok(()) => Ok(Parts {
+                node,
+                log,
+                out,
+                err,
+            }),
+            Err(at) => Err(Failure::Differs(line_of(past, at))),
+        }
+    }
+}
+
+/// What the work of a node in a process gave, and its node and its log once its input had ended.
+#[derive(Drop)]
+pub struct Worked<T, L> {
+    /// What the work gave.
+    pub gave: T,
+    /// The node.
+    pub node: Node,
+    /// Its log.
+    pub log: L,
+}
+
+/// Does the work of a node that began so, and then serves until the input has ended.
+fn work_from<S, R, C, I, W, L, O, E>(
+    rt: &R,
+    clock: &C,
+    inbox: &I,
+    past: &OwnLog<Global>,
+    node: Node,
+    work: &W,
+    log: L,
+    out: O,
+    err: E,
+) -> Result<Worked<W::Out, L>, Failure>
+where
+    S: Beginning,
+    R: Wait,
+    C: Clockwork,
+    I: Inbox,
+    W: Work,
+    L: Write + Drop,
+    O: Write + Drop,
+    E: Write + Drop,
+    requires { begun past.now.entries.items node (L.contents log) ≡ S.begun }
+    ensures { IfOk result (λ worked. HasWorked (W.done work.now) past.now.entries.items node worked.node (L.contents log) (L.contents worked.log) worked.gave) }
+{
+    let me = node.me();
+    let mut node = node;
+    node.go_on_all()?;
+    node.pulse()?;
+    let service = Service {
+        pulsed: clock.millis(),
+        // That its code may make a call is no end.
+        was_told: true,
+    };
+    let mut memory = OwnMemory::<S, R, C, I, L, O, E> {
+        rt,
+        clock,
+        inbox,
+        past,
+        place: 0,
+        node,
+        service,
+        log,
+        out,
+        err,
+        told: Story::new(),
+        failure: None,
+        of: PhantomData,
+    };
+    let gave = work.work(me, &mut memory);
+    let mut parts = memory.into_parts()?;
+    let gave = match gave {
+        Ok(gave) => gave,
+        Err(fault) => return Err(Failure::GaveUp(fault)),
+    };
+    serve(
+        rt,
+        clock,
+        inbox,
+        &mut parts.node,
+        &mut parts.log,
+        &mut parts.out,
+        &mut parts.err,
+    )?;
+    Ok(Worked {
+        gave,
+        node: parts.node,
+        log: parts.log,
+    })
+}
+
+/// Does the work of a node with own code, and then serves the other nodes until its input has ended.
+///
+/// `past` is the log of the node as it was found, of which [`Node::open`] made it; without entries where the node is new.
+/// A work that is begun again is answered as that log says, as long as it has the call: it has to make the same calls where
+/// it is answered the same, and else the line is named of the call that it does not make. What the node did since, what its
+/// work called and what it was answered stand in the log, and before a frame of it goes out. By all these answers the work
+/// has done what it had to.
+pub fn serve_work<R, C, I, W, L, O, E>(
+    rt: &R,
+    clock: &C,
+    inbox: &I,
+    past: &OwnLog<Global>,
+    node: Node,
+    work: &W,
+    log: L,
+    out: O,
+    err: E,
+) -> Result<Worked<W::Out, L>, Failure>
+where
+    R: Wait,
+    C: Clockwork,
+    I: Inbox,
+    W: Work,
+    L: Write + Drop,
+    O: Write + Drop,
+    E: Write + Drop,
+    ensures { IfOk result (λ worked. HasWorked (W.done work.now) past.now.entries.items node worked.node (L.contents log) (L.contents worked.log) worked.gave) }
+{
+    work_from::<Brand, R, C, I, W, L, O, E>(rt, clock, inbox, past, node, work, log, out, err)
+}

@@ -1,0 +1,41 @@
+-- What is printed of logs of own code that are the parts of one run.
+use Rattle.std.specs.Prelude.{ℕ, List, [], ◌∷◌, ◌++◌, Option, codes, decimal, length}
+use Rattle.std.specs.List.{AllZip}
+use Rattle.std.specs.Io.KnownBytes.{Appends}
+use Rattle.ivy_model.specs.declared.Config.{Config}
+use Rattle.ivy_simulation.specs.Nodes.{numbered_texts}
+use Rattle.ivy_texts.specs.Printed.{then_number}
+use Rattle.ivy_process.specs.ivy_join.ivy_lines.declared.log.Head.{Head}
+use Rattle.ivy_process.specs.ivy_join.ivy_lines.Own.{Entry, SpellsOwnLog}
+use Rattle.ivy_process.specs.ivy_join.ivy_site.Shown.{Shown}
+use Rattle.ivy_process.specs.ivy_join.Joined.{AreHeads}
+use Rattle.ivy_process.specs.ivy_join.Owned.{AreAllTold, AreAnswered, AreOwnJoined}
+
+-- some text spells this log of own code
+abbrev pub IsOwnSpelled : Head → List Entry → Type 0
+IsOwnSpelled head entries = (text : List ℕ) × SpellsOwnLog text head entries
+
+-- the line that says how many calls of the node were answered
+abbrev pub answered_line : ℕ → ℕ → List ℕ
+answered_line node count = codes "node" ++ then_number node ++ codes ": " ++ decimal count ++ codes " answered" ++ 10 ∷ []
+
+abbrev pub answered_in : ℕ → Shown → List ℕ
+answered_in number s = answered_line number (length s.node.core.history)
+
+-- these lines of all nodes
+abbrev pub all_answered_in : List Shown → List ℕ
+all_answered_in sites = numbered_texts answered_in 0 sites
+
+-- logs of own code, each as some text spells it, were joined: they are the parts of one run of the programs that the
+-- calls in them are, and each node was answered in it what its log says. Where no call is in progress there, and each
+-- log has all answers, one flat memory could have given them. How many calls of each node were answered was printed
+pub record PrintsOwnJoined (old new : Option (List ℕ)) : Type 0 where
+  pub config : Config
+  pub heads : List Head
+  pub logs : List (List Entry)
+  pub spelled : AllZip IsOwnSpelled heads logs
+  pub own : AreHeads config 0 heads
+  pub sites : List Shown
+  pub joined : AreOwnJoined config logs sites
+  pub answered : AreAllTold logs sites → AreAnswered config logs
+  pub printed : Appends old new (all_answered_in sites)
