@@ -2,7 +2,6 @@
 #define _POSIX_C_SOURCE 200809L
 #include "ivy_runtime.h"
 #include <pthread.h>
-#include <stdio.h>
 #include <stdlib.h>
 #include <string.h>
 #include <time.h>
@@ -10,12 +9,21 @@
 enum { MOST_NODES = 32, ROOM = 8192, MANY = 64 };
 enum { PULSE_US = 2000, HELLO_US = 20000, LISTEN_US = 500 };
 
+/* The head of a frame: its length, and where its source, its destination and the number of its message stand. */
+enum { HEAD = 24, SOURCE = 4, DESTINATION = 5, NUMBER = 8 };
+
+/* So far above what was delivered a string is kept, as a node does it. */
+enum { MOST_AHEAD = 32 };
+
 /* The first byte of what the runtime sends: a frame of a node, or a word of its own. */
 enum { FRAME = 1, HELLO = 2, DONE = 3, DEAD = 4, ALIVE = 5 };
 
 /* A word of the runtime: its kind, who says it, a set, the version and the configuration. */
 typedef struct { uint8_t kind, from; uint32_t set, version, nodes, pages, page_size, manager; } word;
 enum { WORD_LENGTH = 26 };
+
+typedef struct { uint8_t *bytes; size_t len; } string;
+typedef struct { uint32_t kind, width; uint64_t place, operand, expected; } call;
 
 struct ivy_process {
   ivy_node node;
@@ -28,6 +36,10 @@ struct ivy_process {
   int is_done, ending;
   long death_us;
   int64_t heard[MOST_NODES], pulsed, spoke;
+  FILE *log;
+  uint64_t turns;                       /* so many the log has */
+  uint64_t delivered[MOST_NODES];       /* where there is a log, so many messages of each node */
+  string early[MOST_NODES][MOST_AHEAD]; /* its strings that are not due, each in the place of its number, modulo so many */
   pthread_mutex_t lock;
   pthread_cond_t served;
   pthread_t thread;
@@ -62,14 +74,64 @@ static void fail(ivy_process *p, int status) {
   exit(status);
 }
 
-/* Sends the strings that wait. */
+/* What the log lacks is written. */
+static void flush_log(ivy_process *p) {
+  if (!p->log || (!fflush(p->log) && !ferror(p->log))) return;
+  fprintf(stderr, "ivy: node %u: its log takes no more\n", p->me);
+  fail(p, 5);
+}
+
+/* Sends the strings that wait, once the log has what they follow from. */
 static void send_frames(ivy_process *p) {
   uint8_t bytes[ROOM];
   size_t len;
   uint32_t to;
   bytes[0] = FRAME;
-  while (ivy_next_frame(&p->node, bytes + 1, ROOM - 1, &len, &to) == IVY_DONE)
+  while (ivy_next_frame(&p->node, bytes + 1, ROOM - 1, &len, &to) == IVY_DONE) {
+    flush_log(p);
     if (to < p->config.nodes) p->transport.send(p->transport.state, to, bytes, len + 1);
+  }
+}
+
+/* Whether a string waits: a buffer without room has none. */
+static int has_frame(ivy_process *p) {
+  uint8_t none;
+  size_t len;
+  uint32_t to;
+  return ivy_next_frame(&p->node, &none, 0, &len, &to) == IVY_SHORT_BUFFER;
+}
+
+static void log_call(FILE *log, const call *c) {
+  static const char *const names[] = { "load",  "store",   "swap",  "cas",   "fadd",
+                                       "count", "advance", "await", "alloc", "free" };
+  fputs(names[c->kind], log);
+  if (c->kind <= IVY_FETCH_AND_ADD) fprintf(log, " %u", c->width);
+  if (c->kind != IVY_ALLOC) fprintf(log, " %llu", (unsigned long long)c->place);
+  if (c->kind == IVY_COMPARE_AND_SWAP) fprintf(log, " %llu", (unsigned long long)c->expected);
+  if (c->kind != IVY_LOAD && c->kind != IVY_COUNT && c->kind != IVY_ADVANCE && c->kind != IVY_FREE)
+    fprintf(log, " %llu", (unsigned long long)c->operand);
+  fputc('\n', log);
+}
+
+/* The turns that the log lacks, and the reply, if it is one. */
+static void log_reply(ivy_process *p, const call *c, uint32_t status, const uint64_t *value) {
+  uint64_t turns;
+  if (!p->log) return;
+  if (ivy_turns(&p->node, &turns) == IVY_DONE && turns != p->turns) {
+    fprintf(p->log, "turns %llu\n", (unsigned long long)(turns - p->turns));
+    p->turns = turns;
+  }
+  if (status >= 256) return;
+  if (status != IVY_DONE) fprintf(p->log, "refused %u ", status);
+  else if (c->kind == IVY_STORE || c->kind == IVY_ADVANCE || c->kind == IVY_FREE) fputs("done ", p->log);
+  else fprintf(p->log, "value %llu ", (unsigned long long)*value);
+  log_call(p->log, c);
+}
+
+static void log_string(FILE *log, const uint8_t *bytes, size_t len) {
+  fputs("took ", log);
+  for (size_t i = 0; i < len; i++) fprintf(log, "%02x", bytes[i]);
+  fputc('\n', log);
 }
 
 static void told_dead(ivy_process *p, uint32_t who) {
@@ -115,17 +177,63 @@ static void hear_word(ivy_process *p, const uint8_t *bytes) {
   }
 }
 
-static void hear(ivy_process *p, const uint8_t *bytes, size_t len) {
+/* Gives a string to the node. Says whether it was the next one of its source. */
+static int deliver(ivy_process *p, const uint8_t *bytes, size_t len) {
   uint32_t verdict;
-  if (bytes[0] != FRAME) {
-    if (len == WORD_LENGTH) hear_word(p, bytes);
-    return;
+  if (ivy_deliver(&p->node, bytes, len, &verdict) != IVY_DONE || len < HEAD || bytes[SOURCE] >= p->config.nodes) return 0;
+  uint32_t from = bytes[SOURCE];
+  p->heard[from] = now_us();
+  p->here |= 1u << from;
+  p->known_here |= 1u << from;
+  p->delivered[from] += verdict == IVY_NEXT;
+  if (p->log && verdict != IVY_NOT_MINE) log_string(p->log, bytes, len);
+  send_frames(p);
+  return verdict == IVY_NEXT;
+}
+
+/* Whether others are missing before a string; then it is kept, or lost. */
+static int is_early(ivy_process *p, const uint8_t *bytes, size_t len) {
+  if (len < HEAD || bytes[SOURCE] >= p->config.nodes || bytes[DESTINATION] != p->me) return 0;
+  uint64_t number = (uint64_t)get32(bytes + NUMBER) << 32 | get32(bytes + NUMBER + 4);
+  uint64_t last = p->delivered[bytes[SOURCE]];
+  if (number <= last + 1) return 0;
+  string *place = &p->early[bytes[SOURCE]][number % MOST_AHEAD];
+  if (number - last <= MOST_AHEAD && !place->bytes && (place->bytes = (uint8_t *)malloc(len))) {
+    memcpy(place->bytes, bytes, len);
+    place->len = len;
   }
-  if (ivy_deliver(&p->node, bytes + 1, len - 1, &verdict) == IVY_DONE && len > 6 && bytes[5] < p->config.nodes) {
-    p->heard[bytes[5]] = now_us();
-    p->here |= 1u << bytes[5];
-    p->known_here |= 1u << bytes[5];
+  return 1;
+}
+
+/* The string of the next message of a node, where it came before its turn, and no more kept. */
+static string take_due(ivy_process *p, uint32_t from) {
+  string *place = &p->early[from][(p->delivered[from] + 1) % MOST_AHEAD], due = *place;
+  place->bytes = NULL;
+  return due;
+}
+
+/* A node holds a string that comes early, and later goes on with it without telling. A log has each delivery in its order,
+ * so where there is one, a node is given each string once it is due. */
+static void hear_frame(ivy_process *p, const uint8_t *bytes, size_t len) {
+  if (p->log && is_early(p, bytes, len)) return;
+  if (!deliver(p, bytes, len) || !p->log) return;
+  uint32_t from = bytes[SOURCE];
+  string due;
+  while ((due = take_due(p, from)).bytes) {
+    deliver(p, due.bytes, due.len);
+    free(due.bytes);
   }
+}
+
+static void hear(ivy_process *p, const uint8_t *bytes, size_t len) {
+  if (bytes[0] == FRAME) hear_frame(p, bytes + 1, len - 1);
+  else if (len == WORD_LENGTH) hear_word(p, bytes);
+}
+
+/* A pulse to a peer, which is in the log where it says something. */
+static void pulse(ivy_process *p, uint32_t to) {
+  send_frames(p);
+  if (ivy_pulse(&p->node, (uint8_t)to) == IVY_DONE && p->log && has_frame(p)) fprintf(p->log, "pulse %u\n", to);
   send_frames(p);
 }
 
@@ -134,8 +242,7 @@ static void keep_time(ivy_process *p) {
   int64_t now = now_us();
   if (now - p->pulsed >= PULSE_US) {
     for (uint32_t i = 0; i < p->config.nodes; i++)
-      if (i != p->me) ivy_pulse(&p->node, (uint8_t)i);
-    send_frames(p);
+      if (i != p->me) pulse(p, i);
     p->pulsed = now;
   }
   if (now - p->spoke >= HELLO_US) {
@@ -179,8 +286,15 @@ static void wait_on(ivy_process *p) {
   else serve(p, LISTEN_US, 1);
 }
 
-ivy_process *ivy_join(const ivy_config *config, uint32_t me, ivy_transport transport, ivy_progress progress, long start_ms,
-                      long death_ms) {
+static void end(ivy_process *p) {
+  for (int i = 0; i < MOST_NODES; i++)
+    for (int j = 0; j < MOST_AHEAD; j++) free(p->early[i][j].bytes);
+  ivy_close(&p->node);
+  free(p);
+}
+
+ivy_process *ivy_join_logging(const ivy_config *config, uint32_t me, ivy_transport transport, ivy_progress progress,
+                              long start_ms, long death_ms, FILE *log) {
   ivy_process *p = (ivy_process *)calloc(1, sizeof *p);
   if (!p) return NULL;
   uint32_t status = ivy_version() == IVY_VERSION
@@ -191,6 +305,10 @@ ivy_process *ivy_join(const ivy_config *config, uint32_t me, ivy_transport trans
     free(p);
     return NULL;
   }
+  if (log)
+    fprintf(log, "ivy own %u %u %u %u %s\n", me, config->nodes, config->pages, config->page_size,
+            config->manager == IVY_FIXED ? "fixed" : "dynamic");
+  p->log = log;
   p->config = *config;
   p->transport = transport;
   p->me = me;
@@ -205,8 +323,7 @@ ivy_process *ivy_join(const ivy_config *config, uint32_t me, ivy_transport trans
     if (p->here == p->all) p->known_here |= 1u << me;
     if (now_us() > last) {
       fprintf(stderr, "ivy: node %u: others are not here: those of the set %x are\n", me, p->here);
-      ivy_close(&p->node);
-      free(p);
+      end(p);
       return NULL;
     }
   }
@@ -214,6 +331,11 @@ ivy_process *ivy_join(const ivy_config *config, uint32_t me, ivy_transport trans
   p->progress = progress;
   if (progress == IVY_BY_THREAD && pthread_create(&p->thread, NULL, serve_on, p)) p->progress = IVY_IN_CALLS;
   return p;
+}
+
+ivy_process *ivy_join(const ivy_config *config, uint32_t me, ivy_transport transport, ivy_progress progress, long start_ms,
+                      long death_ms) {
+  return ivy_join_logging(config, me, transport, progress, start_ms, death_ms, NULL);
 }
 
 void ivy_leave(ivy_process *p) {
@@ -227,21 +349,28 @@ void ivy_leave(ivy_process *p) {
   p->ending = 1;
   pthread_mutex_unlock(&p->lock);
   if (p->progress == IVY_BY_THREAD) pthread_join(p->thread, NULL);
-  ivy_close(&p->node);
+  flush_log(p);
   p->transport.close(p->transport.state);
-  free(p);
+  end(p);
 }
 
 uint32_t ivy_call(ivy_process *p, uint32_t kind, uint32_t width, uint64_t place, uint64_t operand, uint64_t expected,
                   uint64_t *value) {
   if (p->progress == IVY_BY_THREAD) pthread_mutex_lock(&p->lock);
   else if (++p->calls % 64 == 0) serve(p, 0, MANY);
+  const call c = { kind, width, place, operand, expected };
   uint32_t status;
   while ((status = ivy_begin(&p->node, kind, width, place, operand, expected, value)) == IVY_MEMORY) wait_on(p);
+  if (p->log && (status < 256 || status == IVY_PENDING)) {
+    fputs("call ", p->log);
+    log_call(p->log, &c);
+    log_reply(p, &c, status, value);
+  }
   if (status == IVY_PENDING) send_frames(p);
   while (status == IVY_PENDING || status == IVY_MEMORY) {
     wait_on(p);
     status = ivy_reply(&p->node, value);
+    log_reply(p, &c, status, value);
     send_frames(p);
   }
   if (p->progress == IVY_BY_THREAD) pthread_mutex_unlock(&p->lock);

@@ -26,7 +26,7 @@ def _library():
         "version": [], "open": [node] + [u32] * 5, "close": [node],
         "begin": [node, u32, u32, u64, u64, u64, to64], "reply": [node, to64],
         "deliver": [node, text, size, to32], "next_frame": [node, text, size, to_size, to32],
-        "pulse": [node, u8],
+        "pulse": [node, u8], "turns": [node, to64],
     }
     for name, arguments in types.items():
         function = getattr(lib, "ivy_" + name)
@@ -81,6 +81,12 @@ class Node:
         """The value of the call in progress, once, or None."""
         value = ctypes.c_uint64()
         return self._progress(_lib.ivy_reply(self._handle, value), value)
+
+    def turns(self):
+        """How many turns the node has had since it was opened."""
+        turns = ctypes.c_uint64()
+        _done(_lib.ivy_turns(self._handle, turns))
+        return turns.value
 
     def deliver(self, string):
         """A string comes, any bytes at all: its verdict."""

@@ -1,5 +1,6 @@
 /* What the examples share: one source runs over UDP, as `NAME udp NODE NODES PORT [OPTION..]`, and over MPI, as
- * `mpirun -np NODES NAME mpi [OPTION..]`. Options: thread, fixed, lossy. */
+ * `mpirun -np NODES NAME mpi [OPTION..]`. Options: thread, fixed, lossy, and `log FOLDER`, where each node's log is
+ * FOLDER/NODE.log. */
 #ifndef IVY_EXAMPLE_H
 #define IVY_EXAMPLE_H
 #include "ivy_runtime.h"
@@ -15,11 +16,23 @@ typedef struct {
   uint32_t me, nodes;
   uint64_t rounds; /* of the barrier, which is eventcount 0 */
   int by_mpi;
+  FILE *log;
 } example;
+
+/* The log of this node in a folder. */
+static inline FILE *open_log(const example *e, const char *folder) {
+  char path[4096];
+  snprintf(path, sizeof path, "%s/%u.log", folder, e->me);
+  FILE *log = fopen(path, "w");
+  if (log) return log;
+  perror(path);
+  exit(2);
+}
 
 static inline void begin_example(example *e, int argc, char **argv, uint32_t pages, uint32_t page_size) {
   ivy_config config = { 0, pages, page_size, IVY_DYNAMIC };
   ivy_progress progress = IVY_IN_CALLS;
+  const char *folder = NULL;
   int lossy = 0;
   memset(e, 0, sizeof *e);
   e->by_mpi = argc > 1 && !strcmp(argv[1], "mpi");
@@ -27,6 +40,7 @@ static inline void begin_example(example *e, int argc, char **argv, uint32_t pag
     if (!strcmp(argv[i], "thread")) progress = IVY_BY_THREAD;
     if (!strcmp(argv[i], "fixed")) config.manager = IVY_FIXED;
     if (!strcmp(argv[i], "lossy")) lossy = 1;
+    if (!strcmp(argv[i], "log") && i + 1 < argc) folder = argv[++i];
   }
   ivy_transport transport;
   if (e->by_mpi) {
@@ -44,7 +58,7 @@ static inline void begin_example(example *e, int argc, char **argv, uint32_t pag
 #endif
   } else {
     if (argc < 5) {
-      fprintf(stderr, "usage: %s udp NODE NODES PORT [thread] [fixed] [lossy]\n", argv[0]);
+      fprintf(stderr, "usage: %s udp NODE NODES PORT [thread] [fixed] [lossy] [log FOLDER]\n", argv[0]);
       exit(2);
     }
     e->me = (uint32_t)atoi(argv[2]);
@@ -52,12 +66,14 @@ static inline void begin_example(example *e, int argc, char **argv, uint32_t pag
     transport = ivy_udp(e->me, e->nodes, (uint16_t)atoi(argv[4]), lossy ? 10 : 0, lossy ? 10 : 0, lossy ? 20 : 0);
   }
   config.nodes = e->nodes;
-  e->ivy = ivy_join(&config, e->me, transport, progress, 10000, 5000);
+  if (folder) e->log = open_log(e, folder);
+  e->ivy = ivy_join_logging(&config, e->me, transport, progress, 10000, 5000, e->log);
   if (!e->ivy) exit(2);
 }
 
 static inline void end_example(example *e) {
   ivy_leave(e->ivy);
+  if (e->log) fclose(e->log);
 #ifdef WITH_MPI
   if (e->by_mpi) MPI_Finalize();
 #endif

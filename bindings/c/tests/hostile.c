@@ -23,7 +23,7 @@ static int bad_arguments(void) {
   uint8_t small[1];
   if (ivy_begin(&node, IVY_LOAD, 8, 256, 0, 0, &value) != IVY_CLOSED || ivy_reply(&node, &value) != IVY_CLOSED) return 1;
   if (ivy_deliver(&node, small, 1, &what) != IVY_CLOSED || ivy_pulse(&node, 1) != IVY_CLOSED) return 2;
-  if (ivy_next_frame(&node, small, 1, &len, &dest) != IVY_CLOSED) return 3;
+  if (ivy_next_frame(&node, small, 1, &len, &dest) != IVY_CLOSED || ivy_turns(&node, &value) != IVY_CLOSED) return 3;
   if (ivy_open(&node, 1, 16, 256, 0, 0) != IVY_BAD_CONFIG || ivy_open(&node, 257, 16, 256, 0, 0) != IVY_BAD_CONFIG) return 4;
   if (ivy_open(&node, 2, 16, 100, 0, 0) != IVY_BAD_CONFIG || ivy_open(&node, 2, 16, 256, 7, 0) != IVY_BAD_CONFIG) return 5;
   if (ivy_open(&node, 2, 16, 256, 0, 2) != IVY_BAD_ARGUMENT || ivy_open(&node, 2, 16, 256, 0, 256) != IVY_BAD_ARGUMENT) return 6;
@@ -40,12 +40,20 @@ static int bad_arguments(void) {
   return node.at != 0;
 }
 
+/* Whether the node had one turn more, where it may have had one, or none. */
+static int had_turns(ivy_node *node, uint64_t *before, uint64_t most) {
+  uint64_t turns;
+  if (ivy_turns(node, &turns) != IVY_DONE || turns - *before > most) return 0;
+  *before = turns;
+  return 1;
+}
+
 int main(void) {
   ivy_node node = IVY_NONE, peer = IVY_NONE;
   uint8_t frame[IVY_FRAME_MOST(256)], bytes[IVY_FRAME_MOST(256)];
   size_t len = 0;
   uint32_t what, dest;
-  uint64_t value;
+  uint64_t value, turns = 0;
   int status = bad_arguments();
   if (status) return printf("bad arguments: %d\n", status), 1;
   if (ivy_open(&node, 2, 16, 256, IVY_DYNAMIC, 0) || ivy_open(&peer, 2, 16, 256, IVY_DYNAMIC, 1)) return 2;
@@ -65,12 +73,15 @@ int main(void) {
       default: n = draw((uint32_t)len); break;
     }
     ivy_deliver(&node, bytes, n, &what);
+    if (!had_turns(&node, &turns, 0)) return 8;
     if (i % 4 == 0) ivy_begin(&node, draw(11), 1u << draw(5), draw(5000), draw(1000), draw(3), &value);
     if (i % 4 == 1) ivy_reply(&node, &value);
+    if (!had_turns(&node, &turns, i % 4 < 2)) return 9;
     if (i % 64 == 2) ivy_pulse(&node, (uint8_t)draw(3));
     while (ivy_next_frame(&node, bytes, sizeof bytes, &to_write, &dest) == IVY_DONE)
       if (to_write > sizeof bytes || dest > 1) return 7;
   }
+  if (!had_turns(&node, &turns, 0) || !turns) return 10;
   ivy_close(&node);
   ivy_close(&peer);
   puts("done");

@@ -22,6 +22,7 @@ mod header {
             value: *mut u64,
         ) -> u32;
         pub fn ivy_reply(node: *mut Handle, value: *mut u64) -> u32;
+        pub fn ivy_turns(node: *mut Handle, turns: *mut u64) -> u32;
         pub fn ivy_deliver(node: *mut Handle, bytes: *const u8, len: usize, verdict: *mut u32) -> u32;
         pub fn ivy_next_frame(node: *mut Handle, buffer: *mut u8, room: usize, len: *mut usize, dest: *mut u32) -> u32;
         pub fn ivy_pulse(node: *mut Handle, peer: u8) -> u32;
@@ -190,6 +191,15 @@ impl Node {
         let mut value = 0;
         let status = unsafe { header::ivy_reply(&mut self.handle, &mut value) };
         progress(status, value)
+    }
+
+    /// How many turns the node has had since it was opened.
+    pub fn turns(&mut self) -> Result<u64, Status> {
+        let mut turns = 0;
+        match unsafe { header::ivy_turns(&mut self.handle, &mut turns) } {
+            DONE => Ok(turns),
+            other => Err(Status(other)),
+        }
     }
 
     /// A string comes, any bytes at all.

@@ -18,8 +18,8 @@
  * OWNERSHIP. An ivy_node begins as IVY_NONE. Its member is neither read nor written. It is never copied while open; it
  * may be moved to another thread. Two threads are never inside functions of one node at once: take a lock round them.
  * Different nodes are independent. No pointer is null, but for `bytes` where `len` is 0, and no memory that is passed
- * overlaps other memory that is passed and written. A node owns memory until ivy_close: its pages, what peers have not
- * acknowledged, and 32 bytes for each call that was begun.
+ * overlaps other memory that is passed and written. A node owns memory until ivy_close: its pages, strings that
+ * came early, and what peers have not acknowledged.
  *
  * UNITS. Addresses and sizes are in bytes. A word has 1, 2, 4 or 8 bytes and is a number; in a page it is big-endian,
  * which no node sees. The first page holds the eventcounts, page_size / 8 of them, numbered from 0; the heap begins at
@@ -153,6 +153,11 @@ uint32_t ivy_begin(ivy_node *node, uint32_t kind, uint32_t width, uint64_t place
  * wait after it: an await asks for its page again. MEMORY and NUMBERS_SPENT: nothing changed, the call is in progress
  * still. NO_CALL, CLOSED. */
 uint32_t ivy_reply(ivy_node *node, uint64_t *value);
+
+/* How many turns the node has had since it was opened, modulo 2^64. An ivy_begin and an ivy_reply has one turn or none,
+ * whatever its status, and nothing else has any: so a driver that keeps a log of the node knows which had one. It changes
+ * nothing. IVY_DONE, CLOSED. */
+uint32_t ivy_turns(ivy_node *node, uint64_t *turns);
 
 /* ---- Strings ------------------------------------------------------------------------------------------------------ */
 

@@ -9,6 +9,7 @@ ghost use Rattle.std.specs.Mem.{manually_drop_value};
 ghost use Rattle.ivy_model.specs.declared.Config.{Config};
 ghost use Rattle.ivy_embedded.specs.Nodes.{first_embedded};
 ghost use Rattle.ivy_embedded.specs.Exports.{Answers, Begins, Delivers, IsConfigOf, IsRequest, Polls, Pulses, RefusesCall, RefusesPoll, RefusesPulse, RefusesString, TakesAt};
+ghost use Rattle.ivy_embedded.specs.Turns.{TellsTurns};
 
 mod handle;
 
@@ -143,6 +144,19 @@ pub extern "C" fn ivy_reply(alloc: Global, handle: &mut Handle, value: &mut u64)
         Ok(progress) => tell(progress, value),
         Err(fault) => status_of(fault),
     }
+}
+
+/// How many turns the node listed since it was opened, in 64 bits. It changes nothing.
+#[unsafe(no_mangle)]
+pub extern "C" fn ivy_turns(alloc: Global, handle: &mut Handle, turns: &mut u64) -> u32
+    ensures { Answers result handle.old.held handle.new.held (TellsTurns result turns.new) (λ _. ⊥) }
+{
+    let Some(node) = take(alloc, handle) else {
+        return CLOSED;
+    };
+    *turns = node.turns();
+    put(alloc, handle, node);
+    DONE
 }
 
 /// A string comes, any bytes at all. What it was: 0 the next message of its source, 1 nothing new,

@@ -1,4 +1,5 @@
 pub mod Nodes
 pub mod Exports
 pub mod Taking
+pub mod Turns
 pub use Rattle.ivy_site.specs as ivy_site

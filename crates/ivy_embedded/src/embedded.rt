@@ -11,6 +11,7 @@ ghost use Rattle.ivy_wire.specs.Faults.{checked};
 ghost use Rattle.ivy_embedded.specs.Taking.{IsTaken};
 ghost use Rattle.ivy_embedded.specs.Nodes.{first_embedded, waiting_in};
 ghost use Rattle.ivy_embedded.specs.Exports.{AfterCall, AfterBegin, ChangesWaiting, OfSite};
+ghost use Rattle.ivy_embedded.specs.Turns.{CountsTurns};
 
 use ivy_model::{Call, Config, Fault, Reply};
 use ivy_site::{Keep, Site, Turn, Verdict};
@@ -19,11 +20,13 @@ use std::alloc::Global;
 use std::marker::Model;
 
 /// A node with own code, with the first string that waits, where it was taken out of the node and
-/// not handed on.
+/// not handed on, and the number of its turns that were listed. A program that keeps a log tells by
+/// that number whether a call had a turn.
 #[derive(Drop)]
 pub struct Embedded {
     site: Site<Global>,
     first: Option<Bytes<Global>>,
+    turns: u64,
 }
 
 impl Model for Embedded {
@@ -31,12 +34,15 @@ impl Model for Embedded {
     ghost use Rattle.std.specs.Coded.{codes};
     ghost use Rattle.ivy_pagetable.specs.NodeSets.{nodes_code};
     ghost use Rattle.ivy_site.specs.ivy_alloc.Heap.{heap_state_code};
+    ghost use Rattle.ivy_embedded.specs.Turns.{CountsTurns};
 
     ghost Value = { nodes.Embedded };
 
     ghost coded = { Prim.hlevel (codes, nodes_code, heap_state_code) };
 
     ghost view = { λ e. record { site = e.site; first = e.first } };
+
+    ghost invariant = { λ e. CountsTurns e.turns e.site.events };
 }
 
 /// What came of a look at the first string that waits.
@@ -49,16 +55,19 @@ pub enum Taken {
     Nothing,
 }
 
-/// One turn of a node that has a call [1, 17]: its reply, or none yet.
+/// One turn of a node that has a call [1, 17]: its reply, or none yet. Where it is listed, it is
+/// counted.
 #[tactic(auto, using(crate::proofs::Recording::none_recorded, crate::proofs::Recording::reply_recorded, crate::proofs::Recording::reply_there))]
-fn turn(site: &mut Site<Global>) -> Result<Option<Reply>, Fault>
+fn turn(site: &mut Site<Global>, turns: &mut u64) -> Result<Option<Reply>, Fault>
+    requires counts { CountsTurns turns.old site.old.events }
+    ensures counted { CountsTurns turns.new site.new.events }
     ensures done { MatchResult result (λ progress. AfterCall progress site.old site.new) (λ _. site.new ≡ site.old) }
     ensures want { IfErr result IsWant }
 {
     let before = site.records();
     match site.program_turn()? {
         Turn::Idle | Turn::Ended => return Ok(None),
-        Turn::Moved => {}
+        Turn::Moved => *turns = turns.wrapping_add(1),
     }
     if site.records() == before {
         return Ok(None);
@@ -72,8 +81,10 @@ fn turn(site: &mut Site<Global>) -> Result<Option<Reply>, Fault>
 /// A call begins at a node that has none [1, 18]: its reply, or none yet. A call whose first turn is
 /// refused is in progress: the next turn tries again.
 #[tactic(auto, using(crate::proofs::Recording::begun))]
-fn begin(site: &mut Site<Global>, call: Call) -> Result<Option<Reply>, Fault>
+fn begin(site: &mut Site<Global>, turns: &mut u64, call: Call) -> Result<Option<Reply>, Fault>
     requires width { HasWidth call }
+    requires counts { CountsTurns turns.old site.old.events }
+    ensures counted { CountsTurns turns.new site.new.events }
     ensures done { MatchResult result (λ progress. AfterBegin call progress site.old site.new) (λ _. site.new ≡ site.old) }
     ensures busy { result ≡ Err Fault.Busy → (IsFree site.old.node.core.process × (site.old.node.core.memory.asked ≡ None)) → ⊥ }
     ensures few { IfErr result (λ fault. (fault ≡ Fault.Memory) ⊎ (fault ≡ Fault.Busy)) }
@@ -82,7 +93,10 @@ fn begin(site: &mut Site<Global>, call: Call) -> Result<Option<Reply>, Fault>
         return Err(Fault::Busy);
     }
     match site.call(call) {
-        Ok(progress) => Ok(progress),
+        Ok(progress) => {
+            *turns = turns.wrapping_add(1);
+            Ok(progress)
+        }
         Err(_) => {
             site.hand(call)?;
             Ok(None)
@@ -115,6 +129,7 @@ impl Embedded {
         Ok(Embedded {
             site: Site::open_keeping(alloc, config, me, Keep::Nothing)?,
             first: None,
+            turns: 0,
         })
     }
 
@@ -125,7 +140,7 @@ impl Embedded {
         ensures busy { result ≡ Err Fault.Busy → (IsFree self.old.site.node.core.process × (self.old.site.node.core.memory.asked ≡ None)) → ⊥ }
         ensures few { IfErr result (λ fault. (fault ≡ Fault.Memory) ⊎ (fault ≡ Fault.Busy)) }
     {
-        begin(&mut self.site, call)
+        begin(&mut self.site, &mut self.turns, call)
     }
 
     /// Whether each call has its reply.
@@ -140,10 +155,19 @@ impl Embedded {
         ensures done { MatchResult result (λ progress. OfSite (AfterCall progress) self.old self.new) (λ _. self.new ≡ self.old) }
         ensures want { IfErr result IsWant }
     {
-        turn(&mut self.site)
+        turn(&mut self.site, &mut self.turns)
+    }
+
+    /// How many turns the node listed since it was opened, in 64 bits: a call of [`Embedded::begin`] or
+    /// [`Embedded::poll`] had one turn, or none.
+    pub fn turns(&self) -> u64
+        ensures { CountsTurns result self.now.site.events }
+    {
+        self.turns
     }
 
     /// A string comes, any bytes at all [1, 11 to 17].
+    #[tactic(auto, using(crate::proofs::Counting::counted_delivery))]
     pub fn deliver(&mut self, bytes: &[u8]) -> Result<Verdict, Fault>
         ensures done { MatchResult result (λ verdict. OfSite (AfterDelivery bytes.now verdict) self.old self.new) (λ _. self.new ≡ self.old) }
         ensures refused { MatchResult (checked self.old.site.config bytes.now) (λ _. IfErr result IsWant) (λ fault. result ≡ Err fault) }
@@ -160,6 +184,7 @@ impl Embedded {
     }
 
     /// A pulse to another node [1].
+    #[tactic(auto, using(crate::proofs::Counting::counted_pulse))]
     pub fn pulse(&mut self, to: u8) -> Result<(), Fault>
         requires to { to < self.old.site.config.nodes }
         requires other { to ≢ self.old.site.me }

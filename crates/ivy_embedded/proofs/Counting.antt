@@ -1,0 +1,90 @@
+-- What a site does to the number of turns that it lists: a turn is one more, and nothing else is.
+use Rattle.std.proofs.Common.{◌≡◌, ℕ, ◌+◌, ◌%◌, ◌^◌, List, [], ◌∷◌, ◌++◌, refl, sym, ap, ◌∙◌}
+use Rattle.std.proofs.Math.Nat.{mod-add-mod}
+use Rattle.ivy_wire.specs.Data.{Frame}
+use Rattle.ivy_moves.specs.ivy_link.declared.Verdict.{Verdict}
+use Rattle.ivy_moves.specs.ivy_link.declared.Verdict.TheVariants as verdict
+use Rattle.ivy_moves.specs.Marks.{Mark, Turn, Delivery, Pulse}
+use Rattle.ivy_moves.specs.Nodes.{pulsing}
+use Rattle.ivy_moves.specs.Parts.{pulse_marks}
+use Rattle.ivy_site.specs.Shown.{Shown, after_pulse_to}
+use Rattle.ivy_site.specs.Sites.{SiteTurns, SiteDelivers, SiteGoesOn, FollowsDelivery, AfterDelivery}
+use Rattle.ivy_embedded.specs.Turns.{turns_in, CountsTurns}
+
+one_more : (events : List Mark) → turns_in (events ++ Turn ∷ []) ≡ turns_in events + 1
+one_more [] = refl
+one_more (Turn ∷ events) = ap (λ n. n + 1) (one_more events)
+one_more (Delivery bytes ∷ events) = one_more events
+one_more (Pulse to ∷ events) = one_more events
+
+heard : (bytes : List ℕ) (events : List Mark)
+    → turns_in (events ++ Delivery bytes ∷ []) ≡ turns_in events
+heard bytes [] = refl
+heard bytes (Turn ∷ events) = ap (λ n. n + 1) (heard bytes events)
+heard bytes (Delivery other ∷ events) = heard bytes events
+heard bytes (Pulse to ∷ events) = heard bytes events
+
+beat : (to : ℕ) (events : List Mark) → turns_in (events ++ Pulse to ∷ []) ≡ turns_in events
+beat to [] = refl
+beat to (Turn ∷ events) = ap (λ n. n + 1) (beat to events)
+beat to (Delivery bytes ∷ events) = beat to events
+beat to (Pulse other ∷ events) = beat to events
+
+none : (events : List Mark) → turns_in (events ++ []) ≡ turns_in events
+none [] = refl
+none (Turn ∷ events) = ap (λ n. n + 1) (none events)
+none (Delivery bytes ∷ events) = none events
+none (Pulse to ∷ events) = none events
+
+pulsed_to : (to : ℕ) (sent : List (List ℕ)) (events : List Mark)
+    → turns_in (events ++ pulse_marks to sent) ≡ turns_in events
+pulsed_to to [] events = none events
+pulsed_to to (s ∷ ss) events = beat to events
+
+-- a turn is counted by one more, in 64 bits
+pub counted_turn : (old new : Shown) → SiteTurns old new → (before after : ℕ)
+    → CountsTurns before old.events → after ≡ (before + 1) % 2 ^ 64 → CountsTurns after new.events
+counted_turn old new t before after counts is =
+    is ∙ (ap (λ n. (n + 1) % 2 ^ 64) counts
+    ∙ (mod-add-mod (turns_in old.events) (2 ^ 64) 1
+    ∙ ap (λ n. n % 2 ^ 64) (sym (one_more old.events)
+    ∙ ap (λ (s : Shown). turns_in s.events) (sym t.after))))
+
+delivers : (bytes : List ℕ) (v : Verdict) (old new : Shown) → SiteDelivers bytes v old new
+    → turns_in new.events ≡ turns_in old.events
+delivers bytes verdict.NotMine old new d = ap (λ (s : Shown). turns_in s.events) d.after
+delivers bytes verdict.Next old new d =
+    ap (λ (s : Shown). turns_in s.events) d.after ∙ heard bytes old.events
+delivers bytes verdict.Repeat old new d =
+    ap (λ (s : Shown). turns_in s.events) d.after ∙ heard bytes old.events
+delivers bytes verdict.Ahead old new d =
+    ap (λ (s : Shown). turns_in s.events) d.after ∙ heard bytes old.events
+
+goes_on : (source : ℕ) (more : List (List ℕ)) (old new : Shown) → SiteGoesOn source more old new
+    → turns_in new.events ≡ turns_in old.events
+goes_on source [] old new same = ap (λ (s : Shown). turns_in s.events) same
+goes_on source (bytes ∷ more) old new g =
+    goes_on source more g.0 new g.2
+    ∙ (ap (λ (s : Shown). turns_in s.events) g.1.next.after ∙ heard bytes old.events)
+
+follows : (v : Verdict) (f : Frame) (bytes : List ℕ) (mid new : Shown)
+    → FollowsDelivery v f bytes mid new → turns_in new.events ≡ turns_in mid.events
+follows verdict.NotMine f bytes mid new same = ap (λ (s : Shown). turns_in s.events) same
+follows verdict.Repeat f bytes mid new same = ap (λ (s : Shown). turns_in s.events) same
+follows verdict.Ahead f bytes mid new same = ap (λ (s : Shown). turns_in s.events) same
+follows verdict.Next f bytes mid new went = goes_on f.source went.0 mid new went.1
+
+-- a delivery is no turn
+pub counted_delivery : (bytes : List ℕ) (v : Verdict) (old new : Shown)
+    → AfterDelivery bytes v old new → (count : ℕ) → CountsTurns count old.events
+    → CountsTurns count new.events
+counted_delivery bytes v old new d count counts =
+    counts ∙ ap (λ n. n % 2 ^ 64) (sym (follows v d.first.frame bytes d.mid new d.follows
+    ∙ delivers bytes v old d.mid d.first))
+
+-- nor is a pulse
+pub counted_pulse : (to : ℕ) (old new : Shown) → new ≡ after_pulse_to old to (pulsing old.node to)
+    → (count : ℕ) → CountsTurns count old.events → CountsTurns count new.events
+counted_pulse to old new same count counts =
+    counts ∙ ap (λ n. n % 2 ^ 64) (sym (ap (λ (s : Shown). turns_in s.events) same
+    ∙ pulsed_to to (pulsing old.node to).sent old.events))
