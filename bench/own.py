@@ -1,30 +1,26 @@
 """Own code in Rattle: what its calls, locks, barriers and queues cost, beside a plain lock and the same as a text.
 
-The program that is timed lies in `bench/own`, in files that end in `.rattle`, since the gate takes a `.rt` file for one
-that no check reads. It is proved and built here in a root of its own, with the crates of the repository as hard links.
+The program that is timed lies in `bench/own`, and is proved and built apart from the crates.
 """
 
 import os
-import re
-import shutil
-import subprocess
 import sys
 import tempfile
 from collections.abc import Callable
 from dataclasses import dataclass
 from pathlib import Path
 
+from apart import ROOT, Apart, ran
 from loops import PAGE_SIZE, loop
 from memories import FEW_CALLS, MOST_APART, SWAP, TIMES
 from sessions import barrier
 from timing import write_lines
 
-ROOT = Path(__file__).resolve().parent.parent
 EXAMPLE = ROOT / "examples" / "producer_consumer.ivy"
 SOURCES = ROOT / "bench" / "own"
-NAME = "bench_own"
-BUILT = Path("out", "rlib")
-LINE = f"{NAME}: ivy_model ivy_calls ivy_sync ivy_programs ivy_program ivy_session ivy_own anyhow"
+APART = Apart(
+    "bench_own: ivy_model ivy_alloc ivy_calls ivy_sync ivy_programs ivy_program ivy_session ivy_own anyhow", SOURCES
+)
 RUNS = 5
 # How many times fewer units an unproved program does, which is checked as it runs.
 FEWER = 100
@@ -34,79 +30,18 @@ ROWS = 32
 SUMMING = 4
 
 
-def crates_below(lines, name):
-    """The crates of the repository that this one stands on, each after those below it, and then it."""
-    found = []
-    for used in lines[name].partition(":")[2].split():
-        if used in lines:
-            found += [it for it in crates_below(lines, used) if it not in found]
-    return [*found, name]
-
-
-def listed():
-    """The line of each crate, the program's among them."""
-    told = [line.partition("#")[0].strip() for line in (ROOT / "crates.txt").read_text().splitlines()]
-    lines = {re.split("[ :]", line, maxsplit=1)[0]: line for line in told if line}
-    return {**lines, NAME: LINE}
-
-
-def link(folder, to):
-    """Makes a folder anew, with hard links to the files of another one, if there is one."""
-    shutil.rmtree(to, ignore_errors=True)
-    if folder.is_dir():
-        shutil.copytree(folder, to, copy_function=os.link)
-
-
-def is_newer(file, other):
-    """Whether a file is there, and newer than another one or alone."""
-    return file.is_file() and (not other.is_file() or file.stat().st_mtime > other.stat().st_mtime)
-
-
-def make_root(top, lines, crates):
-    """A root with these crates, and what is built of them. What an earlier call built there stays."""
-    top.mkdir(parents=True, exist_ok=True)
-    (top / "crates.txt").write_text("".join(f"{lines[it]}\n" for it in crates))
-    shutil.copy(ROOT / "HANDLES", top)
-    for crate in crates[:-1]:
-        here, there = ROOT / "crates" / crate, top / "crates" / crate
-        for part in ("src", "specs", "proofs"):
-            link(here / part, there / part)
-        if is_newer(here / BUILT / "stamp", there / BUILT / "stamp"):
-            link(here / BUILT, there / BUILT)
-    folder = top / "crates" / NAME
-    shutil.rmtree(folder / "src", ignore_errors=True)
-    (folder / "src").mkdir(parents=True)
-    for file in SOURCES.glob("*.rattle"):
-        shutil.copy(file, folder / "src" / f"{file.stem}.rt")
-    return folder
-
-
-def ran(command, folder):
-    """A command that has ended, with what it printed."""
-    return subprocess.run(command, cwd=folder, stdin=subprocess.DEVNULL, capture_output=True, text=True)
-
-
 class Program:
     """The program that runs own code and texts."""
 
     def __init__(self, top, unproved):
-        lines = listed()
-        crates = crates_below(lines, NAME)
         self.unproved = unproved
-        self.folder = make_root(top, lines, crates)
-        if unproved:
-            return
-        missing = [it for it in crates[:-1] if not (top / "crates" / it / BUILT).is_dir()]
-        if missing:
-            sys.exit(f"own: not proved yet: {' '.join(missing)}: run rt lib in their folders, or use --unproved")
-        print("own: the program is proved and built, which takes minutes where it is new", file=sys.stderr)
-        done = ran(["rt", "run", "--", "mutex", "1", "1"], self.folder)
-        if done.returncode:
-            sys.exit(f"own: the program could not be built\n{done.stderr}")
+        self.folder, _ = APART.make_root(top)
+        if not unproved:
+            APART.build(top, ("mutex", "1", "1"))
 
     def run(self, *words):
         """The nanoseconds that a run counts, and its greatest memory in MiB."""
-        command = [self.folder / "out" / NAME, *words]
+        command = [self.folder / "out" / APART.name, *words]
         if self.unproved:
             command = ["rt", "try", "--seconds", TRY_SECONDS, "--", *words]
         done = ran(list(map(str, command)), self.folder)
@@ -152,6 +87,11 @@ def own(kind, nodes):
 def text(lines):
     """Beside a session of a text."""
     return lambda program, count: program.text(lines(count))
+
+
+def allowed(nanoseconds):
+    """Beside what one unit may take."""
+    return lambda program, count: (nanoseconds * count, 0)
 
 
 def queue(count):
@@ -214,6 +154,7 @@ OWN = (
     Own("own-sum", "addition of 4", 5_000, words("sum", SUMMING), text(sums), 1.0),
     Own("own-draws", "job", 200_000, words("draws", 8), text(draws), 1.0),
     Own("own-product", "product of 32", 1, words("product", ROWS), text(product), 1.1, runs=15),
+    Own("own-heap", "block", 1_000, words("heap", 1), allowed(20_000), 1.0),
 )
 ROW = "{:<14} {:<14} {:>9} {:>12} {:>12} {:>7} {:>6} {:>6}"
 HEAD = ("own code", "unit", "K", "ns each", "other's", "ratio", "limit", "load")

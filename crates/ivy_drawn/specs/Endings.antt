@@ -23,8 +23,8 @@ abbrev pub AreWaiting : {Out : Type 0} → World (Host Managed) → List (Outcom
 AreWaiting {Out} w outcomes = (i : ℕ) (outcome : Outcome Out) → slice_get outcomes i ≡ Some outcome
     → IsWaiting w i outcome
 
--- so many moves let a world settle, after the drawn ones, and of those there may be, as many are left as there
--- are nodes
+-- of the moves that may let the world settle, so many, which come after the drawn ones, at least as many are left
+-- as there are nodes
 abbrev pub HasMovesLeft : Config → ℕ → List Move → ℕ → Type 0
 HasMovesLeft c settle moves drawn = (length moves - drawn) + c.nodes ≤ settle
 
