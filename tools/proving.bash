@@ -118,9 +118,9 @@ lines_of() {
     find "$crates/$1/src" -type f -exec cat {} + | wc -l
 }
 
-# The lines of its proofs.
+# The lines of its proofs. There may be none.
 proof_lines_of() {
-    [[ ! -d $crates/$1/proofs ]] || find "$crates/$1/proofs" -type f -exec cat {} + | wc -l
+    find "$crates/$1" -path '*/proofs/*' -type f -exec cat {} + | wc -l
 }
 
 # A crate with fewer is lemmas alone, or little else.
