@@ -34,7 +34,8 @@ pub record Notes (entry : Entry) (old new : Served) : Type 0 where
 abbrev pub IsRecalled : List Entry → ℕ → Call → Recalled → Type 0
 IsRecalled entries place call (Told reply next) =
     (place < length entries) × (next ≤ length entries)
-    × (answers_in (take next entries) ≡ answers_in (take place entries) ++ record { call = call; reply = reply } ∷ [])
+    × (answers_in (take next entries)
+    ≡ answers_in (take place entries) ++ record { call = call; reply = reply } ∷ [])
 IsRecalled entries place call Open = answers_in entries ≡ answers_in (take place entries)
 IsRecalled entries place call New = answers_in entries ≡ answers_in (take place entries)
 

@@ -272,6 +272,52 @@ pub struct Worked<T, L> {
     pub log: L,
 }
 
+/// The memory of a work that begins, at a node that goes on with what it holds, and pulses to the others.
+fn memory_of<'a, S, R, C, I, L, O, E>(
+    rt: &'a R,
+    clock: &'a C,
+    inbox: &'a I,
+    past: &'a OwnLog<Global>,
+    node: Node,
+    log: L,
+    out: O,
+    err: E,
+) -> Result<OwnMemory<'a, S, R, C, I, L, O, E>, Failure>
+where
+    S: Beginning,
+    C: Clockwork,
+    L: Write + Drop,
+    O: Drop,
+    E: Drop,
+    requires { begun past.now.entries.items node (L.contents log) ≡ S.begun }
+    ensures { IfOk result (λ memory. memory ≡ []) }
+{
+    let mut node = node;
+    node.go_on_all()?;
+    node.pulse()?;
+    let service = Service {
+        pulsed: clock.millis(),
+        // That its code may make a call is no end.
+        was_told: true,
+    };
+    let memory = OwnMemory::<S, R, C, I, L, O, E> {
+        rt,
+        clock,
+        inbox,
+        past,
+        place: 0,
+        node,
+        service,
+        log,
+        out,
+        err,
+        told: Story::new(),
+        failure: None,
+        of: PhantomData,
+    };
+    Ok(memory)
+}
+
 /// Does the work of a node that began so, and then serves until the input has ended.
 fn work_from<S, R, C, I, W, L, O, E>(
     rt: &R,
@@ -297,29 +343,7 @@ where
     ensures { IfOk result (λ worked. HasWorked (W.done work.now) past.now.entries.items node worked.node (L.contents log) (L.contents worked.log) worked.gave) }
 {
     let me = node.me();
-    let mut node = node;
-    node.go_on_all()?;
-    node.pulse()?;
-    let service = Service {
-        pulsed: clock.millis(),
-        // That its code may make a call is no end.
-        was_told: true,
-    };
-    let mut memory = OwnMemory::<S, R, C, I, L, O, E> {
-        rt,
-        clock,
-        inbox,
-        past,
-        place: 0,
-        node,
-        service,
-        log,
-        out,
-        err,
-        told: Story::new(),
-        failure: None,
-        of: PhantomData,
-    };
+    let mut memory = memory_of::<S, R, C, I, L, O, E>(rt, clock, inbox, past, node, log, out, err)?;
     let gave = work.work(me, &mut memory);
     let mut parts = memory.into_parts()?;
     let gave = match gave {

@@ -17,7 +17,8 @@ IsOwnSpelled head entries = (text : List ℕ) × SpellsOwnLog text head entries
 
 -- the line that says how many calls of the node were answered
 abbrev pub answered_line : ℕ → ℕ → List ℕ
-answered_line node count = codes "node" ++ then_number node ++ codes ": " ++ decimal count ++ codes " answered" ++ 10 ∷ []
+answered_line node count =
+    codes "node" ++ then_number node ++ codes ": " ++ decimal count ++ codes " answered" ++ 10 ∷ []
 
 abbrev pub answered_in : ℕ → Shown → List ℕ
 answered_in number s = answered_line number (length s.node.core.history)

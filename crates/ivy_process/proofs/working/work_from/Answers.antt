@@ -1,13 +1,7 @@
 use Rattle.std.proofs.Common.{sym, subst}
 use Rattle.ivy_process.specs.Owned.{Begun, begun, HasResumed}
-use Rattle.ivy_process.proofs.Owned.{has-worked, resumes-first}
+use Rattle.ivy_process.proofs.Owned.{has-worked}
 use Rattle.ivy_process.proofs.working.work_from.Goals as goal
-
-pub invariant_of-memory : goal.invariant_of-memory
-invariant_of-memory g c =
-    resumes-first g.S.Beginning.begun c.args.past.now.entries.items c.args.node c.go_on_all.new.self
-    c.pulse.new.self (g.L.Write.contents c.args.log) c.new.result c.requires c.in_ok-go_on_all.ensures
-    c.in_ok-pulse.ensures c.new.ensures
 
 pub returns : goal.returns
 returns g c =
