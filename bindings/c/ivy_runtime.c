@@ -237,12 +237,15 @@ static void pulse(ivy_process *p, uint32_t to) {
   send_frames(p);
 }
 
-/* What is due by the clock: pulses, and signs of life. */
+/* What is due by the clock: pulses to whom they help, and signs of life. */
 static void keep_time(ivy_process *p) {
   int64_t now = now_us();
   if (now - p->pulsed >= PULSE_US) {
+    uint32_t kept = 0, owed = 0;
+    ivy_kept_set(&p->node, &kept);
+    ivy_owed_set(&p->node, &owed);
     for (uint32_t i = 0; i < p->config.nodes; i++)
-      if (i != p->me) pulse(p, i);
+      if ((kept | owed) >> i & 1u) pulse(p, i);
     p->pulsed = now;
   }
   if (now - p->spoke >= HELLO_US) {

@@ -26,7 +26,7 @@ def _library():
         "version": [], "open": [node] + [u32] * 5, "close": [node],
         "begin": [node, u32, u32, u64, u64, u64, to64], "reply": [node, to64],
         "deliver": [node, text, size, to32], "next_frame": [node, text, size, to_size, to32],
-        "pulse": [node, u8], "turns": [node, to64],
+        "pulse": [node, u8], "turns": [node, to64], "kept_set": [node, to32], "owed_set": [node, to32],
     }
     for name, arguments in types.items():
         function = getattr(lib, "ivy_" + name)
@@ -103,3 +103,15 @@ class Node:
 
     def pulse(self, peer):
         _done(_lib.ivy_pulse(self._handle, peer))
+
+    def kept_set(self):
+        """The peers that have not acknowledged some message, as bits."""
+        peers = ctypes.c_uint32()
+        _done(_lib.ivy_kept_set(self._handle, peers))
+        return peers.value
+
+    def owed_set(self):
+        """The peers to which an acknowledgement is owed, as bits."""
+        peers = ctypes.c_uint32()
+        _done(_lib.ivy_owed_set(self._handle, peers))
+        return peers.value

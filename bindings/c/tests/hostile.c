@@ -24,6 +24,7 @@ static int bad_arguments(void) {
   if (ivy_begin(&node, IVY_LOAD, 8, 256, 0, 0, &value) != IVY_CLOSED || ivy_reply(&node, &value) != IVY_CLOSED) return 1;
   if (ivy_deliver(&node, small, 1, &what) != IVY_CLOSED || ivy_pulse(&node, 1) != IVY_CLOSED) return 2;
   if (ivy_next_frame(&node, small, 1, &len, &dest) != IVY_CLOSED || ivy_turns(&node, &value) != IVY_CLOSED) return 3;
+  if (ivy_kept_set(&node, &what) != IVY_CLOSED || ivy_owed_set(&node, &what) != IVY_CLOSED) return 15;
   if (ivy_open(&node, 1, 16, 256, 0, 0) != IVY_BAD_CONFIG || ivy_open(&node, 257, 16, 256, 0, 0) != IVY_BAD_CONFIG) return 4;
   if (ivy_open(&node, 2, 16, 100, 0, 0) != IVY_BAD_CONFIG || ivy_open(&node, 2, 16, 256, 7, 0) != IVY_BAD_CONFIG) return 5;
   if (ivy_open(&node, 2, 16, 256, 0, 2) != IVY_BAD_ARGUMENT || ivy_open(&node, 2, 16, 256, 0, 256) != IVY_BAD_ARGUMENT) return 6;
@@ -46,6 +47,16 @@ static int had_turns(ivy_node *node, uint64_t *before, uint64_t most) {
   if (ivy_turns(node, &turns) != IVY_DONE || turns - *before > most) return 0;
   *before = turns;
   return 1;
+}
+
+/* Whether a pulse to the peer makes a string exactly where one of the sets has it. No string waits. */
+static int pulses_as_told(ivy_node *node) {
+  uint8_t bytes[IVY_FRAME_MOST(256)];
+  uint32_t kept, owed, dest;
+  size_t len;
+  if (ivy_kept_set(node, &kept) != IVY_DONE || ivy_owed_set(node, &owed) != IVY_DONE || (kept | owed) > 2) return 0;
+  if (ivy_pulse(node, 1) != IVY_DONE) return 0;
+  return (ivy_next_frame(node, bytes, sizeof bytes, &len, &dest) == IVY_DONE) == ((kept | owed) == 2);
 }
 
 int main(void) {
@@ -80,6 +91,7 @@ int main(void) {
     if (i % 64 == 2) ivy_pulse(&node, (uint8_t)draw(3));
     while (ivy_next_frame(&node, bytes, sizeof bytes, &to_write, &dest) == IVY_DONE)
       if (to_write > sizeof bytes || dest > 1) return 7;
+    if (i % 64 == 3 && !pulses_as_told(&node)) return 11;
   }
   if (!had_turns(&node, &turns, 0) || !turns) return 10;
   ivy_close(&node);

@@ -26,6 +26,8 @@ mod header {
         pub fn ivy_deliver(node: *mut Handle, bytes: *const u8, len: usize, verdict: *mut u32) -> u32;
         pub fn ivy_next_frame(node: *mut Handle, buffer: *mut u8, room: usize, len: *mut usize, dest: *mut u32) -> u32;
         pub fn ivy_pulse(node: *mut Handle, peer: u8) -> u32;
+        pub fn ivy_kept_set(node: *mut Handle, peers: *mut u32) -> u32;
+        pub fn ivy_owed_set(node: *mut Handle, peers: *mut u32) -> u32;
     }
 }
 
@@ -234,6 +236,25 @@ impl Node {
     pub fn pulse(&mut self, peer: u8) -> Result<(), Status> {
         match unsafe { header::ivy_pulse(&mut self.handle, peer) } {
             DONE => Ok(()),
+            other => Err(Status(other)),
+        }
+    }
+
+    /// The peers that have not acknowledged some message: bit i is that of peer i.
+    pub fn kept_set(&mut self) -> Result<u32, Status> {
+        let mut peers = 0;
+        match unsafe { header::ivy_kept_set(&mut self.handle, &mut peers) } {
+            DONE => Ok(peers),
+            other => Err(Status(other)),
+        }
+    }
+
+    /// The peers to which an acknowledgement is owed: bit i is that of peer i. Only a pulse to one of these, or of
+    /// [`Node::kept_set`], makes a string.
+    pub fn owed_set(&mut self) -> Result<u32, Status> {
+        let mut peers = 0;
+        match unsafe { header::ivy_owed_set(&mut self.handle, &mut peers) } {
+            DONE => Ok(peers),
             other => Err(Status(other)),
         }
     }

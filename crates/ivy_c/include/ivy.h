@@ -10,8 +10,8 @@
  *   2. Each string that arrives is handed to ivy_deliver. Any bytes are safe; losses, repeats and order do not matter.
  *   3. After each call the strings that wait are taken by ivy_next_frame and sent. Losing one is allowed.
  *   4. ivy_pulse to each peer now and then, by a timer: it makes again what is not acknowledged, and acknowledges what
- *      came. A node does not say for whom it keeps messages; a pulse that has nothing to say makes no string. Without
- *      pulses what is kept grows, also where nothing is lost.
+ *      came. A pulse to a peer that is in neither ivy_kept_set nor ivy_owed_set makes no string. Without pulses what is
+ *      kept grows, also where nothing is lost.
  *   5. 2 to 4 go on while the owner computes or waits for something else, and until no peer needs this node any more:
  *      a node owns pages that others ask for at any time.
  *
@@ -178,6 +178,11 @@ uint32_t ivy_next_frame(ivy_node *node, uint8_t *buffer, size_t room, size_t *le
 /* The first 32 messages that `peer` has not acknowledged wait to be sent again; where there is none and an
  * acknowledgement is owed, a frame with it; else nothing. IVY_DONE, MEMORY, BAD_ARGUMENT (no other node), CLOSED. */
 uint32_t ivy_pulse(ivy_node *node, uint8_t peer);
+
+/* Bit i is set exactly where some message to peer i is not acknowledged yet; where an acknowledgement is owed to it. Only
+ * a pulse to one of these makes a string. Neither changes anything. IVY_DONE, CLOSED. */
+uint32_t ivy_kept_set(ivy_node *node, uint32_t *peers);
+uint32_t ivy_owed_set(ivy_node *node, uint32_t *peers);
 
 #ifdef __cplusplus
 }

@@ -9,6 +9,7 @@ ghost use Rattle.std.specs.Mem.{manually_drop_value};
 ghost use Rattle.ivy_model.specs.declared.Config.{Config};
 ghost use Rattle.ivy_embedded.specs.Nodes.{first_embedded};
 ghost use Rattle.ivy_embedded.specs.Exports.{Answers, Begins, Delivers, IsConfigOf, IsRequest, Polls, Pulses, RefusesCall, RefusesPoll, RefusesPulse, RefusesString, TakesAt};
+ghost use Rattle.ivy_embedded.specs.Peers.{KeepsFor, OwesTo, TellsThose};
 ghost use Rattle.ivy_embedded.specs.Turns.{TellsTurns};
 
 mod handle;
@@ -155,6 +156,32 @@ pub extern "C" fn ivy_turns(alloc: Global, handle: &mut Handle, turns: &mut u64)
         return CLOSED;
     };
     *turns = node.turns();
+    put(alloc, handle, node);
+    DONE
+}
+
+/// The nodes for which some message is not acknowledged yet, as the bits of a number. It changes nothing.
+#[unsafe(no_mangle)]
+pub extern "C" fn ivy_kept_set(alloc: Global, handle: &mut Handle, nodes: &mut u32) -> u32
+    ensures { Answers result handle.old.held handle.new.held (TellsThose KeepsFor result nodes.new) (λ _. ⊥) }
+{
+    let Some(node) = take(alloc, handle) else {
+        return CLOSED;
+    };
+    *nodes = node.kept_set();
+    put(alloc, handle, node);
+    DONE
+}
+
+/// The nodes to which an acknowledgement is owed, as the bits of a number. It changes nothing.
+#[unsafe(no_mangle)]
+pub extern "C" fn ivy_owed_set(alloc: Global, handle: &mut Handle, nodes: &mut u32) -> u32
+    ensures { Answers result handle.old.held handle.new.held (TellsThose OwesTo result nodes.new) (λ _. ⊥) }
+{
+    let Some(node) = take(alloc, handle) else {
+        return CLOSED;
+    };
+    *nodes = node.owed_set();
     put(alloc, handle, node);
     DONE
 }

@@ -11,6 +11,7 @@ use crate::word::Word;
 use ivy_model::{Call, Reply};
 
 /// Makes the call. An `Ok` is no refusal.
+#[inline(always)]
 fn ask<M: SharedMemory>(memory: &mut M, call: Call) -> Result<Reply, CallError>
     requires width { HasWidth call }
     ensures asks { IfOk result (λ reply. Adds call reply (M.answers memory.old) (M.answers memory.new)) }
@@ -31,6 +32,7 @@ fn ask<M: SharedMemory>(memory: &mut M, call: Call) -> Result<Reply, CallError>
 }
 
 /// Makes a call that gives no number.
+#[inline(always)]
 fn done<M: SharedMemory>(memory: &mut M, call: Call) -> Result<(), CallError>
     requires width { HasWidth call }
     requires none { (n : ℕ) → GivesNumber (kind_of_call call) n → ⊥ }
@@ -44,6 +46,7 @@ fn done<M: SharedMemory>(memory: &mut M, call: Call) -> Result<(), CallError>
 }
 
 /// Makes a call that gives a number.
+#[inline(always)]
 fn number<M: SharedMemory>(memory: &mut M, call: Call) -> Result<u64, CallError>
     requires width { HasWidth call }
     requires some { GivesNone (kind_of_call call) → ⊥ }
@@ -57,6 +60,7 @@ fn number<M: SharedMemory>(memory: &mut M, call: Call) -> Result<u64, CallError>
 }
 
 /// Makes a call that gives the number in a word.
+#[inline(always)]
 fn word<W: Word, M: SharedMemory>(memory: &mut M, call: Call) -> Result<W, CallError>
     requires width { HasWidth call }
     requires some { GivesNone (kind_of_call call) → ⊥ }

@@ -1,2 +1,1 @@
-pub mod Judging
 pub use Rattle.ivy_session.proofs as of_ivy_session

@@ -1,22 +1,16 @@
 -- What a command has printed where it was carried out, and with which exit status a command ends.
-use Rattle.std.specs.Prelude.{◌≡◌, ◌↔◌, ℕ, Bool, IsTrue, List, ◌++◌, length, map, Option, Result, Ok, Err, if◌then◌else◌}
+use Rattle.std.specs.Prelude.{◌≡◌, ℕ, Bool, List, length, map, Option, Result, Ok, Err, if◌then◌else◌}
 use Rattle.std.specs.Io.KnownBytes.{Appends}
 use Rattle.ivy_arguments.specs.declared.Request.{Request}
 use Rattle.ivy_arguments.specs.declared.Request.TheVariants as request
-use Rattle.ivy_arguments.specs.ivy_texts.declared.Settings.{Settings}
 use Rattle.ivy_model.specs.declared.Config.{Config}
-use Rattle.ivy_model.specs.declared.Kind.TheVariants.{Fixed}
 use Rattle.ivy_model.specs.declared.Fault.{Fault}
 use Rattle.ivy_model.specs.declared.Fault.TheVariants.{BadConfig, ProgramFault}
-use Rattle.ivy_model.specs.declared.Record.{Record}
-use Rattle.ivy_model.specs.Legal.{Legal}
 use Rattle.ivy_program.specs.Programs.{Program}
 use Rattle.ivy_program.specs.Texts.{SpellsText}
 use Rattle.ivy_session.specs.Faults.{IsSessionFault}
 use Rattle.ivy_session.specs.Reports.{NodeReport, IsReport}
-use Rattle.ivy_arguments.specs.ivy_texts.Lines.{verdict_line}
-use Rattle.ivy_arguments.specs.ivy_texts.Spelled.{SpellsOrder}
-use Rattle.ivy_arguments.specs.ivy_texts.declared.order.Sizes.{Sizes}
+use Rattle.ivy_simulation.specs.Judged.{PrintsVerdict}
 use Rattle.ivy_simulation.specs.Nodes.{outputs_text}
 use Rattle.ivy_simulation.specs.Played.{PrintsDrawn, PrintsSchedule, config_of}
 use Rattle.ivy_commands.specs.declared.failure.Failure.{Failure}
@@ -28,19 +22,6 @@ module _ (c : Config) (programs : List Program) (old new : Option (List ℕ)) wh
     pub report : List NodeReport
     pub is : IsReport c programs report
     pub printed : Appends old new (outputs_text (map (λ (n : NodeReport). n.output) report))
-
--- the configuration of the sizes of an order; whether it is legal does not depend on the manager
-abbrev pub config_of_sizes : Sizes → Config
-config_of_sizes s =
-    record { nodes = s.nodes; pages = s.pages; page_size = s.page_size; manager = Fixed }
-
--- whether the order that the text says is legal, and that was printed
-pub record PrintsVerdict (text : List ℕ) (yes : Bool) (old new : Option (List ℕ)) : Type 0 where
-  pub sizes : Sizes
-  pub records : List Record
-  pub said : SpellsOrder text sizes records
-  pub legal : IsTrue yes ↔ Legal (config_of_sizes sizes) records
-  pub printed : Appends old new (verdict_line yes)
 
 -- some text spells these programs
 abbrev pub AreSpelled : List Program → Type 0

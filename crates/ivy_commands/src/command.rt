@@ -1,21 +1,16 @@
 //! Whole commands.
-ghost use Rattle.std.specs.Prelude.{◌≡◌, ◌≤◌, ◌↔◌, ◌⊎◌, IsTrue, IfOk, IfErr, OnOk, MatchResult, length};
-ghost use Rattle.std.specs.Io.KnownBytes.{Appends};
-ghost use Rattle.ivy_model.specs.Config.{IsConfig};
-ghost use Rattle.ivy_model.specs.Legal.{Legal};
-ghost use Rattle.ivy_arguments.specs.ivy_texts.Lines.{verdict_line};
+ghost use Rattle.std.specs.Prelude.{◌≡◌, ◌≤◌, ◌⊎◌, IfOk, IfErr, OnOk, MatchResult, length};
 ghost use Rattle.ivy_simulation.specs.Played.{config_of};
-ghost use Rattle.ivy_commands.specs.Commands.{final_status, AreSpelled, IsCarriedOut, IsRequestDone, IsSessionFailure, PrintsSession, PrintsVerdict};
+ghost use Rattle.ivy_commands.specs.Commands.{final_status, AreSpelled, IsCarriedOut, IsRequestDone, IsSessionFailure, PrintsSession};
 
 use crate::failure::Failure;
-use crate::print::Reported;
+use crate::print::OutputLines;
 use ivy_arguments::Request;
-use ivy_arguments::ivy_texts::{Settings, parse_order, print_verdict};
+use ivy_arguments::ivy_texts::Settings;
 use ivy_files::Texts;
-use ivy_model::{Config, Kind, Record, check_order};
 use ivy_program::{Program, parse};
 use ivy_session::{Keep, Limits, OpenGate, Session};
-use ivy_simulation::{print_outputs, sim, step};
+use ivy_simulation::{check, sim, step};
 use std::alloc::Global;
 use std::io::{self, Write};
 use std::sync::Wait;
@@ -55,7 +50,7 @@ fn run<'a, R: Threads + Wait + Sync, W: Write>(
     ensures failed { IfErr result IsSessionFailure }
 {
     let config = settings.config(programs.len())?;
-    let ran = Session::run_keeping(
+    let printed = Session::print::<OutputLines, _, _, _, _>(
         rt,
         alloc,
         config,
@@ -63,41 +58,10 @@ fn run<'a, R: Threads + Wait + Sync, W: Write>(
         limits,
         &OpenGate,
         Keep::Nothing,
-    );
-    let report = ran?;
-    print_outputs(&Reported(&report), out)?;
+        out,
+    )?;
+    printed?;
     Ok(())
-}
-
-/// Prints whether one flat memory answers so, and says it.
-fn judge<'a, W: Write>(
-    alloc: Global,
-    config: &Config,
-    records: &[Record],
-    out: &mut W,
-) -> Result<bool, Failure<'a>>
-    requires { IsConfig config.now }
-    ensures legal { IfOk result (λ yes. IsTrue yes ↔ Legal config.now records.now) }
-    ensures printed { MatchResult result (λ yes. Appends (W.contents out.old) (W.contents out.new) (verdict_line yes)) (λ _. Unit {0}) }
-{
-    let is_legal = check_order(alloc, config, records)?;
-    print_verdict(is_legal, out)?;
-    Ok(is_legal)
-}
-
-/// Prints whether the order of a text is legal, and says it.
-fn check<'a, W: Write>(alloc: Global, text: &str, out: &mut W) -> Result<bool, Failure<'a>>
-    ensures { MatchResult result (λ yes. PrintsVerdict text.now yes (W.contents out.old) (W.contents out.new)) (λ _. Unit {0}) }
-{
-    let order = parse_order(alloc, text)?;
-    // Legality does not depend on how owners are found.
-    let settings = Settings {
-        pages: order.sizes.pages,
-        page_size: order.sizes.page_size,
-        manager: Kind::Fixed,
-    };
-    let config = settings.config(order.sizes.nodes as usize)?;
-    judge(alloc, &config, &order.records, out)
 }
 
 /// Carries out a request, and gives the exit status.

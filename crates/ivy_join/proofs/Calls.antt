@@ -1,5 +1,5 @@
 -- The calls that own code made at each node, while its log is made again.
-use Rattle.std.proofs.Common.{◌≡◌, ◌≢◌, ℕ, zero, suc, ◌+◌, ◌<◌, ◌≤◌, List, [], ◌∷◌, ◌++◌, length, map, take, set, replicate, get_or, slice_get, Option, Some, None, option_map, refl, sym, ap, subst, ◌∙◌, append-nil, append_assoc, below_more, arith, inl, inr}
+use Rattle.std.proofs.Common.{◌≡◌, ℕ, zero, suc, ◌+◌, ◌<◌, ◌≤◌, List, [], ◌∷◌, ◌++◌, length, map, take, set, replicate, get_or, slice_get, Option, Some, None, option_map, refl, sym, ap, ◌∙◌, append-nil, append_assoc, below_more, arith, inl, inr}
 use Rattle.std.proofs.lemmas.Bool.{cases_eq}
 use Rattle.std.proofs.lemmas.List.{length-map, take_all}
 use Rattle.std.proofs.lemmas.Option.{same_Some, none-some, get_or_from_slice_get, slice_get-map, slice_get_within}
@@ -144,8 +144,8 @@ module _ (logs : List (List Entry)) (made : List ℕ) (programs : List Program)
       (λ i p at. placed i (slice_get logs i) p refl (sym (slice_get-map program_by logs i) ∙ at))
 
 -- a log was made to its end
-ended-at : {X : Type 0} (f : X → List Entry) (logs : List X) (made : List ℕ) (i : ℕ) (x : X)
-    → slice_get logs i ≡ Some x → length (f x) ≤ get_or made i 0 → (entries : List Entry) (m : ℕ)
+ended-at : {X E : Type 0} (f : X → List E) (logs : List X) (made : List ℕ) (i : ℕ) (x : X)
+    → slice_get logs i ≡ Some x → length (f x) ≤ get_or made i 0 → (entries : List E) (m : ℕ)
     → slice_get (map f logs) i ≡ Some entries → slice_get made i ≡ Some m → length entries ≤ m
 ended-at f logs made i x log enough entries m at now =
     let mine : entries ≡ f x =
@@ -155,20 +155,21 @@ ended-at f logs made i x log enough entries m at now =
     omega (arith, long, many, enough)
 
 -- one more was
-pub ended-more : {X : Type 0} (f : X → List Entry) (logs : List X) (made : List ℕ) (i : ℕ) (x : X)
+pub ended-more : {X E : Type 0} (f : X → List E) (logs : List X) (made : List ℕ) (i : ℕ) (x : X)
     → slice_get logs i ≡ Some x → length (f x) ≤ get_or made i 0
-    → ((j : ℕ) → j < i → (entries : List Entry) (m : ℕ) → slice_get (map f logs) j ≡ Some entries
-    → slice_get made j ≡ Some m → length entries ≤ m) → (j : ℕ) → j < i + 1 → (entries : List Entry)
+    → ((j : ℕ) → j < i → (entries : List E) (m : ℕ) → slice_get (map f logs) j ≡ Some entries
+    → slice_get made j ≡ Some m → length entries ≤ m) → (j : ℕ) → j < i + 1 → (entries : List E)
     (m : ℕ) → slice_get (map f logs) j ≡ Some entries → slice_get made j ≡ Some m → length entries ≤ m
-ended-more f logs made i x log enough before =
-    below_more (λ j. (entries : List Entry) (m : ℕ) → slice_get (map f logs) j ≡ Some entries
+ended-more {E = E} f logs made i x log enough before =
+    below_more (λ j. (entries : List E) (m : ℕ) → slice_get (map f logs) j ≡ Some entries
     → slice_get made j ≡ Some m → length entries ≤ m) i before (ended-at f logs made i x log enough)
 
 -- and so was each
-pub ended-all : {X : Type 0} (f : X → List Entry) (logs : List X) (made : List ℕ) (n : ℕ)
+pub ended-all : {X E : Type 0} (f : X → List E) (logs : List X) (made : List ℕ) (n : ℕ)
     → length logs ≤ n
-    → ((j : ℕ) → j < n → (entries : List Entry) (m : ℕ) → slice_get (map f logs) j ≡ Some entries
-    → slice_get made j ≡ Some m → length entries ≤ m) → AreEnded (map f logs) made
+    → ((j : ℕ) → j < n → (entries : List E) (m : ℕ) → slice_get (map f logs) j ≡ Some entries
+    → slice_get made j ≡ Some m → length entries ≤ m) → (i : ℕ) (entries : List E) (m : ℕ)
+    → slice_get (map f logs) i ≡ Some entries → slice_get made i ≡ Some m → length entries ≤ m
 ended-all f logs made n all each i entries m at now =
     let inside = slice_get_within (map f logs) i entries at in
     let long = length-map logs f in each i (omega (arith, all, inside, long)) entries m at now

@@ -1,6 +1,6 @@
 -- Sites that are played, and whose lists are those of the logs, are joined; and they are played as
 -- they begin.
-use Rattle.std.proofs.Common.{◌≡◌, ℕ, zero, suc, ◌+◌, ◌<◌, List, [], ◌∷◌, ◌++◌, length, map, slice_get, Contains, Option, Some, None, refl, sym, ap, subst, ◌∙◌, append_assoc, option_map, arith, take, get_or}
+use Rattle.std.proofs.Common.{◌≡◌, ℕ, zero, suc, ◌+◌, ◌<◌, List, [], ◌∷◌, ◌++◌, length, map, slice_get, Contains, Some, refl, sym, ap, subst, ◌∙◌, append_assoc, option_map, arith, take, get_or}
 use Rattle.std.proofs.lemmas.List.{length-map, length-take-le, map_push, take_more}
 use Rattle.std.proofs.lemmas.Option.{same_Some, none-some, slice_get-map}
 use Rattle.ivy_model.specs.declared.Config.{Config}
@@ -8,7 +8,6 @@ use Rattle.ivy_model.specs.Config.{IsConfig}
 use Rattle.ivy_moves.specs.Marks.{Mark}
 use Rattle.ivy_moves.specs.Nodes.{Node, Effect}
 use Rattle.ivy_moves.specs.Parts.{AllHappen, AllCanBeMade, AreParts}
-use Rattle.ivy_moves.specs.Worlds.{World}
 use Rattle.ivy_moves.proofs.Parts.{runs_are_their_parts}
 use Rattle.ivy_moves.proofs.Splitting.{same-effect}
 use Rattle.ivy_site.specs.ivy_host.Hosts.{Host, host_rules}
@@ -18,12 +17,12 @@ use Rattle.ivy_site.specs.Shown.{Shown}
 use Rattle.ivy_site.specs.Sites.{first_shown, IsMadeByEvents}
 use Rattle.ivy_world.specs.WorldSites.{programs_of}
 use Rattle.proof_headline.proofs.Headline.{keeps-reached}
-use Rattle.proof_headline.specs.RunState.{Run}
 use Rattle.ivy_moves.specs.declared.keep.Keep.TheVariants.{All}
 use Rattle.ivy_site.proofs.Made.{first_made}
 use Rattle.ivy_program.specs.Programs.{Program}
 use Rattle.ivy_join.specs.Joining.{program_in, events_at, listed, kept_from, IsNode, ArePlayed, AreKept}
 use Rattle.ivy_lines.specs.declared.log.Head.{Head}
+use Rattle.ivy_join.specs.Exact.{HasSent, HaveSent}
 use Rattle.ivy_join.specs.Joined.{part_in, list_of, run_to, AreHeads, AreJoined}
 use Rattle.ivy_join.proofs.Played.{first_there}
 
@@ -117,7 +116,7 @@ module _ (c : Config) (programs : List Program) (sites : List Shown) (limits : I
   pub first-programs : programs_of sites ≡ programs
   first-programs = ap programs_of first ∙ programs-from c 0 programs
 
-  nothing : (i : ℕ) → events_at sites i ≡ []
+  pub nothing : (i : ℕ) → events_at sites i ≡ []
   nothing i = ap (λ l. events_at l i) first ∙ first-events c 0 programs i
 
   first-node : (i : ℕ) (s : Shown) → slice_get sites i ≡ Some s → IsNode c [] i s
@@ -141,6 +140,16 @@ module _ (c : Config) (programs : List Program) (sites : List Shown) (limits : I
     run = record { moves = []; leads = refl; are = nothing };
     all_sent = λ b there. there;
   }
+
+  -- nothing was sent
+  pub first-sent : HaveSent [] sites
+  first-sent i s there =
+      let own = first-at c 0 programs i i s (omega arith)
+      (subst (λ l. slice_get l i ≡ Some s) first there) in
+      subst (HasSent []) (sym own.1) (record {
+        none = refl;
+        all = λ b sends. subst (λ (e : Effect (Host Managed)). Contains e.sent b) sends.1 sends.2;
+      })
 
 -- what the lists of logs have
 

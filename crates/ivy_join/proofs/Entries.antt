@@ -17,7 +17,7 @@ use Rattle.ivy_program.specs.Programs.{Program, Written, Called, handed}
 use Rattle.ivy_site.proofs.of_ivy_host.Handed.{handed_none}
 use Rattle.ivy_site.specs.Handed.{site_handed}
 use Rattle.ivy_site.specs.Shown.{Shown}
-use Rattle.ivy_join.specs.Joining.{program_in, taken_by, taken_in, CanBeTaken, CanGoOnBy, GoesOnBy}
+use Rattle.ivy_join.specs.Joining.{program_in, taken_by, taken_in, CanGoOnBy, GoesOnBy}
 use Rattle.ivy_join.specs.Remade.{CanTake, GoesOnByEntries}
 use Rattle.ivy_join.proofs.Steps.{took-further}
 use Rattle.ivy_join.proofs.Taken.{can-more-strings, taken-own}

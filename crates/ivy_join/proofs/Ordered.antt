@@ -1,12 +1,10 @@
 -- One flat memory could have answered the nodes as their logs say.
-use Rattle.std.proofs.Common.{◌≡◌, ℕ, ◌<◌, List, [], ◌∷◌, ◌++◌, length, map, slice_get, Option, Some, None, option_map, refl, sym, ap, subst, ◌∙◌, append-nil, length-append, arith}
+use Rattle.std.proofs.Common.{◌≡◌, ℕ, ◌<◌, List, [], ◌∷◌, ◌++◌, length, map, slice_get, Some, None, option_map, refl, sym, ap, subst, ◌∙◌, append-nil, length-append, arith}
 use Rattle.std.proofs.lemmas.List.{length-map, nil_from_length}
 use Rattle.std.proofs.lemmas.Option.{none-some, slice_get-map, slice_get_within}
 use Rattle.ivy_model.specs.declared.Config.{Config}
 use Rattle.ivy_model.specs.declared.Record.{Record}
-use Rattle.ivy_model.specs.Config.{IsConfig}
 use Rattle.ivy_model.specs.Explains.{IsOwed}
-use Rattle.ivy_lines.specs.ivy_calls.declared.Answer.{Answer}
 use Rattle.ivy_lines.specs.ivy_calls.Answers.{answer, answers, answers_of}
 use Rattle.ivy_lines.specs.Own.{Entry, answers_in, events_in}
 use Rattle.ivy_moves.specs.declared.Move.{Move}

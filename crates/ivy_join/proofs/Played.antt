@@ -1,6 +1,6 @@
 -- The lists of sites are the parts of one run, and stay so where one of them goes on.
-use Rattle.std.proofs.Common.{◌≡◌, ◌≢◌, ◌⊎◌, ℕ, zero, suc, ◌+◌, ◌<◌, ◌≤◌, List, [], ◌∷◌, ◌++◌, length, map, set, slice_get}
-use Rattle.std.proofs.Common.{Contains, Option, Some, None, if◌then◌else◌, ◌==◌, refl, sym, ap, subst, ◌∙◌, inl, inr, ⊎_elim, option_map, append-nil, arith, length-set}
+use Rattle.std.proofs.Common.{◌≡◌, ◌≢◌, ℕ, zero, suc, ◌+◌, ◌≤◌, List, [], ◌∷◌, ◌++◌, length, set, slice_get}
+use Rattle.std.proofs.Common.{Contains, Some, if◌then◌else◌, refl, sym, ap, subst, ◌∙◌, inl, inr, ⊎_elim, option_map, append-nil, arith, length-set}
 use Rattle.std.proofs.lemmas.Bool.{cases_eq, eq-eqb, ne_eqb}
 use Rattle.std.proofs.lemmas.List.{length-map}
 use Rattle.std.proofs.lemmas.Option.{same_Some, none-some, slice_get-map, slice_get_within}
@@ -22,7 +22,7 @@ use Rattle.ivy_site.proofs.of_ivy_host.Tame.{first_length}
 use Rattle.ivy_moves.specs.declared.keep.Keep.TheVariants.{All}
 use Rattle.ivy_site.specs.Shown.{Shown}
 use Rattle.ivy_site.specs.Sites.{IsMadeByEvents}
-use Rattle.ivy_world.specs.WorldSites.{programs_of, AreFirst}
+use Rattle.ivy_world.specs.WorldSites.{programs_of}
 use Rattle.ivy_world.proofs.Making.{same_map}
 use Rattle.ivy_program.specs.Programs.{Program}
 use Rattle.ivy_join.specs.Joining.{program_in, events_at, listed, GoesOnBy, Sends, AddsSent, IsNode, ArePlayed}

@@ -12,6 +12,8 @@ use Rattle.ivy_site.specs.Shown.{Shown}
 use Rattle.proof_headline.specs.Keeping.{Keeps}
 use Rattle.proof_headline.specs.RunState.{Run}
 use Rattle.ivy_program.specs.Programs.{Program}
+use Rattle.ivy_join.specs.declared.unjoined.Unjoined.{Unjoined}
+use Rattle.ivy_join.specs.declared.unjoined.Unjoined.TheVariants.{NotSent, NoSuchEvent, OtherEvents, OtherAnswers}
 
 -- the events of node i, by the lists of all nodes
 abbrev pub list_of : Option (List Mark) → List Mark
@@ -41,3 +43,18 @@ module _ (c : Config) (programs : List Program) where
     pub keeps : Keeps (run_to end)
     pub nodes : (i : ℕ) (s : Shown) → slice_get sites i ≡ Some s
         → slice_get end.nodes i ≡ Some s.node
+
+  -- the lists are not: no run of these programs under this configuration has them as its parts,
+  -- wherever it ends
+  abbrev pub AreNoParts : List (List Mark) → Type 0
+  AreNoParts lists = (end : World (Host Managed))
+      → AreParts (host_rules managed_ops) c (opening managed_ops c programs) (part_in lists) end → ⊥
+
+-- the error says that logs are not the parts of a run: others say that memory ran out, or which
+-- logs there are
+abbrev pub SaysNoParts : Unjoined → Type 0
+SaysNoParts (NotSent node line) = Unit {0}
+SaysNoParts (NoSuchEvent node line) = Unit {0}
+SaysNoParts (OtherEvents node) = Unit {0}
+SaysNoParts (OtherAnswers node) = Unit {0}
+SaysNoParts why = ⊥

@@ -1,5 +1,7 @@
 pub mod Joining
 pub mod Joined
+pub mod Exact
+pub mod Latest
 pub mod Owned
 pub mod Remade
 pub use Rattle.ivy_lines.specs as ivy_lines

@@ -1,8 +1,9 @@
 //! One event of a log, made again.
-ghost use Rattle.std.specs.Prelude.{◌≡◌, ◌++◌, ℕ, List, [], ◌∷◌, Contains, IfOk, IsTrue};
+ghost use Rattle.std.specs.Prelude.{◌≡◌, ◌++◌, ℕ, List, [], ◌∷◌, Contains, IfOk, OnOk, IsTrue};
 ghost use Rattle.ivy_model.specs.Config.{IsConfig};
 ghost use Rattle.ivy_moves.specs.Marks.{Delivery, Pulse, marks_of, turns};
 ghost use Rattle.ivy_moves.specs.Parts.{AllCanBeMade};
+ghost use Rattle.ivy_join.specs.Exact.{SaysMade};
 ghost use Rattle.ivy_join.specs.Joining.{AddsSent, CanGoOnBy, GoesOnBy};
 
 use crate::strings::Strings;
@@ -17,6 +18,7 @@ use std::alloc::{AllocError, Allocator};
 fn make_turns<A: Allocator + Copy>(site: &mut Site<A>, count: u64) -> Result<bool, Fault>
     ensures on { (sent : List (List ℕ)) → GoesOnBy sent site.old site.new }
     ensures made { IfOk result (λ happens. IsTrue happens → site.new.events ≡ site.old.events ++ turns count) }
+    ensures exact { IfOk result (λ happens. SaysMade (turns count) site.old site.new happens) }
 {
     let mut made = 0u64;
     while made < count {
@@ -33,6 +35,7 @@ fn make_turns<A: Allocator + Copy>(site: &mut Site<A>, count: u64) -> Result<boo
 fn make_delivery<A: Allocator + Copy>(site: &mut Site<A>, string: &Bytes<A>) -> Result<bool, Fault>
     ensures on { (sent : List (List ℕ)) → IsConfig site.old.config → Contains sent string.now → GoesOnBy sent site.old site.new }
     ensures made { IfOk result (λ happens. IsTrue happens → site.new.events ≡ site.old.events ++ Delivery string.now ∷ []) }
+    ensures exact { IfOk result (λ happens. SaysMade (Delivery string.now ∷ []) site.old site.new happens) }
 {
     match site.deliver_alone(string) {
         Ok((verdict, _)) => Ok(verdict != Verdict::NotMine),
@@ -46,6 +49,7 @@ fn make_delivery<A: Allocator + Copy>(site: &mut Site<A>, string: &Bytes<A>) -> 
 fn make_pulse<A: Allocator + Copy>(site: &mut Site<A>, to: u8) -> Result<bool, Fault>
     ensures on { (sent : List (List ℕ)) → GoesOnBy sent site.old site.new }
     ensures made { IfOk result (λ happens. IsTrue happens → site.new.events ≡ site.old.events ++ Pulse to ∷ []) }
+    ensures exact { IfOk result (λ happens. SaysMade (Pulse to ∷ []) site.old site.new happens) }
 {
     if to >= site.config().nodes || to == site.me() || site.has_frame() {
         return Ok(false);
@@ -59,6 +63,7 @@ fn make_pulse<A: Allocator + Copy>(site: &mut Site<A>, to: u8) -> Result<bool, F
 pub fn make<A: Allocator + Copy>(site: &mut Site<A>, event: &Event<Bytes<A>>) -> Result<bool, Fault>
     ensures on { CanGoOnBy event.now site.old site.new }
     ensures made { IfOk result (λ happens. IsTrue happens → site.new.events ≡ site.old.events ++ marks_of event.now) }
+    ensures exact { IfOk result (λ happens. SaysMade (marks_of event.now) site.old site.new happens) }
 {
     match event {
         Event::Turns(count) => make_turns(site, *count),
@@ -85,6 +90,8 @@ pub(crate) fn collect<A: Allocator + Copy>(
     ensures site { record site.new { waiting = [] } ≡ record site.old { waiting = [] } }
     ensures kept { (bytes : List ℕ) → Contains sent.old bytes → Contains sent.new bytes }
     ensures added { AddsSent site.old sent.old sent.new }
+    ensures taken { OnOk result ((bytes : List ℕ) → Contains site.old.waiting bytes → Contains sent.new bytes) }
+    ensures none { OnOk result (site.new.waiting ≡ []) }
 {
     while let Some(string) = site.take_frame() {
         sent.add(string)?;

@@ -1,16 +1,16 @@
 //! Whether logs are the parts of one run.
-ghost use Rattle.std.specs.Prelude.{◌≡◌, ◌+◌, ℕ, length, map, slice_get, IfOk, IfErr, OnOk, IsTrue};
+ghost use Rattle.std.specs.Prelude.{◌≡◌, ◌+◌, length, map, IfOk, IfErr, OnOk, IsTrue};
 ghost use Rattle.ivy_model.specs.Config.{IsConfig};
 ghost use Rattle.ivy_moves.specs.Marks.{marks};
 ghost use Rattle.ivy_world.specs.WorldSites.{IsMemory};
-ghost use Rattle.ivy_join.specs.Joining.{events_at, kept_from, AreKept};
-ghost use Rattle.ivy_join.specs.Joined.{part_in, AreJoined, AreHeads};
+ghost use Rattle.ivy_join.specs.Joining.{kept_from};
+ghost use Rattle.ivy_join.specs.Joined.{AreHeads, AreJoined, AreNoParts, SaysNoParts};
 
 use crate::joined::Joined;
 use crate::playing::play;
 use crate::strings::Strings;
 use crate::unjoined::Unjoined;
-use ivy_lines::{Head, Log, are_same};
+use ivy_lines::{Head, Log};
 use ivy_model::{Config, Fault};
 use ivy_program::Program;
 use ivy_site::Site;
@@ -45,7 +45,8 @@ fn is_same(a: &Config, b: &Config) -> bool
 
 /// Whether a log is the one of this node, and names this configuration.
 pub(crate) fn check_head(config: &Config, node: u64, head: &Head) -> Result<(), Unjoined>
-    ensures { OnOk result (head.now ≡ record { me = node; config = config.now }) }
+    ensures same { OnOk result (head.now ≡ record { me = node; config = config.now }) }
+    ensures other { IfErr result (λ why. SaysNoParts why → ⊥) }
 {
     let me = u64::from(head.me);
     if me > node {
@@ -62,7 +63,8 @@ pub(crate) fn check_head(config: &Config, node: u64, head: &Head) -> Result<(), 
 
 /// Whether there are as many logs as nodes.
 pub(crate) fn check_count(config: &Config, count: u64) -> Result<(), Unjoined>
-    ensures { OnOk result (count ≡ config.now.nodes) }
+    ensures same { OnOk result (count ≡ config.now.nodes) }
+    ensures other { IfErr result (λ why. SaysNoParts why → ⊥) }
 {
     if count < u64::from(config.nodes) {
         return Err(Unjoined::Missing(count));
@@ -77,6 +79,7 @@ pub(crate) fn check_count(config: &Config, count: u64) -> Result<(), Unjoined>
 fn check_heads<A: Allocator>(config: &Config, logs: &[Log<A>]) -> Result<(), Unjoined>
     ensures each { OnOk result (AreHeads config.now 0 (map (λ l. l.head) logs.now)) }
     ensures count { OnOk result (length logs.now ≡ config.now.nodes) }
+    ensures other { IfErr result (λ why. SaysNoParts why → ⊥) }
 {
     let mut node = 0u64;
     for log in logs {
@@ -86,24 +89,13 @@ fn check_heads<A: Allocator>(config: &Config, logs: &[Log<A>]) -> Result<(), Unj
     check_count(config, node)
 }
 
-/// Whether each site's events are those of its log.
-fn check_lists<A: Allocator + Copy>(sites: &[Site<A>], logs: &[Log<A>]) -> Result<(), Unjoined>
-    requires each { length logs.now ≡ length sites.now }
-    requires kept { AreKept sites.now }
-    ensures { OnOk result ((i : ℕ) → events_at sites.now i ≡ part_in (map (λ l. marks l.events.items) logs.now) i) }
-{
-    for node in 0..logs.len() {
-        if !are_same(sites[node].events(), &logs[node].events) {
-            return Err(Unjoined::OtherEvents(node as u64));
-        }
-    }
-    Ok(())
-}
-
 /// Joins the logs of the nodes of these programs, the log of node 0 first.
 ///
 /// Where it answers, the logs are the parts of one run of these programs under this configuration, whatever wire the
 /// nodes had: what `World::run` promises of every run holds of what happened, and the nodes at the end of it are given.
+/// [`Unjoined::NotSent`] and [`Unjoined::NoSuchEvent`] say that they are the parts of no run of these programs under it.
+/// The other errors say nothing of that: memory ran out, the configuration does not suit, or the logs are not those of its
+/// nodes.
 pub fn join<A: Allocator + Copy>(
     alloc: A,
     config: Config,
@@ -112,6 +104,8 @@ pub fn join<A: Allocator + Copy>(
 ) -> Result<Joined<A>, Unjoined>
     ensures heads { OnOk result (AreHeads config 0 (map (λ l. l.head) logs.now)) }
     ensures joined { IfOk result (λ joined. AreJoined config programs.items (map (λ l. marks l.events.items) logs.now) joined) }
+    ensures refused { IfErr result (λ why. SaysNoParts why → AreNoParts config programs.items (map (λ l. marks l.events.items) logs.now)) }
+    ensures named { IfErr result (λ why. SaysNoParts why → AreHeads config 0 (map (λ l. l.head) logs.now)) }
 {
     config.check()?;
     if programs.len() != usize::from(config.nodes) {
@@ -121,6 +115,5 @@ pub fn join<A: Allocator + Copy>(
     let mut sites = first_sites(alloc, &config, programs)?;
     let mut sent = Strings::new(alloc);
     play(alloc, &config, &mut sites, &mut sent, logs)?;
-    check_lists(&sites, logs)?;
     Ok(Joined::new(sites))
 }

@@ -1,6 +1,7 @@
 //! The strings that nodes sent, found by their bytes.
-ghost use Rattle.std.specs.Prelude.{◌≡◌, [], IsTrue, Contains};
+ghost use Rattle.std.specs.Prelude.{◌≡◌, ◌↔◌, [], IsTrue, OnOk, Contains};
 ghost use Rattle.ivy_join.specs.Joining.{AddsOne};
+ghost use Rattle.ivy_join.specs.Latest.{hash_of};
 
 use ivy_wire::Bytes;
 use std::alloc::{AllocError, Allocator};
@@ -28,9 +29,17 @@ impl<A: Allocator> Model for Strings<A> {
     ghost Value = { List (List ℕ) };
 
     ghost view = { λ s. s.strings.items };
+
+    ghost use Rattle.std.specs.BTreeMap.{get};
+    ghost use Rattle.std.specs.Ordering.{nat_cmp};
+    ghost use Rattle.ivy_join.specs.Latest.{AreChained};
+
+    ghost invariant = { λ s. AreChained s.strings.items s.earlier.items (get nat_cmp s.last) };
 }
 
-fn hash_of(bytes: &[u8]) -> u64 {
+fn hash_of(bytes: &[u8]) -> u64
+    ensures { result ≡ hash_of bytes.now }
+{
     let mut hash = OFFSET;
     for byte in bytes {
         hash = (hash ^ u64::from(*byte)).wrapping_mul(FACTOR);
@@ -52,27 +61,22 @@ impl<A: Allocator + Copy> Strings<A> {
 
     /// Whether these bytes are one of the strings.
     pub(crate) fn contains(&self, bytes: &[u8]) -> bool
-        ensures { IsTrue result → Contains self.now bytes.now }
+        ensures { IsTrue result ↔ Contains self.now bytes.now }
     {
         let mut next = self.last.get(&hash_of(bytes)).copied();
-        for _ in 0..self.strings.len() {
-            let Some(place) = next else {
-                return false;
-            };
-            let Some(string) = self.strings.get(place) else {
-                return false;
-            };
-            if string.bytes() == bytes {
+        while let Some(place) = next {
+            if self.strings[place].bytes() == bytes {
                 return true;
             }
-            next = self.earlier.get(place).copied().flatten();
+            next = self.earlier[place];
         }
         false
     }
 
     /// Adds a string, where it is none of them yet. Err only where the allocator has no memory; they are the same then.
     pub(crate) fn add(&mut self, string: Bytes<A>) -> Result<(), AllocError>
-        ensures { AddsOne string self.old self.new }
+        ensures one { AddsOne string self.old self.new }
+        ensures there { OnOk result (Contains self.new string) }
     {
         if self.contains(string.bytes()) {
             return Ok(());

@@ -1,5 +1,5 @@
 //! The link of one node to all others.
-ghost use Rattle.std.specs.Prelude.{◌≡◌, ◌≢◌, ◌↔◌, ℕ, ◌<◌, List, [], ◌∷◌, ◌+◌, ◌++◌, length, map, take, slice_get, true, false, Some, IfOk, IfErr, IsOk, OnOk, OnErr, IsErrOf, IsOkUnless};
+ghost use Rattle.std.specs.Prelude.{◌≡◌, ◌≢◌, ◌↔◌, ℕ, ◌<◌, List, [], ◌∷◌, ◌+◌, ◌++◌, length, map, take, slice_get, true, false, Some, IsTrue, IfOk, IfErr, IsOk, OnOk, OnErr, IsErrOf, IsOkUnless};
 ghost use Rattle.ivy_model.specs.Wants.{IsWant};
 ghost use Rattle.ivy_model.specs.declared.Fault.TheVariants.{Memory, NumbersSpent};
 ghost use Rattle.ivy_wire.specs.Lent.{owned_message, owned_parcel, owned_frame};
@@ -80,6 +80,22 @@ impl<A: Allocator + Copy> Link<A> {
         ensures { result ≡ (peer_at (link_of self.now) from).delivered }
     {
         self.sides[usize::from(from)].delivered()
+    }
+
+    /// Whether some message to a node is not acknowledged yet, so that a pulse makes its frame again. It takes no memory.
+    pub fn keeps_for(&self, to: u8) -> bool
+        requires to { to < length self.now.peers }
+        ensures { IsTrue result ↔ ((peer_at (link_of self.now) to).kept ≢ []) }
+    {
+        !self.sides[usize::from(to)].kept().is_empty()
+    }
+
+    /// Whether an acknowledgement is owed to a node. It takes no memory.
+    pub fn owes(&self, to: u8) -> bool
+        requires to { to < length self.now.peers }
+        ensures { result ≡ (peer_at (link_of self.now) to).owed }
+    {
+        self.sides[usize::from(to)].is_owed()
     }
 
     /// Takes the acknowledgement of a frame, and counts its message as delivered where it is the next: no

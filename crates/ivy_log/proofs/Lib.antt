@@ -1,1 +1,2 @@
+mod Runs
 pub use Rattle.ivy_texts.proofs as of_ivy_texts

@@ -2,7 +2,7 @@
 
 use crate::access::{Access, Accesses, is_seen};
 use crate::head::Head;
-use crate::log::Log;
+use crate::log::{Happening, Log};
 use crate::marks::{Marks, Spot, Way, between, lane, row};
 use ivy_model::Record;
 use ivy_moves::ivy_link::Verdict;
@@ -28,18 +28,21 @@ const LETTER: u64 = 7;
 /// Right of what stands beside the lines.
 const MARGIN: u64 = 16;
 
-/// The look of everything.
+/// The look of everything, the tip of arrows, and the ground.
 const STYLE: &str =
     "<style>text{font:11px sans-serif;paint-order:stroke;stroke:#fff;stroke-width:3px}\
 .move{fill:#777}.name{font-weight:bold;font-size:13px}.reply{fill:#060;font-weight:bold}\
 .nil{stroke:#ccc;stroke-width:2}.read{stroke:#5a9bd4;stroke-width:7}.write{stroke:#e8743b;stroke-width:7}\
 .way{stroke:#222;fill:none}.again{stroke:#999;stroke-dasharray:6 3;fill:none}\
 .early{stroke:#b0f;stroke-dasharray:2 3;fill:none}.lost{stroke:#c00;stroke-dasharray:6 3;fill:none}\
-.cross{fill:#c00;font-weight:bold}.old{fill:#888}</style>";
+.cross{fill:#c00;font-weight:bold}.old{fill:#888}</style>\n\
+<defs><marker id=\"tip\" viewBox=\"0 0 10 10\" refX=\"10\" refY=\"5\" markerWidth=\"7\" \
+markerHeight=\"7\" orient=\"auto\"><path d=\"M0 0L10 5L0 10z\"/></marker></defs>\n\
+<rect width=\"100%\" height=\"100%\" fill=\"#fff\"/>\n";
 
-const ARROW: &str =
-    "<defs><marker id=\"tip\" viewBox=\"0 0 10 10\" refX=\"10\" refY=\"5\" markerWidth=\"7\" \
-markerHeight=\"7\" orient=\"auto\"><path d=\"M0 0L10 5L0 10z\"/></marker></defs>";
+/// What dashes mean.
+const DASHES: &str =
+    "<text x=\"8\" y=\"34\">Dashed: grey delivered again, red lost. Dotted: came before its turn.</text>\n";
 
 /// The name of the look of a way.
 fn look_of(way: &Way) -> &'static str {
@@ -60,11 +63,13 @@ fn look_of_access(access: Access) -> &'static str {
     }
 }
 
-fn draw_line<W: Write>(look: &str, from: Spot, to: Spot, out: &mut W) -> io::Result<()> {
-    let Spot { x, y } = from;
-    write!(out, "<line class=\"{look}\" x1=\"{x}\" y1=\"{y}\"")?;
-    let Spot { x, y } = to;
-    write!(out, " x2=\"{x}\" y2=\"{y}\"")
+/// Draws a line, which ends in this text.
+fn draw_line<W: Write>(look: &str, from: Spot, to: Spot, end: &str, out: &mut W) -> io::Result<()> {
+    writeln!(
+        out,
+        "<line class=\"{look}\" x1=\"{}\" y1=\"{}\" x2=\"{}\" y2=\"{}\"{end}/>",
+        from.x, from.y, to.x, to.y
+    )
 }
 
 /// Begins a text at a spot.
@@ -82,29 +87,40 @@ fn draw_name<W: Write>(way: &Way, head: &Head, out: &mut W) -> io::Result<()> {
         y: spot.y.saturating_sub(3),
     };
     begin_text(look, at, out)?;
-    write!(out, "{}", kind_name(head.kind))?;
-    if let Some(page) = head.page() {
-        write!(out, " {page}")?;
+    let (kind, note) = (
+        kind_name(head.kind),
+        if way.is_again { " again" } else { "" },
+    );
+    match head.page() {
+        Some(page) => writeln!(out, "{kind} {page}{note}</text>"),
+        None => writeln!(out, "{kind}{note}</text>"),
     }
-    let note = if way.is_again { " again" } else { "" };
-    writeln!(out, "{note}</text>")
 }
 
-/// Draws the way of a string: an arrow, or for one that is lost a line that ends in a cross.
+/// Draws the way of a string that is lost: a line that ends in a cross.
+fn draw_lost<W: Write>(way: &Way, out: &mut W) -> io::Result<()> {
+    let end = between(way.from, way.to, 70);
+    draw_line(look_of(way), way.from, end, "", out)?;
+    let at = Spot {
+        x: end.x.saturating_sub(4),
+        y: end.y.saturating_add(4),
+    };
+    begin_text("cross", at, out)?;
+    out.write_all("×</text>\n".as_bytes())
+}
+
+/// Draws the way of a string: an arrow, where it is not lost.
 fn draw_way<W: Write>(way: &Way, head: &Head, out: &mut W) -> io::Result<()> {
     if way.heard.is_some() {
-        draw_line(look_of(way), way.from, way.to, out)?;
-        writeln!(out, " marker-end=\"url(#tip)\"/>")?;
+        draw_line(
+            look_of(way),
+            way.from,
+            way.to,
+            " marker-end=\"url(#tip)\"",
+            out,
+        )?;
     } else {
-        let end = between(way.from, way.to, 70);
-        draw_line(look_of(way), way.from, end, out)?;
-        writeln!(out, "/>")?;
-        let at = Spot {
-            x: end.x.saturating_sub(4),
-            y: end.y.saturating_add(4),
-        };
-        begin_text("cross", at, out)?;
-        writeln!(out, "×</text>")?;
+        draw_lost(way, out)?;
     }
     draw_name(way, head, out)
 }
@@ -123,8 +139,7 @@ fn draw_lane<W: Write>(node: u64, access: Access, rows: (u64, u64), out: &mut W)
     let x = lane(node);
     let from = Spot { x, y: row(rows.0) };
     let to = Spot { x, y: row(rows.1) };
-    draw_line(look_of_access(access), from, to, out)?;
-    writeln!(out, "/>")
+    draw_line(look_of_access(access), from, to, "", out)
 }
 
 /// A line that is not drawn to its end yet: since which row it has its colour.
@@ -132,6 +147,25 @@ fn draw_lane<W: Write>(node: u64, access: Access, rows: (u64, u64), out: &mut W)
 struct Since {
     row: u64,
     access: Access,
+}
+
+/// Draws the line of a node up to a row, where its colour is another one from there on.
+fn change<W: Write>(line: &mut Since, node: u64, to: Since, out: &mut W) -> io::Result<()> {
+    if line.access == to.access {
+        return Ok(());
+    }
+    draw_lane(node, line.access, (line.row, to.row), out)?;
+    *line = to;
+    Ok(())
+}
+
+/// Draws the lines of the nodes to their ends.
+fn end_lanes<W: Write>(since: &[Since], height: u64, out: &mut W) -> io::Result<()> {
+    let end = height.saturating_add(1);
+    for (node, line) in since.iter().enumerate() {
+        draw_lane(node as u64, line.access, (line.row, end), out)?;
+    }
+    Ok(())
 }
 
 /// Draws the lines of the nodes, coloured by their access to the page.
@@ -145,19 +179,11 @@ fn draw_lanes<W: Write>(
     for (happening, at) in log.happenings.iter().zip(marks.rows.iter()) {
         accesses.follow(log, happening);
         let access = accesses.of(happening.node as usize);
-        let Some(line) = since.get_mut(happening.node as usize) else {
-            continue;
-        };
-        if line.access != access {
-            draw_lane(happening.node, line.access, (line.row, *at), out)?;
-            *line = Since { row: *at, access };
+        if let Some(line) = since.get_mut(happening.node as usize) {
+            change(line, happening.node, Since { row: *at, access }, out)?;
         }
     }
-    for (node, line) in since.iter().enumerate() {
-        let end = marks.height.saturating_add(1);
-        draw_lane(node as u64, line.access, (line.row, end), out)?;
-    }
-    Ok(())
+    end_lanes(since, marks.height, out)
 }
 
 /// Draws what a node was answered.
@@ -167,19 +193,26 @@ fn draw_reply<W: Write>(record: Record, at: Spot, out: &mut W) -> io::Result<()>
     writeln!(out, "{call} = {reply}</text>")
 }
 
-/// Draws the moves left of the lines, and what nodes were answered beside theirs.
-fn draw_texts<W: Write>(log: &Log, marks: &Marks, out: &mut W) -> io::Result<()> {
-    for (number, happening) in log.happenings.iter().enumerate() {
-        if !is_seen(happening) {
-            continue;
-        }
-        let y = row(marks.rows.get(number).copied().unwrap_or(0)).saturating_add(4);
-        begin_text("move", Spot { x: 8, y }, out)?;
-        let count = (number as u64).saturating_add(1);
-        writeln!(out, "{count} {}</text>", MoveText(happening.step))?;
-        if let Some(record) = happening.record {
+/// Draws a move left of the lines, and what its node was answered beside its line.
+fn draw_move<W: Write>(number: u64, happening: &Happening, y: u64, out: &mut W) -> io::Result<()> {
+    begin_text("move", Spot { x: 8, y }, out)?;
+    writeln!(out, "{number} {}</text>", MoveText(happening.step))?;
+    match happening.record {
+        None => Ok(()),
+        Some(record) => {
             let x = lane(happening.node).saturating_add(8);
-            draw_reply(record, Spot { x, y }, out)?;
+            draw_reply(record, Spot { x, y }, out)
+        }
+    }
+}
+
+/// Draws the moves of which something is to be seen.
+fn draw_texts<W: Write>(log: &Log, marks: &Marks, out: &mut W) -> io::Result<()> {
+    let mut number = 0u64;
+    for (happening, at) in log.happenings.iter().zip(marks.rows.iter()) {
+        number = number.saturating_add(1);
+        if is_seen(happening) {
+            draw_move(number, happening, row(*at).saturating_add(4), out)?;
         }
     }
     Ok(())
@@ -199,26 +232,24 @@ fn width_of(alloc: Global, chart: Chart, log: &Log) -> Result<u64, AllocError> {
     Ok(width)
 }
 
-/// Begins the picture: its size, the names of the nodes and what the colours mean.
+/// Begins the picture: its size, and what the lines mean.
 fn begin<W: Write>(chart: Chart, size: Spot, out: &mut W) -> io::Result<()> {
-    let (width, height) = (size.x, size.y);
-    writeln!(
+    let (width, height, page) = (size.x, size.y, chart.page);
+    write!(
         out,
-        "<svg xmlns=\"http://www.w3.org/2000/svg\" width=\"{width}\" height=\"{height}\">"
+        "<svg xmlns=\"http://www.w3.org/2000/svg\" width=\"{width}\" height=\"{height}\">\n"
     )?;
-    writeln!(out, "{STYLE}")?;
-    writeln!(out, "{ARROW}")?;
-    writeln!(out, "<rect width=\"100%\" height=\"100%\" fill=\"#fff\"/>")?;
-    let page = chart.page;
+    out.write_all(STYLE.as_bytes())?;
     writeln!(
         out,
         "<text x=\"8\" y=\"18\">Lines: access to page {page}, orange to write, blue to read, grey none.</text>"
     )?;
-    writeln!(
-        out,
-        "<text x=\"8\" y=\"34\">Dashed: grey delivered again, red lost. Dotted: came before its turn.</text>"
-    )?;
-    for node in 0..chart.nodes {
+    out.write_all(DASHES.as_bytes())
+}
+
+/// Draws the names of the nodes.
+fn draw_nodes<W: Write>(nodes: u64, out: &mut W) -> io::Result<()> {
+    for node in 0..nodes {
         let x = lane(node).saturating_sub(20);
         begin_text("name", Spot { x, y: 64 }, out)?;
         writeln!(out, "node {node}</text>")?;
@@ -263,10 +294,15 @@ impl Picture {
 
     /// Draws what was seen of the run, as SVG: lines first, so that what is read stands above them.
     pub fn draw<W: Write>(mut self, log: &Log, out: &mut W) -> io::Result<()> {
+        self.draw_all(log, out)
+    }
+
+    fn draw_all<W: Write>(&mut self, log: &Log, out: &mut W) -> io::Result<()> {
         begin(self.chart, self.size, out)?;
+        draw_nodes(self.chart.nodes, out)?;
         draw_lanes(&mut self.accesses, &mut self.since, log, &self.marks, out)?;
         draw_ways(log, &self.marks, out)?;
         draw_texts(log, &self.marks, out)?;
-        writeln!(out, "</svg>")
+        out.write_all(b"</svg>\n")
     }
 }

@@ -1,4 +1,6 @@
 //! What each move did.
+ghost use Rattle.std.specs.Prelude.{◌≡◌};
+ghost use Rattle.ivy_log.specs.Sent.{sent_by};
 
 use crate::head::Head;
 use ivy_model::{Call, Record};
@@ -47,9 +49,13 @@ impl Log {
     }
 
     /// The strings that a move sent.
-    pub fn sent_by(&self, happening: &Happening) -> &[Head] {
-        self.strings
-            .get(happening.sent_before..happening.sent_after)
-            .unwrap_or(&[])
+    pub fn sent_by(&self, happening: &Happening) -> &[Head]
+        ensures { result.now ≡ sent_by self.now happening.now }
+    {
+        let (from, to) = (happening.sent_before, happening.sent_after);
+        if to > self.strings.len() || from > to {
+            return &[];
+        }
+        &self.strings[from..to]
     }
 }

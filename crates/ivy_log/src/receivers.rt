@@ -1,4 +1,7 @@
 //! Which messages each delivery brought to be served: the rule of the link, told from the strings alone.
+ghost use Rattle.std.specs.Prelude.{◌≡◌, ◌≢◌, ◌<◌, ◌+◌, ◌-◌, ◌^◌, IfOk, IfSome};
+ghost use Rattle.ivy_moves.specs.ivy_link.declared.Verdict.TheVariants.{Next};
+ghost use Rattle.ivy_log.specs.Heard.{delivered_of, held_of, verdict_of, Follows, Serves};
 
 use crate::head::Head;
 use ivy_moves::ivy_link::{MOST_AHEAD, Verdict};
@@ -38,7 +41,9 @@ impl Receivers {
     }
 
     /// How many messages of a node were delivered to another.
-    pub fn delivered(&self, to: u64, source: u8) -> u64 {
+    pub fn delivered(&self, to: u64, source: u8) -> u64
+        ensures { result ≡ delivered_of self.now to source }
+    {
         for pair in self.delivered.iter() {
             if pair.to == to && pair.source == source {
                 return pair.count;
@@ -47,37 +52,54 @@ impl Receivers {
         0
     }
 
-    /// One more message of a node was delivered to another: a string of its number is held no more.
-    fn count(&mut self, to: u64, source: u8, number: u64) -> Result<(), AllocError> {
-        self.held.retain(|held| held.to != to || held.source != source || held.number != number);
-        for pair in self.delivered.iter_mut() {
-            if pair.to == to && pair.source == source {
-                pair.count = number;
-                return Ok(());
-            }
-        }
-        self.delivered.push(Delivered {
-            to,
-            source,
-            count: number,
-        })?;
-        Ok(())
-    }
-
-    /// The string that is held of this number.
-    fn held(&self, to: u64, source: u8, number: u64) -> Option<usize> {
+    /// The place of the string of the number after this one, where that is held.
+    fn held_after(&self, to: u64, source: u8, number: u64) -> Option<usize>
+        ensures place { result ≡ held_of self.now to source (number + 1) }
+        ensures least { IfSome result (λ place. number < 2 ^ 64 - 1) }
+    {
         for held in self.held.iter() {
-            if held.to == to && held.source == source && held.number == number {
+            if held.to == to
+                && held.source == source
+                && held.number.checked_sub(1) == Some(number)
+            {
                 return Some(held.place);
             }
         }
         None
     }
 
+    /// What a string is to the node that it comes to.
+    fn verdict(&self, to: u64, head: &Head) -> Verdict
+        ensures { result ≡ verdict_of self.now to head.now }
+    {
+        if u64::from(head.dest) != to {
+            return Verdict::NotMine;
+        }
+        let count = self.delivered(to, head.source);
+        if head.number <= count {
+            Verdict::Repeat
+        } else if head.number == count + 1 {
+            Verdict::Next
+        } else {
+            Verdict::Ahead
+        }
+    }
+
+    /// So many messages of a node were delivered to another: strings of their numbers are held no more.
+    fn deliver(&mut self, to: u64, source: u8, count: u64) -> Result<(), AllocError> {
+        self.held.retain(|held| held.to != to || held.source != source || held.number > count);
+        self.delivered
+            .retain(|pair| pair.to != to || pair.source != source);
+        self.delivered.push(Delivered { to, source, count })?;
+        Ok(())
+    }
+
     /// Holds the string of a frame that came before its turn, where that is not too early.
-    fn hold(&mut self, to: u64, place: usize, head: &Head, count: u64) -> Result<(), AllocError> {
+    fn hold(&mut self, to: u64, place: usize, head: &Head) -> Result<(), AllocError> {
+        let count = self.delivered(to, head.source);
         let is_near = head.number.saturating_sub(count) <= MOST_AHEAD as u64;
-        if is_near && self.held(to, head.source, head.number).is_none() {
+        let before = head.number.saturating_sub(1);
+        if is_near && self.held_after(to, head.source, before).is_none() {
             self.held.push(Held {
                 to,
                 source: head.source,
@@ -88,17 +110,26 @@ impl Receivers {
         Ok(())
     }
 
-    /// Goes on with what is held of a node, and adds to what was served.
-    fn go_on(&mut self, to: u64, source: u8, served: &mut Vec<usize>) -> Result<(), AllocError> {
+    /// Adds to what was served the strings that are held of the numbers after one, up to the first that is missing. It
+    /// gives the last number.
+    fn follow(
+        &self,
+        to: u64,
+        source: u8,
+        number: u64,
+        served: &mut Vec<usize>,
+    ) -> Result<u64, AllocError>
+        ensures last { IfOk result (λ last. Follows self.now to source number last served.old.items served.new.items) }
+    {
+        let mut last = number;
         for _ in 0..MOST_AHEAD {
-            let number = self.delivered(to, source).saturating_add(1);
-            let Some(place) = self.held(to, source, number) else {
-                return Ok(());
+            let Some(place) = self.held_after(to, source, last) else {
+                return Ok(last);
             };
-            self.count(to, source, number)?;
             served.push(place)?;
+            last += 1;
         }
-        Ok(())
+        Ok(last)
     }
 
     /// The string at a place among all sent comes to a node. The messages that the node serves then are added to those
@@ -109,21 +140,21 @@ impl Receivers {
         place: usize,
         head: &Head,
         served: &mut Vec<usize>,
-    ) -> Result<Verdict, AllocError> {
-        if u64::from(head.dest) != to {
-            return Ok(Verdict::NotMine);
+    ) -> Result<Verdict, AllocError>
+        ensures verdict { IfOk result (λ verdict. verdict ≡ verdict_of self.old to head.now) }
+        ensures others { IfOk result (λ verdict. verdict ≢ Next → served.new.items ≡ served.old.items) }
+        ensures next { IfOk result (λ verdict. verdict ≡ Next → Serves self.old to place head.now served.old.items served.new.items) }
+    {
+        let verdict = self.verdict(to, head);
+        match verdict {
+            Verdict::Next => {
+                served.push(place)?;
+                let last = self.follow(to, head.source, head.number, served)?;
+                self.deliver(to, head.source, last)?;
+            }
+            Verdict::Ahead => self.hold(to, place, head)?,
+            Verdict::Repeat | Verdict::NotMine => {}
         }
-        let count = self.delivered(to, head.source);
-        if head.number <= count {
-            return Ok(Verdict::Repeat);
-        }
-        if head.number > count.saturating_add(1) {
-            self.hold(to, place, head, count)?;
-            return Ok(Verdict::Ahead);
-        }
-        self.count(to, head.source, head.number)?;
-        served.push(place)?;
-        self.go_on(to, head.source, served)?;
-        Ok(Verdict::Next)
+        Ok(verdict)
     }
 }

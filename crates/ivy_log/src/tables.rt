@@ -10,15 +10,15 @@ fn print_numbers<W: Write>(tally: &Tally, out: &mut W) -> io::Result<()> {
         let width = name.len();
         write!(out, "  {number:>width$}")?;
     }
-    writeln!(out)
+    out.write_all(b"\n")
 }
 
 fn print_names<W: Write>(out: &mut W) -> io::Result<()> {
-    write!(out, "        ")?;
+    out.write_all(b"        ")?;
     for name in Tally::names() {
         write!(out, "  {name}")?;
     }
-    writeln!(out)
+    out.write_all(b"\n")
 }
 
 /// Whether anything was counted.
@@ -42,16 +42,18 @@ pub fn print_counts<W: Write>(counts: &Counts, out: &mut W) -> io::Result<()> {
     print_names(out)?;
     print_rows("node", &counts.nodes, out)?;
     print_rows("page", &counts.pages, out)?;
-    write!(out, "in all  ")?;
+    out.write_all(b"in all  ")?;
     print_numbers(&counts.all, out)
 }
 
 /// Prints what was counted in all under either manager, side by side.
 pub fn print_both<W: Write>(fixed: &Counts, dynamic: &Counts, out: &mut W) -> io::Result<()> {
-    writeln!(out, "                   fixed    dynamic")?;
-    let numbers = fixed.all.numbers().iter().zip(dynamic.all.numbers());
-    for (name, (left, right)) in Tally::names().iter().zip(numbers) {
-        writeln!(out, "{name:<14}{left:>10} {right:>10}")?;
+    out.write_all(b"                   fixed    dynamic\n")?;
+    let (left, right) = (fixed.all.numbers(), dynamic.all.numbers());
+    for (place, name) in Tally::names().iter().enumerate() {
+        if place < left.len() && place < right.len() {
+            writeln!(out, "{name:<14}{:>10} {:>10}", left[place], right[place])?;
+        }
     }
     Ok(())
 }

@@ -1,4 +1,6 @@
 //! What is counted of a node, of a page and in all.
+ghost use Rattle.std.specs.Prelude.{◌≡◌, ◌<◌, length, replicate};
+ghost use Rattle.ivy_log.specs.Tallies.{numbers_of, place_of, with_more};
 
 use ivy_wire::FrameKind;
 
@@ -34,7 +36,7 @@ pub struct Tally {
 }
 
 /// The names of the measures, in the order of a tally.
-const NAMES: [&str; MEASURES] = [
+static NAMES: [&str; MEASURES] = [
     "read faults",
     "write faults",
     "hits",
@@ -55,22 +57,18 @@ const NAMES: [&str; MEASURES] = [
 ];
 
 /// The place of a measure in a tally.
-fn place_of(measure: Measure) -> usize {
+fn place_of(measure: Measure) -> usize
+    ensures place { result ≡ place_of measure }
+    ensures within { result < MEASURES }
+{
     match measure {
         Measure::ReadFault => 0,
         Measure::WriteFault => 1,
         Measure::Hit => 2,
-        Measure::Sent(FrameKind::ReadReq) => 3,
-        Measure::Sent(FrameKind::WriteReq) => 4,
-        Measure::Sent(FrameKind::ReadRep) => 5,
-        Measure::Sent(FrameKind::WriteRep) => 6,
-        Measure::Sent(FrameKind::Inval) => 7,
-        Measure::Sent(FrameKind::InvalAck) => 8,
-        Measure::Sent(FrameKind::AllocReq) => 9,
-        Measure::Sent(FrameKind::AllocRep) => 10,
-        Measure::Sent(FrameKind::FreeReq) => 11,
-        Measure::Sent(FrameKind::FreeRep) => 12,
-        Measure::Sent(FrameKind::Ack) => 13,
+        Measure::Sent(kind) => match kind.code() {
+            0 => 13,
+            code => usize::from(code) + 2,
+        },
         Measure::Forward => 14,
         Measure::Again => 15,
         Measure::Bytes => 16,
@@ -79,21 +77,26 @@ fn place_of(measure: Measure) -> usize {
 
 impl Tally {
     /// None of each.
-    pub fn zero() -> Tally {
+    pub fn zero() -> Tally
+        ensures { numbers_of result ≡ replicate MEASURES 0 }
+    {
         Tally {
             numbers: [0; MEASURES],
         }
     }
 
     /// So many more of a measure.
-    pub fn add(&mut self, measure: Measure, count: u64) {
-        if let Some(number) = self.numbers.get_mut(place_of(measure)) {
-            *number = number.saturating_add(count);
-        }
+    pub fn add(&mut self, measure: Measure, count: u64)
+        ensures { numbers_of self.new ≡ with_more (numbers_of self.old) measure count }
+    {
+        let place = place_of(measure);
+        self.numbers[place] = self.numbers[place].saturating_add(count);
     }
 
     /// The numbers, in the order of their names.
-    pub fn numbers(&self) -> &[u64] {
+    pub fn numbers(&self) -> &[u64]
+        ensures { result.now ≡ numbers_of self.now }
+    {
         &self.numbers
     }
 

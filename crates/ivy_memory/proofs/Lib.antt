@@ -1,4 +1,5 @@
 pub mod Asking
+pub mod Placing
 pub mod Sides
 pub mod Tame
 pub mod Beginning

@@ -1,5 +1,5 @@
 //! What a call is to the memory of a node.
-ghost use Rattle.std.specs.Prelude.{◌≡◌, ◌/◌};
+ghost use Rattle.std.specs.Prelude.{◌≡◌, ◌/◌, ◌%◌};
 ghost use Rattle.ivy_model.specs.Config.{IsConfig};
 ghost use Rattle.ivy_model.specs.Legal.{HasKindWidth, HasWidth, IsWidth};
 ghost use Rattle.ivy_model.specs.Serves.{access_refusal};
@@ -31,7 +31,28 @@ fn count_asked(word: Result<Word, Fault>) -> Asked
     }
 }
 
+/// The page of an address. Pages have a power of two of bytes, so it takes no division.
+#[tactic(auto, using(crate::proofs::Placing::page_by_shift))]
+#[inline(always)]
+fn page_of(config: &Config, addr: u64) -> u64
+    requires limits { IsConfig config.now }
+    ensures { result ≡ addr / config.now.page_size }
+{
+    addr >> config.page_size.trailing_zeros()
+}
+
+/// The place of an address in its page.
+#[tactic(auto, using(crate::proofs::Placing::place_by_mask))]
+#[inline(always)]
+fn offset_of(config: &Config, addr: u64) -> u32
+    requires limits { IsConfig config.now }
+    ensures { result ≡ addr % config.now.page_size }
+{
+    (addr & u64::from(config.page_size - 1)) as u32
+}
+
 /// What an access to a word is, which is this one in its page: it is refused, or that word.
+#[inline(always)]
 fn word_asked(config: &Config, width: u8, addr: u64, word: Word) -> Asked
     requires limits { IsConfig config.now }
     requires width { IsWidth width }
@@ -40,11 +61,12 @@ fn word_asked(config: &Config, width: u8, addr: u64, word: Word) -> Asked
     if let Some(code) = access_refusal(config, width, addr) {
         return Asked::Refused(code);
     }
-    let page = (addr / u64::from(config.page_size)) as u32;
+    let page = page_of(config, addr) as u32;
     Asked::Word { page, word }
 }
 
 /// What a call of this kind is.
+#[inline(always)]
 fn asked_kind(config: &Config, kind: CallKind) -> Asked
     requires limits { IsConfig config.now }
     requires width { HasKindWidth kind }
@@ -52,8 +74,8 @@ fn asked_kind(config: &Config, kind: CallKind) -> Asked
 {
     match kind {
         CallKind::Word { width, addr, act } => {
-            let offset = (addr % u64::from(config.page_size)) as u32;
-            word_asked(config, width, addr, Word::new(act, width, offset))
+            let word = Word::new(act, width, offset_of(config, addr));
+            word_asked(config, width, addr, word)
         }
         CallKind::Count { k } => count_asked(read(config, k)),
         CallKind::Advance { k } => count_asked(advance(config, k)),
@@ -65,6 +87,7 @@ fn asked_kind(config: &Config, kind: CallKind) -> Asked
 
 /// What a call of a legal width is: an access to a word of the heap is the word at its address, and a call on an
 /// eventcount is that of the 8 bytes at its place in page 0. It takes no memory.
+#[inline(always)]
 pub fn asked_of(config: &Config, call: Call) -> Asked
     requires limits { IsConfig config.now }
     requires width { HasWidth call }

@@ -82,6 +82,7 @@ impl<A: Allocator> Events<A> {
     }
 
     /// Makes a place for one more event. Err only where the allocator has no memory; the events stay the same.
+    #[inline(always)]
     pub fn reserve(&mut self) -> Result<(), AllocError>
         ensures room { OnOk result (IsTrue self.new.has_room) }
         ensures same { self.new.marks ≡ self.old.marks }
@@ -94,6 +95,7 @@ impl<A: Allocator> Events<A> {
     }
 
     /// Lists one more turn, in the place that [`Events::reserve`] made.
+    #[inline(always)]
     pub fn push_turn(&mut self)
         requires { IsTrue self.old.has_room }
         ensures marks { self.new.marks ≡ self.old.marks ++ Turn ∷ [] }

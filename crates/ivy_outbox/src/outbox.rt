@@ -140,6 +140,22 @@ impl<A: Allocator + Copy> Outbox<A> {
         self.link.delivered_from(from)
     }
 
+    /// Whether some message to a node is not acknowledged yet. It takes no memory.
+    pub fn keeps_for(&self, to: u8) -> bool
+        requires to { to < self.now.config.nodes }
+        ensures { IsTrue result ↔ ((peer_at self.now.link to).kept ≢ []) }
+    {
+        self.link.keeps_for(to)
+    }
+
+    /// Whether an acknowledgement is owed to a node. It takes no memory.
+    pub fn owes(&self, to: u8) -> bool
+        requires to { to < self.now.config.nodes }
+        ensures { result ≡ (peer_at self.now.link to).owed }
+    {
+        self.link.owes(to)
+    }
+
     /// The first string that waits, taken out. It takes no memory.
     pub fn take(&mut self) -> Option<Bytes<A>>
         ensures { TakesFirst result self.old self.new }

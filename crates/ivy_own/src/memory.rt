@@ -84,6 +84,7 @@ where
     }
 
     /// The first turn for a call [1, 17, 21]. It gives the reply, where that is there then.
+    #[inline(always)]
     fn begin(&mut self, call: Call) -> Result<Option<Reply>, Fault>
         requires { HasWidth call }
         ensures grows { MatchResult result (λ reply. self.new ≡ grown call reply self.old) (λ _. self.new ≡ self.old) }
@@ -141,6 +142,7 @@ where
 
     ghost can_fail = { λ _ fault. IsStop fault };
 
+    #[inline(always)]
     fn call(&mut self, call: Call) -> Result<Reply, Fault> {
         let came = self.begin(call)?;
         match came {

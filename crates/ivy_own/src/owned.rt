@@ -56,6 +56,7 @@ fn last_reply<A: Allocator + Copy>(site: &Site<A>) -> Option<Reply>
 }
 
 /// The owner of a site makes a call, and has its first turn [1, 17]. It gives the reply, where the call has it then.
+#[inline(always)]
 fn begin_once<S: Setup, A: Allocator + Copy>(
     seated: &mut Seated<'_, S, A>,
     call: Call,
@@ -93,6 +94,7 @@ fn turn_once<S: Setup, A: Allocator + Copy>(
 }
 
 /// Both halves of the list of a node's answers know the reply to a call, where it has one.
+#[inline(always)]
 fn tell<J: Naming, A: Allocator + Copy>(
     tie: &Tie<Answer, J, A>,
     half: &mut Half<Answer, J>,
@@ -131,6 +133,7 @@ fn turn<S: Setup, J: Naming, A: Allocator + Copy>(
 }
 
 /// Whether the site is of node `me`, whose owner may make a call.
+#[inline(always)]
 fn is_ready<A: Allocator + Copy>(site: &Site<A>, me: u8) -> bool
     ensures { IsTrue result → IsReady me site.now }
 {
@@ -145,6 +148,7 @@ fn is_asked<A: Allocator + Copy>(site: &Site<A>, me: u8, call: Call) -> bool
 }
 
 /// The owner of node `me` makes a call, and its first turn [1, 17, 21].
+#[inline(always)]
 fn begin_at<S: Setup, J: Naming, A: Allocator + Copy>(
     seated: &mut Seated<'_, S, A>,
     half: &mut Half<Answer, J>,
@@ -281,6 +285,7 @@ impl<'e, S: Setup, H: Home, J: Naming, A: Allocator + Copy> Seat for Owned<'e, S
 
 impl<'e, S: Setup, H: Home, J: Naming, A: Allocator + Copy> OwnSeat<J, A>
     for Owned<'e, S, H, J, A> {
+    #[inline(always)]
     fn begin(
         &mut self,
         tie: &Tie<Answer, J, A>,

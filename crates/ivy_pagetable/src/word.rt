@@ -178,6 +178,7 @@ impl Word {
     }
 
     /// What the word comes to, from the number that stands in its place.
+    #[inline(always)]
     fn outcome(self, number: u64) -> Outcome
         requires { IsWidth (width_of self) }
         ensures { result ≡ outcome_of self number }
@@ -241,6 +242,7 @@ fn overwrite(bytes: &mut [u8], width: u8, offset: u32, value: u64)
 }
 
 /// What an access to a word of so many bytes comes to, from the number that stands there.
+#[inline(always)]
 fn access_outcome(act: Act, width: u8, number: u64) -> Outcome
     requires { IsWidth width }
     ensures { result ≡ access_outcome width act number }

@@ -100,4 +100,14 @@ impl Caller {
     {
         self.waiting = Some(call);
     }
+
+    /// One more call is made, and has its reply at once.
+    #[tactic(auto, using(crate::proofs::Nexts::handed_and_answered))]
+    pub(crate) fn hand_answered(&mut self, call: Call)
+        requires free { HasEnded self.old }
+        requires width { HasWidth call }
+        ensures { (reply : Reply) → self.new ≡ answered_with (process_handed (call ∷ []) self.old) reply }
+    {
+        self.answered.push(&call);
+    }
 }

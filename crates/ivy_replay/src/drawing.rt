@@ -16,6 +16,25 @@ fn next_drawn(generator: &mut Lcg64Xsh32, world: &World<Global>) -> Move {
     draw(generator, world.nodes() as u8, world.sent())
 }
 
+/// Draws so many moves, makes them, and adds them to these.
+fn draw_all<P: Progress>(
+    world: &mut World<Global>,
+    generator: &mut Lcg64Xsh32,
+    moves: &mut Vec<Move>,
+    count: u64,
+    progress: &mut P,
+) -> Result<(), Fault> {
+    for made in 0..count {
+        progress.tell(made, "moves");
+        let step = next_drawn(generator, world);
+        if let Err((_place, fault)) = world.run(&[step]) {
+            return Err(fault);
+        }
+        moves.push(step)?;
+    }
+    Ok(())
+}
+
 /// So many moves that the generator of a seed draws [1, 2, 17, 20].
 pub fn drawn_moves<P: Progress>(
     text: &Text<'_>,
@@ -26,13 +45,8 @@ pub fn drawn_moves<P: Progress>(
     let mut world = text.world()?;
     let mut generator = generator_of(seed);
     let mut moves = Vec::new(text.alloc);
-    for made in 0..count {
-        progress.tell(made, "moves");
-        let step = next_drawn(&mut generator, &world);
-        if let Err((_place, fault)) = world.run(&[step]) {
-            return Err(fault);
-        }
-        moves.push(step)?;
+    match draw_all(&mut world, &mut generator, &mut moves, count, progress) {
+        Ok(()) => Ok(moves),
+        Err(fault) => Err(fault),
     }
-    Ok(moves)
 }

@@ -3,7 +3,7 @@ ghost use Rattle.std.specs.Prelude.{◌≡◌, IfOk, IfSome};
 ghost use Rattle.ivy_replay.specs.Orders.{IsPlayed, IsOrderOf};
 
 use crate::explaining::explains;
-use crate::play::{Play, seen};
+use crate::play::seen;
 use crate::progress::Progress;
 use crate::text::Text;
 use crate::world::history_of;
@@ -53,14 +53,23 @@ fn records_of(
     Ok(records)
 }
 
+/// The calls of a run, in the order in which they were carried out.
+fn moments_in<P: Progress>(
+    text: &Text<'_>,
+    moves: &[Move],
+    progress: &mut P,
+) -> Result<Vec<Moment>, Fault> {
+    let play = seen(text, moves, progress)?;
+    Ok(moments_of(text.alloc, play.log())?)
+}
+
 /// The records of a run, in the order in which their calls were carried out.
 fn candidate<P: Progress>(
     text: &Text<'_>,
     moves: &[Move],
     progress: &mut P,
 ) -> Result<Vec<Record>, Fault> {
-    let play: Play = seen(text, moves, progress)?;
-    let moments = moments_of(text.alloc, play.log())?;
+    let moments = moments_in(text, moves, progress)?;
     let later = answered(text, moves)?;
     records_of(text, &later, &moments)
 }

@@ -100,12 +100,22 @@ impl Play {
     }
 }
 
+impl Play {
+    /// Makes moves, and tells how far it is.
+    fn make_all<P: Progress>(&mut self, moves: &[Move], progress: &mut P) -> Result<(), Fault> {
+        for (made, step) in moves.iter().enumerate() {
+            progress.tell(made as u64, "moves");
+            self.make(*step)?;
+        }
+        Ok(())
+    }
+}
+
 /// What was seen of the run by these moves [1, 2, 17, 19, 20].
 pub fn seen<P: Progress>(text: &Text<'_>, moves: &[Move], progress: &mut P) -> Result<Play, Fault> {
     let mut play = Play::new(text)?;
-    for (made, step) in moves.iter().enumerate() {
-        progress.tell(made as u64, "moves");
-        play.make(*step)?;
+    match play.make_all(moves, progress) {
+        Ok(()) => Ok(play),
+        Err(fault) => Err(fault),
     }
-    Ok(play)
 }

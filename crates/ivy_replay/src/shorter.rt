@@ -5,6 +5,7 @@ use crate::play::{Play, seen};
 use crate::progress::Progress;
 use crate::text::Text;
 use crate::world::output_of;
+use ivy_log::Log;
 use ivy_model::Fault;
 use ivy_moves::Move;
 use std::alloc::Global;
@@ -22,21 +23,24 @@ pub struct Shorter {
     pub is_least: bool,
 }
 
-/// Makes the moves that are meant, and leaves out those that name a string that was not sent. None where one of them is
-/// refused.
-fn replayed(text: &Text<'_>, named: &[Named]) -> Result<Option<Play>, Fault> {
-    let mut play = Play::new(text)?;
+/// Makes the moves that are meant, and leaves out those that name a string that was not sent.
+fn replay(play: &mut Play, named: &[Named]) -> Result<(), Fault> {
     for one in named {
-        let Some(step) = one.step(&play.log().strings) else {
-            continue;
-        };
-        match play.make(step) {
-            Ok(()) => {}
-            Err(Fault::Memory) => return Err(Fault::Memory),
-            Err(_) => return Ok(None),
+        if let Some(step) = one.step(&play.log().strings) {
+            play.make(step)?;
         }
     }
-    Ok(Some(play))
+    Ok(())
+}
+
+/// The play by the moves that are meant. None where one of them is refused.
+fn replayed(text: &Text<'_>, named: &[Named]) -> Result<Option<Play>, Fault> {
+    let mut play = Play::new(text)?;
+    match replay(&mut play, named) {
+        Ok(()) => Ok(Some(play)),
+        Err(Fault::Memory) => Err(Fault::Memory),
+        Err(_) => Ok(None),
+    }
 }
 
 /// Whether two worlds printed the same.
@@ -59,6 +63,15 @@ fn without(alloc: Global, named: &[Named], from: usize, count: usize) -> Result<
         }
     }
     Ok(rest)
+}
+
+/// The moves of a run.
+fn steps_of(alloc: Global, log: &Log) -> Result<Vec<Move>, Fault> {
+    let mut steps = Vec::new(alloc);
+    for happening in log.happenings.iter() {
+        steps.push(happening.step)?;
+    }
+    Ok(steps)
 }
 
 /// How a search for a shorter schedule stands.
@@ -134,18 +147,19 @@ impl Shortening<'_> {
 
 impl Shortening<'_> {
     /// The moves that are left, or all of them where the names stand for other moves.
-    fn finish(self, moves: &[Move], is_least: bool) -> Result<Shorter, Fault> {
-        let mut left = Vec::new(self.text.alloc);
+    fn left(&self, moves: &[Move]) -> Result<Vec<Move>, Fault> {
         match replayed(&self.text, &self.named)? {
-            Some(play) if prints_same(&play, &self.wanted) => {
-                for happening in play.log().happenings.iter() {
-                    left.push(happening.step)?;
-                }
-            }
-            _ => left.extend_from_slice(moves)?,
+            Some(play) if prints_same(&play, &self.wanted) => steps_of(self.text.alloc, play.log()),
+            _ => Ok(moves.to_vec(self.text.alloc)?),
         }
+    }
+
+    /// Drops moves, halves first.
+    fn shorten<P: Progress>(&mut self, moves: &[Move], progress: &mut P) -> Result<Shorter, Fault> {
+        self.halve(progress)?;
+        let is_least = self.pick(progress)?;
         Ok(Shorter {
-            moves: left,
+            moves: self.left(moves)?,
             runs: self.runs,
             is_least,
         })
@@ -167,7 +181,5 @@ pub fn shortened<P: Progress>(
         named,
         runs: 0,
     };
-    shortening.halve(progress)?;
-    let is_least = shortening.pick(progress)?;
-    shortening.finish(moves, is_least)
+    shortening.shorten(moves, progress)
 }

@@ -1,8 +1,8 @@
 //! What a search looks for, as words.
 
-use crate::failure::Failure;
 use ivy_program::{parse_number, words_of};
 use ivy_replay::Goal;
+use ivy_request::{Failure, Misuse};
 use std::alloc::Global;
 
 /// What four words ask for.
@@ -16,18 +16,18 @@ fn goal_of(words: &[&str]) -> Option<Goal> {
     }
 }
 
-/// What a text asks for: `node I prints X`, more of them joined by `and`.
-pub(crate) fn goals_of(alloc: Global, text: &str) -> Result<Vec<Goal>, Failure<'_>> {
+/// What is asked for: `node I prints X`, more of them joined by `and`; nothing where there is no text.
+pub(crate) fn goals_of(alloc: Global, text: Option<&str>) -> Result<Vec<Goal>, Failure<'_>> {
     let mut goals = Vec::new(alloc);
-    let mut part = Vec::new(alloc);
-    for word in words_of(alloc, text)?.iter() {
-        if *word != "and" {
-            part.push(*word)?;
-            continue;
+    let Some(text) = text else {
+        return Ok(goals);
+    };
+    let words = words_of(alloc, text)?;
+    for part in words.split(|word| *word == "and") {
+        match goal_of(part) {
+            Some(goal) => goals.push(goal)?,
+            None => return Err(Misuse::no_goal(text).into()),
         }
-        goals.push(goal_of(&part).ok_or(Failure::BadGoal(text))?)?;
-        part.clear();
     }
-    goals.push(goal_of(&part).ok_or(Failure::BadGoal(text))?)?;
     Ok(goals)
 }

@@ -1,9 +1,9 @@
 //! The logs of a session's nodes, as nodes in processes of their own write them.
 
-use crate::failure::Failure;
-use ivy_files::FilesOf;
 use ivy_lines::{Head, push_log};
 use ivy_model::{Config, Fault};
+use ivy_request::ivy_files::FilesOf;
+use ivy_request::{Failure, Misuse};
 use ivy_watched::ReportSoFar;
 use std::alloc::Global;
 use std::fs;
@@ -45,7 +45,7 @@ pub(crate) fn write_logs<'a, L: Logs>(
         let mut text = String::new(alloc);
         push_log(alloc, &mut text, &head, report.events(node))?;
         if !logs.write_log(folder, node, text.as_str())? {
-            return Err(Failure::CannotWrite(folder));
+            return Err(Misuse::of_file("cannot write into ", folder).into());
         }
     }
     Ok(())

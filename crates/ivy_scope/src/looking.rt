@@ -1,30 +1,38 @@
 //! What a search through all orders of moves found.
 
-use crate::failure::Failure;
 use crate::goals::goals_of;
-use crate::played::print_moves;
-use ivy_explain::ivy_texts::Settings;
+use crate::played::{print_moves, text_of};
 use ivy_moves::Move;
-use ivy_program::parse;
-use ivy_replay::{Found, Limit, Progress, Text, search};
+use ivy_replay::{Found, Limit, Progress, search};
+use ivy_request::{FAILED, Failure, Request};
 use std::alloc::Global;
 use std::io::{self, Write};
 
+/// Prints what a node printed, after so many other values. It says how many values were printed then.
+fn print_values<W: Write>(
+    node: usize,
+    values: &[u64],
+    before: u64,
+    out: &mut W,
+) -> io::Result<u64> {
+    let mut count = before;
+    for value in values {
+        let comma = if count == 0 { "" } else { "," };
+        write!(out, "{comma} node {node}: {value}")?;
+        count = count.saturating_add(1);
+    }
+    Ok(count)
+}
+
 /// Prints what nodes printed at an end, all in one line.
 fn print_outputs<W: Write>(outputs: &[Vec<u64>], out: &mut W) -> io::Result<()> {
-    let mut is_first = true;
-    write!(out, "outputs:")?;
+    let mut count = 0u64;
+    out.write_all(b"outputs:")?;
     for (node, values) in outputs.iter().enumerate() {
-        for value in values {
-            let comma = if is_first { "" } else { "," };
-            write!(out, "{comma} node {node}: {value}")?;
-            is_first = false;
-        }
+        count = print_values(node, values, count, out)?;
     }
-    if is_first {
-        write!(out, " none")?;
-    }
-    writeln!(out)
+    let end = if count == 0 { " none\n" } else { "\n" };
+    out.write_all(end.as_bytes())
 }
 
 /// Prints a schedule under what it leads to, so that each other line is a comment.
@@ -37,63 +45,66 @@ fn print_way<W: Write>(title: &str, way: &[Move], out: &mut W) -> io::Result<()>
 /// Prints how many states there are, and which outputs occur.
 fn print_found<W: Write>(found: &Found, out: &mut W) -> io::Result<()> {
     let (states, ends) = (found.states, found.ends);
-    if found.is_whole {
-        writeln!(out, "{states} states, and {ends} of them are ends")?;
-    } else {
-        writeln!(out, "{states} states and more, and {ends} of them are ends")?;
-    }
+    let more = if found.is_whole { "" } else { " and more" };
+    writeln!(out, "{states} states{more}, and {ends} of them are ends")?;
     for outputs in &found.outputs {
         print_outputs(outputs, out)?;
     }
     match &found.waiting {
-        None => writeln!(out, "at each of these ends all programs have ended"),
+        None => out.write_all(b"at each of these ends all programs have ended\n"),
         Some(way) => print_way("an end at which a node waits", way, out),
     }
 }
 
-/// Prints the schedule that leads to what is looked for.
+/// Prints the schedule that leads to what is looked for. It says whether there is one.
 fn print_reached<W: Write>(found: &Found, out: &mut W) -> io::Result<bool> {
-    match (&found.reached, found.is_whole) {
-        (Some(way), _) => {
-            print_way("what was looked for", way, out)?;
-            return Ok(true);
-        }
-        (None, true) => writeln!(out, "# no order of moves leads there")?,
-        (None, false) => {
-            let states = found.states;
-            writeln!(out, "# none of {states} states is that; there are more")?;
-        }
-    }
-    Ok(false)
+    let Some(way) = &found.reached else {
+        print_missed(found, out)?;
+        return Ok(false);
+    };
+    print_way("what was looked for", way, out)?;
+    Ok(true)
 }
 
-/// Goes through all orders of turns and deliveries, and prints what is found. It says whether that is what was looked
-/// for, if anything was.
-pub(crate) fn look<'a, W: Write, P: Progress>(
+/// Prints that no schedule was found.
+fn print_missed<W: Write>(found: &Found, out: &mut W) -> io::Result<()> {
+    if found.is_whole {
+        return out.write_all(b"# no order of moves leads there\n");
+    }
+    writeln!(
+        out,
+        "# none of {} states is that; there are more",
+        found.states
+    )
+}
+
+/// What a search finds.
+fn found_in<'a, P: Progress>(
     alloc: Global,
-    programs: &str,
-    settings: Settings,
-    (states, until): (u64, Option<&'a str>),
-    out: &mut W,
+    request: &Request<'a>,
     progress: &mut P,
-) -> Result<bool, Failure<'a>> {
-    let goals = match until {
-        Some(text) => goals_of(alloc, text)?,
-        None => Vec::new(alloc),
-    };
-    let text = Text {
-        alloc,
-        config: settings.config(parse(alloc, programs)?.len())?,
-        programs,
-    };
+) -> Result<Found, Failure<'a>> {
+    let goals = goals_of(alloc, request.until())?;
     let limit = Limit {
-        states,
+        states: request.states(),
         goals: &goals,
     };
-    let found = search(&text, limit, progress)?;
-    if until.is_some() {
-        return Ok(print_reached(&found, out)?);
+    Ok(search(&text_of(alloc, request)?, limit, progress)?)
+}
+
+/// Goes through all orders of turns and deliveries, and prints what is found. It gives the exit status: whether that is
+/// what was looked for, if anything was.
+pub(crate) fn look<'a, W: Write, P: Progress>(
+    alloc: Global,
+    request: &Request<'a>,
+    out: &mut W,
+    progress: &mut P,
+) -> Result<u8, Failure<'a>> {
+    let found = found_in(alloc, request, progress)?;
+    if request.until().is_none() {
+        print_found(&found, out)?;
+        return Ok(0);
     }
-    print_found(&found, out)?;
-    Ok(true)
+    let is_found = print_reached(&found, out)?;
+    Ok(if is_found { 0 } else { FAILED })
 }

@@ -1,58 +1,65 @@
 //! The moves of a run, and what is printed of a schedule and an order.
 
-use crate::failure::Failure;
-use ivy_explain::ivy_texts::{MoveText, RecordText, Settings, parse_schedule};
-use ivy_model::{Config, Kind, Record};
+use ivy_model::{Config, Fault, Kind, Record};
 use ivy_moves::Move;
 use ivy_program::parse;
-use ivy_replay::{Progress, Text, drawn_moves, order_of, shortened};
+use ivy_replay::{Progress, Shorter, Text, drawn_moves, order_of, shortened};
+use ivy_request::ivy_explain::ivy_texts::{MoveText, RecordText, parse_schedule};
+use ivy_request::{Failure, Request};
 use std::alloc::Global;
 use std::io::{self, Write};
 
 /// A run: its programs, and where its moves come from.
 #[derive(Clone, Copy)]
 pub(crate) struct Run<'a> {
-    pub(crate) alloc: Global,
-    pub(crate) programs: &'a str,
+    pub(crate) text: Text<'a>,
     /// The text of the schedule, where there is one.
-    pub(crate) schedule: Option<&'a str>,
+    schedule: Option<&'a str>,
     /// The seed and the number of drawn moves, where there is no schedule.
-    pub(crate) drawn: (u64, u64),
-    pub(crate) settings: Settings,
+    drawn: (u64, u64),
+}
+
+/// The programs of a request, and the configuration that it asks for.
+pub(crate) fn text_of<'a>(alloc: Global, request: &'a Request<'_>) -> Result<Text<'a>, Fault> {
+    let programs = request.programs();
+    let nodes = parse(alloc, programs)?.len();
+    Ok(Text {
+        alloc,
+        config: request.settings().config(nodes)?,
+        programs,
+    })
 }
 
 impl<'a> Run<'a> {
-    /// The configuration under these settings, and the programs.
-    pub(crate) fn text(&self) -> Result<Text<'a>, Failure<'static>> {
-        let nodes = parse(self.alloc, self.programs)?.len();
-        Ok(Text {
-            alloc: self.alloc,
-            config: self.settings.config(nodes)?,
-            programs: self.programs,
+    /// The run that a request asks for.
+    pub(crate) fn of(alloc: Global, request: &'a Request<'_>) -> Result<Run<'a>, Fault> {
+        Ok(Run {
+            text: text_of(alloc, request)?,
+            schedule: request.schedule(),
+            drawn: request.drawn(),
         })
     }
 
     /// The same under a manager.
     pub(crate) fn under(&self, manager: Kind) -> Run<'a> {
         Run {
-            settings: Settings {
-                manager,
-                ..self.settings
+            text: Text {
+                config: Config {
+                    manager,
+                    ..self.text.config
+                },
+                ..self.text
             },
             ..*self
         }
     }
 
     /// The moves.
-    pub(crate) fn moves<P: Progress>(
-        &self,
-        text: &Text<'_>,
-        progress: &mut P,
-    ) -> Result<Vec<Move>, Failure<'static>> {
+    pub(crate) fn moves<P: Progress>(&self, progress: &mut P) -> Result<Vec<Move>, Fault> {
         let (seed, count) = self.drawn;
         match self.schedule {
-            Some(schedule) => Ok(parse_schedule(self.alloc, schedule)?),
-            None => Ok(drawn_moves(text, seed, count, progress)?),
+            Some(schedule) => parse_schedule(self.text.alloc, schedule),
+            None => drawn_moves(&self.text, seed, count, progress),
         }
     }
 }
@@ -71,10 +78,36 @@ pub(crate) fn schedule<W: Write, P: Progress>(
     out: &mut W,
     progress: &mut P,
 ) -> Result<(), Failure<'static>> {
-    let text = run.text()?;
-    let moves = run.moves(&text, progress)?;
+    let moves = run.moves(progress)?;
     print_moves(&moves, out)?;
     Ok(())
+}
+
+/// Tells how far the dropping of moves came.
+fn tell<E: Write>(shorter: &Shorter, before: usize, err: &mut E) -> io::Result<()> {
+    let (after, runs) = (shorter.moves.len(), shorter.runs);
+    let end = if shorter.is_least {
+        "none of them can be left out alone"
+    } else {
+        "the runs that are allowed were used up"
+    };
+    writeln!(
+        err,
+        "ivyscope: {after} of {before} moves, by {runs} runs; {end}"
+    )
+}
+
+/// The moves of a run that are needed for what is printed. It tells how far it came.
+fn needed<E: Write, P: Progress>(
+    run: &Run<'_>,
+    err: &mut E,
+    progress: &mut P,
+) -> Result<Shorter, Fault> {
+    let moves = run.moves(progress)?;
+    let shorter = shortened(&run.text, &moves, progress)?;
+    // What is told is no part of the schedule.
+    let _ = tell(&shorter, moves.len(), err);
+    Ok(shorter)
 }
 
 /// Prints the moves of a run that are needed for what is printed, and tells how far it came.
@@ -84,20 +117,7 @@ pub(crate) fn shortest<W: Write, E: Write, P: Progress>(
     err: &mut E,
     progress: &mut P,
 ) -> Result<(), Failure<'static>> {
-    let text = run.text()?;
-    let moves = run.moves(&text, progress)?;
-    let shorter = shortened(&text, &moves, progress)?;
-    let (before, after, runs) = (moves.len(), shorter.moves.len(), shorter.runs);
-    let end = if shorter.is_least {
-        "none of them can be left out alone"
-    } else {
-        "the runs that are allowed were used up"
-    };
-    // What is told is no part of the schedule.
-    let _ = writeln!(
-        err,
-        "ivyscope: {after} of {before} moves, by {runs} runs; {end}"
-    );
+    let shorter = needed(run, err, progress)?;
     print_moves(&shorter.moves, out)?;
     Ok(())
 }
@@ -112,16 +132,21 @@ fn print_order<W: Write>(config: &Config, records: &[Record], out: &mut W) -> io
     Ok(())
 }
 
+/// The order of records that explains a run.
+fn records_of<P: Progress>(run: &Run<'_>, progress: &mut P) -> Result<Option<Vec<Record>>, Fault> {
+    let moves = run.moves(progress)?;
+    order_of(&run.text, &moves, progress)
+}
+
 /// Prints the order of records that explains a run.
 pub(crate) fn order<W: Write, P: Progress>(
     run: &Run<'_>,
     out: &mut W,
     progress: &mut P,
 ) -> Result<(), Failure<'static>> {
-    let text = run.text()?;
-    let moves = run.moves(&text, progress)?;
-    match order_of(&text, &moves, progress)? {
-        Some(records) => Ok(print_order(&text.config, &records, out)?),
-        None => Err(Failure::NoOrder),
-    }
+    let Some(records) = records_of(run, progress)? else {
+        return Err(Failure::NoOrder);
+    };
+    print_order(&run.text.config, &records, out)?;
+    Ok(())
 }

@@ -1,56 +1,26 @@
 //! Sessions, and what is told of them.
 
-use crate::calls::print_calls;
-use crate::failure::Failure;
 use crate::logs::{Logs, write_logs};
 use crate::refused::Refusals;
-use crate::standing::{Listing, Standing, print_standing};
-use ivy_explain::ivy_texts::{RecordText, Settings, print_output};
-use ivy_model::{Fault, Record};
+use ivy_model::{Config, Fault, Record};
 use ivy_program::parse;
-use ivy_watched::ivy_session::{Keep, Limits};
+use ivy_request::ivy_explain::ivy_texts::{RecordText, print_output};
+use ivy_request::{
+    FAILED, Failure, Listing, Request, STANDSTILL, Standing, Wishes, print_calls, print_standing,
+};
+use ivy_watched::ivy_session::Keep;
 use ivy_watched::{End, ReportSoFar, run_watched};
 use std::alloc::{AllocError, Global};
 use std::io::{self, Write};
 use std::sync::Wait;
 use std::thread::Threads;
 
-/// What is printed of a session beside the outputs, and whether it ends at the first call that is refused.
-#[derive(Clone, Copy)]
-pub(crate) struct Wishes<'a> {
-    pub(crate) strict: bool,
-    pub(crate) history: bool,
-    pub(crate) counts: bool,
-    /// The folder that takes the nodes' logs.
-    pub(crate) logs: Option<&'a str>,
-}
-
-impl Wishes<'_> {
-    /// What the nodes keep of their past for that.
-    fn keep(&self) -> Keep {
-        match self.logs {
-            Some(_) => Keep::All,
-            None => Keep::History,
-        }
+/// What the nodes keep of their past for what is wished.
+fn keep_of(wishes: &Wishes<'_>) -> Keep {
+    match wishes.logs {
+        Some(_) => Keep::All,
+        None => Keep::History,
     }
-}
-
-/// A session that is asked for.
-#[derive(Clone, Copy)]
-pub(crate) struct Asked<'a> {
-    pub(crate) limits: Limits,
-    pub(crate) settings: Settings,
-    pub(crate) wishes: Wishes<'a>,
-}
-
-/// What became of a session.
-#[derive(Clone, Copy)]
-pub(crate) enum Outcome {
-    Done,
-    /// A call was refused, and none was to be.
-    Refused,
-    /// It stood still.
-    Standstill,
 }
 
 fn print_history<W: Write>(history: &[Record], out: &mut W) -> io::Result<()> {
@@ -60,20 +30,31 @@ fn print_history<W: Write>(history: &[Record], out: &mut W) -> io::Result<()> {
     Ok(())
 }
 
+/// Prints what is wished for of a node beside its output.
+fn print_wished<W: Write>(
+    node: u64,
+    history: &[Record],
+    wishes: &Wishes<'_>,
+    out: &mut W,
+) -> io::Result<()> {
+    if wishes.history {
+        print_history(history, out)?;
+    }
+    if wishes.counts {
+        print_calls(node, history, out)?;
+    }
+    Ok(())
+}
+
 /// Prints what nodes printed, and what else is wished for.
 fn print_report<W: Write>(
     report: &ReportSoFar<Global>,
-    wishes: Wishes<'_>,
+    wishes: &Wishes<'_>,
     out: &mut W,
 ) -> io::Result<()> {
     for node in 0..report.nodes() {
         print_output(node, report.output(node), out)?;
-        if wishes.history {
-            print_history(report.history(node), out)?;
-        }
-        if wishes.counts {
-            print_calls(node, report.history(node), out)?;
-        }
+        print_wished(node, report.history(node), wishes, out)?;
     }
     Ok(())
 }
@@ -96,52 +77,97 @@ fn standings_of(
 
 /// Tells what each node came to.
 fn tell_standings<E: Write>(
+    alloc: Global,
     listing: &Listing,
-    nodes: &[Standing<'_>],
+    report: &ReportSoFar<Global>,
     err: &mut E,
-) -> io::Result<()> {
-    for node in 0..nodes.len() as u64 {
-        print_standing(listing, nodes, node, err)?;
+) -> Result<(), AllocError> {
+    let nodes = standings_of(alloc, report)?;
+    for node in 0..report.nodes() {
+        // The status tells of it also where standard error takes nothing.
+        let _ = print_standing(listing, &nodes, node, err);
     }
     Ok(())
 }
 
-/// Runs programs in a session, and tells of each call that is refused, as it is found. It prints what the nodes printed,
-/// and where the session ended before its programs, tells what each node came to.
-pub(crate) fn run<'a, R: Threads + Wait + Sync, L: Logs, W: Write, E: Write + Send>(
+/// What a session came to: its report, why it ended, and how many calls were refused.
+#[derive(Drop)]
+struct Ended {
+    report: ReportSoFar<Global>,
+    end: End,
+    refused: u64,
+}
+
+/// Runs programs in a session, and tells of each call that is refused, as it is found.
+fn run_session<R: Threads + Wait + Sync, E: Write + Send>(
     rt: &R,
     alloc: Global,
-    programs: &str,
-    asked: Asked<'a>,
+    request: &Request<'_>,
+    config: Config,
+    listing: &Listing,
+    err: &mut E,
+) -> Result<Ended, Fault> {
+    let wishes = request.wishes();
+    let parsed = parse(alloc, request.programs())?;
+    let refusals = Refusals::new(rt, alloc, listing, wishes.strict, err)?;
+    let (limits, keep) = (request.limits(), keep_of(&wishes));
+    match run_watched(rt, alloc, config, parsed, limits, &refusals, keep) {
+        Ok((report, end)) => Ok(Ended {
+            report,
+            end,
+            refused: refusals.finish(),
+        }),
+        Err(fault) => Err(fault),
+    }
+}
+
+/// Prints what a session came to, and where it ended before its programs, tells what each node came to.
+fn tell<'a, L: Logs, W: Write, E: Write>(
+    alloc: Global,
+    config: Config,
+    wishes: &Wishes<'a>,
+    listing: &Listing,
+    ended: &Ended,
     files: &L,
     out: &mut W,
     err: &mut E,
-) -> Result<Outcome, Failure<'a>> {
-    let Asked {
-        limits,
-        settings,
-        wishes,
-    } = asked;
-    let listing = Listing::of(alloc, programs)?;
-    let config = settings.config(listing.programs.len())?;
-    let parsed = parse(alloc, programs)?;
-    let refusals = Refusals::new(rt, alloc, &listing, wishes.strict, err)?;
-    let keep = wishes.keep();
-    let (report, end) = run_watched(rt, alloc, config, parsed, limits, &refusals, keep)?;
-    let (refused, err) = refusals.finish();
+) -> Result<u8, Failure<'a>> {
     if let Some(folder) = wishes.logs {
-        write_logs(alloc, config, &report, files, folder)?;
+        write_logs(alloc, config, &ended.report, files, folder)?;
     }
-    print_report(&report, wishes, out)?;
-    if matches!(end, End::Standstill | End::Turns) {
-        let nodes = standings_of(alloc, &report)?;
-        // The status tells of it also where standard error takes nothing.
-        let _ = tell_standings(&listing, &nodes, err);
+    print_report(&ended.report, wishes, out)?;
+    if matches!(ended.end, End::Standstill | End::Turns) {
+        tell_standings(alloc, listing, &ended.report, err)?;
     }
-    match end {
+    match ended.end {
         End::Turns => Err(Failure::Refused(Fault::TurnLimit)),
-        End::Standstill => Ok(Outcome::Standstill),
-        _ if wishes.strict && refused > 0 => Ok(Outcome::Refused),
-        _ => Ok(Outcome::Done),
+        End::Standstill => Ok(STANDSTILL),
+        _ if wishes.strict && ended.refused > 0 => Ok(FAILED),
+        _ => Ok(0),
     }
+}
+
+/// Runs programs in a session, and tells of each call that is refused, as it is found. It prints what the nodes printed,
+/// and where the session ended before its programs, tells what each node came to. It gives the exit status.
+pub(crate) fn run<'a, R: Threads + Wait + Sync, L: Logs, W: Write, E: Write + Send>(
+    rt: &R,
+    alloc: Global,
+    request: &Request<'a>,
+    files: &L,
+    out: &mut W,
+    err: &mut E,
+) -> Result<u8, Failure<'a>> {
+    let listing = Listing::of(alloc, request.programs())?;
+    let config = request.settings().config(listing.programs.len())?;
+    let ended = run_session(rt, alloc, request, config, &listing, err)?;
+    tell(
+        alloc,
+        config,
+        &request.wishes(),
+        &listing,
+        &ended,
+        files,
+        out,
+        err,
+    )
 }

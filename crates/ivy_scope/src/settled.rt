@@ -1,15 +1,36 @@
 //! What each node comes to.
 
-use crate::failure::Failure;
-use crate::standing::{Listing, Standing, print_standing};
-use ivy_explain::ivy_texts::{Settings, print_output};
+use crate::played::text_of;
+use ivy_model::Fault;
+use ivy_program::parse;
 use ivy_replay::ivy_world::{Rest, World};
-use ivy_replay::{Progress, Text, asked_of, drawn_moves, ended_in, history_of, output_of};
+use ivy_replay::{Progress, asked_of, drawn_moves, ended_in, history_of, output_of};
+use ivy_request::ivy_explain::ivy_texts::print_output;
+use ivy_request::{Failure, Listing, Request, STANDSTILL, Standing, print_standing};
 use std::alloc::{AllocError, Global};
-use std::io::Write;
+use std::io::{self, Write};
 
 /// How many moves the world may take to a standstill.
 const MOST_MOVES: u64 = 1_000_000;
+
+/// The world after drawn moves, played on to a standstill.
+fn played_on<P: Progress>(
+    alloc: Global,
+    request: &Request<'_>,
+    progress: &mut P,
+) -> Result<(World<Global>, Rest), Fault> {
+    let text = text_of(alloc, request)?;
+    let (seed, count) = request.drawn();
+    let moves = drawn_moves(&text, seed, count, progress)?;
+    let mut world = text.world()?;
+    if let Err((_place, fault)) = world.run(&moves) {
+        return Err(fault);
+    }
+    match world.settle(MOST_MOVES) {
+        Ok(rest) => Ok((world, rest)),
+        Err((_made, fault)) => Err(fault),
+    }
+}
 
 /// What each node of a world came to.
 fn standings_of(alloc: Global, world: &World<Global>) -> Result<Vec<Standing<'_>>, AllocError> {
@@ -24,49 +45,46 @@ fn standings_of(alloc: Global, world: &World<Global>) -> Result<Vec<Standing<'_>
     Ok(nodes)
 }
 
-/// Prints what each node printed and what it came to. It says whether all programs have ended.
+/// Prints what each node printed and what it came to.
 fn print_nodes<W: Write>(
-    alloc: Global,
     listing: &Listing,
+    nodes: &[Standing<'_>],
     world: &World<Global>,
     out: &mut W,
-) -> Result<bool, Failure<'static>> {
-    let nodes = standings_of(alloc, world)?;
+) -> io::Result<()> {
     for node in 0..world.nodes() {
         print_output(node, output_of(world, node), out)?;
-        print_standing(listing, &nodes, node, out)?;
+        print_standing(listing, nodes, node, out)?;
     }
-    Ok(nodes.iter().all(|node| node.has_ended))
+    Ok(())
 }
 
-/// Plays drawn moves and then on to a standstill, and prints what each node came to. It says whether the world stands
-/// still while a program has not ended.
-pub(crate) fn settle<W: Write, P: Progress>(
+/// Prints what a world came to. It gives the exit status: whether it stands still while a program has not ended.
+fn print_world<W: Write>(
     alloc: Global,
-    programs: &str,
-    settings: Settings,
-    drawn: (u64, u64),
+    request: &Request<'_>,
+    world: &World<Global>,
+    rest: Rest,
     out: &mut W,
-    progress: &mut P,
-) -> Result<bool, Failure<'static>> {
-    let listing = Listing::of(alloc, programs)?;
-    let text = Text {
-        alloc,
-        config: settings.config(listing.programs.len())?,
-        programs,
-    };
-    let moves = drawn_moves(&text, drawn.0, drawn.1, progress)?;
-    let mut world = text.world()?;
-    if let Err((_place, fault)) = world.run(&moves) {
-        return Err(Failure::Refused(fault));
-    }
-    let rest = match world.settle(MOST_MOVES) {
-        Ok(rest) => rest,
-        Err((_made, fault)) => return Err(Failure::Refused(fault)),
-    };
-    let all_ended = print_nodes(alloc, &listing, &world, out)?;
+) -> Result<u8, Failure<'static>> {
+    let listing = Listing::of(alloc, request.programs())?;
+    let nodes = standings_of(alloc, world)?;
+    print_nodes(&listing, &nodes, world, out)?;
     if rest == Rest::Going {
         writeln!(out, "it was still going after {MOST_MOVES} moves")?;
     }
-    Ok(rest == Rest::Still && !all_ended)
+    let waits = rest == Rest::Still && !nodes.iter().all(|node| node.has_ended);
+    Ok(if waits { STANDSTILL } else { 0 })
+}
+
+/// Plays drawn moves and then on to a standstill, and prints what each node came to. It gives the exit status: whether
+/// the world stands still while a program has not ended.
+pub(crate) fn settle<W: Write, P: Progress>(
+    alloc: Global,
+    request: &Request<'_>,
+    out: &mut W,
+    progress: &mut P,
+) -> Result<u8, Failure<'static>> {
+    let (world, rest) = played_on(alloc, request, progress)?;
+    print_world(alloc, request, &world, rest, out)
 }

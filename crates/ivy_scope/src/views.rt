@@ -1,19 +1,18 @@
 //! Pictures and numbers of a run.
 
-use crate::failure::Failure;
 use crate::played::Run;
-use ivy_model::Kind;
+use ivy_model::{Fault, Kind};
 use ivy_replay::ivy_log::{
     Chart, Counts, Log, Picture, Writes, count, print_both, print_counts, print_sharing,
 };
 use ivy_replay::{Progress, seen};
+use ivy_request::Failure;
 use std::io::Write;
 
 /// What is seen of a run.
-fn log_of<P: Progress>(run: &Run<'_>, progress: &mut P) -> Result<Log, Failure<'static>> {
-    let text = run.text()?;
-    let moves = run.moves(&text, progress)?;
-    Ok(seen(&text, &moves, progress)?.into_log())
+fn log_of<P: Progress>(run: &Run<'_>, progress: &mut P) -> Result<Log, Fault> {
+    let moves = run.moves(progress)?;
+    Ok(seen(&run.text, &moves, progress)?.into_log())
 }
 
 /// The first page that a message is about, or 1.
@@ -37,23 +36,31 @@ pub(crate) fn chart<W: Write, P: Progress>(
     out: &mut W,
     progress: &mut P,
 ) -> Result<(), Failure<'static>> {
-    let config = run.text()?.config;
     let log = log_of(run, progress)?;
     let page = match page {
         Some(page) => u32::try_from(page).unwrap_or(u32::MAX),
         None => first_page(&log),
     };
     let chart = Chart {
-        nodes: u64::from(config.nodes),
+        nodes: u64::from(run.text.config.nodes),
         page,
     };
-    Picture::of(run.alloc, chart, &log)?.draw(&log, out)?;
+    let picture = Picture::of(run.text.alloc, chart, &log)?;
+    picture.draw(&log, out)?;
     Ok(())
 }
 
-fn counts_of<P: Progress>(run: &Run<'_>, progress: &mut P) -> Result<Counts, Failure<'static>> {
-    let config = run.text()?.config;
-    Ok(count(run.alloc, &config, &log_of(run, progress)?)?)
+fn counts_of<P: Progress>(run: &Run<'_>, progress: &mut P) -> Result<Counts, Fault> {
+    let log = log_of(run, progress)?;
+    Ok(count(run.text.alloc, &run.text.config, &log)?)
+}
+
+/// What is counted and what was written of a run.
+fn measures_of<P: Progress>(run: &Run<'_>, progress: &mut P) -> Result<(Counts, Writes), Fault> {
+    let (alloc, config) = (run.text.alloc, &run.text.config);
+    let log = log_of(run, progress)?;
+    let writes = Writes::of(alloc, config, &log)?;
+    Ok((count(alloc, config, &log)?, writes))
 }
 
 /// Prints what is counted of a run, by node and by page.
@@ -62,10 +69,8 @@ pub(crate) fn counts<W: Write, P: Progress>(
     out: &mut W,
     progress: &mut P,
 ) -> Result<(), Failure<'static>> {
-    let config = run.text()?.config;
-    let log = log_of(run, progress)?;
-    print_counts(&count(run.alloc, &config, &log)?, out)?;
-    let writes = Writes::of(run.alloc, &config, &log)?;
+    let (counts, writes) = measures_of(run, progress)?;
+    print_counts(&counts, out)?;
     print_sharing(&writes, out)?;
     Ok(())
 }

@@ -6,6 +6,7 @@
 //! In a comment, numbers in brackets as [1, 17] are the fault numbers that a call may answer.
 #![tactic(auto)]
 
+mod printing;
 mod report;
 mod session;
 mod workers;
@@ -14,6 +15,7 @@ pub use ivy_seating;
 pub use ivy_seating::{Keep, Report, Seated, WireTurn, ivy_ether};
 pub use ivy_workers;
 pub use ivy_workers::{Gate, Limits, OpenGate, Role};
+pub use printing::Printing;
 pub use session::{Session, are_written, lay};
 
 // what watched sessions have in common with these

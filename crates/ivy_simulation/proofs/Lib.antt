@@ -1,3 +1,4 @@
+pub mod Verdicts
 pub mod Leading
 pub mod Printing
 pub mod Simulating

@@ -1,3 +1,4 @@
+pub mod Judged
 pub mod Nodes
 pub mod Played
 pub mod Simulated

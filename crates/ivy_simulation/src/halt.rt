@@ -1,12 +1,12 @@
-//! Why a run by moves was not made to its end.
+//! Why a command was not carried out.
 use ivy_model::Fault;
 use std::alloc::AllocError;
 use std::io;
 
-/// Why a run by moves was not made to its end, or not printed.
+/// Why moves were not made to their end, or an order not judged, or what came of it not printed.
 #[derive(Clone, Copy, Debug, PartialEq, Eq)]
 pub enum Halt {
-    /// The schedule, the configuration or a move was refused.
+    /// The schedule, the order, the configuration or a move was refused.
     Refused(Fault),
     /// The writer took no more.
     Unwritten,

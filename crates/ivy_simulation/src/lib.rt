@@ -1,9 +1,11 @@
-//! Worlds that run by moves, and what is printed of them: by a schedule with a trace of each move, or by drawn moves.
+//! The commands that need no threads: worlds that run by moves, by a schedule with a trace of each or by drawn ones,
+//! and whether one flat memory answers as an order says.
 //!
 //! In a comment, numbers in brackets as [1, 17] are the fault numbers that a call may answer.
 #![tactic(auto)]
 
 mod halt;
+mod judging;
 mod moves;
 mod play;
 mod print;
@@ -13,5 +15,6 @@ mod trace;
 pub use halt::Halt;
 pub use ivy_world;
 pub use ivy_world::ivy_site;
+pub use judging::check;
 pub use play::{sim, step};
 pub use print::{Outputs, print_outputs};

@@ -4,29 +4,30 @@ ghost use Rattle.std.specs.Prelude.{IsTrue, IsSome, IfOk, IfErr, OnOk, OnErr, If
 ghost use Rattle.ivy_model.specs.Config.{IsConfig};
 ghost use Rattle.ivy_model.specs.Wants.{IsWant};
 ghost use Rattle.ivy_wire.specs.Faults.{checked};
-ghost use Rattle.ivy_program.specs.Owned.{AsksNext, IsFree, process_handed};
+ghost use Rattle.ivy_program.specs.Owned.{IsFree};
 ghost use Rattle.ivy_program.specs.Programs.{Called};
 ghost use Rattle.ivy_program.specs.States.{first_state};
-ghost use Rattle.ivy_program.specs.Steps.{HasEnded, Asks, step_of};
+ghost use Rattle.ivy_program.specs.Steps.{HasEnded};
 ghost use Rattle.ivy_moves.specs.Nodes.{pulsing};
 ghost use Rattle.ivy_host.specs.ivy_coherence.Limits.{most_posted};
 ghost use Rattle.ivy_moves.specs.ivy_link.Limits.{most_ahead};
 ghost use Rattle.ivy_moves.specs.ivy_link.Linked.{peer_at};
 ghost use Rattle.ivy_moves.specs.ivy_link.Holding.{ready_of};
 ghost use Rattle.ivy_outbox.specs.Outboxes.{next_dest};
-ghost use Rattle.ivy_site.specs.Calls.{BeginsCall, recorded_by, reply_in};
+ghost use Rattle.ivy_site.specs.Calls.{BeginsCall};
 ghost use Rattle.ivy_site.specs.Handed.{site_handed};
 ghost use Rattle.ivy_site.specs.Shown.{holding_at, after_pulse_to};
 ghost use Rattle.ivy_site.specs.Sites.{most_sent, most_delivered, first_shown, first_keeping, AfterTurn, AfterDelivery};
 ghost use Rattle.ivy_moves.specs.Keeping.{keeps_history, keeps_events, read_of, last_of};
 ghost use Rattle.ivy_site.specs.Sites.{SpellsFrame, GoesAsFar, DeliversWhole, IsHeld, early_at, without_ready, IsSpentTurn, IsSpentDelivery, TakesFrame, IsSameNode, IsMadeByEvents, IsSentBy, Awaits, await_in};
-ghost use Rattle.ivy_site.specs.Inside.{host_of, is_served, kept_by, told_by, HasTurn, AfterHostTurn, HasNoNumbers, Hears, Receives, AfterOnce, HoldsString};
+ghost use Rattle.ivy_site.specs.Inside.{Hears, Receives, AfterOnce, HoldsString};
 ghost use Rattle.ivy_moves.specs.Marks.{marks};
 ghost use Rattle.ivy_model.specs.Legal.{HasWidth};
 
+use crate::host::{begin, make, poll};
 use crate::turn::Turn;
 use ivy_host::NodeManager;
-use ivy_host::ivy_memory::{Answer, Memory};
+use ivy_host::ivy_memory::Memory;
 use ivy_model::{Call, Config, Fault, Record, Reply};
 use ivy_moves::ivy_link::{MOST_AHEAD, Verdict};
 use ivy_moves::{Event, Events, History, Keep};
@@ -78,129 +79,6 @@ fn if_ahead<A: Allocator + Copy>(
         return Ok(Some(string.share()?));
     }
     Ok(None)
-}
-
-/// The reply that an answer gives, if it gives one.
-fn reply_in(answer: Answer) -> Option<Reply>
-    ensures { result ≡ reply_in answer }
-{
-    match answer {
-        Answer::Given(reply) => Some(reply),
-        Answer::Awaited | Answer::Unserved => None,
-    }
-}
-
-/// Where a call was answered its reply is recorded, and the program goes on with it. It says whether the call
-/// was answered, or is in progress from now on.
-#[inline(always)]
-fn keep<A: Allocator + Copy>(
-    history: &mut History<A>,
-    machine: &mut Machine<A>,
-    node: u8,
-    call: Call,
-    answer: Answer,
-) -> bool
-    requires room { IsTrue history.old.has_room }
-    requires asks { step_of machine.old ≡ Asks call }
-    ensures served { result ≡ is_served answer }
-    ensures history { history.new.records ≡ kept_by history.old.records node call answer }
-    ensures kept { history.new.kept ≡ history.old.kept }
-    ensures machine { machine.new ≡ told_by machine.old answer }
-{
-    match answer {
-        Answer::Given(reply) => {
-            machine.answer(reply);
-            history.push(Record { node, call, reply });
-            true
-        }
-        Answer::Awaited => true,
-        Answer::Unserved => false,
-    }
-}
-
-/// A call that the program makes begins: it is answered at once, or in progress from now on [1, 17]. A refused one
-/// changes nothing.
-fn begin<A: Allocator + Copy>(
-    memory: &mut Memory<NodeManager<A>, A>,
-    outbox: &mut Outbox<A>,
-    machine: &mut Machine<A>,
-    history: &mut History<A>,
-    call: Call,
-) -> Result<(), Fault>
-    requires room { IsTrue history.old.has_room }
-    requires idle { memory.old.asked ≡ None }
-    requires asks { step_of machine.old ≡ Asks call }
-    requires width { HasWidth call }
-    requires config { outbox.old.config ≡ memory.old.coherence.config }
-    requires me { outbox.old.me ≡ memory.old.coherence.me }
-    ensures ok { OnOk result (HasTurn (host_of memory.old machine.old history.old.records) outbox.old (host_of memory.new machine.new history.new.records) outbox.new) }
-    ensures err { OnErr result ((memory.new ≡ memory.old) × (outbox.new ≡ outbox.old) × (machine.new ≡ machine.old) × (history.new.records ≡ history.old.records)) }
-    ensures kept { history.new.kept ≡ history.old.kept }
-    ensures few { OnOk result (length outbox.new.waiting ≤ length outbox.old.waiting + most_posted) }
-    ensures spent { IfErr result (HasNoNumbers (host_of memory.old machine.old history.old.records) outbox.old) }
-    ensures want { IfErr result IsWant }
-{
-    let number = history.next_number();
-    let answer = memory.begin(call, number, outbox)?;
-    let _ = keep(history, machine, outbox.me(), call, answer);
-    Ok(())
-}
-
-/// Own code makes a call, which begins: it is answered at once, or in progress from now on [1, 17]. It gives the reply,
-/// where that is there. A refused one changes nothing.
-#[inline(always)]
-fn make<A: Allocator + Copy>(
-    memory: &mut Memory<NodeManager<A>, A>,
-    outbox: &mut Outbox<A>,
-    machine: &mut Machine<A>,
-    history: &mut History<A>,
-    call: Call,
-) -> Result<Option<Reply>, Fault>
-    requires room { IsTrue history.old.has_room }
-    requires idle { memory.old.asked ≡ None }
-    requires free { IsFree machine.old }
-    requires next { AsksNext machine.old }
-    requires width { HasWidth call }
-    requires config { outbox.old.config ≡ memory.old.coherence.config }
-    requires me { outbox.old.me ≡ memory.old.coherence.me }
-    ensures ok { OnOk result (HasTurn (host_of memory.old (process_handed (call ∷ []) machine.old) history.old.records) outbox.old (host_of memory.new machine.new history.new.records) outbox.new) }
-    ensures recorded { IfOk result (λ reply. history.new.records ≡ recorded_by history.old.records memory.old.coherence.me call reply) }
-    ensures err { OnErr result ((memory.new ≡ memory.old) × (outbox.new ≡ outbox.old) × (machine.new ≡ machine.old) × (history.new.records ≡ history.old.records)) }
-    ensures kept { history.new.kept ≡ history.old.kept }
-    ensures few { OnOk result (length outbox.new.waiting ≤ length outbox.old.waiting + most_posted) }
-    ensures spent { IfErr result (HasNoNumbers (host_of memory.old (process_handed (call ∷ []) machine.old) history.old.records) outbox.old) }
-    ensures want { IfErr result IsWant }
-{
-    let number = history.next_number();
-    let begun = memory.begin(call, number, outbox)?;
-    machine.hand(call);
-    let _ = keep(history, machine, outbox.me(), call, begun);
-    Ok(reply_in(begun))
-}
-
-/// The call in progress is asked for its reply [1, 17]. It says whether anything changed: the reply is recorded, or
-/// the call's word waits from now on.
-fn poll<A: Allocator + Copy>(
-    memory: &mut Memory<NodeManager<A>, A>,
-    outbox: &mut Outbox<A>,
-    machine: &mut Machine<A>,
-    history: &mut History<A>,
-    call: Call,
-) -> Result<bool, Fault>
-    requires room { IsTrue history.old.has_room }
-    requires asked { memory.old.asked ≡ Some call }
-    requires asks { step_of machine.old ≡ Asks call }
-    requires config { outbox.old.config ≡ memory.old.coherence.config }
-    requires me { outbox.old.me ≡ memory.old.coherence.me }
-    ensures ok { IfOk result (λ changed. AfterHostTurn changed (host_of memory.old machine.old history.old.records) outbox.old (host_of memory.new machine.new history.new.records) outbox.new) }
-    ensures err { OnErr result ((memory.new ≡ memory.old) × (outbox.new ≡ outbox.old) × (machine.new ≡ machine.old) × (history.new.records ≡ history.old.records)) }
-    ensures kept { history.new.kept ≡ history.old.kept }
-    ensures few { OnOk result (length outbox.new.waiting ≤ length outbox.old.waiting + most_posted) }
-    ensures spent { IfErr result (HasNoNumbers (host_of memory.old machine.old history.old.records) outbox.old) }
-    ensures want { IfErr result IsWant }
-{
-    let answer = memory.poll_reply(outbox)?;
-    Ok(keep(history, machine, outbox.me(), call, answer))
 }
 
 impl<A: Allocator + Copy> Site<A> {
@@ -321,6 +199,33 @@ impl<A: Allocator + Copy> Site<A> {
         ensures few { length self.new.waiting ≤ length self.old.waiting + most_sent }
         ensures spent { IfErr result (IsSpentTurn (site_handed (call ∷ []) self.old)) }
     {
+        // Each arm is compiled for its kind of call, so that the most frequent ones take no further look at it.
+        match call {
+            Call::Load { width: 8, addr } => self.call_once(Call::Load { width: 8, addr }),
+            Call::Store {
+                width: 8,
+                addr,
+                value,
+            } => self.call_once(Call::Store {
+                width: 8,
+                addr,
+                value,
+            }),
+            other => self.call_once(other),
+        }
+    }
+
+    /// What [`Site::call`] does.
+    #[inline(always)]
+    fn call_once(&mut self, call: Call) -> Result<Option<Reply>, Fault>
+        requires width { HasWidth call }
+        ensures same { IsSameNode self.old self.new }
+        ensures done { MatchResult result (λ reply. BeginsCall call reply self.old self.new) (λ _. self.new ≡ self.old) }
+        ensures busy { (IsFree self.old.node.core.process → ⊥) → result ≡ Err Fault.Busy }
+        ensures want { IsFree self.old.node.core.process → IfErr result IsWant }
+        ensures few { length self.new.waiting ≤ length self.old.waiting + most_sent }
+        ensures spent { IfErr result (IsSpentTurn (site_handed (call ∷ []) self.old)) }
+    {
         if !self.machine.is_free() {
             return Err(Fault::Busy);
         }
@@ -410,6 +315,23 @@ impl<A: Allocator + Copy> Site<A> {
         ensures { result ≡ (peer_at self.now.node.link from).delivered }
     {
         self.outbox.delivered_from(from)
+    }
+
+    /// Whether some message of this node to another one is not acknowledged yet, so that a pulse makes it again. It takes
+    /// no memory.
+    pub fn keeps_for(&self, to: u8) -> bool
+        requires to { to < self.now.config.nodes }
+        ensures { IsTrue result ↔ ((peer_at self.now.node.link to).kept ≢ []) }
+    {
+        self.outbox.keeps_for(to)
+    }
+
+    /// Whether this node owes another one an acknowledgement, which a pulse or the next message makes. It takes no memory.
+    pub fn owes(&self, to: u8) -> bool
+        requires to { to < self.now.config.nodes }
+        ensures { result ≡ (peer_at self.now.node.link to).owed }
+    {
+        self.outbox.owes(to)
     }
 
     /// Whether a string spells a frame to this node whose message was not delivered here yet. It takes no memory.

@@ -1,5 +1,5 @@
 -- What the starter was told of nodes that need not have ended is a report so far.
-use Rattle.std.proofs.Common.{◌≡◌, ◌≢◌, ◌<◌, ℕ, List, [], length, map, slice_get, Contains, Some, sym, ap}
+use Rattle.std.proofs.Common.{◌≡◌, ℕ, List, [], length, map, slice_get, Some, sym, ap}
 use Rattle.std.proofs.Common.{subst, ◌∙◌, arith, inl, inr}
 use Rattle.std.proofs.lemmas.Option.{same_Some, slice_get_cases, slice_get_within}
 use Rattle.std.specs.Prelude.{Result, Ok, Err, IfOk, All}

@@ -1,5 +1,5 @@
 -- The starter is told of one node after another, whether its program has ended or not.
-use Rattle.std.proofs.Common.{◌≡◌, ℕ, List, [], ◌∷◌, ◌++◌, length, slice_get, Contains, Some, ◌⊎◌, sym}
+use Rattle.std.proofs.Common.{◌≡◌, ℕ, List, [], ◌∷◌, ◌++◌, length, slice_get, Contains, Some, sym}
 use Rattle.std.proofs.Common.{ap, subst, ◌∙◌, inl, inr}
 use Rattle.std.specs.Prelude.{unwrap_or}
 use Rattle.std.proofs.lemmas.Option.{none-some}
@@ -7,9 +7,8 @@ use Rattle.std.proofs.lemmas.List.Elements.{Contains-push, Contains-append_left}
 use Rattle.ivy_model.specs.declared.Config.{Config}
 use Rattle.ivy_program.specs.Programs.{Program}
 use Rattle.ivy_moves.specs.Marks.{Mark}
-use Rattle.ivy_moves.specs.Nodes.{Node}
-use Rattle.ivy_session.specs.ivy_seating.ivy_ether.ivy_host.Hosts.{Host, host_rules}
-use Rattle.ivy_session.specs.ivy_seating.ivy_ether.ivy_host.Managers.{Managed, managed_ops}
+use Rattle.ivy_session.specs.ivy_seating.ivy_ether.ivy_host.Hosts.{host_rules}
+use Rattle.ivy_session.specs.ivy_seating.ivy_ether.ivy_host.Managers.{managed_ops}
 use Rattle.ivy_session.specs.ivy_seating.ivy_ether.Going.{IsListOf}
 use Rattle.atomic_table.specs.Seated.{TableId}
 use Rattle.ivy_session.specs.ivy_seating.ivy_ether.Held.{Held}

@@ -14,32 +14,34 @@ use ivy_session::ivy_seating::{Home, Homed, Keep, Site};
 use std::alloc::Allocator;
 use std::sync::Mutex;
 
-/// Takes in the pass of a site [21].
+/// Whether a site keeps these lists of its own past.
+fn is_keeping<A: Allocator + Copy>(site: &Site<A>, keep: Keep) -> bool
+    ensures { IsTrue result → site.now.keep ≡ keep }
+{
+    site.keep() == keep
+}
+
+/// Takes in the pass of a site that keeps these lists [21].
 fn take_in<S: Setup, A: Allocator + Copy>(
     ether: &Ether<S, A>,
     starter: &mut Pass<Wired<A>>,
     site: &Site<A>,
     pass: Pass<Wired<A>>,
     node: u8,
+    keep: Keep,
 ) -> Result<(), Fault>
     requires starter { starter.old.ether ≡ ether.now }
     requires seated { IsSeated ether.now S.config S.programs site.now pass }
     ensures ether { starter.new.ether ≡ starter.old.ether }
     ensures told { OnOk result (TellsSoFar S.config S.programs starter.old.known node (so_far_of site.now) starter.new.known) }
+    ensures keep { OnOk result (site.now.keep ≡ keep) }
     ensures stop { IfErr result IsStop }
 {
-    if site.me() != node {
+    if site.me() != node || !is_keeping(site, keep) {
         return Err(Fault::TurnLimit);
     }
     ether.close(starter, pass, site.event_list());
     Ok(())
-}
-
-/// Whether a site keeps these lists of its own past.
-fn is_keeping<A: Allocator + Copy>(site: &Site<A>, keep: Keep) -> bool
-    ensures { IsTrue result → site.now.keep ≡ keep }
-{
-    site.keep() == keep
 }
 
 /// Closes a node that keeps these lists, and hands out its site [21].
@@ -59,10 +61,7 @@ fn close_one<S: Setup, H: Home, A: Allocator + Copy>(
 {
     let seated = homed.into_seated();
     let (_, site, pass) = seated.into_parts();
-    if !is_keeping(&site, keep) {
-        return Err(Fault::TurnLimit);
-    }
-    match take_in(ether, starter, &site, pass, node) {
+    match take_in(ether, starter, &site, pass, node, keep) {
         Ok(()) => Ok(site),
         Err(fault) => Err(fault),
     }

@@ -61,6 +61,45 @@ fn look_again<A: Allocator + Copy>(report: &ReportSoFar<A>, end: End) -> Result<
     }
 }
 
+/// Runs the workers of seated nodes, and takes what these came to [1, 17, 21].
+fn play_seats<S, H, A, R, W>(
+    rt: &R,
+    alloc: A,
+    ether: &Ether<S, A>,
+    starter: Pass<Wired<A>>,
+    seats: Vec<Mutex<Homed<'_, S, H, A>>, A>,
+    nodes: usize,
+    limits: Limits,
+    watch: &W,
+    keep: Keep,
+) -> Result<(ReportSoFar<A>, End), Fault>
+where
+    S: Setup + Send + Sync,
+    H: Home + Send + Sync,
+    A: Allocator + Copy + Send + Sync,
+    R: Threads + Wait + Sync,
+    W: Watch,
+    requires limits { IsConfig S.config }
+    requires each { length S.programs ≡ S.config.nodes }
+    requires nodes { nodes ≡ length S.programs }
+    requires home { ether.now ≡ H.ether }
+    requires starter { starter.ether ≡ ether.now }
+    ensures report { IfOk result (λ r. IsHandedSoFar S.config S.programs r.0) }
+    ensures keep { IfOk result (λ r. AllKeepSoFar keep r.0) }
+    ensures still { IfOk result (λ r. r.1 ≡ End.Standstill → AreDelivered r.0) }
+    ensures stop { IfErr result IsStop }
+{
+    let notes = Notes::new(rt, alloc, nodes)?;
+    let seats = watch_all(alloc, seats, &notes, watch)?;
+    let end = notes.end_of(run_workers(rt, alloc, &seats, limits, watch))?;
+    if let Some(first) = seats.first() {
+        first.lock(rt).drain(rt, limits.capacity);
+    }
+    let report = collect(alloc, ether, starter, seats, nodes, keep)?;
+    look_again(&report, end)?;
+    Ok((report, end))
+}
+
 /// Seats the nodes at their ether, runs their workers, and takes what they came to [1, 17, 21].
 fn play_at<S, H, A, R, W>(
     rt: &R,
@@ -105,15 +144,7 @@ where
         programs,
         keep,
     )?;
-    let notes = Notes::new(rt, alloc, nodes)?;
-    let seats = watch_all(alloc, seats, &notes, watch)?;
-    let end = notes.end_of(run_workers(rt, alloc, &seats, limits, watch))?;
-    if let Some(first) = seats.first() {
-        first.lock(rt).drain(rt, limits.capacity);
-    }
-    let report = collect(alloc, ether, starter, seats, nodes, keep)?;
-    look_again(&report, end)?;
-    Ok((report, end))
+    play_seats(rt, alloc, ether, starter, seats, nodes, limits, watch, keep)
 }
 
 /// Lays the ether, and runs the programs of the nodes there [1, 17, 21].

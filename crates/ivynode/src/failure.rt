@@ -1,5 +1,8 @@
 //! Why a command was not carried out.
-ghost use Rattle.std.specs.Prelude.{◌≤◌};
+ghost use Rattle.std.specs.Prelude.{◌≡◌, ◌≤◌, ◌↔◌};
+ghost use Rattle.ivy_process.specs.ivy_join.Joined.{SaysNoParts};
+ghost use Rattle.ivynode.specs.Joined.{IsNoRun};
+ghost use Rattle.ivynode.specs.declared.failure.Failure.TheVariants as failure;
 
 use ivy_model::Fault;
 use ivy_process::ivy_join::Unjoined;
@@ -30,7 +33,8 @@ impl Failure {
     /// The exit status: 2 where the command line, a file or the configuration is at fault, 3 where logs are not the parts
     /// of one run, else 1.
     pub fn status(&self) -> u8
-        ensures { 1 ≤ result }
+        ensures some { 1 ≤ result }
+        ensures three { (result ≡ 3) ↔ IsNoRun self.now }
     {
         match self {
             Failure::BadCommandLine(_) | Failure::CannotRead(_) | Failure::AtFault(_, _) => 2,
@@ -43,7 +47,8 @@ impl Failure {
 
     /// Tells standard error of the failure, and gives the exit status.
     pub fn report<E: Write>(&self, err: &mut E) -> u8
-        ensures { 1 ≤ result }
+        ensures some { 1 ≤ result }
+        ensures three { (result ≡ 3) ↔ IsNoRun self.now }
     {
         // The status tells of the failure also where standard error takes nothing.
         let _ = writeln!(err, "ivynode: {self}");
@@ -52,13 +57,15 @@ impl Failure {
 }
 
 fn status_of(why: Unjoined) -> u8
-    ensures { 1 ≤ result }
+    ensures some { 1 ≤ result }
+    ensures three { (result ≡ 3) ↔ SaysNoParts why }
 {
     match why {
         Unjoined::Refused(Fault::BadConfig) => 2,
         Unjoined::Refused(_) => 1,
         Unjoined::Missing(_) | Unjoined::Twice(_) | Unjoined::Differs(_) => 2,
-        _ => 3,
+        Unjoined::NotSent { .. } | Unjoined::NoSuchEvent { .. } => 3,
+        Unjoined::OtherEvents(_) | Unjoined::OtherAnswers(_) => 3,
     }
 }
 
@@ -104,12 +111,17 @@ impl From<ivy_process::Failure> for Failure {
 }
 
 impl From<Unjoined> for Failure {
+    ghost from_gives = { λ why f. f ≡ failure.Unjoined why };
+
     fn from(why: Unjoined) -> Self {
         Failure::Unjoined(why)
     }
 }
 
 impl From<io::Error> for Failure {
+    // It says nothing of logs.
+    ghost from_gives = { λ _ f. IsNoRun f → ⊥ };
+
     fn from(error: io::Error) -> Self {
         match error.kind() {
             ErrorKind::OutOfMemory => Failure::Refused(Fault::Memory),

@@ -1,14 +1,15 @@
 //! The joining of logs.
-ghost use Rattle.std.specs.Prelude.{◌++◌, IfOk, OnOk};
+ghost use Rattle.std.specs.Prelude.{◌++◌, map, IfErr, IfOk, OnOk};
 ghost use Rattle.std.specs.List.{All};
 ghost use Rattle.std.specs.Io.KnownBytes.{Appends};
 ghost use Rattle.ivy_simulation.specs.Nodes.{outputs_text};
-ghost use Rattle.ivynode.specs.Joined.{IsSpelled, PrintsJoined, outputs_in, ends_in};
+ghost use Rattle.ivynode.specs.Joined.{AreOfNoRun, IsNoRun, IsSpelled, PrintsJoined, PrintsRun, outputs_in, ends_in};
 
 use crate::failure::Failure;
 use crate::files::{fault_in, programs_of, text_of};
 use ivy_process::ivy_join::ivy_lines::{Log, parse_log};
 use ivy_process::ivy_join::{Joined, Unjoined, join};
+use ivy_program::Program;
 use ivy_simulation::{Outputs, print_outputs};
 use ivy_texts::print_end;
 use std::alloc::Global;
@@ -77,6 +78,26 @@ fn print_joined<W: Write>(joined: &Joined<Global>, out: &mut W) -> io::Result<()
     print_ends(joined, out)
 }
 
+/// Joins logs, which stand in the order of their nodes, and prints what the programs printed.
+///
+/// The failure says that they are not the parts of a run only where they are the parts of none.
+fn join_logs<W: Write>(
+    alloc: Global,
+    programs: Vec<Program<Global>>,
+    logs: &[Log<Global>],
+    out: &mut W,
+) -> Result<(), Failure>
+    ensures joined { OnOk result (PrintsRun programs.items (map (λ l. l.head) logs.now) (map (λ l. l.events.items) logs.now) (W.contents out.old) (W.contents out.new)) }
+    ensures refused { IfErr result (λ why. IsNoRun why → AreOfNoRun programs.items (map (λ l. l.head) logs.now) (map (λ l. l.events.items) logs.now)) }
+{
+    let Some(first) = logs.first() else {
+        return Err(Failure::Unjoined(Unjoined::Missing(0)));
+    };
+    let joined = join(alloc, first.head.config, programs, logs)?;
+    print_joined(&joined, out)?;
+    Ok(())
+}
+
 /// Joins the logs of these files, and prints what the programs printed.
 pub(crate) fn join_files<R: Files + AllocGlobal, W: Write>(
     rt: &R,
@@ -88,10 +109,5 @@ pub(crate) fn join_files<R: Files + AllocGlobal, W: Write>(
 {
     let programs = programs_of(rt, file)?;
     let logs = logs_of(rt, names)?;
-    let Some(first) = logs.first() else {
-        return Err(Failure::Unjoined(Unjoined::Missing(0)));
-    };
-    let joined = join(rt.alloc(), first.head.config, programs, &logs)?;
-    print_joined(&joined, out)?;
-    Ok(())
+    join_logs(rt.alloc(), programs, &logs, out)
 }

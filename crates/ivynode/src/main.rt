@@ -3,7 +3,7 @@
 #![tactic(auto)]
 
 ghost use Rattle.std.specs.Prelude.{◌≡◌, IsOk, MatchResult, map, string_bytes};
-ghost use Rattle.ivynode.specs.Joined.{PrintsJoined};
+ghost use Rattle.ivynode.specs.Joined.{IsNoRun, PrintsJoined};
 ghost use Rattle.ivynode.specs.OwnJoined.{PrintsOwnJoined};
 ghost use Rattle.ivynode.specs.Requests.{AsksToJoin, AsksToJoinOwn, IsJoin, IsJoinOwn};
 
@@ -100,7 +100,8 @@ where
 /// The exit status of a command that ended so, where standard output then took all of it or not. Standard error is told
 /// of a failure.
 fn concluded<E: Write>(done: Result<u8, Failure>, flushed: io::Result<()>, err: &mut E) -> u8
-    ensures { result ≡ 0 → IsOk done }
+    ensures zero { result ≡ 0 → IsOk done }
+    ensures three { result ≡ 3 → MatchResult done (λ status. status ≡ 3) IsNoRun }
 {
     match (done, flushed) {
         (Ok(status), Ok(())) => status,

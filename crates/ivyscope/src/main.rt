@@ -70,7 +70,7 @@ where
 fn failure_of(error: &io::Error) -> Failure<'static> {
     match error.kind() {
         ErrorKind::OutOfMemory => Failure::Refused(Fault::Memory),
-        _ => Failure::BadCommandLine(Misuse::NoText),
+        _ => Failure::Misused(Misuse::no_text()),
     }
 }
 

@@ -78,34 +78,52 @@ fn is_told(found: &str, wanted: Told<'_>) -> bool {
     }
 }
 
+/// The status of a command line over files, what it prints, and what standard error is told.
+fn said_by<R: Abort + AllocGlobal + Threads + Wait + Sync>(
+    rt: &R,
+    shelf: &Shelf<'_>,
+    line: &[&str],
+) -> Result<(u8, String, String), Fail> {
+    let alloc = rt.alloc();
+    let words = words_of(alloc, line)?;
+    let mut printed: Vec<u8> = Vec::new(alloc);
+    let mut told: Vec<u8> = Vec::new(alloc);
+    let status = perform(
+        rt,
+        alloc,
+        &words,
+        shelf,
+        &mut printed,
+        &mut told,
+        &mut Silence,
+    );
+    Ok((
+        status,
+        String::from_utf8(printed)?,
+        String::from_utf8(told)?,
+    ))
+}
+
+/// Asserts what a stream was told.
+fn expect_told(rt: &impl Abort, line: &[&str], found: &str, wanted: Told<'_>) {
+    assert!(rt; is_told(found, wanted), "{line:?} says {found}");
+}
+
 /// Performs each command line over files. Asserts its status, and what both streams are told.
 pub(crate) fn check_each<R: Abort + AllocGlobal + Threads + Wait + Sync>(
     rt: &R,
     files: &[File],
     cases: &[Case<'_>],
 ) -> Result<(), Fail> {
-    let alloc = rt.alloc();
-    let shelf = Shelf { alloc, files };
+    let shelf = Shelf {
+        alloc: rt.alloc(),
+        files,
+    };
     for (line, status, out, err) in cases {
-        let words = words_of(alloc, line)?;
-        let mut printed: Vec<u8> = Vec::new(alloc);
-        let mut told: Vec<u8> = Vec::new(alloc);
-        let found = perform(
-            rt,
-            alloc,
-            &words,
-            &shelf,
-            &mut printed,
-            &mut told,
-            &mut Silence,
-        );
-        let (printed, told) = (String::from_utf8(printed)?, String::from_utf8(told)?);
-        assert!(rt;
-            is_told(printed.as_str(), *out),
-            "{line:?} prints {printed}"
-        );
-        assert!(rt; is_told(told.as_str(), *err), "{line:?} tells {told}");
-        assert_eq!(rt; found, *status, "{line:?}");
+        let (found, printed, told) = said_by(rt, &shelf, line)?;
+        expect_told(rt, line, printed.as_str(), *out);
+        expect_told(rt, line, told.as_str(), *err);
+        assert!(rt; found == *status, "{line:?} ends with {found}");
     }
     Ok(())
 }

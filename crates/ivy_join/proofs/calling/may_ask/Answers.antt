@@ -1,4 +1,4 @@
-use Rattle.std.proofs.Common.{IfSome, IsTrue, length, refl, subst, sym}
+use Rattle.std.proofs.Common.{IfSome, length, refl, subst, sym}
 use Rattle.std.proofs.lemmas.Option.{slice_get_read}
 use Rattle.ivy_program.specs.Owned.{IsFree}
 use Rattle.ivy_join.proofs.calling.may_ask.Goals as goal

@@ -1,4 +1,4 @@
-use Rattle.std.proofs.Common.{rules, refl, ap, subst, ◌∙◌}
+use Rattle.std.proofs.Common.{rules, refl, subst, ◌∙◌}
 use Rattle.ivy_world.specs.WorldSites.{programs_of}
 use Rattle.ivy_join.specs.Owned.{HasCalledBy, PlaysOn}
 use Rattle.ivy_join.proofs.Calls.{plays-more, plays-same}

@@ -1,4 +1,4 @@
-use Rattle.std.proofs.Common.{rules, subst}
+use Rattle.std.proofs.Common.{subst}
 use Rattle.ivy_join.specs.Joining.{CanBeTaken}
 use Rattle.ivy_join.proofs.making.make.Goals as goal
 

@@ -1,4 +1,5 @@
 use Rattle.std.proofs.Common.{rules}
+use Rattle.ivy_join.proofs.Exactly.{received-says}
 use Rattle.ivy_join.proofs.Steps.{delivered, received-listed}
 use Rattle.ivy_join.proofs.making.make_delivery.Goals as goal
 
@@ -21,3 +22,8 @@ pub returns-in-Err-clause-on : goal.returns-in-Err-clause-on
 returns-in-Err-clause-on g c =
     λ sent limits there. delivered sent c.deliver_alone.result c.args.string.now c.args.site.now
     c.deliver_alone.new.self c.deliver_alone.ensures.done limits there
+
+pub returns-in-Ok-clause-exact : goal.returns-in-Ok-clause-exact
+returns-in-Ok-clause-exact g c =
+    received-says c.args.string.now c.in-Ok.verdict c.in-Ok.field-0-1 c.args.site.now c.deliver_alone.new.self
+    c.ne.result c.in-Ok.ensures.done (search rules) (search rules)

@@ -1,5 +1,6 @@
 use Rattle.std.proofs.Common.{◌≡◌, ◌++◌, ◌≤◌, ◌-◌, ℕ, List}
 use Rattle.ivy_moves.specs.Marks.{turns}
+use Rattle.ivy_join.specs.Exact.{Makes}
 use Rattle.ivy_join.specs.Joining.{GoesOnBy}
 use Rattle.ivy_join.proofs.making.make_turns.Given as goal
 
@@ -8,6 +9,7 @@ invariant-loop-made g l = record {
   on : (sent : List (List ℕ)) → GoesOnBy sent l.initial.site l.site;
   within : l.made ≤ l.count;
   made : l.site.events ≡ l.initial.site.events ++ turns l.made;
+  exact : Makes (turns l.made) l.initial.site l.site;
 }
 
 abbrev pub decreases-loop-made : goal.decreases-loop-made

@@ -1,6 +1,5 @@
-use Rattle.std.proofs.Common.{rules, ◌≡◌, ◌<◌, ◌≤◌, ◌++◌, length, ap, sym, ◌∙◌, take, arith}
+use Rattle.std.proofs.Common.{rules, ◌++◌, ap, sym, ◌∙◌}
 use Rattle.std.proofs.lemmas.List.{take_all}
-use Rattle.ivy_lines.specs.ivy_calls.Answers.{answers}
 use Rattle.ivy_lines.specs.Own.{answer_in, answers_in}
 use Rattle.ivy_join.proofs.of_ivy_lines.Owned.{flat-taken}
 use Rattle.ivy_join.proofs.Told.{tells}

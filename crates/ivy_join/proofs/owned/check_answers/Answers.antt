@@ -1,7 +1,5 @@
-use Rattle.std.proofs.Common.{rules, ◌≡◌, ◌<◌, ◌≤◌, below_more, length, map, sym, ap, refl, subst, ◌∙◌, arith}
+use Rattle.std.proofs.Common.{rules, ◌≡◌, below_more, length, ap, refl, subst, ◌∙◌, arith}
 use Rattle.std.proofs.lemmas.Option.{slice_get_read}
-use Rattle.ivy_model.specs.declared.Record.{Record}
-use Rattle.ivy_lines.specs.Own.{Entry}
 use Rattle.ivy_moves.specs.Keeping.{keeps_history, read_of}
 use Rattle.ivy_join.specs.Owned.{Tells}
 use Rattle.ivy_join.proofs.Told.{told-at, told-all}

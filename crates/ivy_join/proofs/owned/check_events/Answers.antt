@@ -1,4 +1,4 @@
-use Rattle.std.proofs.Common.{rules, ◌≡◌, ◌<◌, below_more, length, sym, ap, refl, ◌∙◌, arith}
+use Rattle.std.proofs.Common.{rules, below_more, length, sym, ap, refl, ◌∙◌, arith}
 use Rattle.std.proofs.lemmas.Option.{slice_get_read}
 use Rattle.ivy_lines.specs.Own.{events_in}
 use Rattle.ivy_moves.specs.Keeping.{keeps_events, read_of}

@@ -1,5 +1,4 @@
-use Rattle.std.proofs.Common.{rules, ◌≡◌, ◌+◌, ◌<◌, length, arith, ap, ◌∙◌}
-use Rattle.ivy_model.specs.declared.Config.{Config}
+use Rattle.std.proofs.Common.{rules, arith, ap, ◌∙◌}
 use Rattle.ivy_join.proofs.Ended.{heads-more}
 use Rattle.ivy_join.proofs.owned.check_heads.Goals as goal
 
@@ -9,5 +8,5 @@ loop-log-preserved g c =
       node = omega (arith, at);
       heads = heads-more _ c.args.config.now c.args.logs.now c.loop-log.log-index c.log-item.result
           (search rules) c.log-item.is c.loop-log.invariant.heads
-          (c.in_ok-check_head.ensures ∙ ap (λ i. record { me = i; config = c.args.config.now }) at);
+          (c.in_ok-check_head.ensures.same ∙ ap (λ i. record { me = i; config = c.args.config.now }) at);
     }

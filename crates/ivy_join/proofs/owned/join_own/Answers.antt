@@ -1,10 +1,10 @@
-use Rattle.std.proofs.Common.{rules, ◌≡◌, [], length, map, ap, sym, subst, ◌∙◌}
+use Rattle.std.proofs.Common.{rules, [], length, map, ap, sym, subst, ◌∙◌}
 use Rattle.std.proofs.lemmas.List.{length-replicate}
 use Rattle.ivy_model.specs.Config.{IsConfig}
 use Rattle.ivy_program.specs.Programs.{Called}
 use Rattle.ivy_world.specs.Handed.{own_code}
 use Rattle.ivy_join.specs.Joining.{events_at, ArePlayed, AreKept}
-use Rattle.ivy_join.specs.Owned.{AreAllTold, AreOwnJoined, AreTold}
+use Rattle.ivy_join.specs.Owned.{AreOwnJoined, AreTold}
 use Rattle.ivy_join.proofs.Ended.{first-played, first-programs, are-kept}
 use Rattle.ivy_join.proofs.Ordered.{own-answered, own-joined}
 use Rattle.ivy_join.proofs.owned.join_own.Goals as goal

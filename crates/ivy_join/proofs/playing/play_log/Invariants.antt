@@ -1,11 +1,19 @@
-use Rattle.std.proofs.Common.{◌≡◌, length}
+use Rattle.std.proofs.Common.{◌≡◌, ◌≢◌, ℕ, length}
 use Rattle.ivy_world.specs.WorldSites.{programs_of}
-use Rattle.ivy_join.specs.Joining.{ArePlayed}
+use Rattle.ivy_join.specs.Exact.{HaveSent, IsMadeTo}
+use Rattle.ivy_join.specs.Joining.{events_at, ArePlayed}
 use Rattle.ivy_join.proofs.playing.play_log.Given as goal
 
+-- the events before the place were made; where none was, all is as it was
 abbrev pub invariant-loop-place : goal.invariant-loop-place
 invariant-loop-place g l = record {
   played : ArePlayed l.config l.sites.items l.sent;
   programs : programs_of l.sites.items ≡ programs_of l.initial.sites.items;
   count : length l.sites.items ≡ length l.initial.sites.items;
+  at : l.made ≡ l.place;
+  have : HaveSent l.sent l.sites.items;
+  here : IsMadeTo l.log.events.items l.place (events_at l.sites.items l.node);
+  elsewhere : (i : ℕ) → i ≢ l.node → events_at l.sites.items i ≡ events_at l.initial.sites.items i;
+  sites : l.place ≡ l.initial.place → l.sites.items ≡ l.initial.sites.items;
+  strings : l.place ≡ l.initial.place → l.sent ≡ l.initial.sent;
 }

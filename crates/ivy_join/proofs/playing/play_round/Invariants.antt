@@ -1,11 +1,22 @@
-use Rattle.std.proofs.Common.{◌≡◌, length}
+use Rattle.std.proofs.Common.{◌≡◌, ◌<◌, ◌≤◌, false, length, map}
+use Rattle.std.specs.Prelude.{IsTrue}
 use Rattle.ivy_world.specs.WorldSites.{programs_of}
+use Rattle.ivy_join.specs.Exact.{left_of, AreMadeTo, HaveSent}
 use Rattle.ivy_join.specs.Joining.{ArePlayed}
+use Rattle.ivy_join.proofs.Counted.{AreStuckTo}
 use Rattle.ivy_join.proofs.playing.play_round.Given as goal
 
+-- fewer events are left where a log went on; else the logs so far are stuck
 abbrev pub invariant-loop-node : goal.invariant-loop-node
 invariant-loop-node g l = record {
   played : ArePlayed l.config l.sites.items l.sent;
   programs : programs_of l.sites.items ≡ programs_of l.initial.sites.items;
   count : length l.sites.items ≡ length l.initial.sites.items;
+  have : HaveSent l.sent l.sites.items;
+  each : AreMadeTo (map (λ x. x.events.items) l.logs) l.made l.sites.items;
+  few : left_of (map (λ x. x.events.items) l.logs) l.made
+      ≤ left_of (map (λ x. x.events.items) l.logs) l.initial.made;
+  less : IsTrue l.went → left_of (map (λ x. x.events.items) l.logs) l.made
+      < left_of (map (λ x. x.events.items) l.logs) l.initial.made;
+  stuck : l.went ≡ false → AreStuckTo l.node l.sent (map (λ x. x.events.items) l.logs) l.made;
 }

@@ -2,6 +2,7 @@ use Rattle.std.proofs.Common.{◌≡◌, slice_get, Some, length, refl}
 use Rattle.std.proofs.lemmas.Option.{slice_get_read}
 use Rattle.ivy_join.specs.Joining.{GoesOnBy}
 use Rattle.ivy_join.proofs.Played.{took-old, limits-old, programs-same, played-on}
+use Rattle.ivy_join.proofs.Sent.{step-says}
 use Rattle.ivy_join.proofs.playing.step.Goals as goal
 
 pub returns-clause-played : goal.returns-clause-played
@@ -33,3 +34,19 @@ returns-clause-programs g c =
     programs-same c.args.config.now c.args.sites.now.items c.args.sent.now c.collect.new.sent c.args.node
     old c.make.new.site c.collect.new.site c.requires.played there on c.event_list.ensures.made
     c.event_list-2.ensures.made c.collect.ensures.site c.collect.ensures.kept c.collect.ensures.added
+
+pub returns-clause-exact : goal.returns-clause-exact
+returns-clause-exact g c =
+    let old = c.index_mut-site.result.now in
+    let there : slice_get c.args.sites.now.items c.args.node ≡ Some c.index_mut-site.result.now =
+    slice_get_read c.args.sites.now.items (length c.args.sites.now.items) c.args.node old refl
+    c.requires.node c.index_mut-site.ensures.value in
+    let own = c.requires.played.each c.args.node old there in
+    let limits = limits-old c.args.config.now c.args.sent.now c.args.node old c.requires.played.limits own in
+    let on : GoesOnBy c.args.sent.now c.index_mut-site.result.now c.make.new.site =
+    c.make.ensures.on c.args.sent.now limits (took-old c.args.config.now c.args.sent.now c.args.node old own)
+    c.requires.there in
+    λ have. step-says c.args.sites.now.items c.args.node c.args.event.now old c.make.new.site c.collect.new.site
+    c.args.sent.now c.collect.new.sent c.in_ok-happens.happens there own.made limits have on
+    c.in_ok-happens.ensures.made c.in_ok-happens.ensures.exact c.collect.ensures.site c.collect.ensures.kept
+    c.in_ok-collect.ensures.taken c.in_ok-collect.ensures.none

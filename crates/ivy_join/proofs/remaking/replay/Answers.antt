@@ -1,4 +1,4 @@
-use Rattle.std.proofs.Common.{rules, ◌≡◌, ◌+◌, ◌<◌, ◌++◌, length, take, ap, subst, sym, ◌∙◌}
+use Rattle.std.proofs.Common.{rules, ◌<◌, ◌++◌, length, ap, subst, sym, ◌∙◌}
 use Rattle.std.proofs.lemmas.List.{take_all}
 use Rattle.ivy_model.specs.Config.{IsConfig}
 use Rattle.ivy_moves.specs.Marks.{marks, marks_of}

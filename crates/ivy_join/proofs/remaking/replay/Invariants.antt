@@ -1,4 +1,4 @@
-use Rattle.std.proofs.Common.{◌≡◌, ℕ, List, take}
+use Rattle.std.proofs.Common.{◌≡◌, take}
 use Rattle.ivy_moves.specs.Marks.{marks}
 use Rattle.ivy_join.specs.Joining.{GoesOnBy, taken_by}
 use Rattle.ivy_join.proofs.remaking.replay.Given as goal

@@ -1,9 +1,8 @@
-use Rattle.std.proofs.Common.{rules, ◌≡◌, ◌+◌, ◌<◌, ◌++◌, length, take, ap, subst, sym, ◌∙◌}
+use Rattle.std.proofs.Common.{rules, ◌<◌, ◌++◌, length, ap, subst, sym, ◌∙◌}
 use Rattle.std.proofs.lemmas.List.{take_all}
 use Rattle.ivy_model.specs.Config.{IsConfig}
 use Rattle.ivy_moves.specs.Marks.{marks}
 use Rattle.ivy_moves.specs.Parts.{AllCanBeMade}
-use Rattle.ivy_site.specs.Shown.{Shown}
 use Rattle.ivy_lines.specs.Own.{events_in}
 use Rattle.ivy_join.specs.Joining.{taken_by}
 use Rattle.ivy_join.specs.Remade.{GoesOnByEntries}

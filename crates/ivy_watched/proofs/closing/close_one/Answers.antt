@@ -9,6 +9,3 @@ take_in-requires-clause-seated g c =
     c.into_parts-site.result.1 c.into_parts-site.result.2)
     (c.into_parts-site.ensures.ether ∙ c.into_seated-seated.ensures.home ∙ sym c.requires.home)
     c.into_parts-site.ensures.seated
-
-pub returns-in-Ok-clause-keep : goal.returns-in-Ok-clause-keep
-returns-in-Ok-clause-keep g c = c.is_keeping.ensures c.if-not-is_keeping.false

@@ -1,8 +1,6 @@
 use Rattle.std.proofs.Common.{rules, ◌≡◌, length, slice_get, Some, refl, sym, ◌∙◌, ap, arith, inl, inr}
 use Rattle.std.proofs.lemmas.Bool.{cases_eq}
 use Rattle.std.proofs.lemmas.Option.{same_Some, slice_get_read, slice_get_within}
-use Rattle.ivy_moves.specs.ivy_link.Linked.{peer_at}
-use Rattle.ivy_session.specs.ivy_seating.ivy_site.Shown.{Shown}
 use Rattle.ivy_watched.proofs.delivered.is_delivered_from.Goals as goal
 
 pub loop-to-preserved : goal.loop-to-preserved

@@ -1,0 +1,207 @@
+-- Where no log goes on, or a node can't make its next event, the logs are the parts of no run.
+use Rattle.std.proofs.Common.{◌≡◌, ℕ, zero, suc, ◌+◌, ◌<◌, ◌≤◌, List, [], ◌∷◌, ◌++◌, length, map, drop, get_or, slice_get, Contains, Option, Some, None, option_map, refl, sym, ap, subst, ◌∙◌, inl, inr, arith}
+use Rattle.std.proofs.lemmas.List.{length-map}
+use Rattle.std.proofs.lemmas.Option.{same_Some, none-some, slice_get-map, slice_get_within, slice_get_cases}
+use Rattle.ivy_model.specs.declared.Config.{Config}
+use Rattle.ivy_moves.specs.Events.{Event}
+use Rattle.ivy_moves.specs.declared.Event.TheVariants.{Turns, Delivered, Pulsed}
+use Rattle.ivy_moves.specs.Marks.{Mark, Delivery, marks, marks_of}
+use Rattle.ivy_moves.specs.Nodes.{Node, Effect}
+use Rattle.ivy_moves.specs.Parts.{AllHappen}
+use Rattle.ivy_moves.specs.Worlds.{early_of}
+use Rattle.ivy_moves.proofs.Splitting.{all-split, none-in, same-effect}
+use Rattle.ivy_program.specs.Programs.{Program}
+use Rattle.ivy_site.specs.ivy_host.Hosts.{Host, host_rules}
+use Rattle.ivy_site.specs.ivy_host.Managers.{Managed, managed_ops}
+use Rattle.ivy_site.specs.ivy_host.Openings.{first_node, opening}
+use Rattle.ivy_site.proofs.of_ivy_host.Tame.{first_length}
+use Rattle.ivy_site.specs.Shown.{Shown}
+use Rattle.ivy_world.specs.WorldSites.{programs_of}
+use Rattle.ivy_join.specs.Exact.{AreMadeTo, AreToOthers, AreStuck, HaveSent, IsMadeTo, IsNoPart, IsOneLeft, IsStuck, NeverHappen}
+use Rattle.ivy_join.specs.Joined.{list_of, part_in, AreNoParts}
+use Rattle.ivy_join.specs.Joining.{program_in, events_at, listed, IsNode, ArePlayed}
+use Rattle.ivy_join.proofs.Counted.{drop-at, marks-cut}
+use Rattle.ivy_join.proofs.Handed.{there_is}
+use Rattle.ivy_join.proofs.Others.{others-left, others-right}
+use Rattle.ivy_join.proofs.Played.{first_there}
+use Rattle.ivy_join.proofs.Within.{all-made, AreBlocked}
+
+-- the events of a site, as those of node i
+site-happens : (c : Config) (sent : List (List ℕ)) (i : ℕ) (s : Shown) → (own : IsNode c sent i s)
+    → AllHappen (host_rules managed_ops) c (first_node managed_ops c i (program_in s)) s.events
+    own.made.effect
+site-happens c sent i s own =
+    subst (λ k. AllHappen (host_rules managed_ops) k (first_node managed_ops k i (program_in s)) s.events
+    own.made.effect) own.config
+    (subst (λ j. AllHappen (host_rules managed_ops) s.config
+    (first_node managed_ops s.config j (program_in s)) s.events own.made.effect) own.me own.made.happen)
+
+-- an event that can't follow the first ones of a log
+pub never-part : (c : Config) (sent : List (List ℕ)) (sites : List Shown) (i : ℕ) (s : Shown)
+    (log : List Event) (m : ℕ) (event : Event) → ArePlayed c sites sent → slice_get sites i ≡ Some s
+    → IsMadeTo log m (events_at sites i) → m < length log → event ≡ get_or log m event
+    → NeverHappen s.config s.me s.node (marks_of event) → IsNoPart c (programs_of sites) i (marks log)
+never-part c sent sites i s log m event played there to below is never program at others effect happen =
+    let own = played.each i s there in
+    let mine : program ≡ program_in s =
+    same_Some program (program_in s)
+    (sym at ∙ slice_get-map program_in sites i ∙ ap (option_map program_in) there) in
+    let first : Node (Host Managed) = first_node managed_ops c i (program_in s) in
+    let rest : List Mark = marks (drop (m + 1) log) in
+    let parts : marks log ≡ s.events ++ (marks_of event ++ rest) =
+    marks-cut log m ∙ ap (λ l. l ++ marks (drop m log)) (sym to.are ∙ ap listed there)
+    ∙ ap (λ l. s.events ++ marks l) (drop-at log m event below is) in
+    let all : AllHappen (host_rules managed_ops) c (first_node managed_ops c i (program_in s))
+    (s.events ++ (marks_of event ++ marks (drop (m + 1) log))) effect =
+    subst (λ l. AllHappen (host_rules managed_ops) c (first_node managed_ops c i (program_in s)) l effect)
+    parts
+    (subst (λ p. AllHappen (host_rules managed_ops) c (first_node managed_ops c i p) (marks log) effect) mine
+    happen) in
+    let split = all-split (host_rules managed_ops) c first s.events (marks_of event ++ rest) effect all in
+    let before = same-effect (host_rules managed_ops) c first s.events split.first own.made.effect split.happen
+    (site-happens c sent i s own) in
+    let node : split.first.after ≡ s.node =
+    ap (λ (e : Effect (Host Managed)). e.after) before ∙ sym own.made.node in
+    let then = all-split (host_rules managed_ops) c s.node (marks_of event) rest split.rest
+    (subst (λ n. AllHappen (host_rules managed_ops) c n (marks_of event ++ marks (drop (m + 1) log)) split.rest)
+    node split.go_on) in
+    let here : NeverHappen c i s.node (marks_of event) =
+    subst (λ j. NeverHappen c j s.node (marks_of event)) own.me
+    (subst (λ (k : Config). NeverHappen k s.me s.node (marks_of event)) own.config never) in
+    here
+    (others-left c.nodes i (marks_of event) rest
+    (others-right c.nodes i s.events (marks_of event ++ rest)
+    (subst (λ l. AreToOthers c.nodes i l) parts others)))
+    then.first then.happen
+
+-- behind what was made of a log that is stuck
+stuck-blocked : (sent : List (List ℕ)) (rest : List Event) → IsStuck sent rest → AreBlocked sent (marks rest)
+stuck-blocked sent [] stuck = tt
+stuck-blocked sent (Turns count ∷ rest) stuck = absurd (stuck tt)
+stuck-blocked sent (Delivered bytes ∷ rest) stuck = stuck
+stuck-blocked sent (Pulsed to ∷ rest) stuck = absurd (stuck tt)
+
+-- it is not at its end
+stuck-some : (sent : List (List ℕ)) (rest : List Event) → IsStuck sent rest → 0 < length rest
+    → marks rest ≡ [] → ⊥
+stuck-some sent [] stuck some none = omega (arith, some)
+stuck-some sent (Turns count ∷ rest) stuck some none = stuck tt
+stuck-some sent (Delivered bytes ∷ rest) stuck some none =
+    (let one : Delivery bytes ∷ marks rest ≡ [] = none in absurd cc)
+stuck-some sent (Pulsed to ∷ rest) stuck some none = stuck tt
+
+none-early : (c : Config) (programs : List Program) (j : ℕ) → early_of (opening managed_ops c programs) j ≡ []
+none-early c [] j = refl
+none-early c (p ∷ ps) zero = refl
+none-early c (p ∷ ps) (suc j) = none-early c ps j
+
+module _ {X : Type 0} (f : X → List Event) (c : Config) (sites : List Shown) (sent : List (List ℕ))
+    (logs : List X) (made : List ℕ) (played : ArePlayed c sites sent) (have : HaveSent sent sites)
+    (each : length logs ≡ length sites) (count : length made ≡ length sites)
+    (to : AreMadeTo (map f logs) made sites) (stuck : AreStuck sent (map f logs) made) where
+  abbrev lists : List (List Mark)
+  lists = map (λ x. marks (f x)) logs
+
+  -- what is behind the events that were made of a log
+  rest_of : Option X → Option ℕ → List Mark
+  rest_of (Some x) (Some m) = marks (drop m (f x))
+  rest_of (Some x) None = []
+  rest_of None o = []
+
+  abbrev rest_at : ℕ → List Mark
+  rest_at i = rest_of (slice_get logs i) (slice_get made i)
+
+  log-at : (i : ℕ) (x : X) → slice_get logs i ≡ Some x → slice_get (map f logs) i ≡ Some (f x)
+  log-at i x there = slice_get-map f logs i ∙ ap (option_map f) there
+
+  past-all : (i : ℕ) (o : Option Shown) → slice_get sites i ≡ o → length sites ≤ i → listed o ≡ []
+  past-all i None at past = refl
+  past-all i (Some s) at past =
+      absurd (let l = slice_get_within sites i s at in omega (arith, l, past))
+
+  whole : (i : ℕ) → part_in lists i ≡ events_at sites i ++ rest_at i
+  unfolding rest_of
+  whole i = elim (slice_get_cases logs i).1 [
+    | inl there ↦
+        (let x = there.0 in
+        let inside : i < length made = (let l = there.1 in omega (arith, l, each, count)) in
+        let m = there_is made i inside in
+        let own = to i (f x) m.0 (log-at i x there.2) m.1 in
+        ap list_of (slice_get-map (λ y. marks (f y)) logs i
+        ∙ ap (option_map (λ y. marks (f y))) there.2)
+        ∙ marks-cut (f x) m.0
+        ∙ ap (λ l. l ++ marks (drop m.0 (f x))) (sym own.are)
+        ∙ ap (λ o. events_at sites i ++ rest_of o (Some m.0)) (sym there.2)
+        ∙ ap (λ o. events_at sites i ++ rest_of (slice_get logs i) o) (sym m.1))
+    | inr past ↦
+        (ap list_of (slice_get-map (λ y. marks (f y)) logs i
+        ∙ ap (option_map (λ y. marks (f y))) past.1)
+        ∙ ap (λ l. l ++ []) (sym (past-all i (slice_get sites i) refl
+        (let l = past.0 in omega (arith, l, each))))
+        ∙ ap (λ o. events_at sites i ++ rest_of o (slice_get made i)) (sym past.1))
+  ]
+
+  stop-at : (i : ℕ) (o : Option X) (p : Option ℕ) → slice_get logs i ≡ o → slice_get made i ≡ p
+      → AreBlocked sent (rest_of o p)
+  unfolding rest_of
+  stop-at i None p log was = tt
+  stop-at i (Some x) None log was = tt
+  stop-at i (Some x) (Some m) log was =
+      stuck-blocked sent (drop m (f x)) (stuck i (f x) m (log-at i x log) was)
+
+  happened : (i : ℕ) (n : Node (Host Managed))
+      → slice_get (opening managed_ops c (programs_of sites)).nodes i ≡ Some n
+      → (e : Effect (Host Managed)) × AllHappen (host_rules managed_ops) c n (events_at sites i) e
+      × ((b : List ℕ) → Contains e.sent b → Contains sent b)
+  happened i n at =
+      let l = slice_get_within (opening managed_ops c (programs_of sites)).nodes i n at in
+      let many = first_length managed_ops c 0 (programs_of sites) in
+      let size = length-map sites program_in in
+      let found = there_is sites i (omega (arith, l, many, size)) in
+      let s : Shown = found.0 in
+      let there : slice_get sites i ≡ Some found.0 = found.1 in
+      let own = played.each i found.0 there in
+      let is : first_node managed_ops c i (program_in found.0) ≡ n =
+      same_Some (first_node managed_ops c i (program_in found.0)) n
+      (sym (first_there c 0 i (programs_of sites) i (program_in found.0) (omega arith)
+      (slice_get-map program_in sites i ∙ ap (option_map program_in) there)) ∙ at) in
+      let all : AllHappen (host_rules managed_ops) c n (events_at sites i) own.made.effect =
+      subst (λ l. AllHappen (host_rules managed_ops) c n l own.made.effect) (sym (ap listed there))
+      (subst (λ k. AllHappen (host_rules managed_ops) c k found.0.events own.made.effect) is
+      (site-happens c sent i found.0 own)) in (
+        own.made.effect,
+        all,
+        λ b from. (have i found.0 there).all b (own.made.effect, own.made.happen, from),
+      )
+
+  pub stuck-no-parts : IsOneLeft (map f logs) made → AreNoParts c (programs_of sites) lists
+  unfolding rest_of
+  stuck-no-parts left end run =
+      let i = left.node in
+      let nothing : rest_at left.node ≡ [] =
+      all-made (host_rules managed_ops) c (opening managed_ops c (programs_of sites)) sent (events_at sites)
+      (part_in lists) rest_at whole
+      (λ j. stop-at j (slice_get logs j) (slice_get made j) refl refl) happened end
+      (λ b from. absurd (none-in b from))
+      (λ j b from. absurd (none-in b (subst (λ l. Contains l b) (none-early c (programs_of sites) j) from)))
+      run left.node in
+      let own = found-log logs left.node left.log left.there in
+      let x : X = own.0 in
+      let here : rest_at left.node ≡ marks (drop left.made_of (f own.0)) =
+      ap (λ o. rest_of o (slice_get made left.node)) own.1 ∙ ap (rest_of (Some own.0)) left.was in
+      let below = left.left in
+      let size = ap length own.2 in
+      stuck-some sent (drop left.made_of (f own.0))
+      (stuck left.node (f own.0) left.made_of (log-at left.node own.0 own.1) left.was)
+      (drop-some (f own.0) left.made_of (omega (arith, below, size))) (sym here ∙ nothing)
+    where
+      found-log : (xs : List X) (i : ℕ) (log : List Event) → slice_get (map f xs) i ≡ Some log
+          → (x : X) × (slice_get xs i ≡ Some x) × (f x ≡ log)
+      found-log [] i log at = absurd (none-some log at)
+      found-log (y ∷ ys) zero log at = (y, refl, same_Some (f y) log at)
+      found-log (y ∷ ys) (suc i) log at = found-log ys i log at
+
+      drop-some : (log : List Event) (m : ℕ) → m < length log → 0 < length (drop m log)
+      drop-some [] m below = absurd (omega (arith, below))
+      drop-some (e ∷ log) zero below = below
+      drop-some (e ∷ log) (suc m) below = drop-some log m (omega (arith, below))

@@ -1,9 +1,0 @@
-use Rattle.std.proofs.Common.{◌≡◌, ℕ, ◌<◌, map}
-use Rattle.ivy_moves.specs.Marks.{marks}
-use Rattle.ivy_join.specs.Joining.{events_at}
-use Rattle.ivy_join.specs.Joined.{part_in}
-use Rattle.ivy_join.proofs.merging.check_lists.Given as goal
-
-abbrev pub invariant-loop-node : goal.invariant-loop-node
-invariant-loop-node g l = (i : ℕ) → i < l.node
-    → events_at l.sites i ≡ part_in (map (λ x. marks x.events.items) l.logs) i

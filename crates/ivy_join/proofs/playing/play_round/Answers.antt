@@ -1,0 +1,72 @@
+use Rattle.std.proofs.Common.{rules, ◌≡◌, true, false, length, get_or, refl, sym, subst, ◌∙◌, arith}
+use Rattle.std.proofs.lemmas.List.{length-map}
+use Rattle.std.proofs.lemmas.Result.{err_from_is_err_and}
+use Rattle.std.proofs.lemmas.Option.{slice_get-get_or, slice_get_read}
+use Rattle.ivy_join.specs.Joined.{SaysNoParts}
+use Rattle.ivy_join.proofs.Counted.{each-on, made-at-map, stuck-all}
+use Rattle.ivy_join.proofs.Rounds.{few-on, less-on, none-of, stuck-on}
+use Rattle.ivy_lines.specs.declared.log.Log.{Log}
+use Rattle.ivy_join.proofs.playing.play_round.Goals as goal
+use Rattle.ivy_join.proofs.playing.play_round.Goals.{then-branch, else-branch}
+
+pub play_log-requires-clause-here : goal.play_log-requires-clause-here
+play_log-requires-clause-here g c =
+    let log = slice_get_read c.args.logs.now (length c.args.logs.now) c.loop-node.node
+    c.index-logs-node.result refl (search rules) c.index-logs-node.is in
+    let was = slice_get-get_or c.loop-node.made c.loop-node.node 0 (search rules) in
+    made-at-map (λ x. x.events.items) c.args.logs.now c.loop-node.made c.loop-node.sites.items c.loop-node.node
+    c.index-logs-node.result (get_or c.loop-node.made c.loop-node.node 0) c.loop-node.invariant.each log was
+
+pub returns-in_err-play_log-clause-refused : goal.returns-in_err-play_log-clause-refused
+returns-in_err-play_log-clause-refused g c =
+    let p = err_from_is_err_and c.from_residual.result c.from_residual.ensures.1 in
+    let log = slice_get_read c.args.logs.now (length c.args.logs.now) c.loop-node.node
+    c.index-logs-node.result refl (search rules) c.index-logs-node.is in
+    let inv = c.loop-node.invariant in
+    rw p.1
+    (λ told. none-of (λ x. x.events.items) c.args.config.now c.loop-node.sites.items c.loop-node.sent _
+    c.args.logs.now c.loop-node.node c.index-logs-node.result inv.played inv.programs
+    (c.requires.logs ∙ sym inv.count) log (c.in_err-play_log.ensures.refused (subst SaysNoParts p.2 told)))
+
+pub loop-node-preserved : goal.loop-node-preserved
+loop-node-preserved g c =
+    let log = slice_get_read c.args.logs.now (length c.args.logs.now) c.loop-node.node
+    c.index-logs-node.result refl (search rules) c.index-logs-node.is in
+    let was = slice_get-get_or c.loop-node.made c.loop-node.node 0 (search rules) in
+    let f = λ (x : Log g.row.A.Denot). x.events.items in
+    let at = c.loop-node in
+    let inv = c.loop-node.invariant in
+    let m = get_or c.loop-node.made c.loop-node.node 0 in
+    let on = c.in_ok-play_log.field-0 in
+    let p = c.in_ok-play_log.ensures.exact in
+    let one : c.in_ok-play_log.field-0 ≡ true → c.if-branch.went ≡ true =
+    elim c.if-branch.branch [ then-branch w ↦ (λ is. search rules) | else-branch w ↦ (λ is. search rules) ] in
+    let joins : c.in_ok-play_log.field-0 ≡ false → c.if-branch.went ≡ c.loop-node.went =
+    elim c.if-branch.branch [ then-branch w ↦ (λ is. search rules) | else-branch w ↦ (λ is. search rules) ] in
+    record {
+      played = c.in_ok-play_log.ensures.played;
+      programs = c.in_ok-play_log.ensures.programs ∙ inv.programs;
+      count = c.play_log.ensures.count ∙ inv.count;
+      have = p.have;
+      each = each-on f c.args.logs.now at.made at.node c.index-logs-node.result m c.play_log.new.made
+          at.sites.items c.play_log.new.sites.items log was inv.each p.here p.elsewhere;
+      few = few-on f c.args.logs.now at.node c.index-logs-node.result at.made m c.play_log.new.made at.sites.items
+          c.play_log.new.sites.items at.sent c.play_log.new.sent log was on _ p inv.few;
+      less = less-on f c.args.logs.now at.node c.index-logs-node.result at.made m c.play_log.new.made
+          at.sites.items c.play_log.new.sites.items at.sent c.play_log.new.sent log was on at.went c.if-branch.went _
+          p joins inv.few inv.less;
+      stuck = stuck-on f c.args.logs.now at.node c.index-logs-node.result at.made m c.play_log.new.made
+          at.sites.items c.play_log.new.sites.items at.sent c.play_log.new.sent log was on at.went c.if-branch.went p
+          one joins inv.stuck;
+    }
+
+pub returns-clause-exact : goal.returns-clause-exact
+returns-clause-exact g c =
+    let past = c.loop-node-test.false in
+    let inv = c.loop-node.invariant in record {
+      have = inv.have;
+      each = inv.each;
+      less = inv.less;
+      stuck = λ none. stuck-all c.loop-node.node c.loop-node.sent _ c.loop-node.made
+          (let size = length-map c.args.logs.now (λ x. x.events.items) in omega (arith, past, size)) (inv.stuck none);
+    }

@@ -1,0 +1,31 @@
+use Rattle.std.proofs.Common.{rules, ◌≡◌, ◌++◌, ◌∷◌, [], ℕ, List, Option, Contains, length, sym, ap, subst, ◌∙◌}
+use Rattle.std.specs.BTreeMap.{get}
+use Rattle.std.specs.Ordering.{nat_cmp}
+use Rattle.std.proofs.lemmas.List.Elements.{Contains-push}
+use Rattle.ivy_join.specs.Latest.{hash_of, AreChained}
+use Rattle.ivy_join.proofs.Latest.{chained-more, last-more}
+use Rattle.ivy_join.proofs.strings.Strings.add.Goals as goal
+
+pub invariant_of-self-2 : goal.invariant_of-self-2
+invariant_of-self-2 g c =
+    let strings : List (List ℕ) = c.self.inside.strings.items in
+    let earlier : List (Option ℕ) = c.self.inside.earlier.items in
+    let hash : c.hash_of.result ≡ hash_of c.args.string = search rules in
+    let place : c.len-place.result ≡ length c.self.inside.strings.items = search rules in
+    let texts : c.push_reserved-2.new.self.items ≡ c.self.inside.strings.items ++ c.args.string ∷ [] =
+    search rules in
+    let places : c.push_reserved.new.self.items ≡ c.self.inside.earlier.items ++ c.in_ok-earlier.earlier ∷ [] =
+    search rules in
+    subst (λ l. AreChained l c.push_reserved.new.self.items (get nat_cmp c.insert.new.self)) (sym texts)
+    (subst (λ l. AreChained (c.self.inside.strings.items ++ c.args.string ∷ []) l (get nat_cmp c.insert.new.self))
+    (sym places)
+    (chained-more strings earlier (get nat_cmp c.self.inside.last) (get nat_cmp c.insert.new.self) c.args.string
+    c.in_ok-earlier.earlier c.self.invariant
+    (c.in_ok-earlier.ensures.old ∙ ap (get nat_cmp c.self.inside.last) hash)
+    (last-more c.hash_of.result c.len-place.result (get nat_cmp c.self.inside.last) (get nat_cmp c.insert.new.self)
+    c.args.string (length strings) hash place c.in_ok-earlier.ensures.updates.0)))
+
+pub returns-clause-there : goal.returns-clause-there
+returns-clause-there g c =
+    subst (λ l. Contains l c.args.string) (sym c.push_reserved-2.ensures.items)
+    (Contains-push c.reserve.new.self.items c.args.string)

@@ -1,0 +1,144 @@
+-- What happens while logs are joined, exactly: an event that is not made is none that its node can
+-- make.
+use Rattle.std.specs.Prelude.{◌≡◌, ◌≢◌, ℕ, ◌+◌, ◌-◌, ◌<◌, ◌≤◌, Bool, true, false, IsTrue, List, [], ◌∷◌, ◌++◌, length, take, drop, slice_get, Some, Contains}
+use Rattle.ivy_model.specs.declared.Config.{Config}
+use Rattle.ivy_model.specs.Config.{IsConfig}
+use Rattle.ivy_moves.specs.Events.{Event}
+use Rattle.ivy_moves.specs.Marks.{Mark, Turn, Delivery, Pulse, marks, marks_of}
+use Rattle.ivy_moves.specs.Nodes.{Node, Effect}
+use Rattle.ivy_moves.specs.Parts.{AllHappen}
+use Rattle.ivy_program.specs.Programs.{Program}
+use Rattle.ivy_site.specs.ivy_host.Hosts.{Host, host_rules}
+use Rattle.ivy_site.specs.ivy_host.Managers.{Managed, managed_ops}
+use Rattle.ivy_site.specs.ivy_host.Openings.{first_node}
+use Rattle.ivy_site.specs.Shown.{Shown}
+use Rattle.ivy_join.specs.declared.playing.Outcome.{Outcome}
+use Rattle.ivy_join.specs.declared.playing.Outcome.TheVariants.{Made, Waits, Never}
+use Rattle.ivy_join.specs.Joining.{events_at, CanBeTaken, Sends}
+
+-- a pulse of node i goes to another one of so many nodes
+abbrev pub IsToOther : ℕ → ℕ → Mark → Type 0
+IsToOther nodes i Turn = Unit {0}
+IsToOther nodes i (Delivery bytes) = Unit {0}
+IsToOther nodes i (Pulse to) = (to < nodes) × (i ≢ to)
+
+abbrev pub AreToOthers : ℕ → ℕ → List Mark → Type 0
+AreToOthers nodes i [] = Unit {0}
+AreToOthers nodes i (m ∷ ms) = IsToOther nodes i m × AreToOthers nodes i ms
+
+-- node i can't make these events, one after another: that is so of a pulse to itself, or to no node
+abbrev pub NeverHappen : Config → ℕ → Node (Host Managed) → List Mark → Type 0
+NeverHappen c i n events = AreToOthers c.nodes i events → (effect : Effect (Host Managed))
+    → AllHappen (host_rules managed_ops) c n events effect → ⊥
+
+-- the site made these events, and what they send waits behind what waited
+pub record Makes (events : List Mark) (old new : Shown) : Type 0 where
+  pub effect : Effect (Host Managed)
+  pub happen : AllHappen (host_rules managed_ops) old.config old.node events effect
+  pub node : new.node ≡ effect.after
+  pub waiting : new.waiting ≡ old.waiting ++ effect.sent
+
+-- so it did; or it can't make them, where no string waited
+abbrev pub SaysMade : List Mark → Shown → Shown → Bool → Type 0
+SaysMade events old new true = IsConfig old.config → Makes events old new
+SaysMade events old new false = IsConfig old.config → old.waiting ≡ []
+    → NeverHappen old.config old.me old.node events
+
+-- all that the site's events sent is among these strings, and none waits
+pub record HasSent (sent : List (List ℕ)) (s : Shown) : Type 0 where
+  pub none : s.waiting ≡ []
+  pub all : (bytes : List ℕ) → Sends s bytes → Contains sent bytes
+
+-- so it is for each of the sites
+abbrev pub HaveSent : List (List ℕ) → List Shown → Type 0
+HaveSent sent sites = (i : ℕ) (s : Shown) → slice_get sites i ≡ Some s → HasSent sent s
+
+-- the site in this place made the event, and the others none; what it sent is among the strings
+pub record IsMadeAt (node : ℕ) (e : Event) (old new : List Shown) (sent : List (List ℕ)) : Type 0
+  where
+    pub have : HaveSent sent new
+    pub here : events_at new node ≡ events_at old node ++ marks_of e
+    pub elsewhere : (i : ℕ) → i ≢ node → events_at new i ≡ events_at old i
+
+-- the site in this place can't make the event
+abbrev pub IsNeverAt : ℕ → Event → List Shown → Type 0
+IsNeverAt node event sites = (s : Shown) → slice_get sites node ≡ Some s
+    → NeverHappen s.config s.me s.node (marks_of event)
+
+-- the string that the event delivers is none of these, and all is as it was
+pub record IsWaiting (e : Event) (old new : List Shown) (sent sent' : List (List ℕ)) : Type 0 where
+  pub unsent : CanBeTaken sent e → ⊥
+  pub sites : new ≡ old
+  pub strings : sent' ≡ sent
+
+-- what became of the event
+abbrev pub CameTo : ℕ → Event → List Shown → List Shown → List (List ℕ) → List (List ℕ) → Outcome
+    → Type 0
+CameTo node event old new sent sent' Made = IsMadeAt node event old new sent'
+CameTo node event old new sent sent' Waits = IsWaiting event old new sent sent'
+CameTo node event old new sent sent' Never = IsNeverAt node event old
+
+-- so many events of the log were made, and these are they
+pub record IsMadeTo (log : List Event) (made : ℕ) (events : List Mark) : Type 0 where
+  pub few : made ≤ length log
+  pub are : events ≡ marks (take made log)
+
+-- so it is of each log, at the site of its place
+abbrev pub AreMadeTo : List (List Event) → List ℕ → List Shown → Type 0
+AreMadeTo logs made sites = (i : ℕ) (log : List Event) (m : ℕ) → slice_get logs i ≡ Some log
+    → slice_get made i ≡ Some m → IsMadeTo log m (events_at sites i)
+
+-- nothing is left of the log, or its next event delivers a string that is none of these
+abbrev pub IsStuck : List (List ℕ) → List Event → Type 0
+IsStuck sent [] = Unit {0}
+IsStuck sent (event ∷ rest) = CanBeTaken sent event → ⊥
+
+-- so it is of each log behind what was made of it
+abbrev pub AreStuck : List (List ℕ) → List (List Event) → List ℕ → Type 0
+AreStuck sent logs made = (i : ℕ) (log : List Event) (m : ℕ) → slice_get logs i ≡ Some log
+    → slice_get made i ≡ Some m → IsStuck sent (drop m log)
+
+-- how many events of the logs are not made yet
+abbrev pub left_of : List (List Event) → List ℕ → ℕ
+left_of [] made = 0
+left_of (log ∷ logs) [] = 0
+left_of (log ∷ logs) (m ∷ made) = (length log - m) + left_of logs made
+
+-- a node's log was gone on with; where it was not, it is stuck, and all is as it was
+pub record PlaysTo (node : ℕ) (log : List Event) (made made' : ℕ) (old new : List Shown)
+    (sent sent' : List (List ℕ)) (went : Bool) : Type 0 where
+  pub have : HaveSent sent' new
+  pub here : IsMadeTo log made' (events_at new node)
+  pub elsewhere : (i : ℕ) → i ≢ node → events_at new i ≡ events_at old i
+  pub more : IsTrue went → made < made'
+  pub sites : went ≡ false → new ≡ old
+  pub strings : went ≡ false → sent' ≡ sent
+  pub place : went ≡ false → made' ≡ made
+  pub stuck : went ≡ false → IsStuck sent (drop made log)
+
+-- each log was gone on with; where none was, all are stuck
+pub record PlaysAll (logs : List (List Event)) (made made' : List ℕ) (new : List Shown)
+    (sent' : List (List ℕ)) (went : Bool) : Type 0 where
+  pub have : HaveSent sent' new
+  pub each : AreMadeTo logs made' new
+  pub less : IsTrue went → left_of logs made' < left_of logs made
+  pub stuck : went ≡ false → AreStuck sent' logs made'
+
+-- each log was made to its end
+abbrev pub AreAllMade : List (List Event) → List ℕ → Type 0
+AreAllMade logs made = (i : ℕ) (log : List Event) (m : ℕ) → slice_get logs i ≡ Some log
+    → slice_get made i ≡ Some m → length log ≤ m
+
+-- one of them was not
+pub record IsOneLeft (logs : List (List Event)) (made : List ℕ) : Type 0 where
+  pub node : ℕ
+  pub log : List Event
+  pub there : slice_get logs node ≡ Some log
+  pub made_of : ℕ
+  pub was : slice_get made node ≡ Some made_of
+  pub left : made_of < length log
+
+-- node i of these programs can't make these events, whatever the other nodes do
+abbrev pub IsNoPart : Config → List Program → ℕ → List Mark → Type 0
+IsNoPart c programs i events = (program : Program) → slice_get programs i ≡ Some program
+    → NeverHappen c i (first_node managed_ops c i program) events

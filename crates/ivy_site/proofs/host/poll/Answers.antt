@@ -1,0 +1,29 @@
+use Rattle.std.proofs.Common.{rules}
+use Rattle.ivy_host.proofs.of_ivy_memory.Beginning.{err_there}
+use Rattle.ivy_site.specs.Inside.{host_of}
+use Rattle.ivy_site.proofs.Calling.{poll_call, cannot_call, called, called_few}
+use Rattle.ivy_site.proofs.host.poll.Goals as goal
+
+pub returns-in_err-answer-clause-spent : goal.returns-in_err-answer-clause-spent
+returns-in_err-answer-clause-spent g c =
+    err_there c.from_residual.result _ _ c.from_residual.ensures.1
+    (cannot_call (host_of c.args.memory.now c.args.machine.now c.args.history.now.records) c.args.call
+    _
+    (poll_call (host_of c.args.memory.now c.args.machine.now c.args.history.now.records) c.args.call
+    c.requires.asked) c.args.outbox.now _ c.in_err-answer.ensures.fault.0)
+
+pub returns-clause-ok : goal.returns-clause-ok
+returns-clause-ok g c =
+    called (host_of c.args.memory.now c.args.machine.now c.args.history.now.records) c.args.call _
+    (poll_call (host_of c.args.memory.now c.args.machine.now c.args.history.now.records) c.args.call
+    c.requires.asked)
+    c.args.outbox.now c.poll_reply.new.post c.me.result c.poll_reply.new.self c.keep.new.machine
+    c.keep.new.history.records c.keep.result c.in_ok-answer.answer (search rules)
+    c.in_ok-answer.ensures.reply c.in_ok-answer.ensures.ok c.in_ok-answer.ensures.took
+    c.in_ok-answer.ensures.posted c.keep.ensures.served c.keep.ensures.history
+    c.keep.ensures.machine
+
+pub returns-clause-few : goal.returns-clause-few
+returns-clause-few g c =
+    called_few c.args.outbox.now c.poll_reply.new.post _ c.in_ok-answer.ensures.few
+    c.in_ok-answer.ensures.posted

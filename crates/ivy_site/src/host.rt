@@ -1,0 +1,183 @@
+//! What a node's memory, its program and its history do together in a turn that is about a call.
+ghost use Rattle.std.specs.Prelude.{◌≡◌, ◌+◌, ◌≤◌, ◌∷◌, ◌++◌, [], None, Some, length, IfOk, IfErr, OnOk, OnErr, IsTrue};
+ghost use Rattle.ivy_model.specs.Legal.{HasWidth};
+ghost use Rattle.ivy_model.specs.Wants.{IsWant};
+ghost use Rattle.ivy_program.specs.Owned.{AsksNext, IsFree, process_handed};
+ghost use Rattle.ivy_program.specs.Steps.{Asks, step_of};
+ghost use Rattle.ivy_host.specs.ivy_coherence.Limits.{most_posted};
+ghost use Rattle.ivy_site.specs.Calls.{recorded_by, reply_in};
+ghost use Rattle.ivy_site.specs.Inside.{host_of, is_served, kept_by, told_by, HasTurn, AfterHostTurn, HasNoNumbers};
+
+use ivy_host::NodeManager;
+use ivy_host::ivy_memory::{Answer, Memory};
+use ivy_model::{Call, Fault, Record, Reply};
+use ivy_moves::History;
+use ivy_outbox::Outbox;
+use ivy_program::Machine;
+use std::alloc::Allocator;
+
+/// The reply that an answer gives, if it gives one.
+fn reply_in(answer: Answer) -> Option<Reply>
+    ensures { result ≡ reply_in answer }
+{
+    match answer {
+        Answer::Given(reply) => Some(reply),
+        Answer::Awaited | Answer::Unserved => None,
+    }
+}
+
+/// The reply to a call is recorded.
+#[inline(always)]
+fn record_reply<A: Allocator>(history: &mut History<A>, node: u8, call: Call, reply: Reply)
+    requires room { IsTrue history.old.has_room }
+    ensures history { history.new.records ≡ history.old.records ++ record { node = node; call = call; reply = reply } ∷ [] }
+    ensures kept { history.new.kept ≡ history.old.kept }
+{
+    history.push(Record { node, call, reply });
+}
+
+/// Where a call was answered its reply is recorded, and the program goes on with it. It says whether the call
+/// was answered, or is in progress from now on.
+#[inline(always)]
+fn keep<A: Allocator + Copy>(
+    history: &mut History<A>,
+    machine: &mut Machine<A>,
+    node: u8,
+    call: Call,
+    answer: Answer,
+) -> bool
+    requires room { IsTrue history.old.has_room }
+    requires asks { step_of machine.old ≡ Asks call }
+    ensures served { result ≡ is_served answer }
+    ensures history { history.new.records ≡ kept_by history.old.records node call answer }
+    ensures kept { history.new.kept ≡ history.old.kept }
+    ensures machine { machine.new ≡ told_by machine.old answer }
+{
+    match answer {
+        Answer::Given(reply) => {
+            machine.answer(reply);
+            record_reply(history, node, call, reply);
+            true
+        }
+        Answer::Awaited => true,
+        Answer::Unserved => false,
+    }
+}
+
+/// What [`keep`] does, of a call that own code makes now. One that is answered at once is nowhere kept.
+#[inline(always)]
+pub(crate) fn keep_made<A: Allocator + Copy>(
+    history: &mut History<A>,
+    machine: &mut Machine<A>,
+    node: u8,
+    call: Call,
+    answer: Answer,
+) -> bool
+    requires room { IsTrue history.old.has_room }
+    requires free { IsFree machine.old }
+    requires width { HasWidth call }
+    ensures served { result ≡ is_served answer }
+    ensures history { history.new.records ≡ kept_by history.old.records node call answer }
+    ensures kept { history.new.kept ≡ history.old.kept }
+    ensures machine { machine.new ≡ told_by (process_handed (call ∷ []) machine.old) answer }
+{
+    match answer {
+        Answer::Given(reply) => {
+            machine.hand_answered(call, reply);
+            record_reply(history, node, call, reply);
+            true
+        }
+        Answer::Awaited => {
+            machine.hand(call);
+            true
+        }
+        Answer::Unserved => {
+            machine.hand(call);
+            false
+        }
+    }
+}
+
+/// A call that the program makes begins: it is answered at once, or in progress from now on [1, 17]. A refused one
+/// changes nothing.
+pub(crate) fn begin<A: Allocator + Copy>(
+    memory: &mut Memory<NodeManager<A>, A>,
+    outbox: &mut Outbox<A>,
+    machine: &mut Machine<A>,
+    history: &mut History<A>,
+    call: Call,
+) -> Result<(), Fault>
+    requires room { IsTrue history.old.has_room }
+    requires idle { memory.old.asked ≡ None }
+    requires asks { step_of machine.old ≡ Asks call }
+    requires width { HasWidth call }
+    requires config { outbox.old.config ≡ memory.old.coherence.config }
+    requires me { outbox.old.me ≡ memory.old.coherence.me }
+    ensures ok { OnOk result (HasTurn (host_of memory.old machine.old history.old.records) outbox.old (host_of memory.new machine.new history.new.records) outbox.new) }
+    ensures err { OnErr result ((memory.new ≡ memory.old) × (outbox.new ≡ outbox.old) × (machine.new ≡ machine.old) × (history.new.records ≡ history.old.records)) }
+    ensures kept { history.new.kept ≡ history.old.kept }
+    ensures few { OnOk result (length outbox.new.waiting ≤ length outbox.old.waiting + most_posted) }
+    ensures spent { IfErr result (HasNoNumbers (host_of memory.old machine.old history.old.records) outbox.old) }
+    ensures want { IfErr result IsWant }
+{
+    let number = history.next_number();
+    let answer = memory.begin(call, number, outbox)?;
+    let _ = keep(history, machine, outbox.me(), call, answer);
+    Ok(())
+}
+
+/// Own code makes a call, which begins: it is answered at once, or in progress from now on [1, 17]. It gives the reply,
+/// where that is there. A refused one changes nothing.
+#[inline(always)]
+pub(crate) fn make<A: Allocator + Copy>(
+    memory: &mut Memory<NodeManager<A>, A>,
+    outbox: &mut Outbox<A>,
+    machine: &mut Machine<A>,
+    history: &mut History<A>,
+    call: Call,
+) -> Result<Option<Reply>, Fault>
+    requires room { IsTrue history.old.has_room }
+    requires idle { memory.old.asked ≡ None }
+    requires free { IsFree machine.old }
+    requires next { AsksNext machine.old }
+    requires width { HasWidth call }
+    requires config { outbox.old.config ≡ memory.old.coherence.config }
+    requires me { outbox.old.me ≡ memory.old.coherence.me }
+    ensures ok { OnOk result (HasTurn (host_of memory.old (process_handed (call ∷ []) machine.old) history.old.records) outbox.old (host_of memory.new machine.new history.new.records) outbox.new) }
+    ensures recorded { IfOk result (λ reply. history.new.records ≡ recorded_by history.old.records memory.old.coherence.me call reply) }
+    ensures err { OnErr result ((memory.new ≡ memory.old) × (outbox.new ≡ outbox.old) × (machine.new ≡ machine.old) × (history.new.records ≡ history.old.records)) }
+    ensures kept { history.new.kept ≡ history.old.kept }
+    ensures few { OnOk result (length outbox.new.waiting ≤ length outbox.old.waiting + most_posted) }
+    ensures spent { IfErr result (HasNoNumbers (host_of memory.old (process_handed (call ∷ []) machine.old) history.old.records) outbox.old) }
+    ensures want { IfErr result IsWant }
+{
+    let number = history.next_number();
+    let begun = memory.begin(call, number, outbox)?;
+    let _ = keep_made(history, machine, outbox.me(), call, begun);
+    Ok(reply_in(begun))
+}
+
+/// The call in progress is asked for its reply [1, 17]. It says whether anything changed: the reply is recorded, or
+/// the call's word waits from now on.
+pub(crate) fn poll<A: Allocator + Copy>(
+    memory: &mut Memory<NodeManager<A>, A>,
+    outbox: &mut Outbox<A>,
+    machine: &mut Machine<A>,
+    history: &mut History<A>,
+    call: Call,
+) -> Result<bool, Fault>
+    requires room { IsTrue history.old.has_room }
+    requires asked { memory.old.asked ≡ Some call }
+    requires asks { step_of machine.old ≡ Asks call }
+    requires config { outbox.old.config ≡ memory.old.coherence.config }
+    requires me { outbox.old.me ≡ memory.old.coherence.me }
+    ensures ok { IfOk result (λ changed. AfterHostTurn changed (host_of memory.old machine.old history.old.records) outbox.old (host_of memory.new machine.new history.new.records) outbox.new) }
+    ensures err { OnErr result ((memory.new ≡ memory.old) × (outbox.new ≡ outbox.old) × (machine.new ≡ machine.old) × (history.new.records ≡ history.old.records)) }
+    ensures kept { history.new.kept ≡ history.old.kept }
+    ensures few { OnOk result (length outbox.new.waiting ≤ length outbox.old.waiting + most_posted) }
+    ensures spent { IfErr result (HasNoNumbers (host_of memory.old machine.old history.old.records) outbox.old) }
+    ensures want { IfErr result IsWant }
+{
+    let answer = memory.poll_reply(outbox)?;
+    Ok(keep(history, machine, outbox.me(), call, answer))
+}
