@@ -13,11 +13,10 @@ ghost use Rattle.ivy_embedded.specs.Nodes.{first_embedded, waiting_in};
 ghost use Rattle.ivy_embedded.specs.Exports.{AfterCall, AfterBegin, ChangesWaiting, OfSite};
 ghost use Rattle.ivy_embedded.specs.Turns.{CountsTurns};
 ghost use Rattle.ivy_embedded.specs.Peers.{AreThose, KeepsFor, OwesTo};
-ghost use Rattle.ivy_model.specs.Limits.{most_nodes};
 ghost use Rattle.ivy_pagetable.specs.NodeSets.{nodes_with};
 
+use crate::peers::{Kept, Owed, peers_of};
 use ivy_model::{Call, Config, Fault, Reply};
-use ivy_pagetable::NodeSet;
 use ivy_site::{Keep, Site, Turn, Verdict};
 use ivy_wire::{Bytes, destination};
 use std::alloc::Global;
@@ -121,36 +120,6 @@ fn write_out(string: &[u8], buffer: &mut [u8]) -> bool
     true
 }
 
-/// The nodes for which a site keeps some message.
-fn kept_in(site: &Site<Global>, nodes: u8) -> NodeSet
-    requires all { nodes ≡ site.now.config.nodes }
-    requires few { nodes ≤ most_nodes }
-    ensures { AreThose (KeepsFor site.now) nodes result }
-{
-    let mut those = NodeSet::new();
-    for to in 0..nodes {
-        if site.keeps_for(to) {
-            those.insert(to);
-        }
-    }
-    those
-}
-
-/// The nodes to which a site owes an acknowledgement.
-fn owed_in(site: &Site<Global>, nodes: u8) -> NodeSet
-    requires all { nodes ≡ site.now.config.nodes }
-    requires few { nodes ≤ most_nodes }
-    ensures { AreThose (OwesTo site.now) nodes result }
-{
-    let mut those = NodeSet::new();
-    for to in 0..nodes {
-        if site.owes(to) {
-            those.insert(to);
-        }
-    }
-    those
-}
-
 impl Embedded {
     /// A node that has made no call yet [1]. The configuration is within its limits, and `me` is
     /// one of its nodes.
@@ -233,7 +202,7 @@ impl Embedded {
         ensures { AreThose (KeepsFor self.now.site) self.now.site.config.nodes (nodes_with result) }
     {
         let config = self.site.config();
-        kept_in(&self.site, config.nodes).bits()
+        peers_of::<Kept>(&self.site, config.nodes).bits()
     }
 
     /// The nodes to which an acknowledgement is owed, which a pulse or the next message makes, as the bits of a number.
@@ -241,7 +210,7 @@ impl Embedded {
         ensures { AreThose (OwesTo self.now.site) self.now.site.config.nodes (nodes_with result) }
     {
         let config = self.site.config();
-        owed_in(&self.site, config.nodes).bits()
+        peers_of::<Owed>(&self.site, config.nodes).bits()
     }
 
     /// Takes the first string that waits out of the node, where none is taken out.

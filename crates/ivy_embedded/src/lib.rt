@@ -5,6 +5,7 @@
 #![tactic(auto)]
 
 mod embedded;
+mod peers;
 mod status;
 
 pub use embedded::{Embedded, Taken};

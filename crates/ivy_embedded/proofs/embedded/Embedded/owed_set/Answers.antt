@@ -8,6 +8,6 @@ use Rattle.ivy_embedded.proofs.embedded.Embedded.owed_set.Goals as goal
 pub returns : goal.returns
 returns c =
     told_bits OwesTo c.self.inside.site c.args.self.now.site c.config-config.result.nodes
-    c.bits.result c.owed_in.result (sym (ap (λ (e : Embedded). e.site) c.self.view_is))
+    c.bits.result c.peers_of.result (sym (ap (λ (e : Embedded). e.site) c.self.view_is))
     (ap (λ (k : Config). k.nodes) c.config-config.ensures.is)
-    c.config-config.ensures.limits.nodes_to c.owed_in.ensures c.bits.ensures
+    c.config-config.ensures.limits.nodes_to c.peers_of.ensures c.bits.ensures
