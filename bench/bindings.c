@@ -1,5 +1,5 @@
-/* What a call costs from C, in one process: a load that hits, a page handed over between two nodes, and the memory after
- * many hand-overs. Linked with --wrap=malloc --wrap=realloc, to count growths. */
+/* What a call costs from C, in one process: a load that hits, a block that hits beside a plain copy, a page handed over
+ * between two nodes, and the memory after many hand-overs. Linked with --wrap=malloc --wrap=realloc, to count growths. */
 #define _POSIX_C_SOURCE 200809L
 #include "ivy.h"
 #include <stdio.h>
@@ -7,7 +7,7 @@
 #include <string.h>
 #include <time.h>
 
-enum { HITS = 10000000, HANDED = 200000, LONG = 1000000, EVERY = 16 };
+enum { HITS = 10000000, BLOCKS = 1000000, TRIES = 5, BLOCK = 4096, HANDED = 200000, LONG = 1000000, EVERY = 16 };
 
 void *__real_malloc(size_t size);
 void *__real_realloc(void *at, size_t size);
@@ -82,6 +82,45 @@ static void hits(void) {
   close_both();
 }
 
+static uint8_t there[BLOCK], here[BLOCK];
+
+static void read_block(void) {
+  size_t words;
+  if (ivy_load_block(&node[0], page, here, BLOCK, &words) != IVY_DONE || words != BLOCK / 8) fail("a block is not read");
+}
+
+static void write_block(void) {
+  size_t words;
+  if (ivy_store_block(&node[0], page, here, BLOCK, &words) != IVY_DONE || words != BLOCK / 8) fail("a block is not written");
+}
+
+/* What the compiler neither leaves out nor puts in place. */
+static void *(*volatile plain_copy)(void *, const void *, size_t) = memcpy;
+static void copy_plainly(void) { plain_copy(there, here, BLOCK); }
+
+/* The least nanoseconds of some tries. */
+static double time_of(void (*work)(void)) {
+  double least = 1e9;
+  for (int i = 0; i < TRIES; i++) {
+    double begun = now();
+    for (long k = 0; k < BLOCKS; k++) work();
+    double took = (now() - begun) * 1e9 / BLOCKS;
+    if (took < least) least = took;
+  }
+  return least;
+}
+
+static void blocks(void) {
+  open_both(BLOCK);
+  call(0, IVY_STORE, page, 1);
+  long before = grown;
+  double plain = time_of(copy_plainly), read = time_of(read_block), written = time_of(write_block);
+  printf("a block of %d bytes that hits: read in %.1f ns, %.2f times a plain copy (%.1f ns), written in %.1f ns, %.2f times, "
+         "where at most %.1f ns are asked for (1.5 times and 40); %ld growths\n",
+         BLOCK, read, read / plain, plain, written, written / plain, 1.5 * plain + 40, grown - before);
+  close_both();
+}
+
 static long resident(void) {
   char line[128];
   long pages = 0;
@@ -132,6 +171,7 @@ static void flat(void) {
 
 int main(void) {
   hits();
+  blocks();
   handed(64);
   handed(4096);
   flat();

@@ -94,6 +94,11 @@ def allowed(nanoseconds):
     return lambda program, count: (nanoseconds * count, 0)
 
 
+def copied(program, count):
+    """Beside one and a half copies of as many bytes, and 40 ns."""
+    return 1.5 * program.run("copies", count, 1)[0] + 40 * count, 0
+
+
 def queue(count):
     """The producer and the consumer of the examples, with so many numbers and as many places as own code has."""
     written = EXAMPLE.read_text()
@@ -154,6 +159,7 @@ OWN = (
     Own("own-sum", "addition of 4", 5_000, words("sum", SUMMING), text(sums), 1.0),
     Own("own-draws", "job", 200_000, words("draws", 8), text(draws), 1.0),
     Own("own-product", "product of 32", 1, words("product", ROWS), text(product), 1.1, runs=15),
+    Own("own-block", "page read", 1_000_000, words("blocks", 1), copied, 1.0),
     Own("own-heap", "block", 1_000, words("heap", 1), allowed(20_000), 1.0),
 )
 ROW = "{:<14} {:<14} {:>9} {:>12} {:>12} {:>7} {:>6} {:>6}"

@@ -59,6 +59,13 @@ static uint32_t get32(const uint8_t *from) {
   return (uint32_t)from[0] << 24 | (uint32_t)from[1] << 16 | (uint32_t)from[2] << 8 | from[3];
 }
 
+static void put64(uint8_t *to, uint64_t value) {
+  put32(to, (uint32_t)(value >> 32));
+  put32(to + 4, (uint32_t)value);
+}
+
+static uint64_t get64(const uint8_t *from) { return (uint64_t)get32(from) << 32 | get32(from + 4); }
+
 /* Says a word of the runtime to all peers. */
 static void say(ivy_process *p, uint8_t kind, uint32_t set) {
   uint8_t bytes[WORD_LENGTH] = { kind, (uint8_t)p->me };
@@ -194,7 +201,7 @@ static int deliver(ivy_process *p, const uint8_t *bytes, size_t len) {
 /* Whether others are missing before a string; then it is kept, or lost. */
 static int is_early(ivy_process *p, const uint8_t *bytes, size_t len) {
   if (len < HEAD || bytes[SOURCE] >= p->config.nodes || bytes[DESTINATION] != p->me) return 0;
-  uint64_t number = (uint64_t)get32(bytes + NUMBER) << 32 | get32(bytes + NUMBER + 4);
+  uint64_t number = get64(bytes + NUMBER);
   uint64_t last = p->delivered[bytes[SOURCE]];
   if (number <= last + 1) return 0;
   string *place = &p->early[bytes[SOURCE]][number % MOST_AHEAD];
@@ -357,27 +364,88 @@ void ivy_leave(ivy_process *p) {
   end(p);
 }
 
-uint32_t ivy_call(ivy_process *p, uint32_t kind, uint32_t width, uint64_t place, uint64_t operand, uint64_t expected,
-                  uint64_t *value) {
+static void enter(ivy_process *p) {
   if (p->progress == IVY_BY_THREAD) pthread_mutex_lock(&p->lock);
   else if (++p->calls % 64 == 0) serve(p, 0, MANY);
-  const call c = { kind, width, place, operand, expected };
+}
+
+static void leave(ivy_process *p) {
+  if (p->progress == IVY_BY_THREAD) pthread_mutex_unlock(&p->lock);
+}
+
+/* A call, inside. */
+static uint32_t make_call(ivy_process *p, const call *c, uint64_t *value) {
   uint32_t status;
-  while ((status = ivy_begin(&p->node, kind, width, place, operand, expected, value)) == IVY_MEMORY) wait_on(p);
+  while ((status = ivy_begin(&p->node, c->kind, c->width, c->place, c->operand, c->expected, value)) == IVY_MEMORY) wait_on(p);
   if (p->log && (status < 256 || status == IVY_PENDING)) {
     fputs("call ", p->log);
-    log_call(p->log, &c);
-    log_reply(p, &c, status, value);
+    log_call(p->log, c);
+    log_reply(p, c, status, value);
   }
   if (status == IVY_PENDING) send_frames(p);
   while (status == IVY_PENDING || status == IVY_MEMORY) {
     wait_on(p);
     status = ivy_reply(&p->node, value);
-    log_reply(p, &c, status, value);
+    log_reply(p, c, status, value);
     send_frames(p);
   }
-  if (p->progress == IVY_BY_THREAD) pthread_mutex_unlock(&p->lock);
   return status;
+}
+
+uint32_t ivy_call(ivy_process *p, uint32_t kind, uint32_t width, uint64_t place, uint64_t operand, uint64_t expected,
+                  uint64_t *value) {
+  const call c = { kind, width, place, operand, expected };
+  enter(p);
+  uint32_t status = make_call(p, &c, value);
+  leave(p);
+  return status;
+}
+
+/* Words in a row, which are loaded `into` a buffer or stored `from` one, and how many of its bytes are done. */
+typedef struct { uint32_t kind; uint64_t address; uint8_t *into; const uint8_t *from; size_t len, done; } row;
+
+/* The words that can be carried out at once. Where there is a log, none: it has a line for each call. */
+static void go_on_at_once(ivy_process *p, row *r) {
+  size_t words = 0, left = r->len - r->done;
+  uint64_t address = r->address + r->done;
+  if (p->log || !left) return;
+  if (r->kind == IVY_LOAD) ivy_load_block(&p->node, address, r->into + r->done, left, &words);
+  else ivy_store_block(&p->node, address, r->from + r->done, left, &words);
+  r->done += 8 * words;
+}
+
+/* One word, by a call that may wait. */
+static uint32_t go_on_by_call(ivy_process *p, row *r) {
+  const call c = { r->kind, 8, r->address + r->done, r->kind == IVY_STORE ? get64(r->from + r->done) : 0, 0 };
+  uint64_t value = 0;
+  uint32_t status = make_call(p, &c, &value);
+  if (status != IVY_DONE) return status;
+  if (r->kind == IVY_LOAD) put64(r->into + r->done, value);
+  r->done += 8;
+  return status;
+}
+
+/* What is here; or a word for which a page is waited for, and then, before others take the page again, what is with it. */
+static uint32_t carry_out(ivy_process *p, row r) {
+  uint32_t status = r.len % 8 ? (uint32_t)IVY_BAD_ARGUMENT : (uint32_t)IVY_DONE;
+  while (status == IVY_DONE && r.done < r.len) {
+    size_t before = r.done;
+    enter(p);
+    go_on_at_once(p, &r);
+    if (r.done == before && (status = go_on_by_call(p, &r)) == IVY_DONE) go_on_at_once(p, &r);
+    leave(p);
+  }
+  return status;
+}
+
+uint32_t ivy_read(ivy_process *p, uint64_t address, void *into, size_t len) {
+  const row r = { IVY_LOAD, address, (uint8_t *)into, NULL, len, 0 };
+  return carry_out(p, r);
+}
+
+uint32_t ivy_write(ivy_process *p, uint64_t address, const void *from, size_t len) {
+  const row r = { IVY_STORE, address, NULL, (const uint8_t *)from, len, 0 };
+  return carry_out(p, r);
 }
 
 void ivy_progress_now(ivy_process *p) {

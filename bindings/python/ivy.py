@@ -26,6 +26,7 @@ def _library():
         "version": [], "open": [node] + [u32] * 5, "close": [node],
         "begin": [node, u32, u32, u64, u64, u64, to64], "reply": [node, to64],
         "deliver": [node, text, size, to32], "next_frame": [node, text, size, to_size, to32],
+        "load_block": [node, u64, text, size, to_size], "store_block": [node, u64, text, size, to_size],
         "pulse": [node, u8], "turns": [node, to64], "kept_set": [node, to32], "owed_set": [node, to32],
     }
     for name, arguments in types.items():
@@ -81,6 +82,21 @@ class Node:
         """The value of the call in progress, once, or None."""
         value = ctypes.c_uint64()
         return self._progress(_lib.ivy_reply(self._handle, value), value)
+
+    def read_into(self, address, into):
+        """Reads words of 8 bytes in a row from an address on, each with its highest byte first, into a bytearray or the like:
+        as many as it has room for, as lie in the page, and as can be read here at once. It says how many words. Where that is
+        none nothing was done, and begin loads the first word, or says what is wrong with it."""
+        words = ctypes.c_size_t()
+        room = (ctypes.c_char * len(into)).from_buffer(into)
+        _done(_lib.ivy_load_block(self._handle, address, room, len(into), words))
+        return words.value
+
+    def write_from(self, address, row):
+        """Writes words of 8 bytes in a row, as read_into reads them."""
+        words = ctypes.c_size_t()
+        _done(_lib.ivy_store_block(self._handle, address, bytes(row), len(row), words))
+        return words.value
 
     def turns(self):
         """How many turns the node has had since it was opened."""

@@ -37,6 +37,15 @@ class World:
         return answer
 
 
+def check_block(node, calls):
+    """The node that added last has the page: it reads the counter in a block, and writes it behind."""
+    row = bytearray(16)
+    read = node.read_into(PAGE, row)
+    written = node.write_from(PAGE + 8, row[:8])
+    if (read, written) != (2, 1) or row[:8] != calls.to_bytes(8, "big") or node.begin(ivy.LOAD, PAGE + 8) != calls:
+        sys.exit("messages: a block is wrong")
+
+
 def messages_a_call(nodes, manager):
     world = World(nodes, manager)
     calls = 0
@@ -45,6 +54,7 @@ def messages_a_call(nodes, manager):
             if world.call(me, ivy.FETCH_AND_ADD, PAGE, 1) != calls:
                 sys.exit("messages: the counter is wrong")
             calls += 1
+    check_block(world.nodes[-1], calls)
     return world.carried / calls
 
 

@@ -6,18 +6,18 @@ enum { N = 256, PAGE = 4096, LEFT = PAGE, RIGHT = LEFT + 4 * N * N, PRODUCT = RI
 static uint32_t left_at(uint32_t i, uint32_t j) { return (i * 7 + j * 3) % 100; }
 static uint32_t right_at(uint32_t i, uint32_t j) { return (i * 5 + j * 11) % 100; }
 
-/* Two numbers lie in a word. */
+/* A row of numbers, each with its highest byte first: two lie in a word. */
 static void put_row(example *e, uint64_t at, const uint32_t *row) {
-  for (uint64_t j = 0; j < N; j += 2)
-    ivy_store(e->ivy, 8, at + 4 * j, (uint64_t)row[j] << 32 | row[j + 1]);
+  uint8_t bytes[4 * N];
+  for (uint32_t j = 0; j < 4 * N; j++) bytes[j] = (uint8_t)(row[j / 4] >> (24 - j % 4 * 8));
+  expect(e, "a row that is written", ivy_write(e->ivy, at, bytes, sizeof bytes), IVY_DONE);
 }
 
 static void get_row(example *e, uint64_t at, uint32_t *row) {
-  for (uint64_t j = 0; j < N; j += 2) {
-    uint64_t two = ivy_load(e->ivy, 8, at + 4 * j);
-    row[j] = (uint32_t)(two >> 32);
-    row[j + 1] = (uint32_t)two;
-  }
+  uint8_t bytes[4 * N];
+  expect(e, "a row that is read", ivy_read(e->ivy, at, bytes, sizeof bytes), IVY_DONE);
+  for (uint32_t j = 0; j < N; j++) row[j] = 0;
+  for (uint32_t j = 0; j < 4 * N; j++) row[j / 4] = row[j / 4] << 8 | bytes[j];
 }
 
 static uint32_t right[N][N];

@@ -1,5 +1,6 @@
-//! Nodes in threads: each adds to one counter under a lock, then a token goes round by eventcounts. Of the strings a
-//! tenth is lost, a tenth comes twice and a fifth comes late. Usage: threads [fixed]
+//! Nodes in threads: each adds to one counter under a lock, then a token goes round by eventcounts, then each writes a row
+//! of words and reads those of all. Of the strings a tenth is lost, a tenth comes twice and a fifth comes late.
+//! Usage: threads [fixed]
 use ivy::{Call, Config, Manager, Node, Status};
 use std::sync::atomic::{AtomicUsize, Ordering::SeqCst};
 use std::sync::mpsc::{sync_channel, Receiver, SyncSender};
@@ -13,6 +14,10 @@ const EACH: u64 = 50;
 const LOCK: u64 = PAGE;
 const COUNTER: u64 = PAGE + 8;
 const TOKEN: u64 = 2 * PAGE;
+
+/// A row of each node, over the ends of pages.
+const ROWS: u64 = 2 * PAGE + 8;
+const ROW: usize = 120;
 
 const WAIT: Duration = Duration::from_millis(1);
 
@@ -118,10 +123,52 @@ impl Process {
         Ok(())
     }
 
+    /// Writes or reads a row, in blocks where its page is here and by a word where it is not.
+    fn write_row(&mut self, address: u64, row: &[u8]) -> Result<(), Status> {
+        let mut done = 0;
+        while done < row.len() {
+            let at = address + done as u64;
+            let words = self.node.write_from(at, &row[done..])?;
+            if words == 0 {
+                let word = row[done..done + 8].try_into().expect("a word has 8 bytes");
+                self.call(Call::Store { width: 8, address: at, value: u64::from_be_bytes(word) })?;
+            }
+            done += 8 * words.max(1);
+        }
+        Ok(())
+    }
+
+    fn read_row(&mut self, address: u64, row: &mut [u8]) -> Result<(), Status> {
+        let mut done = 0;
+        while done < row.len() {
+            let at = address + done as u64;
+            let words = self.node.read_into(at, &mut row[done..])?;
+            if words == 0 {
+                let value = self.call(Call::Load { width: 8, address: at })?;
+                row[done..done + 8].copy_from_slice(&value.to_be_bytes());
+            }
+            done += 8 * words.max(1);
+        }
+        Ok(())
+    }
+
+    /// Each writes a row, and once all have, each reads all rows.
+    fn share_rows(&mut self) -> Result<(), Status> {
+        self.write_row(ROWS + ROW as u64 * u64::from(self.me), &[self.me as u8 + 1; ROW])?;
+        self.call(Call::Advance { count: 5 })?;
+        self.call(Call::Await { count: 5, least: u64::from(NODES) })?;
+        let mut all = [0; ROW * NODES as usize];
+        self.read_row(ROWS, &mut all)?;
+        let right = all.chunks(ROW).zip(1..).all(|(row, number)| row.iter().all(|&byte| byte == number));
+        assert!(right, "node {} reads other rows", self.me);
+        Ok(())
+    }
+
     /// The counter and the token, once all have added to them.
     fn run(&mut self) -> Result<(u64, u64), Status> {
         self.count_under_a_lock()?;
         self.pass_the_token()?;
+        self.share_rows()?;
         self.call(Call::Advance { count: 0 })?;
         self.call(Call::Await { count: 0, least: u64::from(NODES) })?;
         let counter = self.call(Call::Load { width: 8, address: COUNTER })?;

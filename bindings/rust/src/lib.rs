@@ -22,6 +22,8 @@ mod header {
             value: *mut u64,
         ) -> u32;
         pub fn ivy_reply(node: *mut Handle, value: *mut u64) -> u32;
+        pub fn ivy_load_block(node: *mut Handle, address: u64, into: *mut u8, len: usize, words: *mut usize) -> u32;
+        pub fn ivy_store_block(node: *mut Handle, address: u64, from: *const u8, len: usize, words: *mut usize) -> u32;
         pub fn ivy_turns(node: *mut Handle, turns: *mut u64) -> u32;
         pub fn ivy_deliver(node: *mut Handle, bytes: *const u8, len: usize, verdict: *mut u32) -> u32;
         pub fn ivy_next_frame(node: *mut Handle, buffer: *mut u8, room: usize, len: *mut usize, dest: *mut u32) -> u32;
@@ -193,6 +195,26 @@ impl Node {
         let mut value = 0;
         let status = unsafe { header::ivy_reply(&mut self.handle, &mut value) };
         progress(status, value)
+    }
+
+    /// Reads words of 8 bytes in a row, from an address on, each with its highest byte first: as many as there is room for,
+    /// as lie in the page, and as can be read here at once. It says how many words. Where that is none nothing was done, and
+    /// [`Node::begin`] loads the first word, or says what is wrong with it. What stands behind the words is not to be used.
+    pub fn read_into(&mut self, address: u64, into: &mut [u8]) -> Result<usize, Status> {
+        let mut words = 0;
+        match unsafe { header::ivy_load_block(&mut self.handle, address, into.as_mut_ptr(), into.len(), &mut words) } {
+            DONE => Ok(words),
+            other => Err(Status(other)),
+        }
+    }
+
+    /// Writes words of 8 bytes in a row, as [`Node::read_into`] reads them.
+    pub fn write_from(&mut self, address: u64, from: &[u8]) -> Result<usize, Status> {
+        let mut words = 0;
+        match unsafe { header::ivy_store_block(&mut self.handle, address, from.as_ptr(), from.len(), &mut words) } {
+            DONE => Ok(words),
+            other => Err(Status(other)),
+        }
     }
 
     /// How many turns the node has had since it was opened.

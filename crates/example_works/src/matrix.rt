@@ -1,13 +1,14 @@
 //! A product of matrices, by rows.
 ghost use Rattle.std.specs.Prelude.{◌≡◌, ◌+◌, ◌*◌, ◌^◌, ◌++◌, ◌<◌, length, IfOk};
+ghost use Rattle.ivy_calls.specs.Rows.{block_numbers};
 ghost use Rattle.ivy_sync.specs.Reductions.{finds};
 ghost use Rattle.example_works.specs.Rows.{times};
 
-use ivy_calls::{load, store};
+use ivy_calls::{fill, read_into, write_from};
 use ivy_model::Fault;
 use ivy_node::{SharedMemory, Work};
 use ivy_sync::Barrier;
-use std::alloc::Global;
+use std::alloc::{AllocError, Global};
 
 /// The product of two matrices of `size` by `size` numbers modulo 2^64, which lie in the memory row by row. Node 0 sets up
 /// that of the row numbers and that of the column numbers. The rows of the product are shared out, each node's in one
@@ -46,19 +47,25 @@ impl Matrices {
 
     /// Stores both matrices.
     fn set_up<M: SharedMemory>(&self, memory: &mut M) -> Result<(), Fault> {
+        let columns = self.column_numbers()?;
         for row in 0..self.size {
             let left = self.row_at(self.left, row);
-            let right = self.row_at(self.right, row);
-            for column in 0..self.size {
-                let offset = 8 * (column as u64);
-                store(memory, left.wrapping_add(offset), row as u64)?;
-                store(memory, right.wrapping_add(offset), column as u64)?;
-            }
+            fill(memory, left, self.size as u64, row as u64)?;
+            write_from(memory, self.row_at(self.right, row), &columns)?;
         }
         Ok(())
     }
 
-    /// Loads so many numbers from an address on.
+    /// Each row of the matrix on the right, as bytes.
+    fn column_numbers(&self) -> Result<Vec<u8>, AllocError> {
+        let mut bytes = Vec::new(self.alloc);
+        for column in 0..self.size {
+            bytes.extend_from_slice(&(column as u64).to_be_bytes())?;
+        }
+        Ok(bytes)
+    }
+
+    /// Loads so many numbers from an address on, as one block.
     fn load_all<M: SharedMemory>(
         &self,
         memory: &mut M,
@@ -70,16 +77,13 @@ impl Matrices {
         ensures finds { IfOk result (λ out.
             M.answers memory.new ≡ M.answers memory.old ++ finds at 0 out.items) }
     {
-        let mut out = Vec::new(self.alloc);
-        for n in 0..count {
-            let number: u64 = load(memory, at + 8 * (n as u64))?;
-            out.push(number)?;
-        }
-        Ok(out)
+        let mut bytes = vec![in self.alloc; 0u8; 8 * count]?;
+        read_into(memory, at, &mut bytes)?;
+        Ok(numbers_of(self.alloc, &bytes)?)
     }
 
     /// Makes a row of the product, and gives the sum of its numbers.
-    #[tactic(auto, using(crate::proofs::Rowing::row_made))]
+    #[tactic(auto, using(crate::proofs::Rowing::made_more, crate::proofs::Rowing::row_made))]
     fn make<M: SharedMemory>(&self, memory: &mut M, row: usize, right: &[u64]) -> Result<u64, Fault>
         requires row { row < self.now.size }
         requires all { length right.now ≡ self.now.size * self.now.size }
@@ -88,14 +92,30 @@ impl Matrices {
     {
         let left = self.load_all(memory, self.row_at(self.left, row), self.size)?;
         let at = self.row_at(self.product, row);
+        let mut products = Vec::new(self.alloc);
         let mut sum = 0u64;
         for column in 0..self.size {
             let number = entry(&left, right, column);
-            store(memory, at + 8 * (column as u64), number)?;
+            products.extend_from_slice(&number.to_be_bytes())?;
             sum = sum.wrapping_add(number);
         }
+        write_from(memory, at, &products)?;
         Ok(sum)
     }
+}
+
+/// The numbers in bytes, 8 to each, the highest first.
+#[tactic(auto, using(crate::proofs::Rowing::numbers_more))]
+fn numbers_of(alloc: Global, bytes: &[u8]) -> Result<Vec<u64>, AllocError>
+    ensures { IfOk result (λ numbers. numbers.items ≡ block_numbers bytes.now) }
+{
+    let mut numbers = Vec::new(alloc);
+    for n in 0..bytes.len() / 8 {
+        let mut word = [0; 8];
+        word.copy_from_slice(&bytes[8 * n..8 * n + 8]);
+        numbers.push(u64::from_be_bytes(word))?;
+    }
+    Ok(numbers)
 }
 
 /// The number in a column of the product of a row with a matrix.

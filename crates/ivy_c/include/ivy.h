@@ -17,12 +17,12 @@
  *
  * OWNERSHIP. An ivy_node begins as IVY_NONE. Its member is neither read nor written. It is never copied while open; it
  * may be moved to another thread. Two threads are never inside functions of one node at once: take a lock round them.
- * Different nodes are independent. No pointer is null, but for `bytes` where `len` is 0, and no memory that is passed
- * overlaps other memory that is passed and written. A node owns memory until ivy_close: its pages, strings that
+ * Different nodes are independent. No pointer is null, but for `bytes` and `from` where `len` is 0, and no memory that is
+ * passed overlaps other memory that is passed and written. A node owns memory until ivy_close: its pages, strings that
  * came early, and what peers have not acknowledged.
  *
  * UNITS. Addresses and sizes are in bytes. A word has 1, 2, 4 or 8 bytes and is a number; in a page it is big-endian,
- * which no node sees. The first page holds the eventcounts, page_size / 8 of them, numbered from 0; the heap begins at
+ * which only blocks show. The first page holds the eventcounts, page_size / 8 of them, numbered from 0; the heap begins at
  * address page_size and ends at pages * page_size.
  */
 #ifndef IVY_H
@@ -154,9 +154,32 @@ uint32_t ivy_begin(ivy_node *node, uint32_t kind, uint32_t width, uint64_t place
  * still. NO_CALL, CLOSED. */
 uint32_t ivy_reply(ivy_node *node, uint64_t *value);
 
+/* ---- Blocks -------------------------------------------------------------------------------------------------------
+ *
+ * Words of 8 bytes that follow one another are loaded into a buffer, or stored from one, in one call: each word as a call
+ * of width 8 that is carried out at once, one after another, with nothing between them. In the buffer each word has its
+ * highest byte first, on any machine: the number of a word is b[0] << 56 | b[1] << 48 | .. | b[7].
+ *
+ * `len` is the length of the buffer in bytes. As many words are carried out as lie in it whole and from `address` to the
+ * end of its page, and *words says how many; the rest is asked for by further calls. What stands in the buffer behind
+ * these words is not to be used after ivy_load_block. The buffer is the caller's, and is not kept.
+ *
+ * IVY_DONE with *words 0: nothing was done. The page is not here, or not here to be written; the address is no multiple of
+ * 8, or no word of the heap is there; a call is in progress; the buffer has less than 8 bytes. Then make the first word's
+ * call by ivy_begin: it asks for the page, or its status says what is wrong. While the page is here, blocks go on.
+ *
+ * No string waits after a block that did not wait before, and none takes memory: such a node keeps no list of its calls.
+ * A driver that keeps a log with a line for each call makes the calls one by one instead. */
+
+/* Loads a block: IVY_DONE, with the number of words, CLOSED. */
+uint32_t ivy_load_block(ivy_node *node, uint64_t address, uint8_t *into, size_t len, size_t *words);
+
+/* Stores a block: IVY_DONE, with the number of words, CLOSED. */
+uint32_t ivy_store_block(ivy_node *node, uint64_t address, const uint8_t *from, size_t len, size_t *words);
+
 /* How many turns the node has had since it was opened, modulo 2^64. An ivy_begin and an ivy_reply has one turn or none,
- * whatever its status, and nothing else has any: so a driver that keeps a log of the node knows which had one. It changes
- * nothing. IVY_DONE, CLOSED. */
+ * whatever its status, a block one for each of its words, and nothing else has any: so a driver that keeps a log of the
+ * node knows which had one. It changes nothing. IVY_DONE, CLOSED. */
 uint32_t ivy_turns(ivy_node *node, uint64_t *turns);
 
 /* ---- Strings ------------------------------------------------------------------------------------------------------ */

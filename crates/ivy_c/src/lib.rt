@@ -4,11 +4,12 @@
 //! `include/ivy.h` says what a program in C owes, and what each status leaves.
 #![tactic(auto)]
 
-ghost use Rattle.std.specs.Prelude.{◌≡◌, ◌≢◌, None, Some, MatchOption};
+ghost use Rattle.std.specs.Prelude.{◌≡◌, ◌≢◌, None, Some, MatchOption, length};
 ghost use Rattle.std.specs.Mem.{manually_drop_value};
 ghost use Rattle.ivy_model.specs.declared.Config.{Config};
+ghost use Rattle.ivy_model.specs.declared.Row.TheVariants.{Loads, Stores};
 ghost use Rattle.ivy_embedded.specs.Nodes.{first_embedded};
-ghost use Rattle.ivy_embedded.specs.Exports.{Answers, Begins, Delivers, IsConfigOf, IsRequest, Polls, Pulses, RefusesCall, RefusesPoll, RefusesPulse, RefusesString, TakesAt};
+ghost use Rattle.ivy_embedded.specs.Exports.{Answers, Begins, CarriesOut, Delivers, IsConfigOf, IsRequest, Polls, Pulses, RefusesCall, RefusesPoll, RefusesPulse, RefusesString, TakesAt};
 ghost use Rattle.ivy_embedded.specs.Peers.{KeepsFor, OwesTo, TellsThose};
 ghost use Rattle.ivy_embedded.specs.Turns.{TellsTurns};
 
@@ -145,6 +146,48 @@ pub extern "C" fn ivy_reply(alloc: Global, handle: &mut Handle, value: &mut u64)
         Ok(progress) => tell(progress, value),
         Err(fault) => status_of(fault),
     }
+}
+
+/// Words of 8 bytes in a row from an address on are loaded into the head of a buffer, and it is told how many: as many as
+/// the buffer has room for, as lie in the page of the address, and as can be read here at once. Where it is none nothing
+/// was done, and the first word is asked for by [`ivy_begin`].
+#[unsafe(no_mangle)]
+pub extern "C" fn ivy_load_block(
+    alloc: Global,
+    handle: &mut Handle,
+    addr: u64,
+    into: &mut [u8],
+    words: &mut usize,
+) -> u32
+    ensures loads { Answers result handle.old.held handle.new.held (CarriesOut Loads addr into.new result words.new) (λ _. ⊥) }
+    ensures sized { length into.new ≡ length into.old }
+{
+    let Some(mut node) = take(alloc, handle) else {
+        return CLOSED;
+    };
+    *words = node.load_row(addr, into);
+    put(alloc, handle, node);
+    DONE
+}
+
+/// The words of 8 bytes of a buffer are stored in a row from an address on, and it is told how many, as [`ivy_load_block`]
+/// does: as many as can be written here at once.
+#[unsafe(no_mangle)]
+pub extern "C" fn ivy_store_block(
+    alloc: Global,
+    handle: &mut Handle,
+    addr: u64,
+    from: &[u8],
+    words: &mut usize,
+) -> u32
+    ensures { Answers result handle.old.held handle.new.held (CarriesOut Stores addr from.now result words.new) (λ _. ⊥) }
+{
+    let Some(mut node) = take(alloc, handle) else {
+        return CLOSED;
+    };
+    *words = node.store_row(addr, from);
+    put(alloc, handle, node);
+    DONE
 }
 
 /// How many turns the node listed since it was opened, in 64 bits. It changes nothing.

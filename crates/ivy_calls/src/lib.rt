@@ -2,7 +2,8 @@
 //!
 //! [`SharedMemory`] is what a program of one node is given: it makes a call and waits for its reply.
 //! The functions of this crate make one call each, on words of the types of [`Word`], and give an
-//! error that names the call and the reason. [`Work`] is a program for all nodes, over any such
+//! error that names the call and the reason. [`read_into`], [`write_from`] and [`fill`] make one for
+//! each word of a block, many at once where the memory has them at hand. [`Work`] is a program for all nodes, over any such
 //! memory. [`Alone`] is one flat memory with no other node, in which a program can be tested.
 //!
 //! What a memory answered is a list of [`Answer`]s, which exists in contracts alone: each function
@@ -12,6 +13,7 @@
 
 mod alone;
 mod answer;
+mod blocks;
 mod calls;
 mod error;
 mod memory;
@@ -20,6 +22,7 @@ mod work;
 
 pub use alone::Alone;
 pub use answer::Answer;
+pub use blocks::{fill, read_into, write_from};
 pub use calls::{advance, alloc, await_, cas, fetch_add, free, load, read, store, swap};
 pub use error::CallError;
 pub use memory::SharedMemory;

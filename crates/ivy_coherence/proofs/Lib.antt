@@ -9,3 +9,4 @@ pub mod Keeping
 pub mod Few
 pub mod Same
 pub mod Opened
+pub mod Hits

@@ -6,6 +6,7 @@ pub mod Coherent
 pub mod Steps
 pub mod Outcomes
 pub mod Faults
+pub mod Hits
 pub mod Sound
 pub use Rattle.ivy_model.specs.Config
 pub use Rattle.ivy_model.specs.Wants

@@ -1,17 +1,21 @@
 //! The entries and pages of one node, and the rules by which they change.
-ghost use Rattle.std.specs.Prelude.{◌≡◌, ◌≢◌, ◌<◌, ◌≤◌, ◌^◌, ℕ, true, false, None, List, IfOk, IfErr, OnOk, OnErr, IsOkUnless, length};
+ghost use Rattle.std.specs.Prelude.{◌≡◌, ◌≢◌, ◌<◌, ◌≤◌, ◌+◌, ◌*◌, ◌%◌, ◌^◌, ℕ, true, false, None, List, IfOk, IfErr, OnOk, OnErr, IsOkUnless, length, if◌then◌else◌};
+ghost use Rattle.ivy_model.specs.declared.Row.TheVariants.{Loads, Stores};
 ghost use Rattle.ivy_model.specs.Config.{IsConfig};
+ghost use Rattle.ivy_model.specs.Rows.{numbers_in};
 ghost use Rattle.ivy_model.specs.Wants.{IsWant};
 ghost use Rattle.ivy_wire.specs.Spelling.{FitsMessage};
 ghost use Rattle.ivy_wire.specs.Posts.{IsPostOf, HasPosted, HasRefused};
 ghost use Rattle.ivy_pagetable.specs.Tables.{entry_at, page_at};
 ghost use Rattle.ivy_pagetable.specs.Words.{IsWord, needs_write};
+ghost use Rattle.ivy_pagetable.specs.Rows.{row_len};
 ghost use Rattle.ivy_coherence.specs.Faults.{suffices, IsIdleAt, HasToAsk, fault_entry, fault_posted, faulted, begun};
+ghost use Rattle.ivy_coherence.specs.Hits.{permits, is_at_hand, AreHits};
 ghost use Rattle.ivy_coherence.specs.Sound.{first_coherent, IsSound};
 
 use crate::need::Need;
 use crate::serving::invalidate;
-use ivy_model::{Config, Fault};
+use ivy_model::{Config, Fault, Row};
 use ivy_pagetable::{
     Access, AwaitAcks, AwaitWrite, Entry, Idle, Manager, Out, Page, PageTable, Waiting, Word,
 };
@@ -67,6 +71,16 @@ fn suffices(access: Access, word: Word) -> bool
         access.writes()
     } else {
         access.reads()
+    }
+}
+
+/// Whether the words of a row can be carried out at once where this is the access.
+fn permits(access: Access, kind: Row) -> bool
+    ensures { result ≡ permits access kind }
+{
+    match kind {
+        Row::Loads => access.reads(),
+        Row::Stores => access.writes(),
     }
 }
 
@@ -264,5 +278,68 @@ impl<M: Manager, A: Allocator> Coherence<M, A> {
             }
             Entry::AwaitRead(_) | Entry::AwaitWrite(_) | Entry::AwaitAcks(_) => Ok(Need::Busy),
         }
+    }
+
+    /// Whether words of a page can be carried out at once: no word of this node waits, and the access suffices.
+    #[inline(always)]
+    fn is_at_hand(&self, page: u32, kind: Row) -> bool
+        requires { page < self.now.config.pages }
+        ensures { result ≡ is_at_hand self.now page kind }
+    {
+        if self.locked.is_some() {
+            return false;
+        }
+        match self.table.entry(page) {
+            Entry::Idle(idle) => permits(idle.access(), kind),
+            Entry::AwaitRead(_) | Entry::AwaitWrite(_) | Entry::AwaitAcks(_) => false,
+        }
+    }
+
+    /// Loads words of 8 bytes from a place in a page on, whose bytes it copies, and says how many words: as many as
+    /// `into` has room for and as lie in the page, or none where a word waits or the page may not be read.
+    ///
+    /// Each word is what an access that loads it would be told at once.
+    #[inline]
+    pub fn load_row(&self, page: u32, offset: u32, into: &mut [u8]) -> usize
+        requires page { page < self.now.config.pages }
+        requires aligned { offset % 8 ≡ 0 }
+        requires within { offset ≤ self.now.config.page_size }
+        ensures many { result ≡ if is_at_hand self.now page Loads
+            then row_len self.now.config.page_size offset (length into.old) else 0 }
+        ensures hits { AreHits M.ops Loads page offset (numbers_in result into.new) self.now self.now }
+        ensures fits { 8 * result ≤ length into.old }
+        ensures within { offset + 8 * result ≤ self.now.config.page_size }
+        ensures sized { length into.new ≡ length into.old }
+    {
+        if !self.is_at_hand(page, Row::Loads) {
+            return 0;
+        }
+        self.table.load_row(page, offset, into)
+    }
+
+    /// Stores words of 8 bytes from a place in a page on, whose bytes it copies, and says how many words: as many as
+    /// `from` has and as lie in the page, or none where a word waits or the page may not be written.
+    ///
+    /// Each word is stored as an access that stores it would do at once.
+    #[inline]
+    pub fn store_row(&mut self, page: u32, offset: u32, from: &[u8]) -> usize
+        requires page { page < self.old.config.pages }
+        requires aligned { offset % 8 ≡ 0 }
+        requires within { offset ≤ self.old.config.page_size }
+        ensures many { result ≡ if is_at_hand self.old page Stores
+            then row_len self.old.config.page_size offset (length from.now) else 0 }
+        ensures hits { AreHits M.ops Stores page offset (numbers_in result from.now) self.old self.new }
+        ensures fits { 8 * result ≤ length from.now }
+        ensures within { offset + 8 * result ≤ self.old.config.page_size }
+        ensures config { self.new.config ≡ self.old.config }
+        ensures me { self.new.me ≡ self.old.me }
+        ensures locked { self.new.locked ≡ self.old.locked }
+        ensures done { self.new.done ≡ self.old.done }
+        ensures sound { IsSound M.ops self.new }
+    {
+        if !self.is_at_hand(page, Row::Stores) {
+            return 0;
+        }
+        self.table.store_row(page, offset, from)
     }
 }

@@ -1,12 +1,18 @@
--- What a site does to the number of turns that it lists: a turn is one more, and nothing else is.
-use Rattle.std.proofs.Common.{◌≡◌, ℕ, ◌+◌, ◌%◌, ◌^◌, List, [], ◌∷◌, ◌++◌, refl, sym, ap, ◌∙◌}
+-- What a site does to the number of turns that it lists: a turn is one more, a row one more for each
+-- of its words, and nothing else is.
+use Rattle.std.proofs.Common.{◌≡◌, ℕ, ◌+◌, ◌%◌, ◌^◌, List, [], ◌∷◌, ◌++◌, length, refl, sym, ap, ◌∙◌, arith}
 use Rattle.std.proofs.Math.Nat.{mod-add-mod}
+use Rattle.ivy_model.specs.declared.Record.{Record}
+use Rattle.ivy_model.specs.declared.Row.{Row}
+use Rattle.ivy_model.specs.Rows.{numbers_in, row}
+use Rattle.ivy_model.proofs.Rows.{length-numbers_in, length-row}
 use Rattle.ivy_wire.specs.Data.{Frame}
 use Rattle.ivy_moves.specs.ivy_link.declared.Verdict.{Verdict}
 use Rattle.ivy_moves.specs.ivy_link.declared.Verdict.TheVariants as verdict
 use Rattle.ivy_moves.specs.Marks.{Mark, Turn, Delivery, Pulse}
 use Rattle.ivy_moves.specs.Nodes.{pulsing}
 use Rattle.ivy_moves.specs.Parts.{pulse_marks}
+use Rattle.ivy_site.specs.Calls.{AreAnswered}
 use Rattle.ivy_site.specs.Shown.{Shown, after_pulse_to}
 use Rattle.ivy_site.specs.Sites.{SiteTurns, SiteDelivers, SiteGoesOn, FollowsDelivery, AfterDelivery}
 use Rattle.ivy_embedded.specs.Turns.{turns_in, CountsTurns}
@@ -49,6 +55,28 @@ counted_turn old new t before after counts is =
     ∙ (mod-add-mod (turns_in old.events) (2 ^ 64) 1
     ∙ ap (λ n. n % 2 ^ 64) (sym (one_more old.events)
     ∙ ap (λ (s : Shown). turns_in s.events) (sym t.after))))
+
+-- each call that is answered as it begins is one more
+answered : (rs : List Record) (old new : Shown) → AreAnswered rs old new
+    → turns_in new.events ≡ turns_in old.events + length rs
+answered [] old new same = omega (arith, ap (λ (s : Shown). turns_in s.events) same)
+answered (r ∷ rs) old new a =
+    let first : turns_in a.0.events ≡ turns_in old.events + 1 =
+    ap (λ (s : Shown). turns_in s.events) a.1.turns.after ∙ one_more old.events in
+    omega (arith, first, answered rs a.0 new a.2)
+
+-- so a row is counted by its words, in 64 bits
+pub counted_row : (kind : Row) (node addr words : ℕ) (bytes : List ℕ) (old new : Shown)
+    → AreAnswered (row kind node addr (numbers_in words bytes)) old new → (before after : ℕ)
+    → CountsTurns before old.events → after ≡ (before + words) % 2 ^ 64
+    → CountsTurns after new.events
+counted_row kind node addr words bytes old new a before after counts is =
+    let many : length (row kind node addr (numbers_in words bytes)) ≡ words =
+    length-row kind node addr (numbers_in words bytes) ∙ length-numbers_in words bytes in
+    is ∙ (ap (λ n. (n + words) % 2 ^ 64) counts
+    ∙ (mod-add-mod (turns_in old.events) (2 ^ 64) words
+    ∙ ap (λ n. n % 2 ^ 64) (sym (answered (row kind node addr (numbers_in words bytes)) old new a
+    ∙ ap (λ n. turns_in old.events + n) many))))
 
 delivers : (bytes : List ℕ) (v : Verdict) (old new : Shown) → SiteDelivers bytes v old new
     → turns_in new.events ≡ turns_in old.events

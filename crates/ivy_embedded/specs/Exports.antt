@@ -1,7 +1,7 @@
 -- What the exports answer, and what they do to the node of a handle. A status below 256 is a reply
 -- of the memory; one from there on is none, and where it is no PENDING either, the node is as it
 -- was.
-use Rattle.std.specs.Prelude.{◌≡◌, ◌≢◌, ◌⊎◌, ℕ, ◌+◌, ◌<◌, ◌≤◌, List, [], ◌∷◌, ◌++◌, take, length, slice_get, Option, None, Some, IfSome, MatchOption, MatchResult}
+use Rattle.std.specs.Prelude.{◌≡◌, ◌≢◌, ◌⊎◌, ℕ, ◌+◌, ◌*◌, ◌<◌, ◌≤◌, List, [], ◌∷◌, ◌++◌, take, length, slice_get, Option, None, Some, IfSome, MatchOption, MatchResult}
 use Rattle.ivy_model.specs.declared.Call.{Call}
 use Rattle.ivy_model.specs.declared.Call.TheVariants.{Load, Store, Swap, Cas, FetchAdd, Count, Advance, Await, Alloc, Free}
 use Rattle.ivy_model.specs.declared.Config.{Config}
@@ -10,7 +10,9 @@ use Rattle.ivy_model.specs.declared.Kind.{Kind}
 use Rattle.ivy_model.specs.declared.Kind.TheVariants.{Fixed, Dynamic}
 use Rattle.ivy_model.specs.declared.Reply.{Reply}
 use Rattle.ivy_model.specs.declared.Reply.TheVariants.{Value, Done, Refused}
+use Rattle.ivy_model.specs.declared.Row.{Row}
 use Rattle.ivy_model.specs.Numbers.{fault_number}
+use Rattle.ivy_model.specs.Rows.{numbers_in, row}
 use Rattle.ivy_model.specs.Wants.{IsWant}
 use Rattle.ivy_wire.specs.Destinations.{dest_of}
 use Rattle.ivy_wire.specs.Faults.{checked}
@@ -20,6 +22,7 @@ use Rattle.ivy_moves.specs.Nodes.{pulsing}
 use Rattle.ivy_program.specs.Owned.{IsFree}
 use Rattle.ivy_program.specs.Steps.{Asks, step_of}
 use Rattle.ivy_site.specs.ivy_host.Hosts.{number_of}
+use Rattle.ivy_site.specs.Calls.{AreAnswered}
 use Rattle.ivy_site.specs.Handed.{site_handed}
 use Rattle.ivy_site.specs.Shown.{Shown, after_pulse_to}
 use Rattle.ivy_site.specs.Sites.{AfterDelivery, SiteTurns}
@@ -136,6 +139,14 @@ Polls status before value s t = (progress : Option Reply)
 abbrev pub RefusesPoll : ℕ → Embedded → Type 0
 RefusesPoll status s =
     TellsWant status ⊎ ((status ≡ NO_CALL) × IsFree s.site.node.core.process)
+
+-- so many words in a row from the address on, whose bytes stand at the head of the buffer, were
+-- loaded or stored, each by a call that was answered in the turn in which it began, and the same
+-- strings wait
+abbrev pub CarriesOut : Row → ℕ → List ℕ → ℕ → ℕ → Embedded → Embedded → Type 0
+CarriesOut kind addr buffer status words s t = (status ≡ DONE) × (8 * words ≤ length buffer)
+    × (waiting_in t ≡ waiting_in s)
+    × OfSite (AreAnswered (row kind s.site.me addr (numbers_in words buffer))) s t
 
 -- the number of a verdict
 abbrev pub verdict_number : Verdict → ℕ

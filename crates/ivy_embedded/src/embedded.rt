@@ -1,10 +1,13 @@
 //! A node with own code, and the string that its owner looked at and has not taken.
-ghost use Rattle.std.specs.Prelude.{◌≡◌, ◌≢◌, ◌↔◌, ◌≤◌, ◌⊎◌, ◌-◌, ◌∷◌, [], ◌<◌, None, Some, Err, take, length, slice_get, IfOk, IfErr, IsTrue, IsFalse, MatchOption, MatchResult, IsOkUnless};
+ghost use Rattle.std.specs.Prelude.{◌≡◌, ◌≢◌, ◌↔◌, ◌≤◌, ◌⊎◌, ◌-◌, ◌*◌, ◌∷◌, [], ◌<◌, None, Some, Err, take, length, slice_get, IfOk, IfErr, IsTrue, IsFalse, MatchOption, MatchResult, IsOkUnless};
 ghost use Rattle.ivy_model.specs.Config.{IsConfig};
 ghost use Rattle.ivy_model.specs.Legal.{HasWidth};
+ghost use Rattle.ivy_model.specs.Rows.{numbers_in, row};
+ghost use Rattle.ivy_model.specs.declared.Row.TheVariants.{Loads, Stores};
 ghost use Rattle.ivy_model.specs.Wants.{IsWant};
 ghost use Rattle.ivy_moves.specs.Nodes.{pulsing};
 ghost use Rattle.ivy_program.specs.Owned.{IsFree};
+ghost use Rattle.ivy_site.specs.Calls.{AreAnswered};
 ghost use Rattle.ivy_site.specs.Shown.{after_pulse_to};
 ghost use Rattle.ivy_site.specs.Sites.{AfterDelivery};
 ghost use Rattle.ivy_wire.specs.Faults.{checked};
@@ -161,8 +164,36 @@ impl Embedded {
         turn(&mut self.site, &mut self.turns)
     }
 
+    /// Loads words of 8 bytes in a row from an address on into the head of the buffer, each in a turn of its own, and says
+    /// how many: as many as the buffer has room for, as lie in the page of the address, and as can be read here at once.
+    /// Where it loads none nothing was done, and [`Embedded::begin`] loads the first word or says what is wrong with it.
+    #[tactic(auto, using(crate::proofs::Counting::counted_row))]
+    pub fn load_row(&mut self, addr: u64, into: &mut [u8]) -> usize
+        ensures loads { OfSite (AreAnswered (row Loads self.old.site.me addr (numbers_in result into.new))) self.old self.new }
+        ensures fits { 8 * result ≤ length into.new }
+        ensures sized { length into.new ≡ length into.old }
+        ensures waiting { waiting_in self.new ≡ waiting_in self.old }
+    {
+        let words = self.site.load_row(addr, into);
+        self.turns = self.turns.wrapping_add(words as u64);
+        words
+    }
+
+    /// Stores the words of 8 bytes of the buffer in a row from an address on, each in a turn of its own, and says how many,
+    /// as [`Embedded::load_row`] does: as many as can be written here at once.
+    #[tactic(auto, using(crate::proofs::Counting::counted_row))]
+    pub fn store_row(&mut self, addr: u64, from: &[u8]) -> usize
+        ensures stores { OfSite (AreAnswered (row Stores self.old.site.me addr (numbers_in result from.now))) self.old self.new }
+        ensures fits { 8 * result ≤ length from.now }
+        ensures waiting { waiting_in self.new ≡ waiting_in self.old }
+    {
+        let words = self.site.store_row(addr, from);
+        self.turns = self.turns.wrapping_add(words as u64);
+        words
+    }
+
     /// How many turns the node listed since it was opened, in 64 bits: a call of [`Embedded::begin`] or
-    /// [`Embedded::poll`] had one turn, or none.
+    /// [`Embedded::poll`] had one turn, or none, and a row one for each of its words.
     pub fn turns(&self) -> u64
         ensures { CountsTurns result self.now.site.events }
     {

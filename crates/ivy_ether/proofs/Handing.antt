@@ -21,7 +21,7 @@ use Rattle.ivy_moves.specs.Worlds.{World}
 use Rattle.ivy_moves.proofs.Carried.{carry_over}
 use Rattle.ivy_moves.proofs.Places.{set-there, set-elsewhere}
 use Rattle.ivy_ether.specs.Data.{Item}
-use Rattle.ivy_ether.specs.Views.{Closing, View, newcomer, with_handed, closing_of, with_closed}
+use Rattle.ivy_ether.specs.Views.{Closing, View, newcomer, with_all_handed, closing_of, with_closed}
 use Rattle.ivy_ether.specs.Rule.{total, one_if, is_number, sits, Reported, IsHanding, IsStart}
 use Rattle.ivy_ether.specs.Rule.{AreRunParts, IsNode, FitsRun, RuleHolds, RuleKept}
 use Rattle.ivy_ether.proofs.Advancing.{fits_set, reported_set, item_stays, Goes, advanced}
@@ -35,38 +35,38 @@ pub seat_there : (o : Option ℕ) → IsSome o → (i : ℕ) × (o ≡ Some i)
 seat_there None there = absurd (true≢false (sym there))
 seat_there (Some i) there = (i, refl)
 
--- a call more for node i, and none for the others
-abbrev more_at : ℕ → Call → ℕ → List Call
-more_at i call j = if i == j then call ∷ [] else []
+-- these calls more for node i, and none for the others
+abbrev more_at : ℕ → List Call → ℕ → List Call
+more_at i more j = if i == j then more else []
 
-more_here : (i j : ℕ) (call : Call) → i ≡ j → more_at i call j ≡ call ∷ []
-more_here i j call same = ap (λ b. if b then call ∷ [] else []) (eq-eqb i j same)
+more_here : (i j : ℕ) (more : List Call) → i ≡ j → more_at i more j ≡ more
+more_here i j more same = ap (λ b. if b then more else []) (eq-eqb i j same)
 
-more_else : (i j : ℕ) (call : Call) → i ≢ j → more_at i call j ≡ []
-more_else i j call apart = ap (λ b. if b then call ∷ [] else []) (ne_eqb i j apart)
+more_else : (i j : ℕ) (more : List Call) → i ≢ j → more_at i more j ≡ []
+more_else i j more apart = ap (λ b. if b then more else []) (ne_eqb i j apart)
 
 module _ {C : Type 0} (rules : Core C) (c : Config) (opening : World C)
     (hand : List Call → C → C) (law : IsHanding rules hand) where
-  -- the world in which the call was handed to one node more
-  changed_there : (start : World C) (i : ℕ) (call : Call) (n : Node C)
+  -- the world in which calls were handed to one node more
+  changed_there : (start : World C) (i : ℕ) (more : List Call) (n : Node C)
       → slice_get start.nodes i ≡ Some n
-      → IsChangedBy (λ j. hand (more_at i call j)) start
-      (record start { nodes = set start.nodes i (node_changed (hand (call ∷ [])) n) })
-  changed_there start i call n at =
-      let x : Node C = node_changed (hand (call ∷ [])) n in
+      → IsChangedBy (λ j. hand (more_at i more j)) start
+      (record start { nodes = set start.nodes i (node_changed (hand more) n) })
+  changed_there start i more n at =
+      let x : Node C = node_changed (hand more) n in
       record {
         there = λ j m get. elim (cases_eq i j) [
           | inl same ↦
               let is : n ≡ m = same_Some n m (sym at ∙ ap (slice_get start.nodes) same ∙ get) in
               ap (slice_get (set start.nodes i x)) (sym same)
               ∙ set-there start.nodes i x n at
-              ∙ ap (λ y. Some (node_changed (hand (call ∷ [])) y)) is
-              ∙ ap (λ l. Some (node_changed (hand l) m)) (sym (more_here i j call same))
+              ∙ ap (λ y. Some (node_changed (hand more) y)) is
+              ∙ ap (λ l. Some (node_changed (hand l) m)) (sym (more_here i j more same))
           | inr apart ↦
               set-elsewhere start.nodes i j x apart ∙ get
               ∙ ap (λ core. Some (record { core = core; link = m.link }))
               (sym (law.none m.core)
-              ∙ ap (λ l. hand l m.core) (sym (more_else i j call apart)))
+              ∙ ap (λ l. hand l m.core) (sym (more_else i j more apart)))
         ];
         count = length-set start.nodes i x;
         sent = refl;
@@ -95,45 +95,45 @@ module _ {C : Type 0} (rules : Core C) (c : Config) (opening : World C)
     | inr x ↦ absurd (let past = x.0 in omega (arith, inside, past))
   ]
 
-  -- the run goes on with the call
-  grows : (calls : ℕ → List Call) (parts : ℕ → List Mark) (end : World C) (i : ℕ) (call : Call)
+  -- the run goes on with the calls
+  grows : (calls : ℕ → List Call) (parts : ℕ → List Mark) (end : World C) (i : ℕ) (more : List Call)
       → AreRunParts rules c opening hand calls parts end → i < length opening.nodes
-      → Goes rules c opening hand calls (λ j. calls j ++ more_at i call j) parts parts end i
-  grows calls parts end i call run inside =
+      → Goes rules c opening hand calls (λ j. calls j ++ more_at i more j) parts parts end i
+  grows calls parts end i more run inside =
       let count = run.starts.count in
       let n = node_there run.start i (omega (arith, inside, count)) in
-      let above = changed_there run.start i call n.0 n.1 in
-      let start' : World C = record run.start { nodes = set run.start.nodes i (node_changed (hand (call ∷ [])) n.0) } in
-      let carried = carry_over rules c (λ j. hand (more_at i call j))
-      (λ j. law.unseen (more_at i call j)) run.start end parts run.run start' above in
+      let above = changed_there run.start i more n.0 n.1 in
+      let start' : World C = record run.start { nodes = set run.start.nodes i (node_changed (hand more) n.0) } in
+      let carried = carry_over rules c (λ j. hand (more_at i more j))
+      (λ j. law.unseen (more_at i more j)) run.start end parts run.run start' above in
       record {
         end = carried.0;
         run = record {
           start = start';
-          starts = starts_on calls (more_at i call) run.start start' run.starts above;
+          starts = starts_on calls (more_at i more) run.start start' run.starts above;
           run = carried.1;
         };
         more = λ s contained. subst (λ l. Contains l s) (sym carried.2.sent) contained;
         others = λ j apart.
-            (refl, ap (λ l. calls j ++ l) (more_else i j call apart) ∙ append-nil (calls j));
+            (refl, ap (λ l. calls j ++ l) (more_else i j more apart) ∙ append-nil (calls j));
       }
 
-  -- a call is handed to the pass's node
-  handed : (p : ℕ) (v : View) (i : ℕ) (call : Call) (items : List Item) (views : List View)
+  -- calls are handed to the pass's node
+  handed : (p : ℕ) (v : View) (i : ℕ) (more : List Call) (items : List Item) (views : List View)
       → v.node ≡ Some i → v.reported ≡ false → RuleKept rules c opening hand items views
       → get_elem? views p ≡ some v
-      → RuleKept rules c opening hand items (set views p (with_handed v call))
-  handed p v i call items views sitting unreported k at =
+      → RuleKept rules c opening hand items (set views p (with_all_handed v more))
+  handed p v i more items views sitting unreported k at =
       let kept = k.4 in
       let mine = kept.fits p v at in
       let own = mine.sitting i sitting in
-      let on = grows kept.calls k.2 k.3 i call kept.run own.inside in
-      let calls' : ℕ → List Call = (λ j. kept.calls j ++ more_at i call j) in
+      let on = grows kept.calls k.2 k.3 i more kept.run own.inside in
+      let calls' : ℕ → List Call = (λ j. kept.calls j ++ more_at i more j) in
       let a = advanced rules c opening hand items views k.0 k.1 k.2 k.3 p v i calls' k.2
-      (v.handed ++ call ∷ []) v.events v.took v.put v.items v.reported kept at sitting unreported on
+      (v.handed ++ more) v.events v.took v.put v.items v.reported kept at sitting unreported on
       own.part
-      (ap (λ l. l ++ more_at i call i) own.handed
-      ∙ ap (λ l. v.handed ++ l) (more_here i i call refl))
+      (ap (λ l. l ++ more_at i more i) own.handed
+      ∙ ap (λ l. v.handed ++ l) (more_here i i more refl))
       (λ s contained. on.more s (mine.took s contained)) in (
         k.0,
         k.1,
@@ -147,21 +147,21 @@ module _ {C : Type 0} (rules : Core C) (c : Config) (opening : World C)
           fresh = a.fresh;
           fits = a.fits;
           holds = λ x contained. item_stays rules c opening hand k.3 on.end views
-              (set views p (with_handed v call)) on.more a.stays x (kept.holds x contained);
+              (set views p (with_all_handed v more)) on.more a.stays x (kept.holds x contained);
         },
       )
 
   -- and a newcomer comes beside it
-  pub hands : (p : ℕ) (v : View) (i : ℕ) (call : Call) → v.node ≡ Some i → v.reported ≡ false
-      → Forks (RuleKept rules c opening hand) p v (with_handed v call) newcomer
-  hands p v i call sitting unreported items views k at =
-      let w : View = with_handed v call in
+  pub hands : (p : ℕ) (v : View) (i : ℕ) (more : List Call) → v.node ≡ Some i → v.reported ≡ false
+      → Forks (RuleKept rules c opening hand) p v (with_all_handed v more) newcomer
+  hands p v i more sitting unreported items views k at =
+      let w : View = with_all_handed v more in
       let now : List View = set views p w in
       let here : get_elem? now p ≡ some w = set_here views p w (in_list views p v at) in
       subst (λ (l : List View). RuleKept rules c opening hand items (l ++ newcomer ∷ []))
       (set_again now p w here)
       (forks rules c opening hand p w items now
-      (handed p v i call items views sitting unreported k at) here)
+      (handed p v i more items views sitting unreported k at) here)
 
   -- the pass of a site is taken in
   pub closes : (p : ℕ) (v : View) (q : ℕ) (site : View) (i : ℕ) → site.node ≡ Some i

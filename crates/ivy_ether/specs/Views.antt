@@ -1,15 +1,10 @@
 -- What a pass knows, and how the steps of the ether change it.
 use Rattle.std.specs.Prelude.{ℕ, ◌+◌, Bool, true, false, Option, Some, None, List, [], ◌∷◌, ◌++◌, unwrap_or}
 use Rattle.ivy_model.specs.declared.Call.{Call}
-use Rattle.ivy_model.specs.declared.Call.TheVariants.{Free}
 use Rattle.ivy_moves.specs.Marks.{Mark}
 use Rattle.ivy_ether.specs.Data.{Item}
 use Rattle.ivy_ether.specs.declared.item.Item.TheVariants.{Seat, Frame, Report}
 use Rattle.ivy_ether.specs.Items.{strings_in}
-
--- some call, where none is handed to any node
-abbrev pub any_call : Call
-any_call = Free 0
 
 -- of a node whose pass is at its end: the calls that were handed to it, and its event list
 pub record Closing : Type 0 where
@@ -73,6 +68,10 @@ with_seat v i =
 -- a call is handed to the pass's node
 abbrev pub with_handed : View → Call → View
 with_handed v call = record v { handed = v.handed ++ call ∷ [] }
+
+-- these calls are handed to it, one after another
+abbrev pub with_all_handed : View → List Call → View
+with_all_handed v calls = record v { handed = v.handed ++ calls }
 
 -- the pass gave its site's list, and did nothing else
 abbrev pub with_given : View → List Mark → View

@@ -1,10 +1,11 @@
 //! The ether: a queue of seats, frames and reports, under the rule.
 ghost use Rattle.std.specs.Prelude.{◌≡◌, ◌⊎◌, ◌<◌, ℕ, List, Some, None, ◌∷◌, [], false, true, Contains, MatchOption, MatchResult, MatchBool, IfOk, IsOkUnless, IsSome, length, replicate, vec_len};
 ghost use Rattle.crossbeam_queue.specs.Passes.{view, IsPassOf};
+ghost use Rattle.ivy_model.specs.Rows.{calls_of, numbers_in, row};
 ghost use Rattle.ivy_program.specs.Programs.{Called};
 ghost use Rattle.ivy_ether.specs.Programs.{MayGive, SendsFrom, Runs, Told};
 ghost use Rattle.ivy_ether.specs.Rule.{times};
-ghost use Rattle.ivy_ether.specs.Views.{with_put, with_refused, with_taken, with_empty, with_report, with_issued, with_seat, with_handed, with_given, with_closed, with_told};
+ghost use Rattle.ivy_ether.specs.Views.{with_put, with_refused, with_taken, with_empty, with_report, with_issued, with_seat, with_handed, with_all_handed, with_given, with_closed, with_told};
 ghost use Rattle.ivy_ether.specs.Words.{MatchPut, AreFresh, room_of};
 
 use crate::item::{Item, View, Wired};
@@ -15,7 +16,7 @@ use crate::steps::{
     Reports, Sits, Takes, Tells,
 };
 use crossbeam_queue::RuledArrayQueue;
-use ivy_model::{Call, Config, Fault};
+use ivy_model::{Call, Config, Fault, Row};
 use ivy_moves::Events;
 use ivy_program::Program;
 use ivy_wire::Bytes;
@@ -292,11 +293,11 @@ impl<S: Setup, A: Allocator + Copy> Ether<S, A> {
 
     fn hand_given<E: Handed>(&self, pass: &mut Pass<Wired<A>>, call: Call)
         requires pass { pass.old.ether ≡ self.now }
-        requires given { E.call ≡ call }
+        requires given { E.calls ≡ call ∷ [] }
         requires seated { IsSome pass.old.known.node }
         requires unreported { pass.old.known.reported ≡ false }
         ensures pass { pass.new.ether ≡ pass.old.ether }
-        ensures known { pass.new.known ≡ with_handed pass.old.known E.call }
+        ensures known { pass.new.known ≡ with_all_handed pass.old.known E.calls }
     {
         let _ = call;
         self.queue.another::<Hands<E>>(&mut pass.token);
@@ -312,6 +313,45 @@ impl<S: Setup, A: Allocator + Copy> Ether<S, A> {
         ensures known { pass.new.known ≡ with_handed pass.old.known call }
     {
         self.hand_given::<Brand>(pass, call)
+    }
+
+    fn hand_row_given<E: Handed>(
+        &self,
+        pass: &mut Pass<Wired<A>>,
+        kind: Row,
+        addr: u64,
+        words: usize,
+        bytes: &[u8],
+    )
+        requires pass { pass.old.ether ≡ self.now }
+        requires given { E.calls ≡ calls_of (row kind 0 addr (numbers_in words bytes.now)) }
+        requires seated { IsSome pass.old.known.node }
+        requires unreported { pass.old.known.reported ≡ false }
+        ensures pass { pass.new.ether ≡ pass.old.ether }
+        ensures known { pass.new.known ≡ with_all_handed pass.old.known E.calls }
+    {
+        let _ = (kind, addr, words);
+        let _ = bytes;
+        self.queue.another::<Hands<E>>(&mut pass.token);
+    }
+
+    /// The calls on so many words of 8 bytes in a row from `addr` on, whose bytes these are, are handed to the pass's node.
+    /// However many they are, it costs what [`Ether::hand`] does.
+    pub fn hand_row(
+        &self,
+        pass: &mut Pass<Wired<A>>,
+        kind: Row,
+        addr: u64,
+        words: usize,
+        bytes: &[u8],
+    )
+        requires pass { pass.old.ether ≡ self.now }
+        requires seated { IsSome pass.old.known.node }
+        requires unreported { pass.old.known.reported ≡ false }
+        ensures pass { pass.new.ether ≡ pass.old.ether }
+        ensures known { pass.new.known ≡ with_all_handed pass.old.known (calls_of (row kind 0 addr (numbers_in words bytes.now))) }
+    {
+        self.hand_row_given::<Brand>(pass, kind, addr, words, bytes)
     }
 
     fn give<E: Given>(&self, pass: &mut Pass<Wired<A>>, events: &Events<A>)

@@ -23,17 +23,18 @@ impl Given for Brand {
     ghost frame = { [] };
 }
 
-/// The call that is handed to a node. Each step picks it.
+/// The calls that are handed to a node. Each step picks them.
 pub trait Handed {
+    ghost use Rattle.std.specs.Prelude.{List};
     ghost use Rattle.ivy_model.specs.declared.Call.{Call};
 
-    ghost call: { Call };
+    ghost calls: { List Call };
 }
 
 impl Handed for Brand {
-    ghost use Rattle.ivy_ether.specs.Views.{any_call};
+    ghost use Rattle.std.specs.Prelude.{[]};
 
-    ghost call = { any_call };
+    ghost calls = { [] };
 }
 
 /// A frame is put.
@@ -186,13 +187,13 @@ impl Split<View> for Beside {
     ghost right = { λ v. newcomer };
 }
 
-/// A call is handed to the pass's node.
+/// Calls are handed to the pass's node.
 pub struct Hands<E: Handed>(PhantomData<E>);
 
 impl<E: Handed> Split<View> for Hands<E> {
-    ghost use Rattle.ivy_ether.specs.Views.{newcomer, with_handed};
+    ghost use Rattle.ivy_ether.specs.Views.{newcomer, with_all_handed};
 
-    ghost left = { λ v. with_handed v E.call };
+    ghost left = { λ v. with_all_handed v E.calls };
 
     ghost right = { λ v. newcomer };
 }

@@ -32,7 +32,7 @@ aligned_of true o h = refl
 aligned_of false o h = absurd (none-some 3 (sym h))
 
 -- an access that is not refused is that of an aligned word of a page
-access-word : (c : Config) (width addr : ℕ) → IsConfig c → IsWidth width
+pub access-word : (c : Config) (width addr : ℕ) → IsConfig c → IsWidth width
     → access_refusal c width addr ≡ None
     → (addr / c.page_size < c.pages) × (addr % c.page_size % width ≡ 0)
     × (addr % c.page_size + width ≤ c.page_size)
@@ -63,7 +63,7 @@ count-word c k config there =
     let pages = config.pages_from in
     (omega (arith, pages), omega arith, omega (arith, below, words))
 
-width_of_count : IsWidth 8
+pub width_of_count : IsWidth 8
 width_of_count = (3, lit< tt, refl)
 
 unless : (c : Config) (o : Option ℕ) (page : ℕ) (w : Word)

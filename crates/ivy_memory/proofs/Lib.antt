@@ -9,6 +9,7 @@ pub mod Pages
 pub mod Errands
 pub mod WordsServed
 pub mod CallsServed
+pub mod AtOnce
 pub use Rattle.ivy_heap.proofs.of_ivy_alloc as of_ivy_alloc
 pub use Rattle.ivy_heap.proofs as of_ivy_heap
 pub use Rattle.ivy_coherence.proofs as of_ivy_coherence

@@ -1,9 +1,10 @@
 //! What a call is to the memory of a node.
-ghost use Rattle.std.specs.Prelude.{◌≡◌, ◌/◌, ◌%◌};
+ghost use Rattle.std.specs.Prelude.{◌≡◌, ◌/◌, ◌%◌, IfSome};
 ghost use Rattle.ivy_model.specs.Config.{IsConfig};
 ghost use Rattle.ivy_model.specs.Legal.{HasKindWidth, HasWidth, IsWidth};
 ghost use Rattle.ivy_model.specs.Serves.{access_refusal};
 ghost use Rattle.ivy_memory.specs.Asking.{count_asked, asked_kind, asked_of, word_unless};
+ghost use Rattle.ivy_memory.specs.AtOnce.{IsRowAt};
 
 use ivy_event::{advance, await_at_least, read};
 use ivy_heap::HeapCall;
@@ -64,6 +65,31 @@ fn word_asked(config: &Config, width: u8, addr: u64, word: Word) -> Asked
     let page = page_of(config, addr) as u32;
     Asked::Word { page, word }
 }
+
+/// Where a row of words of 8 bytes begins: the number of its page, and the place of its first byte there.
+#[derive(Clone, Copy, Debug, PartialEq, Eq)]
+pub(crate) struct RowPlace {
+    pub(crate) page: u32,
+    pub(crate) offset: u32,
+}
+
+/// Where the row of words of 8 bytes at an address begins, if a word of the heap is there.
+#[inline(always)]
+pub(crate) fn row_place(config: &Config, addr: u64) -> Option<RowPlace>
+    requires limits { IsConfig config.now }
+    ensures at { IfSome result (λ at. IsRowAt config.now addr at) }
+{
+    if access_refusal(config, ROW_WIDTH, addr).is_some() {
+        return None;
+    }
+    Some(RowPlace {
+        page: page_of(config, addr) as u32,
+        offset: offset_of(config, addr),
+    })
+}
+
+/// How many bytes a word of a row has.
+const ROW_WIDTH: u8 = 8;
 
 /// What a call of this kind is.
 #[inline(always)]

@@ -1,17 +1,20 @@
 //! The memory of one node, as its program sees it: one call in progress, over the node's coherence.
-ghost use Rattle.std.specs.Prelude.{◌≡◌, ◌≢◌, ◌<◌, ◌≤◌, ◌↔◌, ◌⊎◌, None, IsSome, IfOk, IfErr, OnOk, OnErr, IsOkUnless, IsErrOf, length};
+ghost use Rattle.std.specs.Prelude.{◌≡◌, ◌≢◌, ◌<◌, ◌≤◌, ◌↔◌, ◌⊎◌, ◌*◌, ℕ, None, IsSome, IfSome, IfOk, IfErr, OnOk, OnErr, IsOkUnless, IsErrOf, length};
+ghost use Rattle.ivy_model.specs.declared.Row.TheVariants.{Loads, Stores};
 ghost use Rattle.ivy_model.specs.Config.{IsConfig};
 ghost use Rattle.ivy_model.specs.Legal.{HasWidth};
+ghost use Rattle.ivy_model.specs.Rows.{numbers_in, row};
 ghost use Rattle.ivy_model.specs.Wants.{IsWant};
 ghost use Rattle.ivy_wire.specs.Lent.{owned_content, owned_message};
 ghost use Rattle.ivy_wire.specs.Spelling.{FitsMessage};
 ghost use Rattle.ivy_wire.specs.Posts.{IsPostOf, HasRefused};
 ghost use Rattle.ivy_memory.specs.Asking.{CallHasToAsk, IsOfHeap, MayBeRefused, asked_of};
+ghost use Rattle.ivy_memory.specs.AtOnce.{AnswerAtOnce, IsRowAt};
 ghost use Rattle.ivy_heap.specs.HeapCalls.{IsGrowth, IsGrowthPosted};
 ghost use Rattle.ivy_memory.specs.Memories.{first_memory, reply_of, reply_at, HasToAskAgain, call_begun, polled, memory_handled, memory_told};
 ghost use Rattle.ivy_coherence.specs.Limits.{most_posted};
 
-use crate::asked::{Asked, asked_of};
+use crate::asked::{Asked, RowPlace, asked_of, row_place};
 use ivy_coherence::{Coherence, Need};
 use ivy_heap::{Answer, HeapSide};
 use ivy_model::{Call, Config, Fault, Reply};
@@ -219,6 +222,61 @@ impl<M: Manager, A: Allocator + Copy> Memory<M, A> {
             }
             Need::Busy => Ok(Answer::Unserved),
         }
+    }
+
+    /// Where the row of words of 8 bytes at an address begins, unless a call is in progress or no such word of the heap
+    /// is at that address.
+    #[inline(always)]
+    fn row_at(&self, addr: u64) -> Option<RowPlace>
+        ensures idle { IfSome result (λ at. self.now.asked ≡ None) }
+        ensures at { IfSome result (λ at. IsRowAt self.now.coherence.config addr at) }
+    {
+        if self.asked.is_some() {
+            return None;
+        }
+        row_place(&self.coherence.config(), addr)
+    }
+
+    /// Loads words of 8 bytes from an address on, whose bytes it copies, and says how many words: as many as `into` has
+    /// room for and as lie in the page of the address.
+    ///
+    /// It loads none where a call is in progress, where the address is not a multiple of 8 or not one of the heap, and
+    /// where the page may not be read here: then another node has to be asked, by a call. Each word is what a call that
+    /// loads it would be answered at once. It takes no memory, and asks the post nothing.
+    #[inline]
+    pub fn load_row(&self, addr: u64, into: &mut [u8]) -> usize
+        ensures hits { (node : ℕ) → AnswerAtOnce M.ops (row Loads node addr (numbers_in result into.new)) self.now self.now }
+        ensures fits { result * 8 ≤ length into.old }
+        ensures sized { length into.new ≡ length into.old }
+        ensures idle { result ≢ 0 → self.now.asked ≡ None }
+        ensures small { result * 8 ≤ 4096 }
+    {
+        let Some(at) = self.row_at(addr) else {
+            return 0;
+        };
+        self.coherence.load_row(at.page, at.offset, into)
+    }
+
+    /// Stores words of 8 bytes from an address on, whose bytes it copies, and says how many words: as many as `from` has
+    /// and as lie in the page of the address.
+    ///
+    /// It stores none where a call is in progress, where the address is not a multiple of 8 or not one of the heap, and
+    /// where the page may not be written here: then another node has to be asked, by a call. Each word is stored as a
+    /// call that stores it would do at once. It takes no memory, and asks the post nothing.
+    #[inline]
+    pub fn store_row(&mut self, addr: u64, from: &[u8]) -> usize
+        ensures hits { (node : ℕ) → AnswerAtOnce M.ops (row Stores node addr (numbers_in result from.now)) self.old self.new }
+        ensures fits { result * 8 ≤ length from.now }
+        ensures idle { result ≢ 0 → self.old.asked ≡ None }
+        ensures kept { self.new.asked ≡ self.old.asked }
+        ensures config { self.new.coherence.config ≡ self.old.coherence.config }
+        ensures me { self.new.coherence.me ≡ self.old.coherence.me }
+        ensures small { result * 8 ≤ 4096 }
+    {
+        let Some(at) = self.row_at(addr) else {
+            return 0;
+        };
+        self.coherence.store_row(at.page, at.offset, from)
     }
 
     /// A message of another node [1, 17]. The bytes of a page that it brings are copied once; that takes no memory.

@@ -10,3 +10,4 @@ pub mod Explains
 pub mod Blocks
 pub mod Flat
 pub mod Wants
+pub mod Rows

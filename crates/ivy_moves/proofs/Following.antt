@@ -7,7 +7,7 @@ use Rattle.std.proofs.Common.{sym, ap, subst, ◌∙◌, inl, inr, arith, length
 use Rattle.std.proofs.lemmas.Bool.{cases_eq, cases_lt, and_parts, ltb-true, eq-eqb, true≢false}
 use Rattle.std.proofs.lemmas.List.{map-set, set-set, length-map, get_or_past}
 use Rattle.std.proofs.lemmas.List.Elements.{All-nil, All-append, All-push, All-map, All-contains, All-weaker, Contains-append_left}
-use Rattle.std.proofs.lemmas.Option.{same_Some, none-some, slice_get_within, get_or_from_slice_get, slice_get-get_or}
+use Rattle.std.proofs.lemmas.Option.{same_Some, none-some, slice_get_within, get_or_from_slice_get}
 use Rattle.std.proofs.Math.Seq.{map-set_same}
 use Rattle.ivy_model.specs.Config.{IsConfig}
 use Rattle.ivy_model.specs.declared.Config.{Config}

@@ -1,7 +1,7 @@
 -- Parts of a run that go on by further events are parts of a run again: the new events are moves
 -- after all others.
 use Rattle.std.proofs.Common.{◌≡◌, ◌≢◌, ℕ, zero, suc, ◌+◌, ◌<◌, ◌≤◌, List, [], ◌∷◌, ◌++◌, length}
-use Rattle.std.proofs.Common.{set, slice_get, Contains, Bool, true, false, not, nat_lt, Option}
+use Rattle.std.proofs.Common.{set, slice_get, Contains, Bool, true, false, not, nat_lt}
 use Rattle.std.proofs.Common.{Some, None, if◌then◌else◌, ◌==◌, ◌&&◌, refl, sym, ap, subst, ◌∙◌, inl}
 use Rattle.std.proofs.Common.{inr, arith, length-set, append-nil, append_assoc}
 use Rattle.std.proofs.lemmas.Bool.{cases_eq, cases_lt, lt-ltb, le-ltb, eq-eqb, ne_eqb}
@@ -13,13 +13,13 @@ use Rattle.ivy_link.specs.declared.Verdict.{Verdict}
 use Rattle.ivy_link.specs.declared.Verdict.TheVariants as verdict
 use Rattle.ivy_moves.specs.declared.moves.Move.{Move}
 use Rattle.ivy_moves.specs.declared.moves.Move.TheVariants as move
-use Rattle.ivy_moves.specs.Cores.{Core, Outcome}
+use Rattle.ivy_moves.specs.Cores.{Core}
 use Rattle.ivy_moves.specs.Marks.{Mark, Turn, Delivery, Pulse}
-use Rattle.ivy_moves.specs.Nodes.{Node, Effect, stays, turned, verdict_of, delivered, pulsing}
-use Rattle.ivy_moves.specs.Worlds.{World, gone_on, world_goes_on, remembered, remembering, turn_of, delivery_of, pulse_of, made_by, moved, MayGoOn, Moves, Leads}
-use Rattle.ivy_moves.specs.Parts.{followed_by, delivery_marks, pulse_marks, CanBeMade}
+use Rattle.ivy_moves.specs.Nodes.{Node, Effect, stays, verdict_of, pulsing}
+use Rattle.ivy_moves.specs.Worlds.{World, gone_on, world_goes_on, remembered, remembering, turn_of, delivery_of, pulse_of, made_by, moved, Leads}
+use Rattle.ivy_moves.specs.Parts.{delivery_marks, pulse_marks, CanBeMade}
 use Rattle.ivy_moves.specs.Parts.{AllCanBeMade, Happens, AllHappen, turn_marks, turn_given}
-use Rattle.ivy_moves.specs.Parts.{delivery_given, pulse_given, given_by, given_after, given_at}
+use Rattle.ivy_moves.specs.Parts.{delivery_given, pulse_given, given_by, given_at}
 use Rattle.ivy_moves.specs.Parts.{parts_of, AreParts, GoOn, PartsGoOn}
 use Rattle.ivy_moves.proofs.Splitting.{part-sent, before-sent}
 use Rattle.ivy_moves.proofs.Places.{set-same, set-there, set-elsewhere}

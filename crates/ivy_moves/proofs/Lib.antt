@@ -11,4 +11,6 @@ pub mod GoingOn
 pub mod Leading
 pub mod Unseen
 pub mod Carried
+pub mod Lasts
+pub mod Rowed
 pub use Rattle.ivy_link.proofs as of_ivy_link

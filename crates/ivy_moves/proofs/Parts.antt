@@ -1,9 +1,9 @@
 -- Each node of a run is what its part makes of it, and the strings sent are those of the parts.
-use Rattle.std.proofs.Common.{◌≡◌, ◌≢◌, ℕ, zero, suc, ◌+◌, List, [], ◌∷◌, ◌++◌, length, map, set}
-use Rattle.std.proofs.Common.{replicate, slice_get, All, ◌<◌, Bool, true, false, Option, Some, None}
+use Rattle.std.proofs.Common.{◌≡◌, ◌≢◌, ℕ, ◌+◌, List, [], ◌∷◌, ◌++◌, length, set}
+use Rattle.std.proofs.Common.{replicate, slice_get, All, ◌<◌, Option, Some, None}
 use Rattle.std.proofs.Common.{Result, Ok, Err, if◌then◌else◌, ◌==◌, refl, sym, ap, subst, ◌∙◌, inl}
-use Rattle.std.proofs.Common.{inr, arith, length-set, append-nil, append_assoc}
-use Rattle.std.proofs.lemmas.Bool.{eq-eqb, ne_eqb, eqb-true, cases_eq}
+use Rattle.std.proofs.Common.{inr, length-set, append-nil, append_assoc}
+use Rattle.std.proofs.lemmas.Bool.{eq-eqb, ne_eqb, cases_eq}
 use Rattle.std.proofs.lemmas.List.{set-set, length-append, length-replicate}
 use Rattle.std.proofs.lemmas.List.Elements.{All-nil, All-append, All-replicate}
 use Rattle.std.proofs.lemmas.Option.{same_Some, none-some, slice_get_within}
@@ -19,11 +19,11 @@ use Rattle.ivy_moves.specs.declared.moves.Move.TheVariants as move
 use Rattle.ivy_moves.specs.Cores.{Core, Outcome}
 use Rattle.ivy_moves.specs.Marks.{Mark, Turn, Delivery, Pulse}
 use Rattle.ivy_moves.specs.Nodes.{Node, Effect, stays, turned, turned_to, verdict_as, verdict_of, received, received_as, delivered, delivered_as, pulsing}
-use Rattle.ivy_moves.specs.Worlds.{World, gone_on, world_goes_on, remembered, is_named, turn_of, delivery_of, pulse_of, made_by, moved, GoesOnWith, MayGoOn, Moves, Leads}
+use Rattle.ivy_moves.specs.Worlds.{World, gone_on, remembered, is_named, turn_of, delivery_of, pulse_of, moved, GoesOnWith, MayGoOn, Moves, Leads}
 use Rattle.ivy_moves.specs.Parts.{followed_by, delivery_marks, pulse_marks, node_of, sent_from}
 use Rattle.ivy_moves.specs.Parts.{Happens, AllHappen, turn_marks, turn_given, delivery_given}
-use Rattle.ivy_moves.specs.Parts.{pulse_given, given_by, given_further, given_after, given_at}
-use Rattle.ivy_moves.specs.Parts.{parts_of, AreParts, IsMadeByPart, AreMadeByParts}
+use Rattle.ivy_moves.specs.Parts.{pulse_given, given_by, given_further, given_after}
+use Rattle.ivy_moves.specs.Parts.{parts_of, IsMadeByPart, AreMadeByParts}
 use Rattle.ivy_moves.specs.Parts.{RunsAreTheirParts}
 use Rattle.ivy_moves.proofs.Places.{guarded, set-there, set-elsewhere}
 use Rattle.ivy_moves.proofs.Following.{went, remembered-went}

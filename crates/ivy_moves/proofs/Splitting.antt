@@ -8,7 +8,7 @@ use Rattle.ivy_moves.specs.Cores.{Core}
 use Rattle.ivy_moves.specs.Marks.{Mark, Turn, Delivery, Pulse}
 use Rattle.ivy_moves.specs.Nodes.{Node, Effect, stays}
 use Rattle.ivy_moves.specs.Worlds.{World}
-use Rattle.ivy_moves.specs.Parts.{followed_by, sent_from, CanBeMade, AllCanBeMade, Happens, AllHappen, AreParts}
+use Rattle.ivy_moves.specs.Parts.{followed_by, sent_from, AllCanBeMade, Happens, AllHappen, AreParts}
 use Rattle.ivy_moves.proofs.Parts.{runs_are_their_parts}
 
 pub none-in : {X : Type 0} (x : X) → Contains [] x → ⊥

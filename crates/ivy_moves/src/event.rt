@@ -1,7 +1,7 @@
 //! The events of a node, as it lists them.
-ghost use Rattle.std.specs.Prelude.{◌≡◌, [], ◌∷◌, ◌++◌, true, IfOk, OnOk, IsTrue};
+ghost use Rattle.std.specs.Prelude.{◌≡◌, [], ◌∷◌, ◌++◌, true, false, IfOk, OnOk, IsTrue};
 ghost use Rattle.ivy_moves.specs.Keeping.{read_of};
-ghost use Rattle.ivy_moves.specs.Marks.{Turn, Delivery, Pulse, marks};
+ghost use Rattle.ivy_moves.specs.Marks.{Turn, Delivery, Pulse, marks, turns};
 
 use crate::note::note_turn;
 use crate::same::{are_same, copy_events, retold};
@@ -105,6 +105,16 @@ impl<A: Allocator> Events<A> {
         if self.is_kept {
             note_turn(&mut self.entries);
         }
+    }
+
+    /// Lists so many more turns, where the entries are not kept.
+    #[inline(always)]
+    pub fn push_turns(&mut self, count: u64)
+        requires { self.old.kept ≡ false }
+        ensures marks { self.new.marks ≡ self.old.marks ++ turns count }
+        ensures kept { self.new.kept ≡ self.old.kept }
+    {
+        self.story.push_turns(count);
     }
 
     /// Lists one more delivery, of a whole string, in the place that [`Events::reserve`] made.

@@ -1,9 +1,10 @@
 //! What a node was answered.
-ghost use Rattle.std.specs.Prelude.{◌≡◌, [], ◌∷◌, ◌++◌, ◌+◌, ◌<◌, ◌^◌, length, IsTrue, OnOk};
+ghost use Rattle.std.specs.Prelude.{◌≡◌, [], ◌∷◌, ◌++◌, ◌+◌, ◌*◌, ◌<◌, ◌≤◌, ◌^◌, length, false, IsTrue, OnOk};
+ghost use Rattle.ivy_model.specs.Rows.{numbers_in, row};
 ghost use Rattle.ivy_moves.specs.Keeping.{read_of, last_of};
 
 use crate::story::Story;
-use ivy_model::Record;
+use ivy_model::{Record, Row};
 use std::alloc::{AllocError, Allocator};
 use std::marker::Model;
 
@@ -104,6 +105,33 @@ impl<A: Allocator> History<A> {
         self.last = Some(one);
         if self.is_kept {
             self.records.push_reserved(one);
+        }
+    }
+
+    /// Whether so many more records can be listed with no place for them: the records are not kept, and can be counted.
+    #[inline(always)]
+    pub fn takes_rows(&self, words: usize) -> bool
+        ensures kept { IsTrue result → self.now.kept ≡ false }
+        ensures room { IsTrue result → length self.now.records + words < 2 ^ 64 }
+    {
+        !self.is_kept && words as u64 <= u64::MAX - self.count
+    }
+
+    /// One more record for each of so many words in a row from `addr` on, of node `node`, whose bytes these are. The records
+    /// are not kept.
+    #[inline(always)]
+    pub fn push_row(&mut self, kind: Row, node: u8, addr: u64, words: usize, bytes: &[u8])
+        requires unkept { self.old.kept ≡ false }
+        requires room { length self.old.records + words < 2 ^ 64 }
+        requires within { 8 * words ≤ length bytes.now }
+        requires small { addr + 8 * words < 2 ^ 64 }
+        ensures records { self.new.records ≡ self.old.records ++ row kind node addr (numbers_in words bytes.now) }
+        ensures kept { self.new.kept ≡ self.old.kept }
+    {
+        self.story.push_row(kind, node, addr, words, bytes);
+        self.count += words as u64;
+        if let Some(last) = kind.last(node, addr, words, bytes) {
+            self.last = Some(last);
         }
     }
 }

@@ -2,9 +2,10 @@
 ghost use Rattle.std.specs.Prelude.{◌≡◌, List, [], ◌∷◌, ◌++◌};
 ghost use Rattle.std.specs.Borrow.{ftrue};
 ghost use Rattle.ivy_model.specs.declared.Record.{Record};
+ghost use Rattle.ivy_model.specs.Rows.{numbers_in, row};
 ghost use Rattle.ivy_moves.specs.Marks.{Mark, Turn, Delivery, Pulse, turns};
 
-use ivy_model::Record;
+use ivy_model::{Record, Row};
 use std::marker::{Model, PhantomData};
 
 /// What happened at a node, and what it was answered. Nobody reads it when it runs.
@@ -130,6 +131,28 @@ impl<'a> Tells<Answered<'a>> for Recorded {
     ghost records = { λ a. a.before.now.records ++ a.one.now ∷ [] };
 }
 
+/// A story, and a record more for each word of a row, whose bytes these are.
+#[derive(Drop)]
+struct InRow<'a> {
+    before: &'a Story,
+    kind: Row,
+    node: u8,
+    addr: u64,
+    words: usize,
+    bytes: &'a [u8],
+}
+
+struct RecordedInRow;
+
+impl<'a> Tells<InRow<'a>> for RecordedInRow {
+    ghost use Rattle.std.specs.Prelude.{◌++◌};
+    ghost use Rattle.ivy_model.specs.Rows.{numbers_in, row};
+
+    ghost events = { λ r. r.before.now.events };
+
+    ghost records = { λ r. r.before.now.records ++ row r.kind r.node r.addr (numbers_in r.words r.bytes.now) };
+}
+
 impl Story {
     /// Nothing happened yet.
     pub(crate) fn new() -> Story
@@ -177,6 +200,22 @@ impl Story {
     {
         let answered = Answered { before: self, one };
         let next = Story::of::<Answered<'_>, Recorded>(&answered);
+        *self = next;
+    }
+
+    /// One more record for each of so many words in a row from `addr` on, whose bytes these are.
+    pub(crate) fn push_row(&mut self, kind: Row, node: u8, addr: u64, words: usize, bytes: &[u8])
+        ensures { (self.new.events ≡ self.old.events) × (self.new.records ≡ self.old.records ++ row kind node addr (numbers_in words bytes.now)) }
+    {
+        let told = InRow {
+            before: self,
+            kind,
+            node,
+            addr,
+            words,
+            bytes,
+        };
+        let next = Story::of::<InRow<'_>, RecordedInRow>(&told);
         *self = next;
     }
 }

@@ -1,3 +1,4 @@
 mod Each
 mod Owning
+mod InRow
 mod Reported

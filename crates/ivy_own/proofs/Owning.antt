@@ -32,20 +32,20 @@ use Rattle.ivy_seating.specs.Turns.{KeepsAnswers}
 use Rattle.ivy_own.proofs.Each.{got_last}
 use Rattle.ivy_own.specs.Owned.{MakesCalls, IsOwned, IsNext, TurnsOwn, came, grown, last_reply_in}
 
-abbrev H : Type 0
+abbrev pub H : Type 0
 H = Host Managed
 
 -- the host was answered no more
-abbrev SameHost : H → H → Type 0
+abbrev pub SameHost : H → H → Type 0
 SameHost n o = (o.history ≡ n.history) × (o.process ≡ n.process)
 
 -- it has this reply to the call
-abbrev RepliedHost : Call → H → H → Type 0
+abbrev pub RepliedHost : Call → H → H → Type 0
 RepliedHost c n o = (reply : Reply)
     × (o.history ≡ n.history ++ record { node = number_of n; call = c; reply = reply } ∷ [])
     × (o.process ≡ answered_with n.process reply)
 
-abbrev CameHost : Call → H → H → Type 0
+abbrev pub CameHost : Call → H → H → Type 0
 CameHost c n o = SameHost n o ⊎ RepliedHost c n o
 
 with_came : (n : H) (c : Call) (a : CallBegun Managed) (r : memory_answer.Answer) (o : Outcome H)
@@ -65,7 +65,7 @@ begun_came : (b : Bool) (n : H) (c : Call) (a : CallBegun Managed) (o : Outcome 
 begun_came true n c a o e = with_came n c a a.answer o e
 begun_came false n c a o e = absurd (none-some o e)
 
-turn_came : (n : H) (c : Call) (o : Outcome H)
+pub turn_came : (n : H) (c : Call) (o : Outcome H)
     → (n.memory.asked ≡ Some c) ⊎ ((n.memory.asked ≡ None) × (step_of n.process ≡ Asks c))
     → turn_of managed_ops n ≡ Some o → CameHost c n o.after
 unfolding turn_of
@@ -78,7 +78,7 @@ turn_came n c o (inr next) e =
     (subst (λ s. steps managed_ops n s ≡ Some o) next.1
     (subst (λ k. turned_at managed_ops n k ≡ Some o) next.0 e))
 
-posted_core : (b : Bool) (x e : Effect H) → (if b then Some x else None) ≡ Some e
+pub posted_core : (b : Bool) (x e : Effect H) → (if b then Some x else None) ≡ Some e
     → x.after.core ≡ e.after.core
 posted_core true x e is = ap (λ (y : Effect H). y.after.core) (same_Some x e is)
 posted_core false x e is = absurd (none-some e is)
@@ -90,12 +90,10 @@ inside calls s goes = elim ((slice_get_cases calls s.place).1) [
   | inr past ↦ absurd (goes (ap called_at past.1))
 ]
 
--- the reply moves it on
-made_more : (p : Process) (reply : Reply) → MakesCalls p → (HasEnded p → ⊥)
+-- the reply moves it on, where it stands before its last call
+pub goes_on : (p : Process) (reply : Reply) (m : MakesCalls p) → p.state.place < length m.calls
     → MakesCalls (answered_with p reply)
-made_more p reply m goes =
-    let lt : p.state.place < length m.calls =
-    inside m.calls p.state (λ ends. goes (ap (λ q. step q p.state) m.program ∙ ends)) in
+goes_on p reply m lt =
     let place : (answered_with p reply).state.place ≡ p.state.place + 1 =
     ap (λ q. (after_reply q p.state reply).place) m.program in
     record {
@@ -104,6 +102,12 @@ made_more p reply m goes =
       widths = m.widths;
       within = omega (arith, lt, place);
     }
+
+made_more : (p : Process) (reply : Reply) → MakesCalls p → (HasEnded p → ⊥)
+    → MakesCalls (answered_with p reply)
+made_more p reply m goes =
+    goes_on p reply m
+    (inside m.calls p.state (λ ends. goes (ap (λ q. step q p.state) m.program ∙ ends)))
 
 -- a site with own code whose turn for the call came to this
 abbrev CameSite : Call → Shown → Shown → Type 0

@@ -54,6 +54,12 @@ pub record TurnsOwn (call : Call) (reply : Option Reply) (old new : Shown) : Typ
   pub answers : answers new.node.core.history ≡ answers old.node.core.history ++ came call reply
   pub makes : MakesCalls new.node.core.process
 
+-- calls of own code one after another: the node has these answers more, and else is as before
+pub record AnswersMore (more : List Answer) (old new : Shown) : Type 0 where
+  pub me : new.me ≡ old.me
+  pub answers : answers new.node.core.history ≡ answers old.node.core.history ++ more
+  pub makes : MakesCalls new.node.core.process
+
 -- the reply in the last record
 abbrev pub last_reply_in : List Record → Option Reply
 last_reply_in records = option_map (λ (r : Record). r.reply) (last_of records)
@@ -63,3 +69,7 @@ abbrev pub grown : Call → Option Reply → Listed Answer → Listed Answer
 grown call None half = half
 grown call (Some reply) half =
     listed half.number (half.list ++ record { call = call; reply = reply } ∷ [])
+
+-- the list has these answers more
+abbrev pub grown_by : List Answer → Listed Answer → Listed Answer
+grown_by more half = listed half.number (half.list ++ more)

@@ -150,4 +150,24 @@ where
             None => self.wait_for(call),
         }
     }
+
+    #[inline(always)]
+    fn load_row(&mut self, addr: u64, into: &mut [u8]) -> usize {
+        let Some(mut seat) = self.worker.enter() else {
+            return 0;
+        };
+        let words = seat.load_row(self.tie, &mut self.mine, self.me, addr, into);
+        self.worker.leave(seat);
+        words
+    }
+
+    #[inline(always)]
+    fn store_row(&mut self, addr: u64, from: &[u8]) -> usize {
+        let Some(mut seat) = self.worker.enter() else {
+            return 0;
+        };
+        let words = seat.store_row(self.tie, &mut self.mine, self.me, addr, from);
+        self.worker.leave(seat);
+        words
+    }
 }

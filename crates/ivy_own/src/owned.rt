@@ -1,16 +1,18 @@
 //! The place of a node with own code, as it stands behind its lock.
-ghost use Rattle.std.specs.Prelude.{◌≡◌, None, IfErr, IfOk, IsTrue, MatchResult};
+ghost use Rattle.std.specs.Prelude.{◌≡◌, ◌*◌, ◌≤◌, None, IfErr, IfOk, IsTrue, MatchResult, length};
 ghost use Rattle.ivy_model.specs.Legal.{HasWidth};
+ghost use Rattle.ivy_model.specs.Rows.{numbers_in};
 ghost use Rattle.ivy_program.specs.Owned.{IsFree};
 ghost use Rattle.ivy_calls.specs.Answers.{answers};
+ghost use Rattle.ivy_calls.specs.Rows.{in_row};
 ghost use Rattle.ivy_workers.specs.Stops.{IsStop};
-ghost use Rattle.ivy_own.specs.Owned.{IsOwned, IsNext, IsReady, IsAsked, MakesCalls, TurnsOwn, grown, last_reply_in};
+ghost use Rattle.ivy_own.specs.Owned.{IsOwned, IsNext, IsReady, IsAsked, MakesCalls, TurnsOwn, grown, grown_by, last_reply_in};
 
 use ivy_calls::Answer;
-use ivy_model::{Call, Fault, Reply};
+use ivy_model::{Call, Fault, Reply, Row};
 use ivy_seating::ivy_ether::Setup;
 use ivy_seating::{Home, Homed, Seated, Site, turn_on_wire};
-use ivy_twin::{Half, Naming, Tie};
+use ivy_twin::{Half, Naming, Tells, Tie};
 use ivy_workers::{Pulses, Seat, Traffic};
 use std::alloc::Allocator;
 use std::marker::{Model, PhantomData};
@@ -43,6 +45,34 @@ pub(crate) trait OwnSeat<J: Naming, A: Allocator>: Seat {
         requires mine { mine.old.number ≡ me }
         ensures grows { MatchResult result (λ reply. mine.new ≡ grown call reply mine.old) (λ _. mine.new ≡ mine.old) }
         ensures stop { IfErr result IsStop };
+
+    /// The worker of node `me` reads words of 8 bytes in a row, from `addr` on: as many as are at hand at once, which it says.
+    fn load_row(
+        &mut self,
+        tie: &Tie<Answer, J, A>,
+        mine: &mut Half<Answer, J>,
+        me: u8,
+        addr: u64,
+        into: &mut [u8],
+    ) -> usize
+        requires mine { mine.old.number ≡ me }
+        ensures grows { mine.new ≡ grown_by (in_row Row.Loads addr (numbers_in result into.new)) mine.old }
+        ensures fits { 8 * result ≤ length into.old }
+        ensures sized { length into.new ≡ length into.old };
+
+    /// The worker of node `me` writes words of 8 bytes in a row, from `addr` on: as many as are at hand at once, which it
+    /// says.
+    fn store_row(
+        &mut self,
+        tie: &Tie<Answer, J, A>,
+        mine: &mut Half<Answer, J>,
+        me: u8,
+        addr: u64,
+        from: &[u8],
+    ) -> usize
+        requires mine { mine.old.number ≡ me }
+        ensures grows { mine.new ≡ grown_by (in_row Row.Stores addr (numbers_in result from.now)) mine.old }
+        ensures fits { 8 * result ≤ length from.now };
 }
 
 /// The reply in the last record of a site.
@@ -171,6 +201,104 @@ fn begin_at<S: Setup, J: Naming, A: Allocator + Copy>(
     let came = begin_once(seated, call)?;
     tell(tie, half, mine, call, came);
     Ok(came)
+}
+
+/// Calls on words of 8 bytes in a row from `addr` on, whose bytes these are.
+#[derive(Drop)]
+struct InRow<'a> {
+    kind: Row,
+    addr: u64,
+    words: usize,
+    bytes: &'a [u8],
+}
+
+/// What each call of a row is answered is told of the row.
+struct AnsweredInRow;
+
+impl<'a> Tells<Answer, InRow<'a>> for AnsweredInRow {
+    ghost use Rattle.ivy_model.specs.Rows.{numbers_in};
+    ghost use Rattle.ivy_calls.specs.Rows.{in_row};
+
+    ghost items = { λ r. in_row r.kind r.addr (numbers_in r.words r.bytes.now) };
+}
+
+/// Both halves of the list of a node's answers know what the calls of a row were answered.
+#[inline(always)]
+fn tell_row<J: Naming, A: Allocator + Copy>(
+    tie: &Tie<Answer, J, A>,
+    half: &mut Half<Answer, J>,
+    mine: &mut Half<Answer, J>,
+    kind: Row,
+    addr: u64,
+    words: usize,
+    bytes: &[u8],
+)
+    requires mine { mine.old.number ≡ half.old.number }
+    ensures half { half.new ≡ grown_by (in_row kind addr (numbers_in words bytes.now)) half.old }
+    ensures mine { mine.new ≡ grown_by (in_row kind addr (numbers_in words bytes.now)) mine.old }
+{
+    let row = InRow {
+        kind,
+        addr,
+        words,
+        bytes,
+    };
+    tie.push_told::<InRow<'_>, AnsweredInRow>(half, mine, &row);
+}
+
+/// The owner of node `me` reads words of 8 bytes in a row, from `addr` on, as many as are at hand at once. None where the
+/// site is of another node.
+#[inline(always)]
+fn load_row_at<S: Setup, J: Naming, A: Allocator + Copy>(
+    seated: &mut Seated<'_, S, A>,
+    half: &mut Half<Answer, J>,
+    tie: &Tie<Answer, J, A>,
+    mine: &mut Half<Answer, J>,
+    me: u8,
+    addr: u64,
+    into: &mut [u8],
+) -> usize
+    requires owned { IsOwned seated.old.site half.old }
+    requires mine { mine.old.number ≡ me }
+    ensures ether { seated.new.ether ≡ seated.old.ether }
+    ensures owned { IsOwned seated.new.site half.new }
+    ensures grows { mine.new ≡ grown_by (in_row Row.Loads addr (numbers_in result into.new)) mine.old }
+    ensures fits { 8 * result ≤ length into.old }
+    ensures sized { length into.new ≡ length into.old }
+{
+    if seated.site().me() != me {
+        return 0;
+    }
+    let words = seated.load_row(addr, into);
+    tell_row(tie, half, mine, Row::Loads, addr, words, into);
+    words
+}
+
+/// The owner of node `me` writes words of 8 bytes in a row, from `addr` on, as many as are at hand at once. None where the
+/// site is of another node.
+#[inline(always)]
+fn store_row_at<S: Setup, J: Naming, A: Allocator + Copy>(
+    seated: &mut Seated<'_, S, A>,
+    half: &mut Half<Answer, J>,
+    tie: &Tie<Answer, J, A>,
+    mine: &mut Half<Answer, J>,
+    me: u8,
+    addr: u64,
+    from: &[u8],
+) -> usize
+    requires owned { IsOwned seated.old.site half.old }
+    requires mine { mine.old.number ≡ me }
+    ensures ether { seated.new.ether ≡ seated.old.ether }
+    ensures owned { IsOwned seated.new.site half.new }
+    ensures grows { mine.new ≡ grown_by (in_row Row.Stores addr (numbers_in result from.now)) mine.old }
+    ensures fits { 8 * result ≤ length from.now }
+{
+    if seated.site().me() != me {
+        return 0;
+    }
+    let words = seated.store_row(addr, from);
+    tell_row(tie, half, mine, Row::Stores, addr, words, from);
+    words
 }
 
 /// One turn more for the call of node `me` that is in progress [1, 17, 21].
@@ -304,5 +432,29 @@ impl<'e, S: Setup, H: Home, J: Naming, A: Allocator + Copy> OwnSeat<J, A>
         call: Call,
     ) -> Result<Option<Reply>, Fault> {
         go_on_at(&mut self.seated, &mut self.half, tie, mine, me, call)
+    }
+
+    #[inline(always)]
+    fn load_row(
+        &mut self,
+        tie: &Tie<Answer, J, A>,
+        mine: &mut Half<Answer, J>,
+        me: u8,
+        addr: u64,
+        into: &mut [u8],
+    ) -> usize {
+        load_row_at(&mut self.seated, &mut self.half, tie, mine, me, addr, into)
+    }
+
+    #[inline(always)]
+    fn store_row(
+        &mut self,
+        tie: &Tie<Answer, J, A>,
+        mine: &mut Half<Answer, J>,
+        me: u8,
+        addr: u64,
+        from: &[u8],
+    ) -> usize {
+        store_row_at(&mut self.seated, &mut self.half, tie, mine, me, addr, from)
     }
 }

@@ -2,3 +2,4 @@ pub mod NodeSets
 pub mod Words
 pub mod Bits
 pub mod Regions
+pub mod RowsCarried

@@ -7,6 +7,7 @@ pub mod Entries
 pub mod TableState
 pub mod Tables
 pub mod Words
+pub mod Rows
 pub mod Manager
 pub mod Lending
 pub use Rattle.ivy_model.specs.Config

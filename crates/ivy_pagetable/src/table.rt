@@ -1,8 +1,12 @@
-ghost use Rattle.std.specs.Prelude.{◌≡◌, ◌+◌, ◌*◌, ◌<◌, All, length, replicate, if◌then◌else◌, IfOk, IsOkUnless};
+ghost use Rattle.std.specs.Prelude.{◌≡◌, ◌+◌, ◌*◌, ◌%◌, ◌<◌, ◌≤◌, All, length, drop, replicate, if◌then◌else◌, IfOk, IsOkUnless};
 ghost use Rattle.std.specs.List.{concat};
+ghost use Rattle.ivy_model.specs.declared.Row.TheVariants.{Loads, Stores};
 ghost use Rattle.ivy_model.specs.Config.{IsConfig};
+ghost use Rattle.ivy_model.specs.Rows.{numbers_in};
+ghost use Rattle.ivy_model.specs.Serves.{overwrite};
 ghost use Rattle.ivy_pagetable.specs.Entries.{can_put_off, with_put_off};
 ghost use Rattle.ivy_pagetable.specs.Tables.{first_entry, entry_at, page_at, with_entry, with_page, first_table};
+ghost use Rattle.ivy_pagetable.specs.Rows.{row_len, AreCarried, with_row};
 ghost use Rattle.ivy_pagetable.specs.Words.{IsWord, carried_out, width_of, offset_of, number_at};
 
 use crate::access::Access;
@@ -68,6 +72,27 @@ fn place(page: u32, page_size: u32) -> Range<usize>
     let size = page_size as usize;
     let start = page as usize * size;
     start..start + size
+}
+
+/// How many words of 8 bytes lie in a page of this size from a place on, and in `len` bytes.
+#[inline(always)]
+fn row_len(page_size: u32, offset: u32, len: usize) -> usize
+    requires { offset ≤ page_size }
+    ensures many { result ≡ row_len page_size offset len }
+    ensures fits { 8 * result ≤ len }
+    ensures within { offset + 8 * result ≤ page_size }
+{
+    let left = (page_size - offset) as usize;
+    (left / 8).min(len / 8)
+}
+
+/// Copies bytes over those at a place.
+#[inline(always)]
+fn put(into: &mut [u8], start: usize, from: &[u8])
+    requires { start + length from.now ≤ length into.old }
+    ensures { into.new ≡ overwrite into.old start from.now }
+{
+    into[start..start + from.len()].copy_from_slice(from);
 }
 
 impl<A: Allocator + Copy> PageTable<A> {
@@ -175,5 +200,43 @@ impl<A: Allocator> PageTable<A> {
         ensures bytes { self.new ≡ with_page self.old page (carried_out word (page_at self.old page)).bytes }
     {
         word.carry_out(self.page_mut(page))
+    }
+
+    /// Loads words of 8 bytes from a place in the page on, whose bytes it copies, and says how many words: as many as
+    /// `into` has room for and as lie in the page.
+    #[inline]
+    pub fn load_row(&self, page: u32, offset: u32, into: &mut [u8]) -> usize
+        requires page { page < length self.now.entries }
+        requires aligned { offset % 8 ≡ 0 }
+        requires within { offset ≤ self.now.page_size }
+        ensures many { result ≡ row_len self.now.page_size offset (length into.old) }
+        ensures fits { 8 * result ≤ length into.old }
+        ensures within { offset + 8 * result ≤ self.now.page_size }
+        ensures carried { AreCarried Loads offset (numbers_in result into.new) (page_at self.now page) (page_at self.now page) }
+        ensures rest { drop (8 * result) into.new ≡ drop (8 * result) into.old }
+        ensures sized { length into.new ≡ length into.old }
+    {
+        let words = row_len(self.page_size, offset, into.len());
+        let start = offset as usize;
+        put(into, 0, &self.page(page)[start..start + 8 * words]);
+        words
+    }
+
+    /// Stores words of 8 bytes from a place in the page on, whose bytes it copies, and says how many words: as many as
+    /// `from` has and as lie in the page.
+    #[inline]
+    pub fn store_row(&mut self, page: u32, offset: u32, from: &[u8]) -> usize
+        requires page { page < length self.old.entries }
+        requires aligned { offset % 8 ≡ 0 }
+        requires within { offset ≤ self.old.page_size }
+        ensures many { result ≡ row_len self.old.page_size offset (length from.now) }
+        ensures fits { 8 * result ≤ length from.now }
+        ensures within { offset + 8 * result ≤ self.old.page_size }
+        ensures carried { AreCarried Stores offset (numbers_in result from.now) (page_at self.old page) (with_row (page_at self.old page) offset result from.now) }
+        ensures bytes { self.new ≡ with_page self.old page (with_row (page_at self.old page) offset result from.now) }
+    {
+        let words = row_len(self.page_size, offset, from.len());
+        put(self.page_mut(page), offset as usize, &from[..8 * words]);
+        words
     }
 }

@@ -1,11 +1,11 @@
 -- What own code asks for next.
-use Rattle.std.proofs.Common.{◌≡◌, List, [], ◌∷◌, ◌++◌, ◌+◌, length, length-append, slice_get, Option, Some, None, if◌then◌else◌, refl, sym, ap, subst, ◌∙◌}
+use Rattle.std.proofs.Common.{◌≡◌, List, [], ◌∷◌, ◌++◌, length, length-append, slice_get, Option, Some, None, if◌then◌else◌, refl, sym, ap, subst, ◌∙◌}
 use Rattle.ivy_model.specs.declared.Call.{Call}
 use Rattle.ivy_model.specs.declared.Reply.{Reply}
-use Rattle.ivy_program.specs.Owned.{AsksNext, asking, process_handed}
+use Rattle.ivy_program.specs.Owned.{AsksNext, Rests, asking, process_handed}
 use Rattle.ivy_program.specs.Programs.{Called}
 use Rattle.ivy_program.specs.States.{first_state, gone_to}
-use Rattle.ivy_program.specs.Steps.{Asks, Ends, answered_with, called_at}
+use Rattle.ivy_program.specs.Steps.{Asks, Ends, HasEnded, answered_with, called_at}
 use Rattle.ivy_program.proofs.Widths.{has_width_test}
 
 last_got : (calls : List Call) (call : Call)
@@ -40,3 +40,15 @@ handed_and_answered answered waiting call reply is =
     (λ o. asking (answered ++ call ∷ []) o
     ≡ answered_with (process_handed (call ∷ []) (asking answered o)) reply) (sym is)
     (none_answered answered call reply)
+
+none_past : (calls : List Call) → slice_get calls (length calls) ≡ None
+none_past [] = refl
+none_past (call ∷ calls) = none_past calls
+
+-- own code that was answered each of its calls has ended
+pub all_answered : (calls : List Call) → HasEnded (asking calls None)
+all_answered calls = ap called_at (none_past calls)
+
+pub rests : (answered : List Call) (waiting : Option Call) → waiting ≡ None
+    → Rests (asking answered waiting)
+rests answered waiting is = (answered, ap (asking answered) is)

@@ -31,3 +31,7 @@ asking answered (Some call) = record {
   program = Called (answered ++ call ∷ []);
   state = gone_to first_state (length answered);
 }
+
+-- own code that was answered each call that it has made
+abbrev pub Rests : Process → Type 0
+Rests p = (calls : List Call) × (p ≡ asking calls None)

@@ -3,7 +3,7 @@ ghost use Rattle.std.specs.Prelude.{◌≡◌, ◌↔◌, [], ◌∷◌, IsTrue}
 
 use crate::machine::Next;
 use crate::story::Story;
-use ivy_model::Call;
+use ivy_model::{Call, Row};
 use std::marker::Model;
 
 /// The calls that were made so far, of which none is kept but the one that has no reply yet.
@@ -30,7 +30,10 @@ impl Model for Caller {
 
 impl Caller {
     ghost use Rattle.ivy_program.specs.Calls.{NamesWidth};
-    ghost use Rattle.ivy_program.specs.Owned.{AsksNext, process_handed};
+    ghost use Rattle.ivy_program.specs.Owned.{AsksNext, Rests, asking, process_handed};
+    ghost use Rattle.ivy_model.specs.Rows.{calls_of, numbers_in, row};
+    ghost use Rattle.std.specs.Prelude.{List, None, ◌++◌};
+    ghost use Rattle.ivy_model.specs.declared.Call.{Call};
     ghost use Rattle.ivy_program.specs.Programs.{Called, IsCalled};
     ghost use Rattle.ivy_program.specs.States.{first_state};
     ghost use Rattle.ivy_program.specs.Steps.{IsAsking, HasEnded, TellsStep, answered_with};
@@ -76,10 +79,11 @@ impl Caller {
     }
 
     /// Whether each call has its reply, so that the owner may make one.
-    #[tactic(auto, using(crate::proofs::Nexts::asks_next))]
+    #[tactic(auto, using(crate::proofs::Nexts::asks_next, crate::proofs::Nexts::rests))]
     pub(crate) fn is_free(&self) -> bool
         ensures ended { IsTrue result ↔ HasEnded self.now }
         ensures next { IsTrue result → AsksNext self.now }
+        ensures rests { IsTrue result → Rests self.now }
     {
         self.waiting.is_none()
     }
@@ -109,5 +113,15 @@ impl Caller {
         ensures { (reply : Reply) → self.new ≡ answered_with (process_handed (call ∷ []) self.old) reply }
     {
         self.answered.push(&call);
+    }
+
+    /// One more call is made for each of so many words in a row from `addr` on, whose bytes these are, and has its reply at
+    /// once.
+    pub(crate) fn hand_row(&mut self, kind: Row, addr: u64, words: usize, bytes: &[u8])
+        requires free { HasEnded self.old }
+        ensures own { IsCalled self.new.program }
+        ensures answered { (calls : List Call) → self.old ≡ asking calls None → self.new ≡ asking (calls ++ calls_of (row kind 0 addr (numbers_in words bytes.now))) None }
+    {
+        self.answered.push_row(kind, addr, words, bytes);
     }
 }

@@ -1,4 +1,6 @@
 //! What a command line asks for, with the texts of its files.
+ghost use Rattle.std.specs.Prelude.{◌≤◌, IfOk};
+ghost use Rattle.ivy_request.specs.Statuses.{EndsWithin};
 
 use crate::failure::{Failure, MISUSED, NOT_LEGAL};
 use crate::faults::{Kind, explain, sound};
@@ -66,7 +68,9 @@ fn asked<'a, T: Texts, E: Write>(
     given: Given<'a>,
     files: &T,
     err: &mut E,
-) -> Result<Answered<'a>, Failure<'a>> {
+) -> Result<Answered<'a>, Failure<'a>>
+    ensures { IfOk result EndsWithin }
+{
     let programs = sound_text(alloc, Kind::Programs, given.name(), files, err)?;
     let schedule = schedule_of(alloc, given.schedule(), files, err)?;
     Ok(Answered::Asks(Request {
@@ -82,7 +86,9 @@ fn explained<'a, T: Texts, W: Write>(
     file: &'a str,
     files: &T,
     out: &mut W,
-) -> Result<u8, Failure<'a>> {
+) -> Result<u8, Failure<'a>>
+    ensures { IfOk result (λ status. status ≤ 3) }
+{
     let text = text_of(files, file)?;
     let is_sound = explain(alloc, file, text.as_str(), out)?;
     Ok(if is_sound { 0 } else { MISUSED })
@@ -95,7 +101,9 @@ fn checked<'a, T: Texts, W: Write, E: Write>(
     files: &T,
     out: &mut W,
     err: &mut E,
-) -> Result<u8, Failure<'a>> {
+) -> Result<u8, Failure<'a>>
+    ensures { IfOk result (λ status. status ≤ 3) }
+{
     let text = sound_text(alloc, Kind::Order, file, files, err)?;
     let is_legal = judge(alloc, file, text.as_str(), out)?;
     Ok(if is_legal { 0 } else { NOT_LEGAL })
@@ -109,7 +117,9 @@ fn carry_out<'a, T: Texts, W: Write, E: Write>(
     files: &T,
     out: &mut W,
     err: &mut E,
-) -> Result<Answered<'a>, Failure<'a>> {
+) -> Result<Answered<'a>, Failure<'a>>
+    ensures { IfOk result EndsWithin }
+{
     let given = Given::of(alloc, command, words)?;
     let done = match command.name {
         "explain" => explained(alloc, given.name(), files, out),
@@ -130,7 +140,9 @@ pub fn answer<'a, T: Texts, W: Write, E: Write>(
     files: &T,
     out: &mut W,
     err: &mut E,
-) -> Result<Answered<'a>, Failure<'a>> {
+) -> Result<Answered<'a>, Failure<'a>>
+    ensures { IfOk result EndsWithin }
+{
     match read(words)? {
         Line::Help(command) => print_help(command, out)?,
         Line::Version => out.write_all(VERSION.as_bytes())?,

@@ -1,4 +1,6 @@
 //! Why a command was not carried out.
+ghost use Rattle.std.specs.Prelude.{◌≡◌, ◌≤◌};
+ghost use Rattle.ivy_request.specs.Statuses.{failure_status};
 
 use crate::misuse::Misuse;
 use ivy_model::Fault;
@@ -33,7 +35,10 @@ pub enum Failure<'a> {
 
 impl Failure<'_> {
     /// The exit status: 2 where the command line, a file or the configuration is at fault, else 1.
-    pub fn status(&self) -> u8 {
+    pub fn status(&self) -> u8
+        ensures status { result ≡ failure_status self.now }
+        ensures within { result ≤ 2 }
+    {
         match self {
             Failure::Misused(_) => MISUSED,
             Failure::Refused(Fault::BadConfig | Fault::ProgramFault(_)) => MISUSED,
@@ -43,7 +48,10 @@ impl Failure<'_> {
 
     /// Tells standard error of the failure, and gives the exit status. Nothing more is printed where standard output took
     /// no more.
-    pub fn report<E: Write>(&self, err: &mut E) -> u8 {
+    pub fn report<E: Write>(&self, err: &mut E) -> u8
+        ensures status { result ≡ failure_status self.now }
+        ensures within { result ≤ 2 }
+    {
         if !matches!(self, Failure::Unwritten) {
             // The status tells of the failure also where standard error takes nothing.
             let _ = writeln!(err, "ivyscope: {self}");

@@ -1,4 +1,6 @@
 //! Calls that were refused, in words.
+ghost use Rattle.std.specs.Prelude.{◌≡◌};
+ghost use Rattle.ivy_request.specs.Refused.{one_more};
 
 use ivy_explain::ivy_texts::CallText;
 use ivy_model::Call;
@@ -64,6 +66,17 @@ fn tell<E: Write>(refusal: &Refusal, err: &mut E) -> io::Result<()> {
     writeln!(err, ": {}: {}", Words(refusal.call), Reason(refusal.code))
 }
 
+/// Counts a call among those of its line and reason, where one of them is known. It says whether one is.
+fn is_counted(refusals: &mut [Refusal], refusal: &Refusal) -> bool {
+    for known in refusals {
+        if known.node == refusal.node && known.line == refusal.line && known.code == refusal.code {
+            known.count = known.count.saturating_add(1);
+            return true;
+        }
+    }
+    false
+}
+
 /// The stream that is told, and the calls that were refused.
 #[derive(Drop)]
 pub struct Told<'a, E> {
@@ -75,7 +88,9 @@ pub struct Told<'a, E> {
 
 impl<'a, E: Write> Told<'a, E> {
     /// Nothing was refused yet. It takes no memory.
-    pub fn new(alloc: Global, err: &'a mut E) -> Self {
+    pub fn new(alloc: Global, err: &'a mut E) -> Self
+        ensures { result.count ≡ 0 }
+    {
         Told {
             err,
             refusals: Vec::new(alloc),
@@ -84,16 +99,12 @@ impl<'a, E: Write> Told<'a, E> {
     }
 
     /// Adds a call to those of its line, and tells of the first one.
-    pub fn note(&mut self, refusal: Refusal) {
+    pub fn note(&mut self, refusal: Refusal)
+        ensures { self.new.count ≡ one_more self.old.count }
+    {
         self.count = self.count.saturating_add(1);
-        for known in self.refusals.iter_mut() {
-            if known.node == refusal.node
-                && known.line == refusal.line
-                && known.code == refusal.code
-            {
-                known.count = known.count.saturating_add(1);
-                return;
-            }
+        if is_counted(&mut self.refusals, &refusal) {
+            return;
         }
         // The session goes on where a stream takes nothing. Without memory a line is told of more than once.
         let _ = tell(&refusal, self.err);

@@ -1,4 +1,6 @@
 //! Whole commands.
+ghost use Rattle.std.specs.Prelude.{IfOk};
+ghost use Rattle.ivy_scope.specs.Statuses.{IsStatus};
 
 use crate::logs::Logs;
 use crate::looking::look;
@@ -43,7 +45,9 @@ fn carry_out<'a, R: Threads + Wait + Sync, L: Logs, W: Write, E: Write + Send, P
     out: &mut W,
     err: &mut E,
     progress: &mut P,
-) -> Result<u8, Failure<'a>> {
+) -> Result<u8, Failure<'a>>
+    ensures { IfOk result IsStatus }
+{
     match request.task() {
         Task::Run => run(rt, alloc, request, files, out, err),
         Task::Search => look(alloc, request, out, progress),
@@ -69,7 +73,9 @@ pub fn perform<R: Threads + Wait + Sync, T: Texts + Logs, O: Write, E: Write + S
     out: &mut O,
     err: &mut E,
     progress: &mut P,
-) -> u8 {
+) -> u8
+    ensures { IsStatus result }
+{
     let done = match answer(alloc, words, files, out, err) {
         Ok(Answered::Done(status)) => Ok(status),
         Ok(Answered::Asks(request)) => carry_out(rt, alloc, &request, files, out, err, progress),

@@ -1,4 +1,6 @@
 //! What a search through all orders of moves found.
+ghost use Rattle.std.specs.Prelude.{IfOk};
+ghost use Rattle.ivy_scope.specs.Statuses.{IsStatus};
 
 use crate::goals::goals_of;
 use crate::played::{print_moves, text_of};
@@ -99,7 +101,9 @@ pub(crate) fn look<'a, W: Write, P: Progress>(
     request: &Request<'a>,
     out: &mut W,
     progress: &mut P,
-) -> Result<u8, Failure<'a>> {
+) -> Result<u8, Failure<'a>>
+    ensures { IfOk result IsStatus }
+{
     let found = found_in(alloc, request, progress)?;
     if request.until().is_none() {
         print_found(&found, out)?;

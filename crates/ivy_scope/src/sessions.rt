@@ -1,4 +1,6 @@
 //! Sessions, and what is told of them.
+ghost use Rattle.std.specs.Prelude.{IfOk};
+ghost use Rattle.ivy_scope.specs.Statuses.{IsStatus};
 
 use crate::logs::{Logs, write_logs};
 use crate::refused::Refusals;
@@ -131,7 +133,9 @@ fn tell<'a, L: Logs, W: Write, E: Write>(
     files: &L,
     out: &mut W,
     err: &mut E,
-) -> Result<u8, Failure<'a>> {
+) -> Result<u8, Failure<'a>>
+    ensures { IfOk result IsStatus }
+{
     if let Some(folder) = wishes.logs {
         write_logs(alloc, config, &ended.report, files, folder)?;
     }
@@ -156,7 +160,9 @@ pub(crate) fn run<'a, R: Threads + Wait + Sync, L: Logs, W: Write, E: Write + Se
     files: &L,
     out: &mut W,
     err: &mut E,
-) -> Result<u8, Failure<'a>> {
+) -> Result<u8, Failure<'a>>
+    ensures { IfOk result IsStatus }
+{
     let listing = Listing::of(alloc, request.programs())?;
     let config = request.settings().config(listing.programs.len())?;
     let ended = run_session(rt, alloc, request, config, &listing, err)?;

@@ -1,4 +1,6 @@
 //! What each node comes to.
+ghost use Rattle.std.specs.Prelude.{IfOk};
+ghost use Rattle.ivy_scope.specs.Statuses.{IsStatus};
 
 use crate::played::text_of;
 use ivy_model::Fault;
@@ -66,7 +68,9 @@ fn print_world<W: Write>(
     world: &World<Global>,
     rest: Rest,
     out: &mut W,
-) -> Result<u8, Failure<'static>> {
+) -> Result<u8, Failure<'static>>
+    ensures { IfOk result IsStatus }
+{
     let listing = Listing::of(alloc, request.programs())?;
     let nodes = standings_of(alloc, world)?;
     print_nodes(&listing, &nodes, world, out)?;
@@ -84,7 +88,9 @@ pub(crate) fn settle<W: Write, P: Progress>(
     request: &Request<'_>,
     out: &mut W,
     progress: &mut P,
-) -> Result<u8, Failure<'static>> {
+) -> Result<u8, Failure<'static>>
+    ensures { IfOk result IsStatus }
+{
     let (world, rest) = played_on(alloc, request, progress)?;
     print_world(alloc, request, &world, rest, out)
 }

@@ -15,6 +15,10 @@ use Rattle.ivy_model.specs.declared.Config.{Config}
 use Rattle.ivy_model.specs.Config.{IsConfig}
 use Rattle.ivy_program.specs.Programs.{Program, handed}
 use Rattle.ivy_model.specs.declared.Call.{Call}
+use Rattle.ivy_model.specs.declared.Record.{Record}
+use Rattle.ivy_model.specs.declared.Row.{Row}
+use Rattle.ivy_model.specs.Rows.{calls_of, row}
+use Rattle.ivy_model.proofs.Rows.{calls-of-row}
 use Rattle.ivy_moves.specs.ivy_link.declared.Verdict.{Verdict}
 use Rattle.ivy_moves.specs.ivy_link.declared.Verdict.TheVariants as verdict
 use Rattle.ivy_moves.specs.Marks.{Mark, Turn, Delivery}
@@ -31,12 +35,13 @@ use Rattle.ivy_ether.specs.Held.{Held, held}
 use Rattle.ivy_ether.specs.Programs.{beginning, all_handed, MayGive, SendsFrom}
 use Rattle.ivy_ether.proofs.Hosts.{handed-at, handed_count, handed_more, starts_with}
 use Rattle.ivy_ether.proofs.of_ivy_host.Handed.{handed_none}
-use Rattle.ivy_ether.specs.Views.{View, with_put, with_refused, with_taken, with_empty, with_handed}
+use Rattle.ivy_ether.specs.Views.{View, with_put, with_refused, with_taken, with_empty, with_handed, with_all_handed}
 use Rattle.ivy_site.specs.declared.turn.Turn as turn
 use Rattle.ivy_site.specs.declared.turn.Turn.TheVariants.{Idle, Moved, Ended}
 use Rattle.ivy_site.specs.Shown.{Shown, after_hearing, after_delivery, after_pulse_to}
 use Rattle.ivy_site.specs.Sites.{first_shown, IsMadeByEvents, IsSentBy, AfterTurn, AfterDelivery, SiteDelivers, without_ready, GoesOnOnce, FollowsDelivery}
 use Rattle.ivy_site.specs.Sites as sites
+use Rattle.ivy_site.specs.Calls.{AreAnswered}
 use Rattle.ivy_site.specs.Handed.{site_handed}
 use Rattle.ivy_ether.proofs.of_ivy_host.Programs.{turned-program, posting-core, delivered-program}
 use Rattle.ivy_program.specs.Steps.{HasEnded}
@@ -476,14 +481,14 @@ module _ (c : Config) (programs : List Program) where
   take_seated wire (Some x) s p p' es is ether known h =
       taken_seated wire s p p' es x is ether known h
 
-  -- once a call was handed to its node
-  pub hand_seated : (wire : TableId) (s s' : Shown) (p p' : Held) (call : Call)
-      → s' ≡ site_handed (call ∷ []) s → p'.ether ≡ p.ether
-      → p'.known ≡ with_handed p.known call → IsSeated wire c programs s p
+  -- once calls were handed to its node
+  pub all_handed_seated : (wire : TableId) (s s' : Shown) (p p' : Held) (calls : List Call)
+      → s' ≡ site_handed calls s → p'.ether ≡ p.ether
+      → p'.known ≡ with_all_handed p.known calls → IsSeated wire c programs s p
       → IsSeated wire c programs s' p'
-  hand_seated wire s s' p p' call same ether known h =
+  all_handed_seated wire s s' p p' calls same ether known h =
       subst (λ x. IsSeated wire c programs x p') (sym same)
-      (subst (IsSeated wire c programs (site_handed (call ∷ []) s))
+      (subst (IsSeated wire c programs (site_handed calls s))
       (λ k. held (sym ether k) (sym known k)) (record {
         limits = h.limits;
         each = h.each;
@@ -494,12 +499,50 @@ module _ (c : Config) (programs : List Program) where
         program = record {
           first = h.program.first;
           there = h.program.there;
-          is = ap (handed (call ∷ [])) h.program.is
-              ∙ sym (handed_more p.known.handed (call ∷ []) h.program.first);
+          is = ap (handed calls) h.program.is
+              ∙ sym (handed_more p.known.handed calls h.program.first);
         };
         given = record { more = h.given.more; is = h.given.is; can = h.given.can };
         took = h.took;
       }))
+
+  -- and once one was
+  pub hand_seated : (wire : TableId) (s s' : Shown) (p p' : Held) (call : Call)
+      → s' ≡ site_handed (call ∷ []) s → p'.ether ≡ p.ether
+      → p'.known ≡ with_handed p.known call → IsSeated wire c programs s p
+      → IsSeated wire c programs s' p'
+  hand_seated wire s s' p p' call same ether known h =
+      all_handed_seated wire s s' p p' (call ∷ []) same ether known h
+
+  -- once calls were made one after another, each answered in its turn
+  pub answered_seated : (wire : TableId) (rs : List Record) (s s' : Shown) (p p' : Held)
+      → AreAnswered rs s s' → p'.ether ≡ p.ether
+      → p'.known ≡ with_all_handed p.known (calls_of rs) → IsSeated wire c programs s p
+      → IsSeated wire c programs s' p'
+  answered_seated wire [] s s' p p' same ether known h =
+      let is : p'.known ≡ p.known =
+      known ∙ ap (λ l. record p.known { handed = l }) (append-nil p.known.handed) in
+      subst (λ x. IsSeated wire c programs x p') (sym same)
+      (subst (IsSeated wire c programs s) (λ k. held (sym ether k) (sym is k)) h)
+  answered_seated wire (r ∷ rs) s s' p p' on ether known h =
+      let next : Held = held p.ether (with_handed p.known r.call) in
+      let asks : IsSeated wire c programs (site_handed (r.call ∷ []) s) next =
+      hand_seated wire s (site_handed (r.call ∷ []) s) p next r.call refl refl refl h in
+      let mid : IsSeated wire c programs on.0 next =
+      turn_seated wire Moved (site_handed (r.call ∷ []) s) on.0 next asks on.1.turns in
+      answered_seated wire rs on.0 s' next p' on.2 ether
+      (known
+      ∙ ap (λ l. record p.known { handed = l })
+      (sym (append_assoc p.known.handed (r.call ∷ []) (calls_of rs)))) mid
+
+  -- so it is of a row of words
+  pub row_seated : (wire : TableId) (kind : Row) (addr : ℕ) (numbers : List ℕ) (s s' : Shown)
+      (p p' : Held) → AreAnswered (row kind s.me addr numbers) s s' → p'.ether ≡ p.ether
+      → p'.known ≡ with_all_handed p.known (calls_of (row kind 0 addr numbers))
+      → IsSeated wire c programs s p → IsSeated wire c programs s' p'
+  row_seated wire kind addr numbers s s' p p' on ether known h =
+      answered_seated wire (row kind s.me addr numbers) s s' p p' on ether
+      (known ∙ ap (with_all_handed p.known) (calls-of-row kind 0 s.me addr numbers)) h
 
   -- a site whose program has ended is done
   pub is_done : (wire : TableId) (s : Shown) (p : Held) (i : ℕ) → IsSeated wire c programs s p

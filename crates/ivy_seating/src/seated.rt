@@ -1,14 +1,15 @@
 //! A site that is seated at an ether.
-ghost use Rattle.std.specs.Prelude.{◌≡◌, ◌≢◌, ◌↔◌, ◌<◌, ◌≤◌, [], ◌∷◌, ◌++◌, Err, Contains, IsTrue, MatchBool, MatchOption, MatchResult, IfOk, IfErr, IfSome, IsSome, IsOkUnless, OnOk, OnErr, length};
+ghost use Rattle.std.specs.Prelude.{◌≡◌, ◌≢◌, ◌↔◌, ◌*◌, ◌<◌, ◌≤◌, [], ◌∷◌, ◌++◌, Err, Contains, IsTrue, MatchBool, MatchOption, MatchResult, IfOk, IfErr, IfSome, IsSome, IsOkUnless, OnOk, OnErr, length};
+ghost use Rattle.ivy_model.specs.Rows.{calls_of, numbers_in, row};
 ghost use Rattle.ivy_model.specs.Wants.{IsWant};
 ghost use Rattle.ivy_wire.specs.Faults.{checked};
 ghost use Rattle.ivy_moves.specs.Nodes.{pulsing, verdict_of};
 ghost use Rattle.ivy_model.specs.Legal.{HasWidth};
 ghost use Rattle.ivy_program.specs.Owned.{IsFree};
 ghost use Rattle.ivy_program.specs.Steps.{HasEnded};
-ghost use Rattle.ivy_site.specs.Calls.{BeginsCall};
+ghost use Rattle.ivy_site.specs.Calls.{AreAnswered, BeginsCall};
 ghost use Rattle.ivy_site.specs.Handed.{site_handed};
-ghost use Rattle.ivy_ether.specs.Views.{with_handed};
+ghost use Rattle.ivy_ether.specs.Views.{with_all_handed, with_handed};
 ghost use Rattle.ivy_site.specs.ivy_outbox.Outboxes.{next_dest};
 ghost use Rattle.ivy_site.specs.Shown.{after_pulse_to};
 ghost use Rattle.ivy_site.specs.Sites.{AfterTurn, AfterDelivery, IsSpentTurn, IsSpentDelivery};
@@ -17,7 +18,7 @@ ghost use Rattle.ivy_seating.specs.Wire.{AfterWire, Drains, RefusesString, IsPut
 
 use crate::wire_turn::WireTurn;
 use ivy_ether::{Ether, Item, Pass, Put, Setup, Wired};
-use ivy_model::{Call, Fault, Reply};
+use ivy_model::{Call, Fault, Reply, Row};
 use ivy_moves::ivy_link::Verdict;
 use ivy_site::{Site, Turn};
 use ivy_wire::{Bytes, destination};
@@ -168,6 +169,36 @@ impl<'e, S: Setup, A: Allocator + Copy> Seated<'e, S, A> {
         let reply = self.site.call(call)?;
         self.ether.hand(&mut self.pass, call);
         Ok(reply)
+    }
+
+    /// The node's owner reads words of 8 bytes in a row, from `addr` on, with a turn for each: as many as can be read here at
+    /// once, which it says. Where that is none, nothing was done, and a word is read by [`Seated::call`]. It takes no memory.
+    #[inline(always)]
+    pub fn load_row(&mut self, addr: u64, into: &mut [u8]) -> usize
+        ensures ether { self.new.ether ≡ self.old.ether }
+        ensures loads { AreAnswered (row Row.Loads self.old.site.me addr (numbers_in result into.new)) self.old.site self.new.site }
+        ensures pass { self.new.pass.known ≡ with_all_handed self.old.pass.known (calls_of (row Row.Loads 0 addr (numbers_in result into.new))) }
+        ensures fits { 8 * result ≤ length into.old }
+        ensures sized { length into.new ≡ length into.old }
+    {
+        let words = self.site.load_row(addr, into);
+        self.ether
+            .hand_row(&mut self.pass, Row::Loads, addr, words, into);
+        words
+    }
+
+    /// The node's owner writes words of 8 bytes in a row, from `addr` on, as [`Seated::load_row`] reads them.
+    #[inline(always)]
+    pub fn store_row(&mut self, addr: u64, from: &[u8]) -> usize
+        ensures ether { self.new.ether ≡ self.old.ether }
+        ensures stores { AreAnswered (row Row.Stores self.old.site.me addr (numbers_in result from.now)) self.old.site self.new.site }
+        ensures pass { self.new.pass.known ≡ with_all_handed self.old.pass.known (calls_of (row Row.Stores 0 addr (numbers_in result from.now))) }
+        ensures fits { 8 * result ≤ length from.now }
+    {
+        let words = self.site.store_row(addr, from);
+        self.ether
+            .hand_row(&mut self.pass, Row::Stores, addr, words, from);
+        words
     }
 
     /// One turn of the site's program [1, 17]. A refused turn changes nothing.

@@ -10,3 +10,4 @@ pub mod HeldStrings
 pub mod Receiving
 pub use Rattle.ivy_host.proofs.of_ivy_memory as of_ivy_memory
 pub use Rattle.ivy_host.proofs as of_ivy_host
+pub mod InRow

@@ -1,17 +1,20 @@
 //! What a node's memory, its program and its history do together in a turn that is about a call.
-ghost use Rattle.std.specs.Prelude.{◌≡◌, ◌+◌, ◌≤◌, ◌∷◌, ◌++◌, [], None, Some, length, IfOk, IfErr, OnOk, OnErr, IsTrue};
+ghost use Rattle.std.specs.Prelude.{◌≡◌, ◌+◌, ◌*◌, ◌<◌, ◌≤◌, ◌^◌, ◌∷◌, ◌++◌, List, [], None, Some, false, length, IfOk, IfErr, OnOk, OnErr, IsTrue};
+ghost use Rattle.ivy_model.specs.declared.Call.{Call};
 ghost use Rattle.ivy_model.specs.Legal.{HasWidth};
+ghost use Rattle.ivy_model.specs.Rows.{calls_of, numbers_in, row};
+ghost use Rattle.ivy_moves.specs.Marks.{turns};
 ghost use Rattle.ivy_model.specs.Wants.{IsWant};
-ghost use Rattle.ivy_program.specs.Owned.{AsksNext, IsFree, process_handed};
+ghost use Rattle.ivy_program.specs.Owned.{AsksNext, IsFree, asking, process_handed};
 ghost use Rattle.ivy_program.specs.Steps.{Asks, step_of};
 ghost use Rattle.ivy_host.specs.ivy_coherence.Limits.{most_posted};
-ghost use Rattle.ivy_site.specs.Calls.{recorded_by, reply_in};
+ghost use Rattle.ivy_site.specs.Calls.{TakesRow, recorded_by, reply_in};
 ghost use Rattle.ivy_site.specs.Inside.{host_of, is_served, kept_by, told_by, HasTurn, AfterHostTurn, HasNoNumbers};
 
 use ivy_host::NodeManager;
 use ivy_host::ivy_memory::{Answer, Memory};
-use ivy_model::{Call, Fault, Record, Reply};
-use ivy_moves::History;
+use ivy_model::{Call, Fault, Record, Reply, Row};
+use ivy_moves::{Events, History};
 use ivy_outbox::Outbox;
 use ivy_program::Machine;
 use std::alloc::Allocator;
@@ -180,4 +183,52 @@ pub(crate) fn poll<A: Allocator + Copy>(
 {
     let answer = memory.poll_reply(outbox)?;
     Ok(keep(history, machine, outbox.me(), call, answer))
+}
+
+/// Whether own code can make calls in a row at once, of so many bytes from `addr` on: none waits, no list of the past is
+/// kept, and the calls can be counted.
+#[inline(always)]
+pub(crate) fn takes_row<A: Allocator + Copy>(
+    machine: &Machine<A>,
+    history: &History<A>,
+    events: &Events<A>,
+    addr: u64,
+    bytes: usize,
+) -> bool
+    ensures { IsTrue result → TakesRow machine.now history.now events.now.kept addr bytes }
+{
+    machine.is_free()
+        && history.takes_rows(bytes)
+        && !events.is_kept()
+        && bytes as u64 <= u64::MAX - addr
+}
+
+/// So many calls in a row were made and answered at once: the program goes on with the replies, which are recorded, and
+/// as many turns are listed.
+#[inline(always)]
+pub(crate) fn list_row<A: Allocator + Copy>(
+    machine: &mut Machine<A>,
+    history: &mut History<A>,
+    events: &mut Events<A>,
+    node: u8,
+    kind: Row,
+    addr: u64,
+    words: usize,
+    bytes: &[u8],
+)
+    requires free { IsFree machine.old }
+    requires unkept { history.old.kept ≡ false }
+    requires counted { length history.old.records + words < 2 ^ 64 }
+    requires unlisted { events.old.kept ≡ false }
+    requires within { 8 * words ≤ length bytes.now }
+    requires below { addr + 8 * words < 2 ^ 64 }
+    ensures machine { (calls : List Call) → machine.old ≡ asking calls None → machine.new ≡ asking (calls ++ calls_of (row kind 0 addr (numbers_in words bytes.now))) None }
+    ensures history { history.new.records ≡ history.old.records ++ row kind node addr (numbers_in words bytes.now) }
+    ensures kept { history.new.kept ≡ history.old.kept }
+    ensures events { events.new.marks ≡ events.old.marks ++ turns words }
+    ensures listed { events.new.kept ≡ events.old.kept }
+{
+    machine.hand_row(kind, addr, words, bytes);
+    history.push_row(kind, node, addr, words, bytes);
+    events.push_turns(words as u64);
 }

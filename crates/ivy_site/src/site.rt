@@ -14,7 +14,8 @@ ghost use Rattle.ivy_moves.specs.ivy_link.Limits.{most_ahead};
 ghost use Rattle.ivy_moves.specs.ivy_link.Linked.{peer_at};
 ghost use Rattle.ivy_moves.specs.ivy_link.Holding.{ready_of};
 ghost use Rattle.ivy_outbox.specs.Outboxes.{next_dest};
-ghost use Rattle.ivy_site.specs.Calls.{BeginsCall};
+ghost use Rattle.ivy_model.specs.Rows.{numbers_in, row};
+ghost use Rattle.ivy_site.specs.Calls.{AreAnswered, BeginsCall};
 ghost use Rattle.ivy_site.specs.Handed.{site_handed};
 ghost use Rattle.ivy_site.specs.Shown.{holding_at, after_pulse_to};
 ghost use Rattle.ivy_site.specs.Sites.{most_sent, most_delivered, first_shown, first_keeping, AfterTurn, AfterDelivery};
@@ -24,11 +25,11 @@ ghost use Rattle.ivy_site.specs.Inside.{Hears, Receives, AfterOnce, HoldsString}
 ghost use Rattle.ivy_moves.specs.Marks.{marks};
 ghost use Rattle.ivy_model.specs.Legal.{HasWidth};
 
-use crate::host::{begin, make, poll};
+use crate::host::{begin, list_row, make, poll, takes_row};
 use crate::turn::Turn;
 use ivy_host::NodeManager;
 use ivy_host::ivy_memory::Memory;
-use ivy_model::{Call, Config, Fault, Record, Reply};
+use ivy_model::{Call, Config, Fault, Record, Reply, Row};
 use ivy_moves::ivy_link::{MOST_AHEAD, Verdict};
 use ivy_moves::{Event, Events, History, Keep};
 use ivy_outbox::Outbox;
@@ -240,6 +241,61 @@ impl<A: Allocator + Copy> Site<A> {
         )?;
         self.events.push_turn();
         Ok(reply)
+    }
+
+    /// Reads words of 8 bytes in a row, from `addr` on, in a turn for each: as many as the buffer has whole places for, as lie
+    /// in the page of the address, and as can be read here at once. It says how many. Where that is none, nothing was done:
+    /// a page is asked for by [`Site::call`]. So it is where a call before has no reply, and where the site keeps a list of
+    /// its own past. It takes no memory.
+    ///
+    /// A row is what its loads are, with nothing between them.
+    pub fn load_row(&mut self, addr: u64, into: &mut [u8]) -> usize
+        ensures same { IsSameNode self.old self.new }
+        ensures loads { AreAnswered (row Row.Loads self.old.me addr (numbers_in result into.new)) self.old self.new }
+        ensures fits { 8 * result ≤ length into.old }
+        ensures sized { length into.new ≡ length into.old }
+        ensures waiting { self.new.waiting ≡ self.old.waiting }
+    {
+        if !takes_row(&self.machine, &self.history, &self.events, addr, into.len()) {
+            return 0;
+        }
+        let words = self.memory.load_row(addr, into);
+        list_row(
+            &mut self.machine,
+            &mut self.history,
+            &mut self.events,
+            self.outbox.me(),
+            Row::Loads,
+            addr,
+            words,
+            into,
+        );
+        words
+    }
+
+    /// Writes words of 8 bytes in a row, from `addr` on, in a turn for each: as many as there are whole ones, as lie in the
+    /// page of the address, and as can be written here at once. It says how many, as [`Site::load_row`] does.
+    pub fn store_row(&mut self, addr: u64, from: &[u8]) -> usize
+        ensures same { IsSameNode self.old self.new }
+        ensures stores { AreAnswered (row Row.Stores self.old.me addr (numbers_in result from.now)) self.old self.new }
+        ensures fits { 8 * result ≤ length from.now }
+        ensures waiting { self.new.waiting ≡ self.old.waiting }
+    {
+        if !takes_row(&self.machine, &self.history, &self.events, addr, from.len()) {
+            return 0;
+        }
+        let words = self.memory.store_row(addr, from);
+        list_row(
+            &mut self.machine,
+            &mut self.history,
+            &mut self.events,
+            self.outbox.me(),
+            Row::Stores,
+            addr,
+            words,
+            from,
+        );
+        words
     }
 
     /// What the program was answered so far, in order, where the site keeps that; else nothing. It takes no memory.

@@ -42,6 +42,13 @@ impl<T> Given<T> for Brand {
     ghost more = { [] };
 }
 
+/// What is told of a value: items, of which none is kept.
+pub trait Tells<T, X> {
+    ghost use Rattle.std.specs.Prelude.{List};
+
+    ghost items: { X → List T };
+}
+
 /// The rule: there are lists that all halves know, and of each at most two halves.
 pub struct Twins;
 

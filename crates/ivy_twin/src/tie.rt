@@ -2,7 +2,7 @@
 ghost use Rattle.std.specs.Prelude.{◌≡◌, ◌+◌, [], ◌∷◌, ◌++◌, IfOk};
 ghost use Rattle.ivy_twin.specs.Known.{starts, listed};
 
-use crate::known::{Begin, Both, Cell, Compare, Given, Grow, Naming, Off, Pass};
+use crate::known::{Begin, Both, Cell, Compare, Given, Grow, Naming, Off, Pass, Tells};
 use std::alloc::{AllocError, Allocator};
 use std::marker::{Brand, Model, PhantomData};
 
@@ -120,14 +120,13 @@ impl<T, J: Naming, A: Allocator> Tie<T, J, A> {
         )
     }
 
-    /// As [`Tie::push`], with the item as `E` gives it.
-    fn push_given<E: Given<T>>(&self, one: &mut Half<T, J>, other: &mut Half<T, J>, item: &T)
-        requires given { E.more ≡ item.now ∷ [] }
+    /// The list grows by what `E` gives, which is told of the value, and both halves know it.
+    fn grow<E: Given<T>, X>(&self, one: &mut Half<T, J>, other: &mut Half<T, J>, value: &X)
         requires same { other.old.number ≡ one.old.number }
-        ensures one { one.new ≡ listed one.old.number (one.old.list ++ item.now ∷ []) }
-        ensures other { other.new ≡ listed other.old.number (other.old.list ++ item.now ∷ []) }
+        ensures one { one.new ≡ listed one.old.number (one.old.list ++ E.more) }
+        ensures other { other.new ≡ listed other.old.number (other.old.list ++ E.more) }
     {
-        let _ = item;
+        let _ = value;
         let moved = self.cell.shared.split_seat::<Off>(&mut other.pass);
         self.cell.shared.join_seat::<Both>(&mut one.pass, moved);
         other.pass = self.cell.shared.split_seat::<Grow<E>>(&mut one.pass);
@@ -139,7 +138,23 @@ impl<T, J: Naming, A: Allocator> Tie<T, J, A> {
         ensures one { one.new ≡ listed one.old.number (one.old.list ++ item.now ∷ []) }
         ensures other { other.new ≡ listed other.old.number (other.old.list ++ item.now ∷ []) }
     {
-        self.push_given::<Brand>(one, other, item)
+        self.grow::<Brand, T>(one, other, item)
+    }
+
+    /// The list grows by the items that are told of a value, and both halves know them. They are of one list.
+    ///
+    /// It is one step, however many items that are, and none of them is made.
+    pub fn push_told<X, M: Tells<T, X>>(
+        &self,
+        one: &mut Half<T, J>,
+        other: &mut Half<T, J>,
+        value: &X,
+    )
+        requires same { other.old.number ≡ one.old.number }
+        ensures one { one.new ≡ listed one.old.number (one.old.list ++ M.items value.now) }
+        ensures other { other.new ≡ listed other.old.number (other.old.list ++ M.items value.now) }
+    {
+        self.grow::<Brand, X>(one, other, value)
     }
 
     /// Both halves of a list know the same, and nothing changes.

@@ -1,13 +1,17 @@
 -- Nodes that a program drives are the nodes of a world that moves lead to: each request makes moves
 -- of its node, or none.
-use Rattle.std.proofs.Common.{◌≡◌, ◌≢◌, ◌⊎◌, ℕ, zero, suc, ◌+◌, ◌<◌, List, [], ◌∷◌, ◌++◌, length, length-set, map, set, slice_get, take, Option, Some, None, Contains, append-nil, refl, sym, ap, subst, ◌∙◌, arith, inl, inr, ⊎_elim, option_map}
+use Rattle.std.proofs.Common.{◌≡◌, ◌≢◌, ◌⊎◌, ℕ, zero, suc, ◌+◌, ◌<◌, List, [], ◌∷◌, ◌++◌, length, length-set, map, set, slice_get, take, Option, Some, None, Contains, append-nil, append_assoc, refl, sym, ap, subst, ◌∙◌, arith, inl, inr, ⊎_elim, option_map}
 use Rattle.std.proofs.lemmas.List.{map-set, set-set}
 use Rattle.std.proofs.lemmas.List.Elements.{Contains-append_left, Contains-append_right, Contains-append_cases, Contains-push_cases}
 use Rattle.std.proofs.lemmas.Option.{same_Some, none-some, slice_get-map, slice_get_read}
 use Rattle.ivy_model.specs.declared.Call.{Call}
 use Rattle.ivy_model.specs.declared.Config.{Config}
+use Rattle.ivy_model.specs.declared.Record.{Record}
 use Rattle.ivy_model.specs.declared.Reply as reply
+use Rattle.ivy_model.specs.declared.Row.{Row}
+use Rattle.ivy_model.specs.declared.Row.TheVariants.{Loads, Stores}
 use Rattle.ivy_model.specs.Config.{IsConfig}
+use Rattle.ivy_model.specs.Rows.{numbers_in, row}
 use Rattle.ivy_program.specs.Programs.{Program, Called}
 use Rattle.ivy_moves.specs.Nodes.{pulsing}
 use Rattle.ivy_moves.specs.declared.Move.{Move}
@@ -16,6 +20,7 @@ use Rattle.ivy_moves.specs.declared.keep.Keep.TheVariants.{History}
 use Rattle.ivy_moves.specs.ivy_link.declared.Verdict.{Verdict}
 use Rattle.ivy_moves.proofs.Places.{set-cases, set-there, set-same}
 use Rattle.ivy_embedded.specs.ivy_site.declared.turn.Turn.TheVariants.{Moved}
+use Rattle.ivy_embedded.specs.ivy_site.Calls.{AreAnswered}
 use Rattle.ivy_embedded.specs.ivy_site.Handed.{site_handed}
 use Rattle.ivy_embedded.specs.ivy_site.Shown.{Shown, after_pulse_to}
 use Rattle.ivy_embedded.specs.ivy_site.Sites.{SiteTurns, AfterDelivery, first_keeping}
@@ -29,7 +34,7 @@ use Rattle.ivy_world.proofs.Making.{turn_went, pulse_went}
 use Rattle.ivy_world.proofs.Handed.{handed_running}
 use Rattle.ivy_world.proofs.Worlds.{first_running-of, running_each, runs_on}
 use Rattle.proof_headline.proofs.Headline.{keeps-reached}
-use Rattle.proof_embedded.specs.Driven.{Request, Begin, Reply, Deliver, NextFrame, Pulse, Driven, TakesOut, Does, Asks, DrivesTo, first_from, opened, node_in, program_in, AreOfOneRun, DrivenNodesAreOfOneRun}
+use Rattle.proof_embedded.specs.Driven.{Request, Begin, Reply, LoadBlock, StoreBlock, Deliver, NextFrame, Pulse, Driven, TakesOut, Does, Asks, DrivesTo, first_from, opened, node_in, program_in, AreOfOneRun, DrivenNodesAreOfOneRun}
 use Rattle.proof_embedded.proofs.Emptied.{with_strings, turn_carries, delivery_carries, pulse_carries}
 
 -- the node as a site whose strings are on the wire
@@ -138,6 +143,27 @@ module _ (c : Config) (sites : List Shown) (sent : List (List ℕ)) (i : ℕ) (o
             (set-set sites i (with_strings [] mid) (with_strings [] new)) f.running;
       }
 
+-- calls of a row are handed in one after another
+answered : (c : Config) (sites : List Shown) (sent : List (List ℕ)) (i : ℕ) (rs : List Record)
+    (old new : Shown) (there : slice_get sites i ≡ Some (with_strings [] old))
+    (h : IsRunning c sites sent) → AreAnswered rs old new → Further c sites sent i old there h new
+answered c sites sent i [] old new there h same = stayed c sites sent i old there h new same
+answered c sites sent i (r ∷ rs) old new there h a =
+    let mid : Shown = a.0 in
+    let after : List Shown = set sites i (with_strings [] mid) in
+    let at : slice_get after i ≡ Some (with_strings [] mid) =
+    set-there sites i (with_strings [] mid) (with_strings [] old) there in
+    let first = handed c sites sent i old there h r.call mid (inr a.1.turns) in
+    let rest = answered c after (sent ++ first.more) i rs mid new at first.running a.2 in record {
+      more = first.more ++ rest.more;
+      waiting = rest.waiting ∙ (ap (λ l. l ++ rest.more) first.waiting
+          ∙ append_assoc old.waiting first.more rest.more);
+      running = subst (λ ss. IsRunning c ss (sent ++ (first.more ++ rest.more)))
+          (set-set sites i (with_strings [] mid) (with_strings [] new))
+          (subst (IsRunning c (set after i (with_strings [] new)))
+          (append_assoc sent first.more rest.more) rest.running);
+    }
+
 -- what waits at a node with more strings
 
 strings_more : (first : Option (List ℕ)) (waiting more : List (List ℕ))
@@ -217,6 +243,12 @@ module _ (c : Config) (nodes : List Embedded) (strings : List (List ℕ)) (i : �
   polled (Some r) t a =
       turned c (map seen nodes) d.sent i s.site seen_there d.running t.site a.2.turns
 
+  carried : (kind : Row) (addr words : ℕ) (bytes : List ℕ) (t : Embedded)
+      → AreAnswered (row kind s.site.me addr (numbers_in words bytes)) s.site t.site → Goes t.site
+  carried kind addr words bytes t a =
+      answered c (map seen nodes) d.sent i (row kind s.site.me addr (numbers_in words bytes)) s.site
+      t.site seen_there d.running a
+
   -- a string was taken out, or none was
   seen_same : (t : Embedded) → ChangesWaiting s t → seen t ≡ seen s
   seen_same t same = ap (with_strings []) same
@@ -281,6 +313,12 @@ module _ (c : Config) (nodes : List Embedded) (strings : List (List ℕ)) (i : �
   did Reply t more h =
       rw h.0 (⊎_elim (λ does. further t does.2.0 (polled does.0 t does.2.1))
       (λ refused. unchanged t refused.1) h.1.3)
+  did (LoadBlock addr) t more h =
+      rw h.0 (⊎_elim (λ does. further t does.3.0 (carried Loads addr h.1.1 h.1.2 t does.3.1))
+      (λ none. absurd none.0) h.1.3)
+  did (StoreBlock addr bytes) t more h =
+      rw h.0 (⊎_elim (λ does. further t does.3.0 (carried Stores addr h.1.1 bytes t does.3.1))
+      (λ none. absurd none.0) h.1.2)
   did (Deliver bytes) t more h =
       rw h.0 (⊎_elim
       (λ does. further t does.3.0

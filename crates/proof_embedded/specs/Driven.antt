@@ -1,6 +1,7 @@
 -- Nodes that a program drives by the functions of a C header.
 use Rattle.std.specs.Prelude.{◌≡◌, ◌≢◌, ◌⊎◌, ℕ, zero, suc, ◌+◌, List, [], ◌∷◌, ◌++◌, take, map, slice_get, slice_set, Some, Contains}
 use Rattle.ivy_model.specs.declared.Config.{Config}
+use Rattle.ivy_model.specs.declared.Row.TheVariants.{Loads, Stores}
 use Rattle.ivy_model.specs.Config.{IsConfig}
 use Rattle.ivy_program.specs.Programs.{Program}
 use Rattle.ivy_moves.specs.Nodes.{Node}
@@ -8,14 +9,17 @@ use Rattle.ivy_moves.specs.Worlds.{World}
 use Rattle.ivy_embedded.specs.ivy_site.ivy_host.Hosts.{Host}
 use Rattle.ivy_embedded.specs.ivy_site.ivy_host.Managers.{Managed}
 use Rattle.ivy_embedded.specs.Nodes.{Embedded, first_embedded}
-use Rattle.ivy_embedded.specs.Exports.{Answers, Begins, Delivers, IsRequest, Polls, Pulses, RefusesCall, RefusesPoll, RefusesPulse, RefusesString, TakesAt}
+use Rattle.ivy_embedded.specs.Exports.{Answers, Begins, CarriesOut, Delivers, IsRequest, Polls, Pulses, RefusesCall, RefusesPoll, RefusesPulse, RefusesString, TakesAt}
 use Rattle.ivy_embedded.specs.declared.status.TheConstants.{DONE}
 use Rattle.proof_headline.specs.Keeping.{Keeps}
 
--- what the program asks of a node; the five numbers are those that a call is begun with
+-- what the program asks of a node; the five numbers are those that a call is begun with, and a block
+-- is read or written from an address on
 pub data Request : Type 0 where
   Begin : ℕ → ℕ → ℕ → ℕ → ℕ → Request
   Reply : Request
+  LoadBlock : ℕ → Request
+  StoreBlock : ℕ → List ℕ → Request
   Deliver : List ℕ → Request
   NextFrame : Request
   Pulse : ℕ → Request
@@ -41,6 +45,12 @@ Does (Begin kind width place operand expected) strings s t more = (more ≡ stri
 Does Reply strings s t more = (more ≡ strings)
     × ((status before value : ℕ) × Answers status (Some s) (Some t) (Polls status before value)
     (RefusesPoll status))
+Does (LoadBlock addr) strings s t more = (more ≡ strings)
+    × ((status words : ℕ) × (buffer : List ℕ) × Answers status (Some s) (Some t)
+    (CarriesOut Loads addr buffer status words) (λ _. ⊥))
+Does (StoreBlock addr bytes) strings s t more = (more ≡ strings)
+    × ((status words : ℕ) × Answers status (Some s) (Some t)
+    (CarriesOut Stores addr bytes status words) (λ _. ⊥))
 Does (Deliver bytes) strings s t more = (more ≡ strings) × Contains strings bytes
     × ((status what : ℕ) × Answers status (Some s) (Some t) (Delivers bytes status what)
     (RefusesString bytes status))

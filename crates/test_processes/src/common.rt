@@ -1,11 +1,14 @@
-//! What the tests share: two programs, of which one loads a word that nobody wrote, and the two frames that this takes.
+//! What the tests share: a text of programs, of which one loads a word that nobody wrote, the two frames that this takes,
+//! and how texts are spelled and compared.
 
 use ivy_model::{Config, Kind};
+use ivy_process::Mail;
 use ivy_process::ivy_join::ivy_lines::{Log, parse_log};
-use ivy_process::ivy_join::{Joined, Unjoined, join};
-use ivy_program::{Program, parse};
 use std::alloc::Global;
-use std::test::Fail;
+use std::fmt::Debug;
+use std::process::Abort;
+use std::str;
+use std::sync::Wait;
 
 pub(crate) const PROGRAMS: &str = "node 0\nnode 1\nset r1 64\nload 8 r2 r1\nprint r2\n";
 
@@ -17,39 +20,44 @@ pub(crate) const CONFIG: Config = Config {
 };
 
 /// Node 1 asks node 0 for a copy of page 1, by its first message, for its first call.
-pub(crate) const REQUEST: &str =
-    "495602010100000d0000000000000001000000000000000001000000000000000100000001";
+const REQUEST: &str = "495602010100000d0000000000000001000000000000000001000000000000000100000001";
 
 /// Node 0 sends it, by its first message: 64 bytes that are 0.
-pub(crate) const ANSWER: &str =
+const ANSWER: &str =
     "495602030001004d00000000000000010000000000000000010000000000000001000000010000000000000000000000\
     000000000000000000000000000000000000000000000000000000000000000000000000000000000000000000000000\
     0000000000";
 
-/// The log of this text.
-pub(crate) fn log_of(alloc: Global, text: &str) -> Result<Log<Global>, Fail> {
-    Ok(parse_log(alloc, text)?)
+/// The text of a form, in which `REQUEST` and `ANSWER` stand for the two frames.
+pub(crate) fn spelled(rt: &impl Abort, alloc: Global, form: &str) -> String {
+    let text = form.replace(alloc, "REQUEST", REQUEST).expect(rt, "memory");
+    text.replace(alloc, "ANSWER", ANSWER).expect(rt, "memory")
 }
 
-/// Joins two logs under the programs.
-pub(crate) fn joined(
-    alloc: Global,
-    first: &str,
-    second: &str,
-) -> Result<Result<Joined<Global>, Unjoined>, Fail> {
-    let mut logs = Vec::new(alloc);
-    logs.push(log_of(alloc, first)?)?;
-    logs.push(log_of(alloc, second)?)?;
-    Ok(join(alloc, CONFIG, parse(alloc, PROGRAMS)?, &logs))
+/// The log of this form.
+pub(crate) fn log_of(rt: &impl Abort, alloc: Global, form: &str) -> Log<Global> {
+    let text = spelled(rt, alloc, form);
+    parse_log(alloc, text.as_str()).expect(rt, "a log")
 }
 
-/// The program of a node.
-pub(crate) fn program_of(alloc: Global, node: u8) -> Result<Program<Global>, Fail> {
-    let mut found = None;
-    for (place, program) in parse(alloc, PROGRAMS)?.into_iter().enumerate() {
-        if place == usize::from(node) {
-            found = Some(program);
-        }
+/// An inbox that has these lines, and gets no more.
+pub(crate) fn mail_of<R: Abort + Wait>(rt: &R, alloc: Global, forms: &[&str]) -> Mail {
+    let inbox = Mail::new(alloc);
+    for form in forms {
+        let line = spelled(rt, alloc, form);
+        assert!(rt; inbox.put(rt, line));
     }
-    Ok(found.ok_or("no such program")?)
+    inbox.end(rt);
+    inbox
+}
+
+/// That a value is the one that is wanted.
+pub(crate) fn expect_same<T: PartialEq + Debug + Drop>(rt: &impl Abort, found: T, wanted: T) {
+    assert_eq!(rt; found, wanted);
+}
+
+/// That bytes are the text of a form.
+pub(crate) fn expect_text(rt: &impl Abort, alloc: Global, found: &[u8], form: &str) {
+    let wanted = spelled(rt, alloc, form);
+    expect_same(rt, str::from_utf8(found).ok(), Some(wanted.as_str()));
 }

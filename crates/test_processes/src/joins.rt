@@ -1,64 +1,99 @@
 //! Logs that are the parts of a run, and logs that are not.
 
-use crate::common::{ANSWER, REQUEST, joined};
-use ivy_process::ivy_join::Unjoined;
-use std::test::Fail;
+use crate::common::{CONFIG, PROGRAMS, expect_same, log_of};
+use ivy_process::ivy_join::{Joined, Unjoined, join};
+use ivy_program::parse;
+use std::alloc::Global;
+use std::process::Abort;
 
-#[test]
-fn logs_of_a_run_are_joined(rt: HostRuntime) -> Result<(), Fail> {
-    let alloc = rt.alloc();
-    let first = format!(in alloc; "ivy log 0 2 2 64 dynamic\ntook {REQUEST}\n")?;
-    let second = format!(in alloc;
-        "ivy log 1 2 2 64 dynamic\nturns 1\nturns 1\ntook {ANSWER}\nturns 2\ntoo"
-    )?;
-    let run = joined(alloc, first.as_str(), second.as_str())?.expect(&rt, "joined");
-    assert_eq!(rt; run.nodes(), 2);
-    assert_eq!(rt; run.output(1), [0].as_slice());
-    assert_eq!(rt; run.output(0).len(), 0);
-    assert!(rt; run.ended(0) && run.ended(1));
-    assert_eq!(rt; run.history(1).len(), 1);
-    assert!(rt; run.asked(1).is_none());
-    Ok(())
+/// What a node came to: how many of its calls were answered, what it printed first, whether its program has ended, and
+/// whether it waits in a call.
+pub(crate) type Seen = (usize, Option<u64>, bool, bool);
+
+/// What each node of a run came to.
+pub(crate) fn seen_in(rt: &impl Abort, alloc: Global, run: &Joined<Global>) -> Vec<Seen> {
+    let mut nodes = Vec::new(alloc);
+    for node in 0..run.nodes() {
+        let (answered, printed) = (run.history(node).len(), run.output(node).first().copied());
+        let (has_ended, waits) = (run.ended(node), run.asked(node).is_some());
+        let seen = (answered, printed, has_ended, waits);
+        nodes.push(seen).expect(rt, "memory");
+    }
+    nodes
+}
+
+/// What each node came to in the run whose parts these logs are.
+fn joined(rt: &impl Abort, alloc: Global, forms: &[&str]) -> Result<Vec<Seen>, Unjoined> {
+    let mut logs = Vec::new(alloc);
+    for form in forms {
+        let log = log_of(rt, alloc, form);
+        logs.push(log).ok().expect(rt, "memory");
+    }
+    let programs = parse(alloc, PROGRAMS).expect(rt, "programs");
+    match join(alloc, CONFIG, programs, &logs) {
+        Ok(run) => Ok(seen_in(rt, alloc, &run)),
+        Err(why) => Err(why),
+    }
 }
 
 #[test]
-fn a_string_is_not_taken_before_it_was_sent(rt: HostRuntime) -> Result<(), Fail> {
-    let alloc = rt.alloc();
-    let first = format!(in alloc; "ivy log 0 2 2 64 dynamic\ntook {REQUEST}\n")?;
-    let second = "ivy log 1 2 2 64 dynamic\nturns 1\n";
-    let why = joined(alloc, first.as_str(), second)?.err();
-    assert_eq!(rt; why, Some(Unjoined::NotSent { node: 0, line: 2 }));
-    Ok(())
+fn logs_of_a_run_are_joined(rt: HostRuntime) {
+    let first = "ivy log 0 2 2 64 dynamic\ntook REQUEST\n";
+    let wanted: [Seen; 2] = [(0, None, true, false), (1, Some(0), true, false)];
+    for second in [
+        "ivy log 1 2 2 64 dynamic\nturns 1\nturns 1\ntook ANSWER\nturns 2\ntoo",
+        // It was killed once it had asked.
+        "ivy log 1 2 2 64 dynamic\nturns 2\npulse 0\ntook ANSWER\nturns 2\n",
+    ] {
+        let nodes = joined(&rt, rt.alloc(), &[first, second]).expect(&rt, "joined");
+        expect_same(&rt, nodes.as_slice(), wanted.as_slice());
+    }
 }
 
-#[test]
-fn an_event_that_cannot_happen_is_named(rt: HostRuntime) -> Result<(), Fail> {
-    let alloc = rt.alloc();
-    let second = "ivy log 1 2 2 64 dynamic\nturns 2\nturns 1\n";
-    let why = joined(alloc, "ivy log 0 2 2 64 dynamic\n", second)?.err();
-    assert_eq!(rt; why, Some(Unjoined::NoSuchEvent { node: 1, line: 3 }));
-    let second = "ivy log 1 2 2 64 dynamic\npulse 1\n";
-    let why = joined(alloc, "ivy log 0 2 2 64 dynamic\n", second)?.err();
-    assert_eq!(rt; why, Some(Unjoined::NoSuchEvent { node: 1, line: 2 }));
-    Ok(())
-}
+/// Two logs that are joined by nothing, and why.
+const APART: [([&str; 2], Unjoined); 6] = [
+    // A string is not taken before it was sent.
+    (
+        [
+            "ivy log 0 2 2 64 dynamic\ntook REQUEST\n",
+            "ivy log 1 2 2 64 dynamic\nturns 1\n",
+        ],
+        Unjoined::NotSent { node: 0, line: 2 },
+    ),
+    // The second turn waits.
+    (
+        [
+            "ivy log 0 2 2 64 dynamic\n",
+            "ivy log 1 2 2 64 dynamic\nturns 2\nturns 1\n",
+        ],
+        Unjoined::NoSuchEvent { node: 1, line: 3 },
+    ),
+    // A node sends itself no pulse.
+    (
+        [
+            "ivy log 0 2 2 64 dynamic\n",
+            "ivy log 1 2 2 64 dynamic\npulse 1\n",
+        ],
+        Unjoined::NoSuchEvent { node: 1, line: 2 },
+    ),
+    (
+        ["ivy log 0 2 2 64 dynamic\n", "ivy log 0 2 2 64 dynamic\n"],
+        Unjoined::Twice(0),
+    ),
+    (
+        ["ivy log 1 2 2 64 dynamic\n", "ivy log 1 2 2 64 dynamic\n"],
+        Unjoined::Missing(0),
+    ),
+    (
+        ["ivy log 0 2 2 64 dynamic\n", "ivy log 1 2 2 64 fixed\n"],
+        Unjoined::Differs(1),
+    ),
+];
 
 #[test]
-fn each_log_is_of_another_node(rt: HostRuntime) -> Result<(), Fail> {
-    let alloc = rt.alloc();
-    let (first, second) = ("ivy log 0 2 2 64 dynamic\n", "ivy log 1 2 2 64 dynamic\n");
-    assert_eq!(rt;
-        joined(alloc, first, first)?.err(),
-        Some(Unjoined::Twice(0))
-    );
-    assert_eq!(rt;
-        joined(alloc, second, second)?.err(),
-        Some(Unjoined::Missing(0))
-    );
-    let other = "ivy log 1 2 2 64 fixed\n";
-    assert_eq!(rt;
-        joined(alloc, first, other)?.err(),
-        Some(Unjoined::Differs(1))
-    );
-    Ok(())
+fn logs_of_no_run_are_not_joined(rt: HostRuntime) {
+    for (forms, why) in &APART {
+        let found = joined(&rt, rt.alloc(), forms.as_slice()).err();
+        expect_same(&rt, found, Some(*why));
+    }
 }

@@ -1,5 +1,5 @@
-//! Tests of nodes in processes of their own: their lines, the joining of logs, those of sessions too, and how a node
-//! serves.
+//! Tests of nodes in processes of their own: their lines, the joining of logs, how a node serves, and how own code at a
+//! node is begun again. What takes several processes, or a session, is tried by the scripts of `stress/`.
 //!
 //! The strings are those of the frames that docs/PROTOCOL.md spells, written by hand.
 #![tactic(auto)]
@@ -12,7 +12,5 @@ mod joins;
 mod lines;
 #[cfg(test)]
 mod serves;
-#[cfg(test)]
-mod sessions;
 #[cfg(test)]
 mod works;

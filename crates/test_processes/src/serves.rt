@@ -1,14 +1,13 @@
 //! A node that serves over lines in memory.
-ghost use Rattle.std.specs.Prelude.{◌<◌};
 
-use crate::common::{ANSWER, CONFIG, REQUEST, joined, log_of, program_of};
+use crate::common::{CONFIG, PROGRAMS, expect_same, expect_text, log_of, mail_of};
 use ivy_model::Fault;
-use ivy_process::{Clockwork, Ending, Failure, Inbox, Limits, Node, Taken, serve};
+use ivy_process::{Clockwork, Ending, Failure, Limits, Node, serve};
+use ivy_program::{Program, parse};
 use std::alloc::Global;
-use std::cell::RefCell;
 use std::io::{self, Write};
+use std::process::Abort;
 use std::sync::Wait;
-use std::test::Fail;
 
 const LIMITS: Limits = Limits {
     pulse_millis: 20,
@@ -16,29 +15,9 @@ const LIMITS: Limits = Limits {
     kept: 100,
 };
 
-/// Lines that all lie there, the last first.
-#[derive(Drop)]
-struct Lines {
-    lines: RefCell<Vec<String>>,
-}
-
-impl Inbox for Lines {
-    fn take<R: Wait>(&self, _rt: &R) -> Taken {
-        match self.lines.try_borrow_mut() {
-            Ok(mut lines) => match lines.pop() {
-                Some(line) => Taken::Line(line),
-                None => Taken::Ended,
-            },
-            Err(_) => Taken::Ended,
-        }
-    }
-
-    fn wait<R: Wait>(&self, _rt: &R, _millis: u64) {}
-}
-
 /// A clock that stands.
 #[derive(Drop)]
-struct Stopped;
+pub(crate) struct Stopped;
 
 impl Clockwork for Stopped {
     fn millis(&self) -> u64 {
@@ -46,97 +25,18 @@ impl Clockwork for Stopped {
     }
 }
 
-/// What a node wrote: its log, its frames, and what it told.
+/// A log that has room for so many bytes.
 #[derive(Drop)]
-struct Written {
-    ending: Ending,
-    log: String,
-    out: String,
-    err: String,
+struct Paper {
+    bytes: Vec<u8>,
+    room: usize,
 }
 
-/// Serves these lines, the last first, at a node that has a log of this text.
-fn served<R: Wait>(
-    rt: &R,
-    alloc: Global,
-    node: u8,
-    old: &str,
-    lines: Vec<String>,
-) -> Result<Written, Fail>
-    requires { node < 2 }
-{
-    let program = program_of(alloc, node)?;
-    let (mut log, mut out, mut err) = (Vec::new(alloc), Vec::new(alloc), Vec::new(alloc));
-    let mut node = if old.is_empty() {
-        let begun = Node::start(alloc, &CONFIG, node, program, LIMITS)?;
-        begun.begin_log(&mut log)?;
-        begun
-    } else {
-        Node::restart(alloc, &CONFIG, node, program, LIMITS, &log_of(alloc, old)?)?
-    };
-    let inbox = Lines {
-        lines: RefCell::new(lines),
-    };
-    let ending = serve(
-        rt, &Stopped, &inbox, &mut node, &mut log, &mut out, &mut err,
-    )?;
-    Ok(Written {
-        ending,
-        log: String::from_utf8(log)?,
-        out: String::from_utf8(out)?,
-        err: String::from_utf8(err)?,
-    })
-}
-
-#[test]
-fn two_nodes_serve_and_their_logs_are_joined(rt: HostRuntime) -> Result<(), Fail> {
-    let alloc = rt.alloc();
-    let mut lines = Vec::new(alloc);
-    lines.push(format!(in alloc; "0 {REQUEST}")?)?;
-    lines.push(format!(in alloc; "1 {REQUEST}")?)?;
-    lines.push(String::from_str(alloc, "no frame")?)?;
-    let first = served(&rt, alloc, 0, "", lines)?;
-    assert_eq!(rt; first.ending, Ending::Ended);
-    assert_eq!(rt; first.out, format!(in alloc; "1 {ANSWER}\n")?);
-    assert_eq!(rt;
-        first.log,
-        format!(in alloc; "ivy log 0 2 2 64 dynamic\ntook {REQUEST}\n")?
-    );
-    let mut lines = Vec::new(alloc);
-    lines.push(format!(in alloc; "1 {ANSWER}")?)?;
-    // The node was killed once it had asked.
-    let old = "ivy log 1 2 2 64 dynamic\nturns 2\nto";
-    let second = served(&rt, alloc, 1, old, lines)?;
-    assert_eq!(rt; second.ending, Ending::Ended);
-    assert_eq!(rt; second.err.as_str(), "node 1: 0\nnode 1 ended\n");
-    assert_eq!(rt;
-        second.log,
-        format!(in alloc; "pulse 0\ntook {ANSWER}\nturns 2\n")?
-    );
-    assert_eq!(rt; second.out, format!(in alloc; "0 {REQUEST}\n")?);
-    let whole = format!(in alloc; "ivy log 1 2 2 64 dynamic\nturns 2\n{}", second.log)?;
-    let run = joined(alloc, first.log.as_str(), whole.as_str())?.expect(&rt, "joined");
-    assert!(rt; run.nodes() == 2);
-    assert_eq!(rt; run.output(1), [0].as_slice());
-    Ok(())
-}
-
-#[test]
-fn a_node_waits_where_its_input_ends(rt: HostRuntime) -> Result<(), Fail> {
-    let alloc = rt.alloc();
-    let waits = served(&rt, alloc, 1, "", Vec::new(alloc))?;
-    assert_eq!(rt; waits.ending, Ending::Waits);
-    assert_eq!(rt; waits.out, format!(in alloc; "0 {REQUEST}\n")?);
-    Ok(())
-}
-
-/// A writer that takes nothing.
-#[derive(Drop)]
-struct Full;
-
-impl Write for Full {
-    fn write(&mut self, _bytes: &[u8]) -> io::Result<usize> {
-        Ok(0)
+impl Write for Paper {
+    fn write(&mut self, bytes: &[u8]) -> io::Result<usize> {
+        let count = bytes.len().min(self.room.saturating_sub(self.bytes.len()));
+        self.bytes.extend_from_slice(&bytes[..count])?;
+        Ok(count)
     }
 
     fn flush(&mut self) -> io::Result<()> {
@@ -144,32 +44,124 @@ impl Write for Full {
     }
 }
 
-#[test]
-fn nothing_goes_out_where_the_log_takes_no_more(rt: HostRuntime) -> Result<(), Fail> {
-    let alloc = rt.alloc();
-    let mut node = Node::start(alloc, &CONFIG, 1, program_of(alloc, 1)?, LIMITS)?;
-    assert_eq!(rt; node.make_turns(10)?, 2);
+/// A node that serves, and what comes of it.
+#[derive(Clone, Copy)]
+struct Case<'a> {
+    me: u8,
+    /// The log that it is started again with, or nothing.
+    old: &'a str,
+    limits: Limits,
+    /// How many bytes its log has room for.
+    room: usize,
+    lines: &'a [&'a str],
+    ending: Result<Ending, Failure>,
+    /// So many lines had no frame.
+    bad_lines: u64,
+    /// What was written on its log, standard output and standard error.
+    log: &'a str,
+    out: &'a str,
+    err: &'a str,
+}
+
+/// Its input ends before it is answered.
+const WAITS: Case<'static> = Case {
+    me: 1,
+    old: "",
+    limits: LIMITS,
+    room: 1000,
+    lines: &[],
+    ending: Ok(Ending::Waits),
+    bad_lines: 0,
+    log: "ivy log 1 2 2 64 dynamic\nturns 2\n",
+    out: "0 REQUEST\n",
+    err: "",
+};
+
+const CASES: [Case<'static>; 6] = [
+    WAITS,
+    // A line without a frame, a frame for the other node, and one for this one.
+    Case {
+        me: 0,
+        lines: &["no frame", "1 REQUEST", "0 REQUEST"],
+        ending: Ok(Ending::Ended),
+        bad_lines: 1,
+        log: "ivy log 0 2 2 64 dynamic\ntook REQUEST\n",
+        out: "1 ANSWER\n",
+        err: "node 0 ended\n",
+        ..WAITS
+    },
+    // It was killed once it had asked.
+    Case {
+        old: "ivy log 1 2 2 64 dynamic\nturns 2\nto",
+        lines: &["1 ANSWER"],
+        ending: Ok(Ending::Ended),
+        log: "pulse 0\ntook ANSWER\nturns 2\n",
+        err: "node 1: 0\nnode 1 ended\n",
+        ..WAITS
+    },
+    // Nothing goes out where the log takes no more than its first line.
+    Case {
+        room: 25,
+        ending: Err(Failure::Unlogged),
+        log: "ivy log 1 2 2 64 dynamic\n",
+        out: "",
+        ..WAITS
+    },
+    // Its program has made its last turn, and has not ended.
+    Case {
+        limits: Limits { turns: 2, ..LIMITS },
+        ending: Err(Failure::Refused(Fault::TurnLimit)),
+        ..WAITS
+    },
+    // Its request is not acknowledged.
+    Case {
+        limits: Limits { kept: 0, ..LIMITS },
+        ending: Err(Failure::Kept(0)),
+        ..WAITS
+    },
+];
+
+/// The program of a node.
+fn program_of(rt: &impl Abort, alloc: Global, me: u8) -> Program<Global> {
+    let mut programs = parse(alloc, PROGRAMS).expect(rt, "programs");
+    if me == 0 {
+        let _ = programs.pop();
+    }
+    programs.pop().expect(rt, "a program")
+}
+
+/// Has the node of a case serve, and asserts what comes of it.
+fn check_case<R: Abort + Wait>(rt: &R, alloc: Global, case: &Case<'_>) {
+    let (me, limits) = (case.me, case.limits);
+    assert!(rt; me < CONFIG.nodes);
+    let program = program_of(rt, alloc, me);
+    let mut log = Paper {
+        bytes: Vec::new(alloc),
+        room: case.room,
+    };
     let (mut out, mut err) = (Vec::new(alloc), Vec::new(alloc));
-    let refused = node.speak(&mut Full, &mut out, &mut err);
-    assert_eq!(rt; refused, Err(Failure::Unlogged));
-    assert!(rt; out.is_empty() && err.is_empty());
-    Ok(())
+    let inbox = mail_of(rt, alloc, case.lines);
+    let mut node = if case.old.is_empty() {
+        let begun = Node::start(alloc, &CONFIG, me, program, limits).expect(rt, "a node");
+        begun.begin_log(&mut log).expect(rt, "a log");
+        begun
+    } else {
+        let old = log_of(rt, alloc, case.old);
+        Node::restart(alloc, &CONFIG, me, program, limits, &old).expect(rt, "a node")
+    };
+    let ending = serve(
+        rt, &Stopped, &inbox, &mut node, &mut log, &mut out, &mut err,
+    );
+    expect_same(rt, ending, case.ending);
+    expect_same(rt, node.told().bad_lines, case.bad_lines);
+    expect_text(rt, alloc, &log.bytes, case.log);
+    expect_text(rt, alloc, &out, case.out);
+    expect_text(rt, alloc, &err, case.err);
 }
 
 #[test]
-fn a_node_ends_at_its_limits(rt: HostRuntime) -> Result<(), Fail> {
-    let alloc = rt.alloc();
-    let limits = Limits {
-        pulse_millis: 20,
-        turns: 2,
-        kept: 0,
-    };
-    let mut node = Node::start(alloc, &CONFIG, 1, program_of(alloc, 1)?, limits)?;
-    assert_eq!(rt; node.check_kept(), Ok(()));
-    assert_eq!(rt; node.make_turns(10)?, 2);
-    // Its request is not acknowledged.
-    assert_eq!(rt; node.check_kept(), Err(Failure::Kept(0)));
-    let refused = node.make_turns(10);
-    assert_eq!(rt; refused, Err(Failure::Refused(Fault::TurnLimit)));
-    Ok(())
+fn nodes_serve(rt: HostRuntime) {
+    for case in &CASES {
+        check_case(&rt, rt.alloc(), case);
+    }
 }

@@ -1,18 +1,17 @@
-//! Own code at two nodes, each in a thread, over lines in memory: their logs are joined. And at one of them alone, which is
-//! started again with its log.
-ghost use Rattle.std.specs.Prelude.{◌<◌};
+//! Own code at a node that is started again with its log, and the joining of such logs.
 
+use crate::common::{expect_same, expect_text};
+use crate::joins::{Seen, seen_in};
+use crate::serves::Stopped;
 use ivy_model::{Config, Kind};
-use ivy_process::ivy_join::ivy_lines::{Head, OwnLog, parse_own_log};
-use ivy_process::ivy_join::{Joined, Unjoined, join_own};
-use ivy_process::{Clockwork, Failure, Limits, Mail, Node, serve_work};
+use ivy_process::ivy_join::ivy_lines::parse_own_log;
+use ivy_process::ivy_join::{Unjoined, join_own};
+use ivy_process::{Failure, Limits, Mail, Node, serve_work};
 use ivy_programs::AddsUp;
 use ivy_sync::{Barrier, Lock};
 use std::alloc::Global;
-use std::io::{self, Write};
-use std::sync::{Mutex, Wait};
-use std::test::Fail;
-use std::thread::join;
+use std::process::Abort;
+use std::sync::Wait;
 
 const CONFIG: Config = Config {
     nodes: 2,
@@ -27,158 +26,8 @@ const LIMITS: Limits = Limits {
     kept: 1000,
 };
 
-/// Two nodes that add up, of which each gives 1.
-const TWO: AddsUp = AddsUp {
-    lock: Lock { addr: 256 },
-    sum: 512,
-    barrier: Barrier {
-        count: 0,
-        nodes: 2,
-        passed: 0,
-    },
-};
-
-/// A clock that stands: no pulse is due, since no line is lost.
-#[derive(Drop)]
-struct Stopped;
-
-impl Clockwork for Stopped {
-    fn millis(&self) -> u64 {
-        0
-    }
-}
-
-/// The lines that one node speaks go to the other.
-#[derive(Drop)]
-struct Speech<'a, R> {
-    rt: &'a R,
-    alloc: Global,
-    to: &'a Mail,
-    line: String,
-}
-
-impl<R: Wait> Write for Speech<'_, R> {
-    fn write(&mut self, bytes: &[u8]) -> io::Result<usize> {
-        for byte in bytes {
-            if *byte == b'\n' {
-                self.to.put(self.rt, self.line.clone()?);
-                self.line = String::new(self.alloc);
-            } else {
-                self.line.push(char::from(*byte))?;
-            }
-        }
-        Ok(bytes.len())
-    }
-
-    fn flush(&mut self) -> io::Result<()> {
-        Ok(())
-    }
-}
-
-/// Hears that works have ended. Once both have, no line comes any more.
-#[derive(Drop)]
-struct Ends<'a, R> {
-    rt: &'a R,
-    count: &'a Mutex<u64>,
-    mine: &'a Mail,
-    theirs: &'a Mail,
-}
-
-impl<R: Wait> Write for Ends<'_, R> {
-    fn write(&mut self, bytes: &[u8]) -> io::Result<usize> {
-        if bytes.ends_with(b"ended\n") {
-            let mut count = self.count.lock(self.rt);
-            *count = count.saturating_add(1);
-            if *count == 2 {
-                self.mine.end(self.rt);
-                self.theirs.end(self.rt);
-            }
-        }
-        Ok(bytes.len())
-    }
-
-    fn flush(&mut self) -> io::Result<()> {
-        Ok(())
-    }
-}
-
-/// What the work of a node gave, and its log.
-fn worked<R: Wait>(
-    rt: &R,
-    alloc: Global,
-    me: u8,
-    count: &Mutex<u64>,
-    mine: &Mail,
-    theirs: &Mail,
-) -> Result<(u64, Vec<u8>), Failure>
-    requires { me < 2 }
-{
-    let past = OwnLog {
-        head: Head { me, config: CONFIG },
-        entries: Vec::new(alloc),
-        lines: Vec::new(alloc),
-    };
-    past.head.config.check()?;
-    let node = Node::open(alloc, &past, LIMITS)?;
-    let mut log = Vec::new(alloc);
-    node.begin_own_log(&mut log)?;
-    let out = Speech {
-        rt,
-        alloc,
-        to: theirs,
-        line: String::new(alloc),
-    };
-    let err = Ends {
-        rt,
-        count,
-        mine,
-        theirs,
-    };
-    let worked = serve_work(rt, &Stopped, mine, &past, node, &TWO, log, out, err)?;
-    Ok((worked.gave, worked.log))
-}
-
-/// Joins logs of own code.
-fn joined(alloc: Global, texts: &[&str]) -> Result<Result<Joined<Global>, Unjoined>, Fail> {
-    let mut logs: Vec<OwnLog<Global>> = Vec::new(alloc);
-    for text in texts {
-        logs.push(parse_own_log(alloc, text)?)?;
-    }
-    Ok(join_own(alloc, CONFIG, &logs))
-}
-
-#[test]
-fn the_logs_of_own_code_are_joined(rt: HostRuntime) -> Result<(), Fail> {
-    let alloc = rt.alloc();
-    let (left, right) = (Mail::new(alloc), Mail::new(alloc));
-    let count = Mutex::new(0u64);
-    let (first, second) = join(
-        &rt,
-        || worked(&rt, alloc, 0, &count, &left, &right),
-        || worked(&rt, alloc, 1, &count, &right, &left),
-    );
-    let (first, second) = (first?, second?);
-    assert_eq!(rt; (first.0, second.0), (1, 1));
-    let first = String::from_utf8(first.1)?;
-    let second = String::from_utf8(second.1)?;
-    let run = joined(alloc, &[first.as_str(), second.as_str()])?.expect(&rt, "joined");
-    assert!(rt; run.nodes() == 2);
-    assert!(rt; run.asked(0).is_none() && run.asked(1).is_none());
-    assert!(rt; run.history(0).len() >= 7);
-    // Each read the sum at its end.
-    let other = second
-        .as_str()
-        .replace(alloc, "value 1 load 8 512", "value 2 load 8 512")?;
-    let why = joined(alloc, &[first.as_str(), other.as_str()])?.err();
-    assert_eq!(rt; why, Some(Unjoined::OtherAnswers(1)));
-    // A node that was killed may not have logged what it was answered last.
-    let torn = second.as_str().replace(alloc, "value 1 load 8 512\n", "")?;
-    assert!(rt; joined(alloc, &[first.as_str(), torn.as_str()])?.is_ok());
-    Ok(())
-}
-
 /// Node 0 adds up alone, and its sum lies there.
-fn lone_sum(sum: u64) -> AddsUp {
+const fn lone_sum(sum: u64) -> AddsUp {
     AddsUp {
         lock: Lock { addr: 256 },
         sum,
@@ -191,28 +40,21 @@ fn lone_sum(sum: u64) -> AddsUp {
 }
 
 /// What the work of node 0 gives that is started with a log of this text, and what it writes behind that.
-fn lone<R: Wait>(
+fn worked<R: Abort + Wait>(
     rt: &R,
     alloc: Global,
     work: &AddsUp,
-    log: &str,
-) -> Result<Result<(u64, String), Failure>, Fail> {
-    let past = parse_own_log(alloc, log)?;
-    past.head.config.check()?;
-    if past.head.me >= past.head.config.nodes {
-        return Err(Fail::new("no such node"));
-    }
+    text: &str,
+) -> Result<(u64, Vec<u8>), Failure> {
+    let past = parse_own_log(alloc, text).expect(rt, "a log");
+    past.head.config.check_wide().expect(rt, "a configuration");
+    assert!(rt; past.head.me < past.head.config.nodes);
     let inbox = Mail::new(alloc);
     inbox.end(rt);
-    let begun = match Node::open(alloc, &past, LIMITS) {
-        Ok(node) => node,
-        Err(failure) => return Ok(Err(failure)),
-    };
+    let node = Node::open(alloc, &past, LIMITS)?;
     let (log, out, err) = (Vec::new(alloc), Vec::new(alloc), Vec::new(alloc));
-    match serve_work(rt, &Stopped, &inbox, &past, begun, work, log, out, err) {
-        Ok(worked) => Ok(Ok((worked.gave, String::from_utf8(worked.log)?))),
-        Err(failure) => Ok(Err(failure)),
-    }
+    let worked = serve_work(rt, &Stopped, &inbox, &past, node, work, log, out, err)?;
+    Ok((worked.gave, worked.log))
 }
 
 /// The log of node 0, which adds up alone. It has all pages at first, so each call is answered in its first turn.
@@ -240,40 +82,85 @@ turns 1
 value 0 load 8 512
 ";
 
-#[test]
-fn a_work_is_begun_again_with_its_log(rt: HostRuntime) -> Result<(), Fail> {
-    let alloc = rt.alloc();
-    // It was killed when its log had so many lines, and a part of one more.
-    let mut had = String::new(alloc);
-    for line in LOG.lines() {
-        had.push_str(line)?;
-        had.push('\n')?;
-        let torn = format!(in alloc; "{had}val")?;
-        let (gave, text) = lone(&rt, alloc, &lone_sum(512), torn.as_str())?.expect(&rt, "done");
-        assert_eq!(rt; gave, 0);
-        let whole = format!(in alloc; "{had}{text}")?;
-        assert_eq!(rt; whole.as_str(), LOG);
-    }
-    // The other node made no call.
-    let run = joined(alloc, &[LOG, "ivy own 1 2 4 256 dynamic\n"])?.expect(&rt, "joined");
-    assert!(rt; run.nodes() == 2);
-    assert!(rt; run.history(0).len() == 7 && run.history(1).is_empty());
-    Ok(())
+/// The log of node 1, which made no call.
+const IDLE: &str = "ivy own 1 2 4 256 dynamic\n";
+
+/// Asserts that the work goes on with so much of its log, and a part of a line more.
+fn check_from<R: Abort + Wait>(rt: &R, alloc: Global, had: &str) {
+    let torn = format!(in alloc; "{had}val").expect(rt, "memory");
+    let (gave, rest) = worked(rt, alloc, &lone_sum(512), torn.as_str()).expect(rt, "done");
+    expect_same(rt, gave, 0);
+    let wanted = LOG.strip_prefix(had).expect(rt, "a beginning");
+    expect_text(rt, alloc, &rest, wanted);
 }
 
 #[test]
-fn a_log_of_another_work_is_refused(rt: HostRuntime) -> Result<(), Fail> {
+fn a_work_is_begun_again_with_its_log(rt: HostRuntime) {
+    let alloc = rt.alloc();
+    // It was killed when its log had so many lines.
+    let mut had = String::new(alloc);
+    for line in LOG.lines() {
+        had.push_str(line).expect(&rt, "memory");
+        had.push('\n').expect(&rt, "memory");
+        check_from(&rt, alloc, had.as_str());
+    }
+}
+
+#[test]
+fn a_log_of_another_work_is_refused(rt: HostRuntime) {
     let alloc = rt.alloc();
     // The sum of this work lies elsewhere.
-    let other = lone(&rt, alloc, &lone_sum(520), LOG)?.err();
-    assert_eq!(rt; other, Some(Failure::Differs(5)));
+    let other = worked(&rt, alloc, &lone_sum(520), LOG).err();
+    expect_same(&rt, other, Some(Failure::Differs(5)));
     // It made one call more.
-    let longer = format!(in alloc; "{LOG}call load 8 512\n")?;
-    let fewer = lone(&rt, alloc, &lone_sum(512), longer.as_str())?.err();
-    assert_eq!(rt; fewer, Some(Failure::Differs(23)));
+    let longer = format!(in alloc; "{LOG}call load 8 512\n").expect(&rt, "memory");
+    let fewer = worked(&rt, alloc, &lone_sum(512), longer.as_str()).err();
+    expect_same(&rt, fewer, Some(Failure::Differs(23)));
     // No memory answers so.
-    let wrong = LOG.replace(alloc, "value 0 load", "value 5 load")?;
-    let refused = lone(&rt, alloc, &lone_sum(512), wrong.as_str())?.err();
-    assert_eq!(rt; refused, Some(Failure::NotItsLog(7)));
-    Ok(())
+    let wrong = altered(&rt, alloc, "value 0 load", "value 5 load");
+    let refused = worked(&rt, alloc, &lone_sum(512), wrong.as_str()).err();
+    expect_same(&rt, refused, Some(Failure::NotItsLog(7)));
+}
+
+/// The log of node 0 with other words in the place of some.
+fn altered(rt: &impl Abort, alloc: Global, words: &str, others: &str) -> String {
+    LOG.replace(alloc, words, others).expect(rt, "memory")
+}
+
+/// What each node came to in the run whose parts these logs are.
+fn joined(rt: &impl Abort, alloc: Global, first: &str) -> Result<Vec<Seen>, Unjoined> {
+    let mut logs = Vec::new(alloc);
+    for text in [first, IDLE] {
+        let log = parse_own_log(alloc, text).expect(rt, "a log");
+        logs.push(log).ok().expect(rt, "memory");
+    }
+    match join_own(alloc, CONFIG, &logs) {
+        Ok(run) => Ok(seen_in(rt, alloc, &run)),
+        Err(why) => Err(why),
+    }
+}
+
+/// Asserts that the log of node 0 is joined with that of node 1, and how many of its calls were answered.
+fn check_joined(rt: &impl Abort, alloc: Global, first: &str) {
+    let nodes = joined(rt, alloc, first).expect(rt, "joined");
+    expect_same(rt, nodes.len(), 2);
+    for (node, answered) in nodes.iter().zip([7, 0]) {
+        expect_same(rt, node.0, answered);
+        assert!(rt; !node.3);
+    }
+}
+
+#[test]
+fn logs_of_own_code_are_joined(rt: HostRuntime) {
+    let alloc = rt.alloc();
+    check_joined(&rt, alloc, LOG);
+    // A node that was killed may not have logged what it was answered last.
+    let killed = LOG
+        .strip_suffix("value 0 load 8 512\n")
+        .expect(&rt, "an end");
+    check_joined(&rt, alloc, killed);
+    // No memory answers so.
+    let wrong = altered(&rt, alloc, "value 0 load", "value 5 load");
+    let why = joined(&rt, alloc, wrong.as_str()).err();
+    expect_same(&rt, why, Some(Unjoined::OtherAnswers(0)));
 }

@@ -5,10 +5,10 @@ use ivy_model::Fault;
 use ivy_scope::ivy_files::Texts;
 use ivy_scope::ivy_replay::Silence;
 use ivy_scope::{Logs, perform};
-use std::alloc::{AllocError, Global};
+use std::alloc::Global;
 use std::process::Abort;
+use std::str;
 use std::sync::Wait;
-use std::test::Fail;
 use std::thread::Threads;
 
 /// What a stream has to be told.
@@ -51,13 +51,13 @@ impl Logs for Shelf<'_> {
 }
 
 /// The words of a command line.
-fn words_of(alloc: Global, line: &[&str]) -> Result<Vec<String>, AllocError> {
+fn words_of(rt: &impl Abort, alloc: Global, line: &[&str]) -> Vec<String> {
     let mut words = Vec::new(alloc);
-    words.push(String::from_str(alloc, "ivyscope")?)?;
-    for word in line {
-        words.push(String::from_str(alloc, word)?)?;
+    for word in ["ivyscope"].iter().chain(line) {
+        let word = String::from_str(alloc, word).expect(rt, "memory");
+        words.push(word).expect(rt, "memory");
     }
-    Ok(words)
+    words
 }
 
 fn has_all(found: &str, parts: &[&str]) -> bool {
@@ -78,17 +78,28 @@ fn is_told(found: &str, wanted: Told<'_>) -> bool {
     }
 }
 
-/// The status of a command line over files, what it prints, and what standard error is told.
-fn said_by<R: Abort + AllocGlobal + Threads + Wait + Sync>(
+/// Asserts what a stream was told.
+fn expect_told(rt: &impl Abort, line: &[&str], found: &[u8], wanted: Told<'_>) {
+    let text = str::from_utf8(found).expect(rt, "a text");
+    assert!(rt; is_told(text, wanted), "{line:?} says {text}");
+}
+
+/// Asserts the exit status of a command line.
+fn expect_status(rt: &impl Abort, line: &[&str], found: u8, wanted: u8) {
+    assert!(rt; found == wanted, "{line:?} ends with {found}");
+}
+
+/// Performs a command line over files. Asserts its status, and what both streams are told.
+fn check_case<R: Abort + AllocGlobal + Threads + Wait + Sync>(
     rt: &R,
     shelf: &Shelf<'_>,
-    line: &[&str],
-) -> Result<(u8, String, String), Fail> {
+    case: &Case<'_>,
+) {
+    let (line, status, out, err) = *case;
     let alloc = rt.alloc();
-    let words = words_of(alloc, line)?;
-    let mut printed: Vec<u8> = Vec::new(alloc);
-    let mut told: Vec<u8> = Vec::new(alloc);
-    let status = perform(
+    let words = words_of(rt, alloc, line);
+    let (mut printed, mut told) = (Vec::new(alloc), Vec::new(alloc));
+    let found = perform(
         rt,
         alloc,
         &words,
@@ -97,33 +108,22 @@ fn said_by<R: Abort + AllocGlobal + Threads + Wait + Sync>(
         &mut told,
         &mut Silence,
     );
-    Ok((
-        status,
-        String::from_utf8(printed)?,
-        String::from_utf8(told)?,
-    ))
+    expect_told(rt, line, &printed, out);
+    expect_told(rt, line, &told, err);
+    expect_status(rt, line, found, status);
 }
 
-/// Asserts what a stream was told.
-fn expect_told(rt: &impl Abort, line: &[&str], found: &str, wanted: Told<'_>) {
-    assert!(rt; is_told(found, wanted), "{line:?} says {found}");
-}
-
-/// Performs each command line over files. Asserts its status, and what both streams are told.
+/// Performs each command line over files.
 pub(crate) fn check_each<R: Abort + AllocGlobal + Threads + Wait + Sync>(
     rt: &R,
     files: &[File],
     cases: &[Case<'_>],
-) -> Result<(), Fail> {
+) {
     let shelf = Shelf {
         alloc: rt.alloc(),
         files,
     };
-    for (line, status, out, err) in cases {
-        let (found, printed, told) = said_by(rt, &shelf, line)?;
-        expect_told(rt, line, printed.as_str(), *out);
-        expect_told(rt, line, told.as_str(), *err);
-        assert!(rt; found == *status, "{line:?} ends with {found}");
+    for case in cases {
+        check_case(rt, &shelf, case);
     }
-    Ok(())
 }

@@ -2,7 +2,6 @@
 
 use crate::common::{Case, Told, check_each};
 use example_texts::{File, scheduled};
-use std::test::Fail;
 
 const FILES: [File; 6] = [
     scheduled::FIRST_LOAD,
@@ -145,6 +144,6 @@ const CASES: [Case<'static>; 12] = [
 ];
 
 #[test]
-fn runs(rt: HostRuntime) -> Result<(), Fail> {
-    check_each(&rt, &FILES, &CASES)
+fn runs(rt: HostRuntime) {
+    check_each(&rt, &FILES, &CASES);
 }

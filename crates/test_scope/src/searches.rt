@@ -2,7 +2,6 @@
 
 use crate::common::{Case, Told, check_each};
 use example_texts::{File, scheduled};
-use std::test::Fail;
 
 const FILES: [File; 5] = [
     scheduled::STORE_BUFFERING,
@@ -109,6 +108,6 @@ const CASES: [Case<'static>; 9] = [
 ];
 
 #[test]
-fn searches(rt: HostRuntime) -> Result<(), Fail> {
-    check_each(&rt, &FILES, &CASES)
+fn searches(rt: HostRuntime) {
+    check_each(&rt, &FILES, &CASES);
 }

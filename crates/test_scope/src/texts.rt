@@ -2,7 +2,6 @@
 
 use crate::common::{Case, Told, check_each};
 use example_texts::File;
-use std::test::Fail;
 
 const FILES: [File; 5] = [
     File {
@@ -145,6 +144,6 @@ const CASES: [Case<'static>; 14] = [
 ];
 
 #[test]
-fn texts(rt: HostRuntime) -> Result<(), Fail> {
-    check_each(&rt, &FILES, &CASES)
+fn texts(rt: HostRuntime) {
+    check_each(&rt, &FILES, &CASES);
 }

@@ -17,5 +17,5 @@ another-requires-clause-rule g c =
     let node = seat_there (view c.pass.inside.token).node
     (subst (λ (h : Held). IsSome h.known.node) (sym c.pass.view_is) c.requires.seated) in
     hands (host_rules managed_ops) config (beginning config programs) handing is_handing _
-    (view c.pass.inside.token) node.0 g.E.Handed.call node.1
+    (view c.pass.inside.token) node.0 g.E.Handed.calls node.1
     (subst (λ (h : Held). h.known.reported ≡ false) (sym c.pass.view_is) c.requires.unreported)

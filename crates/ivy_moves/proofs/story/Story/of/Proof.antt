@@ -1,5 +1,5 @@
 -- `of` makes a value of no bytes, whose lists are read off the argument. Assumes `Logic`.
-use Rattle.std.proofs.Common.{◌≡◌, List, [], ◌∷◌, refl}
+use Rattle.std.proofs.Common.{◌≡◌, [], ◌∷◌, refl}
 use Rattle.std.proofs.raw_atomic.Walks.{proved}
 use mir.Syntax.{a_type, dcons, dnil, named}
 use mir.Val.{Val, vptr, vstruct, vcons, vnil}

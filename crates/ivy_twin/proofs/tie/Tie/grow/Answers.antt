@@ -1,7 +1,7 @@
 use Rattle.std.proofs.Common.{ℕ, sym, ap, ◌∙◌, arith}
 use Rattle.ivy_twin.specs.Known.{half, list_of}
 use Rattle.ivy_twin.proofs.Keeps.{moves_as, joins_as, grows_as, together}
-use Rattle.ivy_twin.proofs.tie.Tie.push_given.Goals as goal
+use Rattle.ivy_twin.proofs.tie.Tie.grow.Goals as goal
 
 pub split_seat-moved-requires : goal.split_seat-moved-requires
 split_seat-moved-requires g c =
