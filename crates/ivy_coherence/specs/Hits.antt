@@ -29,7 +29,8 @@ is_at_hand c page kind = is_none c.locked && permits_at (entry_at c.table page) 
 
 -- each word is carried out in the call in which it is asked for, whatever number that call has, and
 -- nothing is posted
-abbrev pub AreHits : {S : Type 0} → Ops S → Row → ℕ → ℕ → List ℕ → Coherent S → Coherent S → Type 0
+abbrev pub AreHits : {S : Type 0} → Ops S → Row → ℕ → ℕ → List ℕ → Coherent S → Coherent S
+    → Type 0
 AreHits ops kind page offset [] old new = new ≡ old
 AreHits {S} ops kind page offset (number ∷ more) old new =
     (mid : Coherent S)
