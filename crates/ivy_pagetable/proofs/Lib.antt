@@ -3,3 +3,4 @@ pub mod Words
 pub mod Bits
 pub mod Regions
 pub mod RowsCarried
+pub mod WideTables

@@ -56,12 +56,16 @@ loads (suc n) offset bytes aligned le =
           (loads n (offset + 8) bytes (omega (arith, aligned)) (omega (arith, le))),
     )
 
+-- no words change nothing
+pub no_row : (offset : ℕ) (bytes from : List ℕ) → with_row bytes offset 0 from ≡ bytes
+no_row offset bytes from =
+    same_lists _ _ (grind (arith, places)) (λ k d h. grind (arith, places))
+
 -- stores put the bytes of the numbers there
 pub stores : (n offset : ℕ) (bytes from : List ℕ) → offset % 8 ≡ 0
     → offset + 8 * n ≤ length bytes → 8 * n ≤ length from → All (λ b. b < 256) from
     → AreCarried Stores offset (numbers_in n from) bytes (with_row bytes offset n from)
-stores zero offset bytes from aligned le many all =
-    same_lists _ _ (grind (arith, places)) (λ k d h. grind (arith, places))
+stores zero offset bytes from aligned le many all = no_row offset bytes from
 stores (suc n) offset bytes from aligned le many all =
     let one : List ℕ = overwrite bytes offset (take 8 from) in
     let put : overwrite bytes offset (big_bytes 8 (big_number 8 from)) ≡ one =

@@ -8,6 +8,10 @@ pub mod TableState
 pub mod Tables
 pub mod Words
 pub mod Rows
+pub mod Lent
+pub mod Pages
+pub mod WideTables
+pub mod Either
 pub mod Manager
 pub mod Lending
 pub use Rattle.ivy_model.specs.Config

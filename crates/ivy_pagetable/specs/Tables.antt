@@ -1,8 +1,9 @@
 -- Words on page tables.
-use Rattle.std.specs.Prelude.{ℕ, List, [], slice_index_or, slice_set, replicate, if◌then◌else◌, ◌==◌}
+use Rattle.std.specs.Prelude.{◌≡◌, ℕ, List, [], slice_index_or, slice_set, replicate, if◌then◌else◌, ◌==◌}
 use Rattle.ivy_model.specs.declared.Config.{Config}
 use Rattle.ivy_pagetable.specs.declared.entry.Entry.{Entry}
-use Rattle.ivy_pagetable.specs.Entries.{nothing, owned}
+use Rattle.ivy_pagetable.specs.Entries.{nothing, owned, owning, without}
+use Rattle.ivy_pagetable.specs.States.{IdleState}
 use Rattle.ivy_pagetable.specs.TableState.{Table}
 
 -- the entry of a page; beyond the pages one of nothing
@@ -12,6 +13,10 @@ entry_at t page = slice_index_or t.entries page nothing
 -- the bytes of a page; none beyond the pages
 abbrev pub page_at : Table → ℕ → List ℕ
 page_at t page = slice_index_or t.pages page []
+
+-- each byte of the page is 0
+abbrev pub IsBlank : Table → ℕ → Type 0
+IsBlank t page = page_at t page ≡ replicate t.page_size 0
 
 -- the table with this entry of the page
 abbrev pub with_entry : Table → ℕ → Entry → Table
@@ -26,6 +31,10 @@ with_page t page bytes =
 -- at first node 0 owns each page, and all bytes are 0
 abbrev pub first_entry : ℕ → Entry
 first_entry me = if me == 0 then owned else nothing
+
+-- that entry's state, in which no word waits
+abbrev pub first_idle : ℕ → IdleState
+first_idle me = if me == 0 then owning else without
 
 -- the table of a node as the world begins
 abbrev pub first_table : Config → ℕ → Table

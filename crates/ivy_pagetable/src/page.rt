@@ -1,6 +1,9 @@
-ghost use Rattle.std.specs.Prelude.{◌≡◌, ℕ, List, length, replicate, IfOk};
+ghost use Rattle.std.specs.Prelude.{◌≡◌, ◌≢◌, ◌==◌, ◌+◌, ◌*◌, ◌≤◌, ℕ, List, [], length, replicate, IfOk, OnOk, OnErr};
+ghost use Rattle.ivy_pagetable.specs.Pages.{shown_page};
+ghost use Rattle.ivy_pagetable.specs.Rows.{with_row};
 ghost use Rattle.ivy_pagetable.specs.Words.{IsWord, carried_out};
 
+use crate::row::put;
 use crate::word::{Out, Word};
 use std::alloc::{AllocError, Allocator};
 use std::marker::Model;
@@ -25,6 +28,77 @@ impl<A: Allocator> Page<A> {
         Ok(Page {
             bytes: vec![in alloc; 0u8; len]?,
         })
+    }
+
+    /// A page that has no bytes yet. It takes no memory.
+    pub(crate) fn none(alloc: A) -> Self
+        ensures { result ≡ [] }
+    {
+        Page {
+            bytes: Vec::new(alloc),
+        }
+    }
+
+    /// Whether the page has no bytes yet.
+    pub(crate) fn is_none(&self) -> bool
+        ensures { result ≡ (length self.now == 0) }
+    {
+        self.bytes.is_empty()
+    }
+
+    /// Gives a page that has no bytes yet this many zeros. Err only where the allocator has no memory;
+    /// then the page is as it was.
+    pub(crate) fn make(&mut self, len: usize) -> Result<(), AllocError>
+        ensures ok { OnOk result (self.new ≡ shown_page len self.old) }
+        ensures sure { OnErr result (self.old ≡ []) }
+        ensures err { OnErr result (self.new ≡ self.old) }
+    {
+        if self.bytes.is_empty() {
+            self.bytes.resize(len, 0)?;
+        }
+        Ok(())
+    }
+
+    /// Gives the page this many bytes, whatever they are. Err only where it had another number of them, and the
+    /// allocator has no memory; then the page is as it was.
+    pub fn size(&mut self, len: usize) -> Result<(), AllocError>
+        ensures ok { OnOk result (length self.new ≡ len) }
+        ensures sure { OnErr result (length self.old ≢ len) }
+        ensures err { OnErr result (self.new ≡ self.old) }
+    {
+        if self.bytes.len() != len {
+            self.bytes.resize(len, 0)?;
+        }
+        Ok(())
+    }
+
+    /// Gives the page these bytes. Err only where it had another number of bytes, and the allocator has
+    /// no memory; then the page is as it was.
+    pub fn fill(&mut self, bytes: &[u8]) -> Result<(), AllocError>
+        ensures ok { OnOk result (self.new ≡ bytes.now) }
+        ensures sure { OnErr result (length self.old ≢ length bytes.now) }
+        ensures err { OnErr result (self.new ≡ self.old) }
+    {
+        self.size(bytes.len())?;
+        self.bytes.copy_from_slice(bytes);
+        Ok(())
+    }
+
+    /// Each of its bytes is 0 from now on.
+    pub(crate) fn clear(&mut self)
+        ensures { self.new ≡ replicate (length self.old) 0 }
+    {
+        self.bytes.fill(0);
+    }
+
+    /// Copies the bytes of so many words of 8 bytes to a place in the page.
+    pub(crate) fn store_row(&mut self, offset: u32, words: usize, from: &[u8])
+        requires fits { 8 * words ≤ length from.now }
+        requires within { offset + 8 * words ≤ length self.old }
+        ensures bytes { self.new ≡ with_row self.old offset words from.now }
+        ensures sized { length self.new ≡ length self.old }
+    {
+        put(&mut self.bytes, offset as usize, &from[..8 * words]);
     }
 
     /// The bytes, lent.

@@ -3,7 +3,6 @@ ghost use Rattle.std.specs.List.{concat};
 ghost use Rattle.ivy_model.specs.declared.Row.TheVariants.{Loads, Stores};
 ghost use Rattle.ivy_model.specs.Config.{IsConfig};
 ghost use Rattle.ivy_model.specs.Rows.{numbers_in};
-ghost use Rattle.ivy_model.specs.Serves.{overwrite};
 ghost use Rattle.ivy_pagetable.specs.Entries.{can_put_off, with_put_off};
 ghost use Rattle.ivy_pagetable.specs.Tables.{first_entry, entry_at, page_at, with_entry, with_page, first_table};
 ghost use Rattle.ivy_pagetable.specs.Rows.{row_len, AreCarried, with_row};
@@ -13,6 +12,7 @@ use crate::access::Access;
 use crate::entry::Entry;
 use crate::idle::Idle;
 use crate::put_off::PutOff;
+use crate::row::{put, row_len};
 use crate::word::{Out, Word};
 use ivy_model::{Config, Fault};
 use std::alloc::{AllocError, Allocator};
@@ -72,27 +72,6 @@ fn place(page: u32, page_size: u32) -> Range<usize>
     let size = page_size as usize;
     let start = page as usize * size;
     start..start + size
-}
-
-/// How many words of 8 bytes lie in a page of this size from a place on, and in `len` bytes.
-#[inline(always)]
-fn row_len(page_size: u32, offset: u32, len: usize) -> usize
-    requires { offset ≤ page_size }
-    ensures many { result ≡ row_len page_size offset len }
-    ensures fits { 8 * result ≤ len }
-    ensures within { offset + 8 * result ≤ page_size }
-{
-    let left = (page_size - offset) as usize;
-    (left / 8).min(len / 8)
-}
-
-/// Copies bytes over those at a place.
-#[inline(always)]
-fn put(into: &mut [u8], start: usize, from: &[u8])
-    requires { start + length from.now ≤ length into.old }
-    ensures { into.new ≡ overwrite into.old start from.now }
-{
-    into[start..start + from.len()].copy_from_slice(from);
 }
 
 impl<A: Allocator + Copy> PageTable<A> {

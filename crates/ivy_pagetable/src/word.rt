@@ -1,4 +1,4 @@
-ghost use Rattle.std.specs.Prelude.{◌≡◌, ◌+◌, ◌^◌, ◌<◌, ◌≤◌, length, All, if◌then◌else◌, ◌==◌};
+ghost use Rattle.std.specs.Prelude.{◌≡◌, ◌+◌, ◌^◌, ◌<◌, ◌≤◌, false, length, All, if◌then◌else◌, ◌==◌};
 ghost use Rattle.byteorder.specs.Endian.{big_bytes};
 ghost use Rattle.ivy_model.specs.Legal.{IsWidth};
 ghost use Rattle.ivy_model.specs.Serves.{overwrite};
@@ -175,6 +175,16 @@ impl Word {
             overwrite(bytes, self.width(), self.offset(), value);
         }
         outcome.out
+    }
+
+    /// What a word that is not written gives, from the bytes of its page.
+    pub(crate) fn read(self, bytes: &[u8]) -> Out
+        requires word { IsWord (length bytes.now) self }
+        requires reads { needs_write self ≡ false }
+        ensures out { result ≡ (carried_out self bytes.now).out }
+        ensures bytes { (carried_out self bytes.now).bytes ≡ bytes.now }
+    {
+        self.outcome(self.number(bytes)).out
     }
 
     /// What the word comes to, from the number that stands in its place.

@@ -1,0 +1,310 @@
+//! The page table of a node that has many pages and uses few.
+ghost use Rattle.std.specs.Prelude.{◌≡◌, ◌+◌, ◌*◌, ◌%◌, ℕ, ◌<◌, ◌≤◌, ◌⊎◌, true, [], All, length, drop, replicate, if◌then◌else◌, ◌↔◌, IsTrue, IfOk, OnOk, OnErr, IsOkUnless};
+ghost use Rattle.ivy_model.specs.declared.Row.TheVariants.{Loads, Stores};
+ghost use Rattle.ivy_model.specs.Config.{IsConfig};
+ghost use Rattle.ivy_model.specs.Rows.{numbers_in};
+ghost use Rattle.ivy_pagetable.specs.Entries.{can_put_off, with_put_off, is_locked};
+ghost use Rattle.ivy_pagetable.specs.Lent.{lent_entry};
+ghost use Rattle.ivy_pagetable.specs.Tables.{first_idle, entry_at, page_at, IsBlank, with_entry, with_page, first_table};
+ghost use Rattle.ivy_pagetable.specs.WideTables.{WaitsAt, can_put_off_at, put_off_at};
+ghost use Rattle.ivy_pagetable.specs.Rows.{row_len, AreCarried, with_row};
+ghost use Rattle.ivy_pagetable.specs.Words.{IsWord, carried_out, needs_write, width_of, offset_of, number_at};
+
+use crate::access::Access;
+use crate::entry::Entry;
+use crate::idle::Idle;
+use crate::lent::LentEntry;
+use crate::page::Page;
+use crate::put_off::PutOff;
+use crate::row::{put, row_len};
+use crate::word::{Out, Word};
+use ivy_model::{Config, Fault};
+use std::alloc::{AllocError, Allocator};
+use std::marker::Model;
+use std::mem::swap;
+
+/// The entry at which a word waits.
+#[derive(Drop)]
+struct Locked {
+    page: u32,
+    entry: Entry,
+}
+
+/// A page table whose idle entries are small, and whose pages are made when they are first written. A
+/// page that was never written is zeros, which all such pages share. A word waits at one entry at most.
+#[derive(Drop)]
+pub struct WideTable<A: Allocator> {
+    page_size: u32,
+    /// The entry of each page, but of the one at which a word waits.
+    idle: Vec<Idle, A>,
+    locked: Option<Locked>,
+    /// The bytes of each page that was written; the others have none.
+    pages: Vec<Page<A>, A>,
+    zeros: Page<A>,
+}
+
+impl<A: Allocator> Model for WideTable<A> {
+    ghost use Rattle.std.specs.Prelude.{map};
+    ghost use Rattle.ivy_pagetable.specs.TableState.{Table};
+    ghost use Rattle.ivy_pagetable.specs.Pages.{shown_page};
+    ghost use Rattle.ivy_pagetable.specs.WideTables.{entries_in, IsWideTable};
+    ghost use Rattle.std.specs.Coded.{codes};
+    ghost use Rattle.ivy_pagetable.specs.NodeSets.{nodes_code};
+
+    ghost Value = { Table };
+
+    ghost coded = { Prim.hlevel (codes, nodes_code) };
+
+    ghost view = { λ t. record { page_size = t.page_size; entries = entries_in t.idle.items t.locked; pages = map (shown_page t.page_size) t.pages.items } };
+
+    ghost invariant = { λ t. IsWideTable t.page_size t.idle.items t.locked t.pages.items t.zeros };
+}
+
+fn first_idle(me: u8) -> Idle
+    ensures { result ≡ first_idle me }
+{
+    if me == 0 {
+        Idle::owned()
+    } else {
+        Idle::plain(Access::Nil)
+    }
+}
+
+fn first_idles<A: Allocator>(alloc: A, pages: u32, me: u8) -> Result<Vec<Idle, A>, AllocError>
+    ensures { IfOk result (λ idles. idles.items ≡ replicate pages (first_idle me)) }
+{
+    let mut idles = Vec::with_capacity(alloc, pages as usize)?;
+    for _ in 0..pages {
+        idles.push(first_idle(me))?;
+    }
+    Ok(idles)
+}
+
+fn no_pages<A: Allocator + Copy>(alloc: A, pages: u32) -> Result<Vec<Page<A>, A>, AllocError>
+    ensures { IfOk result (λ all. all.items ≡ replicate pages []) }
+{
+    let mut all = Vec::with_capacity(alloc, pages as usize)?;
+    for _ in 0..pages {
+        all.push(Page::none(alloc))?;
+    }
+    Ok(all)
+}
+
+/// Whether a word waits for the page.
+fn waits_at(locked: &Option<Locked>, page: u32) -> bool
+    ensures { IsTrue result ↔ WaitsAt locked.now page }
+{
+    match locked {
+        Some(locked) => locked.page == page,
+        None => false,
+    }
+}
+
+/// Puts a message off at a locked entry, where that is the one of the page and there is room, and says
+/// whether it did.
+fn put_off_at(locked: Locked, page: u32, message: PutOff) -> (Locked, bool)
+    ensures done { result.1 ≡ can_put_off_at locked page }
+    ensures kept { result.0 ≡ put_off_at locked page message }
+{
+    let Locked {
+        page: at,
+        mut entry,
+    } = locked;
+    if at != page {
+        return (Locked { page: at, entry }, false);
+    }
+    let done = entry.put_off(message);
+    (Locked { page: at, entry }, done)
+}
+
+impl<A: Allocator + Copy> WideTable<A> {
+    /// The table of a node at first: node 0 owns each page, to write, and the others have nothing;
+    /// each byte is 0 [1].
+    pub fn new(alloc: A, config: &Config, me: u8) -> Result<Self, Fault>
+        requires { IsConfig config.now }
+        ensures first { IfOk result (λ t. t ≡ first_table config.now me) }
+        ensures memory { IsOkUnless result Fault.Memory }
+    {
+        let idle = first_idles(alloc, config.pages, me)?;
+        let pages = no_pages(alloc, config.pages)?;
+        let zeros = Page::zeros(alloc, config.page_size as usize)?;
+        Ok(WideTable {
+            page_size: config.page_size,
+            idle,
+            locked: None,
+            pages,
+            zeros,
+        })
+    }
+}
+
+impl<A: Allocator> WideTable<A> {
+    /// The entry of the page.
+    pub fn entry(&self, page: u32) -> LentEntry<'_>
+        requires { page < length self.now.entries }
+        ensures { lent_entry result ≡ entry_at self.now page }
+    {
+        match &self.locked {
+            Some(locked) if locked.page == page => locked.entry.lent(),
+            _ => LentEntry::Idle(&self.idle[page as usize]),
+        }
+    }
+
+    /// The bytes of the page.
+    pub fn page(&self, page: u32) -> &[u8]
+        requires { page < length self.now.entries }
+        ensures bytes { result.now ≡ page_at self.now page }
+        ensures sized { length result.now ≡ self.now.page_size }
+    {
+        let own = &self.pages[page as usize];
+        if own.is_none() {
+            self.zeros.bytes()
+        } else {
+            own.bytes()
+        }
+    }
+
+    /// Replaces the entry of the page. A word waits at no other one, if at this.
+    pub fn set_entry(&mut self, page: u32, entry: Entry)
+        requires page { page < length self.old.entries }
+        requires alone { is_locked entry ≡ true → (p : ℕ) → is_locked (entry_at self.old p) ≡ true → p ≡ page }
+        ensures { self.new ≡ with_entry self.old page entry }
+    {
+        match entry {
+            Entry::Idle(idle) => {
+                self.idle[page as usize] = idle;
+                if waits_at(&self.locked, page) {
+                    self.locked = None;
+                }
+            }
+            entry => self.locked = Some(Locked { page, entry }),
+        }
+    }
+
+    /// Puts a message off where a word waits for the page and fewer than 32 are put off, and
+    /// says whether it did. If not, nothing changes.
+    pub fn put_off(&mut self, page: u32, message: PutOff) -> bool
+        requires { page < length self.old.entries }
+        ensures done { result ≡ can_put_off (entry_at self.old page) }
+        ensures kept { self.new ≡ if can_put_off (entry_at self.old page) then with_entry self.old page (with_put_off (entry_at self.old page) message) else self.old }
+    {
+        let Some(locked) = self.locked.take() else {
+            return false;
+        };
+        let (locked, done) = put_off_at(locked, page, message);
+        self.locked = Some(locked);
+        done
+    }
+
+    /// The page has these bytes from now on, as many as a page has. What the spare page has then, nobody
+    /// needs: the bytes that the page had, or none.
+    pub fn exchange(&mut self, page: u32, spare: &mut Page<A>)
+        requires page { page < length self.old.entries }
+        requires sized { length spare.old ≡ self.old.page_size }
+        ensures { self.new ≡ with_page self.old page spare.old }
+    {
+        swap(&mut self.pages[page as usize], spare);
+    }
+
+    /// The page has these bytes from now on, as many as a page has. They are copied to its own, or to the spare page, which
+    /// has as many and becomes the page, where it has none.
+    pub fn install(&mut self, page: u32, bytes: &[u8], spare: &mut Page<A>)
+        requires page { page < length self.old.entries }
+        requires sized { length bytes.now ≡ self.old.page_size }
+        requires spare { length spare.old ≡ self.old.page_size }
+        ensures { self.new ≡ with_page self.old page bytes.now }
+    {
+        let own = &mut self.pages[page as usize];
+        if own.is_none() {
+            swap(own, spare);
+        }
+        own.copy_from(bytes);
+    }
+
+    /// The number that stands where the word lies in the page, highest byte first: stored again, it
+    /// takes the word back.
+    pub fn number(&self, page: u32, word: Word) -> u64
+        requires page { page < length self.now.entries }
+        requires word { IsWord self.now.page_size word }
+        ensures number { result ≡ number_at (width_of word) (offset_of word) (page_at self.now page) }
+        ensures fact { All (λ b. b < 256) (page_at self.now page) }
+    {
+        word.number(self.page(page))
+    }
+
+    /// Carries a word out on the page, which is made first where the word writes and the page has no
+    /// bytes of its own. If there is no memory for it, nothing changes.
+    #[inline]
+    pub fn carry_out(&mut self, page: u32, word: Word) -> Result<Out, AllocError>
+        requires page { page < length self.old.entries }
+        requires word { IsWord self.old.page_size word }
+        ensures out { IfOk result (λ out. out ≡ (carried_out word (page_at self.old page)).out) }
+        ensures bytes { OnOk result (self.new ≡ with_page self.old page (carried_out word (page_at self.old page)).bytes) }
+        ensures sure { OnErr result (IsBlank self.old page × (needs_write word ≡ true)) }
+        ensures err { OnErr result (self.new ≡ self.old) }
+    {
+        if !word.needs_write() {
+            return Ok(word.read(self.page(page)));
+        }
+        let own = &mut self.pages[page as usize];
+        own.make(self.page_size as usize)?;
+        Ok(own.carry_out(word))
+    }
+
+    /// Carries a word out on the page, which the spare page becomes first where the page has no bytes of its own.
+    pub fn put_back(&mut self, page: u32, word: Word, spare: &mut Page<A>)
+        requires page { page < length self.old.entries }
+        requires word { IsWord self.old.page_size word }
+        requires spare { length spare.old ≡ self.old.page_size }
+        ensures { self.new ≡ with_page self.old page (carried_out word (page_at self.old page)).bytes }
+    {
+        let own = &mut self.pages[page as usize];
+        if own.is_none() {
+            swap(own, spare);
+            own.clear();
+        }
+        let _ = own.carry_out(word);
+    }
+
+    /// Loads words of 8 bytes from a place in the page on, whose bytes it copies, and says how many words: as many as
+    /// `into` has room for and as lie in the page.
+    #[inline]
+    pub fn load_row(&self, page: u32, offset: u32, into: &mut [u8]) -> usize
+        requires page { page < length self.now.entries }
+        requires aligned { offset % 8 ≡ 0 }
+        requires within { offset ≤ self.now.page_size }
+        ensures many { result ≡ row_len self.now.page_size offset (length into.old) }
+        ensures fits { 8 * result ≤ length into.old }
+        ensures within { offset + 8 * result ≤ self.now.page_size }
+        ensures carried { AreCarried Loads offset (numbers_in result into.new) (page_at self.now page) (page_at self.now page) }
+        ensures rest { drop (8 * result) into.new ≡ drop (8 * result) into.old }
+        ensures sized { length into.new ≡ length into.old }
+    {
+        let words = row_len(self.page_size, offset, into.len());
+        let start = offset as usize;
+        put(into, 0, &self.page(page)[start..start + 8 * words]);
+        words
+    }
+
+    /// Stores words of 8 bytes from a place in the page on, whose bytes it copies, and says how many words: as many as
+    /// `from` has and as lie in the page, or none where the page has no bytes of its own.
+    #[inline]
+    pub fn store_row(&mut self, page: u32, offset: u32, from: &[u8]) -> usize
+        requires page { page < length self.old.entries }
+        requires aligned { offset % 8 ≡ 0 }
+        requires within { offset ≤ self.old.page_size }
+        ensures many { (result ≡ row_len self.old.page_size offset (length from.now)) ⊎ ((result ≡ 0) × IsBlank self.old page) }
+        ensures fits { 8 * result ≤ length from.now }
+        ensures within { offset + 8 * result ≤ self.old.page_size }
+        ensures carried { AreCarried Stores offset (numbers_in result from.now) (page_at self.old page) (with_row (page_at self.old page) offset result from.now) }
+        ensures bytes { self.new ≡ with_page self.old page (with_row (page_at self.old page) offset result from.now) }
+    {
+        let own = &mut self.pages[page as usize];
+        if own.is_none() {
+            return 0;
+        }
+        let words = row_len(self.page_size, offset, from.len());
+        own.store_row(offset, words, from);
+        words
+    }
+}
