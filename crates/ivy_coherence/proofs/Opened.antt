@@ -2,13 +2,15 @@
 -- value.
 use Rattle.std.proofs.Common.{◌≡◌, ◌≢◌, ℕ, ◌<◌, ◌≤◌, ◌^◌, Bool, true, false, List, [], ◌∷◌, length}
 use Rattle.std.proofs.Common.{Option, Some, None, is_some, Result, Ok, Err, OnErr, refl, sym, ap}
-use Rattle.std.proofs.Common.{◌∙◌, subst, arith, set-set, eq-eqb, inl, inr}
+use Rattle.std.proofs.Common.{◌∙◌, subst, arith, set-set, eq-eqb, inl, inr, ◌⊎◌}
 use Rattle.std.specs.Prelude.{All, if◌then◌else◌, IsTrue}
 use Rattle.std.specs.FinSet as set
 use Rattle.std.specs.Ordering.{nat_cmp}
 use Rattle.std.proofs.lemmas.Bool.Decides.{eqb_tells}
-use Rattle.std.proofs.lemmas.List.{get_or-set_same, set-get_or}
+use Rattle.std.proofs.lemmas.List.{get_or-set_same, set-get_or, length-set}
+use Rattle.std.proofs.lemmas.Option.{none-some}
 use Rattle.ivy_model.specs.declared.Config.{Config}
+use Rattle.ivy_model.specs.Limits.{most_pages}
 use Rattle.ivy_wire.specs.Data.{Parcel}
 use Rattle.ivy_wire.specs.Spelling.{FitsParcel}
 use Rattle.ivy_pagetable.specs.declared.Entry.{Entry}
@@ -30,10 +32,10 @@ use Rattle.ivy_coherence.specs.Coherent.{Coherent}
 use Rattle.ivy_coherence.specs.Limits.{most_posted}
 use Rattle.ivy_coherence.specs.Serving.{put_off_served, invalidations}
 use Rattle.ivy_coherence.specs.Steps.{asked, asked_at, IsWaiting, IsCollecting, is_none, unlocked_as}
-use Rattle.ivy_coherence.specs.Faults.{IsIdleAt, HasToAsk, suffices, fault_entry}
+use Rattle.ivy_coherence.specs.Faults.{IsIdleAt, HasToAsk, MayMakePage, suffices, fault_entry, hit, faulted, accessed, begun_at, begun}
 use Rattle.ivy_coherence.specs.IdleSound.{CanBeServed, AreOthers, IsSoundIdle}
 use Rattle.ivy_coherence.specs.Sound.{IsSound}
-use Rattle.ivy_pagetable.specs.Entries.{can_put_off, with_put_off, owning}
+use Rattle.ivy_pagetable.specs.Entries.{can_put_off, with_put_off, owning, is_locked}
 use Rattle.ivy_coherence.proofs.IdleServing.{fewer_others}
 use Rattle.ivy_coherence.proofs.Changing.{change-sound}
 use Rattle.ivy_coherence.proofs.FewServed.{nodes-few}
@@ -101,25 +103,30 @@ restored t0 t1 t2 page number w word all inside is one two =
 pub asks : {S : Type 0} {A E : Type 0} (n v : Coherent S) → v ≡ n
     → (page : ℕ) (w : Word) (i : IdleState) (r : Result A E)
     → v.locked ≡ None → IsIdleAt v.table page i → suffices i.access w ≡ false
-    → OnErr r (HasToAsk n page w)
+    → OnErr r (HasToAsk n page w ⊎ MayMakePage n page w)
 asks n v same page w i (Ok a) free is short = tt
 asks n v same page w i (Err e) free is short =
-    subst (λ (x : Coherent _). HasToAsk x page w) same
-    (record { free = free; idle = i; is = is; short = short })
+    inl (subst (λ (x : Coherent _). HasToAsk x page w) same
+    (record { free = free; idle = i; is = is; short = short }))
 
--- bytes of a page fit the spare one
-pub fits_spare : {S : Type 0} (n v : Coherent S) → v ≡ n → (bytes spare : List ℕ)
-    → length bytes ≡ n.config.page_size
-    → length spare ≡ v.config.page_size → length bytes ≡ length spare
-fits_spare n v same bytes spare sized spare_sized =
-    sized ∙ sym (spare_sized ∙ ap (λ (x : Coherent _). x.config.page_size) same)
+-- the page of a locked entry
+abbrev page_of : Option ℕ → ℕ
+page_of None = 0
+page_of (Some p) = p
 
--- and what has their length keeps the spare one's
-pub spare_then : {S : Type 0} (n v : Coherent S) → v ≡ n → (bytes spare : List ℕ)
-    → length bytes ≡ n.config.page_size → length spare ≡ length bytes
-    → length spare ≡ v.config.page_size
-spare_then n v same bytes spare sized long =
-    long ∙ sized ∙ sym (ap (λ (x : Coherent _). x.config.page_size) same)
+-- a word waits at the entry
+waiting_locked : (e : Entry) (kind : Request) (w : WaitingState) → IsWaiting e kind w
+    → is_locked e ≡ true
+waiting_locked (entry.Idle i) kind w h = absurd h
+waiting_locked (entry.AwaitRead i) kind w h = refl
+waiting_locked (entry.AwaitWrite i) kind w h = refl
+waiting_locked (entry.AwaitAcks i) kind w h = refl
+
+collecting_locked : (e : Entry) (w : WaitingState) → IsCollecting e w → is_locked e ≡ true
+collecting_locked (entry.Idle i) w h = absurd h
+collecting_locked (entry.AwaitRead i) w h = refl
+collecting_locked (entry.AwaitWrite i) w h = refl
+collecting_locked (entry.AwaitAcks i) w h = refl
 
 -- what is asked of bytes that come
 pub record Comes {S : Type 0} (n : Coherent S) (source page : ℕ) (bytes : List ℕ) : Type 0 where
@@ -131,6 +138,45 @@ pub record Comes {S : Type 0} (n : Coherent S) (source page : ℕ) (bytes : List
 module _ {S : Type 0} {ops : Ops S} (n v : Coherent S) (same : v ≡ n) (s : IsSound ops v) where
   here : (P : Coherent S → Type 0) → P n → P v
   here P h = subst P (sym same) h
+
+  -- a word waits at no other entry than at this one
+  alone_at : (page : ℕ) → is_locked (entry_at v.table page) ≡ true
+      → (p : ℕ) → is_locked (entry_at v.table p) ≡ true → p ≡ page
+  alone_at page waits p there = ap page_of (sym (s.others p there) ∙ s.others page waits)
+
+  pub alone_waiting : (page : ℕ) (kind : Request) (w : WaitingState)
+      → IsWaiting (entry_at n.table page) kind w
+      → (p : ℕ) → is_locked (entry_at v.table p) ≡ true → p ≡ page
+  alone_waiting page kind w waits =
+      alone_at page
+      (waiting_locked (entry_at v.table page) kind w
+      (here (λ x. IsWaiting (entry_at x.table page) kind w) waits))
+
+  pub alone_collecting : (page : ℕ) (w : WaitingState) → IsCollecting (entry_at n.table page) w
+      → (p : ℕ) → is_locked (entry_at v.table p) ≡ true → p ≡ page
+  alone_collecting page w waits =
+      alone_at page
+      (collecting_locked (entry_at v.table page) w
+      (here (λ x. IsCollecting (entry_at x.table page) w) waits))
+
+  -- nor at any, where none is locked
+  pub alone_free : v.locked ≡ None
+      → (page p : ℕ) → is_locked (entry_at v.table p) ≡ true → p ≡ page
+  alone_free free page p there = absurd (none-some p (sym free ∙ s.others p there))
+
+  -- the spare page has the bytes of a page, once a table of as many entries had it
+  pub spare_after : (t : Table) (old new : List ℕ) → length t.entries ≡ length v.table.entries
+      → length old ≡ n.config.page_size → (length t.entries ≤ most_pages → new ≡ old)
+      → v.config.pages ≤ most_pages → length new ≡ v.config.page_size
+  spare_after t old new many long kept few =
+      let as_many : length t.entries ≡ v.config.pages = many ∙ s.entries in
+      ap length (kept (omega (arith, as_many, few))) ∙ long
+      ∙ sym (ap (λ (x : Coherent S). x.config.page_size) same)
+
+  pub entries_then : (t : Table) (page : ℕ) (e : Entry) → t ≡ with_entry v.table page e
+      → length t.entries ≡ length v.table.entries
+  entries_then t page e is =
+      ap (λ (x : Table). length x.entries) is ∙ length-set v.table.entries page e
 
   -- the nodes that an idle entry counts
   idle_there : (page : ℕ) (i : IdleState) → IsIdleAt n.table page i → IsSoundIdle v.config v.me i
@@ -380,6 +426,16 @@ module _ {S : Type 0} {ops : Ops S} (laws : Laws ops) (n v : Coherent S) (same :
       (rw (table, manager, breaches, idle_is, bytes_are, copied)
       (ap (λ e. (asked ops v page q e).after) (sym is)))
 
+  pub asked_posts : (page : ℕ) (q : PutOff) (i j : IdleState) (bytes : List ℕ)
+      → entry_at v.table page ≡ entry.Idle i → bytes ≡ page_at v.table page → j ≡ i
+      → (put_off_served ops v.me q.origin page bytes j v.manager v.breaches None (q ∷ [])).posted
+      ≡ (asked_at ops n page q).posted
+  asked_posts page q i j bytes is bytes_are copied =
+      subst (λ (x : Coherent S).
+      (put_off_served ops v.me q.origin page bytes j v.manager v.breaches None (q ∷ [])).posted
+      ≡ (asked_at ops x page q).posted) same
+      (rw (bytes_are, copied) (ap (λ e. (asked ops v page q e).posted) (sym is)))
+
   -- an access of this node's program
   pub hit_sound : (page : ℕ) (w : Word) (t : Table) → page < n.config.pages
       → IsWord n.config.page_size w
@@ -390,6 +446,16 @@ module _ {S : Type 0} {ops : Ops S} (laws : Laws ops) (n v : Coherent S) (same :
       (hit-keeps laws v page w s
       (subst (λ (x : Coherent S). page < x.config.pages) (sym same) inside)
       (subst (λ (x : Coherent S). IsWord x.config.page_size w) (sym same) word)).0
+
+  pub hit_posts : (page : ℕ) (w : Word) (call : ℕ) (i : IdleState) → v.locked ≡ None
+      → entry_at v.table page ≡ entry.Idle i → suffices i.access w ≡ true
+      → [] ≡ (begun ops n page w call).posted
+  unfolding begun
+  hit_posts page w call i free is enough =
+      subst (λ (x : Coherent S). [] ≡ (begun ops x page w call).posted) same
+      (sym (ap (λ (o : Option ℕ). (begun_at ops v page w call o).posted) free
+      ∙ ap (λ e. (accessed ops v page w call e).posted) is
+      ∙ ap (λ b. (if b then hit ops v page w else faulted ops v page w call i).posted) enough))
 
   pub fault_sound : (page : ℕ) (w : Word) (call : ℕ) (i : IdleState) (e : Entry) (t : Table)
       → page < n.config.pages → IsWord n.config.page_size w → 1 ≤ call → call < 2 ^ 64

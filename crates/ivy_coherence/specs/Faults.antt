@@ -1,6 +1,6 @@
 -- What an access of this node's program comes to (Li and Hudak 1989): what the program is told, the
 -- state after, and what is posted, in order.
-use Rattle.std.specs.Prelude.{◌≡◌, ℕ, Bool, false, List, [], ◌∷◌, Option, Some, None, if◌then◌else◌}
+use Rattle.std.specs.Prelude.{◌≡◌, ℕ, Bool, true, false, List, [], ◌∷◌, Option, Some, None, if◌then◌else◌}
 use Rattle.ivy_wire.specs.declared.Content.TheVariants as content
 use Rattle.ivy_wire.specs.Data.{Parcel}
 use Rattle.ivy_wire.specs.Posts.{parcel_to}
@@ -14,6 +14,7 @@ use Rattle.ivy_pagetable.specs.TableState.{Table}
 use Rattle.ivy_pagetable.specs.Tables.{entry_at, page_at, with_entry, with_page}
 use Rattle.ivy_pagetable.specs.Words.{carried_out, needs_write}
 use Rattle.ivy_pagetable.specs.Manager.{Ops}
+use Rattle.ivy_pagetable.specs.Either.{MayBeUnmade}
 use Rattle.ivy_coherence.specs.declared.need.Need.{Need}
 use Rattle.ivy_coherence.specs.declared.need.Need.TheVariants.{Have, Started, Busy}
 use Rattle.ivy_coherence.specs.Coherent.{Coherent}
@@ -40,6 +41,10 @@ pub record HasToAsk {S : Type 0} (c : Coherent S) (page : ℕ) (word : Word) : T
   pub idle : IdleState
   pub is : IsIdleAt c.table page idle
   pub short : suffices idle.access word ≡ false
+
+-- the word may be the first that is written to its page, which is made then
+abbrev pub MayMakePage : {S : Type 0} → Coherent S → ℕ → Word → Type 0
+MayMakePage c page word = MayBeUnmade c.table page × (needs_write word ≡ true)
 
 -- the word of this call, and nothing put off yet
 abbrev pub waiting_from : Word → ℕ → WaitingState

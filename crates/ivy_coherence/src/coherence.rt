@@ -1,5 +1,5 @@
 //! The entries and pages of one node, and the rules by which they change.
-ghost use Rattle.std.specs.Prelude.{◌≡◌, ◌≢◌, ◌<◌, ◌≤◌, ◌+◌, ◌*◌, ◌%◌, ◌^◌, ℕ, true, false, None, List, IfOk, IfErr, OnOk, OnErr, IsOkUnless, length, if◌then◌else◌};
+ghost use Rattle.std.specs.Prelude.{◌≡◌, ◌≢◌, ◌<◌, ◌≤◌, ◌+◌, ◌*◌, ◌%◌, ◌^◌, ◌⊎◌, ℕ, true, false, None, List, IfOk, IfErr, OnOk, OnErr, IsOkUnless, length, if◌then◌else◌};
 ghost use Rattle.ivy_model.specs.declared.Row.TheVariants.{Loads, Stores};
 ghost use Rattle.ivy_model.specs.Config.{IsConfig};
 ghost use Rattle.ivy_model.specs.Rows.{numbers_in};
@@ -9,15 +9,18 @@ ghost use Rattle.ivy_wire.specs.Posts.{IsPostOf, HasPosted, HasRefused};
 ghost use Rattle.ivy_pagetable.specs.Tables.{entry_at, page_at};
 ghost use Rattle.ivy_pagetable.specs.Words.{IsWord, needs_write};
 ghost use Rattle.ivy_pagetable.specs.Rows.{row_len};
-ghost use Rattle.ivy_coherence.specs.Faults.{suffices, IsIdleAt, HasToAsk, fault_entry, fault_posted, faulted, begun};
+ghost use Rattle.ivy_pagetable.specs.Either.{MayBeUnmade};
+ghost use Rattle.ivy_coherence.specs.Faults.{suffices, IsIdleAt, HasToAsk, MayMakePage, fault_entry, fault_posted, faulted, begun};
 ghost use Rattle.ivy_coherence.specs.Hits.{permits, is_at_hand, AreHits};
+ghost use Rattle.ivy_coherence.specs.Outcomes.{IsWantOfPage};
 ghost use Rattle.ivy_coherence.specs.Sound.{first_coherent, IsSound};
 
 use crate::need::Need;
 use crate::serving::invalidate;
 use ivy_model::{Config, Fault, Row};
 use ivy_pagetable::{
-    Access, AwaitAcks, AwaitWrite, Entry, Idle, Manager, Out, Page, PageTable, Waiting, Word,
+    Access, AwaitAcks, AwaitWrite, Entry, Idle, LentEntry, Manager, NodeTable, Out, Page, Waiting,
+    Word,
 };
 use ivy_wire::{Content, Post, post_one};
 use std::alloc::Allocator;
@@ -28,13 +31,13 @@ use std::marker::Model;
 pub struct Coherence<M: Manager, A: Allocator> {
     pub(crate) config: Config,
     pub(crate) me: u8,
-    pub(crate) table: PageTable<A>,
+    pub(crate) table: NodeTable<A>,
     pub(crate) manager: M,
     pub(crate) locked: Option<u32>,
     pub(crate) done: Option<Out>,
     pub(crate) breaches: u64,
-    /// The bytes of a page that comes are written here, and copied to the page of the table once the
-    /// post took all. No value shows them.
+    /// The bytes of a page that comes are written here, and become the page of the table once the post
+    /// took all. No value shows them.
     pub(crate) spare: Page<A>,
 }
 
@@ -44,7 +47,8 @@ impl<M: Manager, A: Allocator> Model for Coherence<M, A> {
 
     ghost Value = { Coherent M };
 
-    ghost use Rattle.std.specs.Prelude.{◌≡◌, length};
+    ghost use Rattle.std.specs.Prelude.{◌≡◌, ◌≤◌, length};
+    ghost use Rattle.ivy_model.specs.Limits.{most_pages};
     ghost use Rattle.std.specs.Coded.{codes};
     ghost use Rattle.ivy_pagetable.specs.NodeSets.{nodes_code};
 
@@ -60,7 +64,7 @@ impl<M: Manager, A: Allocator> Model for Coherence<M, A> {
       locked = c.locked;
       done = c.done;
       breaches = c.breaches;
-    }) × (length c.spare ≡ c.config.page_size) };
+    }) × (c.config.pages ≤ most_pages → length c.spare ≡ c.config.page_size) };
 }
 
 /// Whether a word can be carried out at once where this is the access.
@@ -97,7 +101,7 @@ impl<M: Manager, A: Allocator + Copy> Coherence<M, A> {
         ensures first { IfOk result (λ c. c ≡ first_coherent M.ops config.now me) }
         ensures memory { IsOkUnless result Fault.Memory }
     {
-        let table = PageTable::new(alloc, config, me)?;
+        let table = NodeTable::new(alloc, config, me)?;
         let spare = Page::zeros(alloc, config.page_size as usize)?;
         Ok(Coherence {
             config: *config,
@@ -240,8 +244,9 @@ impl<M: Manager, A: Allocator> Coherence<M, A> {
     /// An access of this node's program to a word of a page, by the call of this number [1, 17].
     ///
     /// The word lies within the page and is aligned; the page is below the number of pages. Where access
-    /// suffices, and where an entry is locked already, it asks the post nothing, takes no memory and succeeds.
-    /// An answer that is there stays there.
+    /// suffices, and where an entry is locked already, it asks the post nothing, takes no memory and succeeds; but where
+    /// there are more than 256 pages, a page is made when it is first written, which may be refused. An answer that is
+    /// there stays there.
     pub fn need<P: Post>(
         &mut self,
         page: u32,
@@ -253,30 +258,34 @@ impl<M: Manager, A: Allocator> Coherence<M, A> {
         requires word { IsWord self.old.config.page_size word }
         requires call { 1 ≤ call }
         requires post { IsPostOf P.ops post.old self.old.config self.old.me }
-        ensures sure { OnErr result (HasToAsk self.old page word) }
+        ensures sure { OnErr result (HasToAsk self.old page word ⊎ MayMakePage self.old page word) }
         ensures need { IfOk result (λ need. need ≡ (begun M.ops self.old page word call).need) }
         ensures ok { OnOk result (self.new ≡ (begun M.ops self.old page word call).after) }
         ensures posted { OnOk result
             (post.new ≡ P.ops.after post.old (begun M.ops self.old page word call).posted) }
         ensures err { OnErr result (self.new ≡ self.old) }
         ensures took { OnOk result (P.ops.takes post.old (begun M.ops self.old page word call).posted) }
-        ensures fault { IfErr result (HasRefused P.ops post.old post.new
-            (begun M.ops self.old page word call).posted) }
+        ensures fault { IfErr result (λ fault.
+            (IsWantOfPage self.old fault × (post.new ≡ post.old))
+            ⊎ HasRefused P.ops post.old post.new
+            (begun M.ops self.old page word call).posted fault) }
         ensures want { IfErr result IsWant }
     {
         if self.locked.is_some() {
             return Ok(Need::Busy);
         }
         match self.table.entry(page) {
-            Entry::Idle(idle) => {
+            LentEntry::Idle(idle) => {
                 if suffices(idle.access(), word) {
-                    return Ok(Need::Have(self.table.carry_out(page, word)));
+                    return Ok(Need::Have(self.table.carry_out(page, word)?));
                 }
                 let idle = idle.copied();
                 self.start(page, word, call, idle, post)?;
                 Ok(Need::Started)
             }
-            Entry::AwaitRead(_) | Entry::AwaitWrite(_) | Entry::AwaitAcks(_) => Ok(Need::Busy),
+            LentEntry::AwaitRead(_) | LentEntry::AwaitWrite(_) | LentEntry::AwaitAcks(_) => {
+                Ok(Need::Busy)
+            }
         }
     }
 
@@ -290,8 +299,8 @@ impl<M: Manager, A: Allocator> Coherence<M, A> {
             return false;
         }
         match self.table.entry(page) {
-            Entry::Idle(idle) => permits(idle.access(), kind),
-            Entry::AwaitRead(_) | Entry::AwaitWrite(_) | Entry::AwaitAcks(_) => false,
+            LentEntry::Idle(idle) => permits(idle.access(), kind),
+            LentEntry::AwaitRead(_) | LentEntry::AwaitWrite(_) | LentEntry::AwaitAcks(_) => false,
         }
     }
 
@@ -320,14 +329,16 @@ impl<M: Manager, A: Allocator> Coherence<M, A> {
     /// Stores words of 8 bytes from a place in a page on, whose bytes it copies, and says how many words: as many as
     /// `from` has and as lie in the page, or none where a word waits or the page may not be written.
     ///
-    /// Each word is stored as an access that stores it would do at once.
+    /// Each word is stored as an access that stores it would do at once. It takes no memory: where there are more than 256
+    /// pages, it stores none on a page that is not made yet, which is one of zeros.
     #[inline]
     pub fn store_row(&mut self, page: u32, offset: u32, from: &[u8]) -> usize
         requires page { page < self.old.config.pages }
         requires aligned { offset % 8 ≡ 0 }
         requires within { offset ≤ self.old.config.page_size }
-        ensures many { result ≡ if is_at_hand self.old page Stores
-            then row_len self.old.config.page_size offset (length from.now) else 0 }
+        ensures many { (result ≡ if is_at_hand self.old page Stores
+            then row_len self.old.config.page_size offset (length from.now) else 0)
+            ⊎ ((result ≡ 0) × MayBeUnmade self.old.table page) }
         ensures hits { AreHits M.ops Stores page offset (numbers_in result from.now) self.old self.new }
         ensures fits { 8 * result ≤ length from.now }
         ensures within { offset + 8 * result ≤ self.old.config.page_size }

@@ -1,6 +1,6 @@
 //! Messages of other nodes.
 ghost use Rattle.std.specs.FinSet as set;
-ghost use Rattle.std.specs.Prelude.{◌≡◌, ◌≢◌, ◌<◌, ◌≤◌, ◌^◌, ℕ, true, false, Some, None, OnOk, OnErr, IfErr, length};
+ghost use Rattle.std.specs.Prelude.{◌≡◌, ◌≢◌, ◌<◌, ◌≤◌, ◌^◌, ◌⊎◌, ℕ, true, false, Some, None, OnOk, OnErr, IfErr, length};
 ghost use Rattle.ivy_model.specs.Wants.{IsWant};
 ghost use Rattle.ivy_wire.specs.Lent.{owned_message};
 ghost use Rattle.ivy_wire.specs.Spelling.{FitsMessage};
@@ -11,7 +11,7 @@ ghost use Rattle.ivy_pagetable.specs.Tables.{entry_at, page_at};
 ghost use Rattle.ivy_pagetable.specs.NodeSets.{IsBelow};
 ghost use Rattle.ivy_coherence.specs.IdleSound.{CanBeServed, AreOthers};
 ghost use Rattle.ivy_coherence.specs.Limits.{most_posted};
-ghost use Rattle.ivy_coherence.specs.Outcomes.{IsStep};
+ghost use Rattle.ivy_coherence.specs.Outcomes.{IsStep, IsWantOfPage};
 ghost use Rattle.ivy_coherence.specs.Steps.{IsWaiting, IsCollecting, is_none, unlocked_as, unlocked_by_reply, unlocked_by_last};
 ghost use Rattle.ivy_coherence.specs.Steps.{put_aside_at, given_up, asked_at, copy_came_at, owned_with, page_came_at, left_with, acknowledged_at, handled};
 
@@ -19,7 +19,8 @@ use crate::coherence::Coherence;
 use crate::serving::{Place, count, invalidate, serve_put_off};
 use ivy_model::Fault;
 use ivy_pagetable::{
-    Access, AwaitAcks, AwaitWrite, Entry, Idle, Manager, NodeSet, PutOff, Request, Waiting, Word,
+    Access, AwaitAcks, AwaitWrite, Entry, Idle, LentEntry, Manager, NodeSet, PutOff, Request,
+    Waiting, Word,
 };
 use ivy_wire::{Content, Message, Post, post_one};
 use std::alloc::Allocator;
@@ -52,7 +53,7 @@ impl<M: Manager, A: Allocator> Coherence<M, A> {
             (asked_at M.ops self.old page message) }
     {
         match self.table.entry(page) {
-            Entry::Idle(idle) => {
+            LentEntry::Idle(idle) => {
                 let at = Place {
                     me: self.me,
                     from: message.origin,
@@ -72,8 +73,8 @@ impl<M: Manager, A: Allocator> Coherence<M, A> {
                 )?;
                 self.table.set_entry(page, Entry::Idle(after));
             }
-            Entry::AwaitRead(_) => self.put_aside(page, message),
-            Entry::AwaitWrite(state) => {
+            LentEntry::AwaitRead(_) => self.put_aside(page, message),
+            LentEntry::AwaitWrite(state) => {
                 if message.kind == Request::Invalidate {
                     let waiting = state.waiting().copied();
                     self.give_up(page, waiting, message, post)?;
@@ -81,7 +82,7 @@ impl<M: Manager, A: Allocator> Coherence<M, A> {
                     self.put_aside(page, message);
                 }
             }
-            Entry::AwaitAcks(_) => {
+            LentEntry::AwaitAcks(_) => {
                 if message.kind == Request::Invalidate {
                     count(&mut self.breaches);
                 } else {
@@ -153,7 +154,7 @@ impl<M: Manager, A: Allocator> Coherence<M, A> {
         ensures { IsStep P.ops post.old post.new result self.old self.new
             (unlocked_by_reply M.ops self.old from page kind bytes.now waiting.now) }
     {
-        self.spare.copy_from(bytes);
+        self.spare.fill(bytes)?;
         let out = self.spare.carry_out(waiting.word());
         let at = Place {
             me: self.me,
@@ -167,7 +168,7 @@ impl<M: Manager, A: Allocator> Coherence<M, A> {
         let reply = Some(kind);
         let after = serve_put_off(at, reply, idle, &mut self.manager, breaches, messages, post)?;
         self.table.set_entry(page, Entry::Idle(after));
-        self.table.install(page, self.spare.bytes());
+        self.table.exchange(page, &mut self.spare);
         self.done = Some(out);
         self.locked = None;
         Ok(())
@@ -191,7 +192,7 @@ impl<M: Manager, A: Allocator> Coherence<M, A> {
             (copy_came_at M.ops self.old from call page bytes.now) }
     {
         match self.table.entry(page) {
-            Entry::AwaitRead(waiting) if waiting.call() == call => {
+            LentEntry::AwaitRead(waiting) if waiting.call() == call => {
                 let waiting = waiting.copied();
                 self.unlock(from, page, Request::Read, &waiting, bytes, post)?;
             }
@@ -221,7 +222,7 @@ impl<M: Manager, A: Allocator> Coherence<M, A> {
             (page_came_at M.ops self.old from call page copies bytes.now) }
     {
         match self.table.entry(page) {
-            Entry::AwaitWrite(state)
+            LentEntry::AwaitWrite(state)
                 if state.waiting().call() == call && !copies.contains(self.me) => {
                 let waiting = state.waiting().copied();
                 self.owned_with(from, call, page, copies, waiting, bytes, post)?;
@@ -258,11 +259,12 @@ impl<M: Manager, A: Allocator> Coherence<M, A> {
             self.unlock(from, page, Request::Write, &waiting, bytes, post)?;
             return Ok(());
         }
+        self.spare.size(bytes.len())?;
         invalidate(self.me, page, call, &copies, post)?;
         self.manager.on_replied(page, true, from);
         let entry = Entry::AwaitAcks(AwaitAcks::new(copies, waiting));
         self.table.set_entry(page, entry);
-        self.table.install(page, bytes);
+        self.table.install(page, bytes, &mut self.spare);
         Ok(())
     }
 
@@ -282,7 +284,7 @@ impl<M: Manager, A: Allocator> Coherence<M, A> {
             (acknowledged_at M.ops self.old from call page) }
     {
         match self.table.entry(page) {
-            Entry::AwaitAcks(state)
+            LentEntry::AwaitAcks(state)
                 if state.waiting().call() == call && state.left().contains(from) => {
                 let waiting = state.waiting().copied();
                 let mut left = *state.left();
@@ -344,7 +346,8 @@ impl<M: Manager, A: Allocator> Coherence<M, A> {
             offset: word.offset(),
             value: self.table.number(page, word),
         };
-        let out = self.table.carry_out(page, word);
+        self.spare.size(self.config.page_size as usize)?;
+        let out = self.table.carry_out(page, word)?;
         let at = Place {
             me: self.me,
             from,
@@ -364,7 +367,7 @@ impl<M: Manager, A: Allocator> Coherence<M, A> {
         ) {
             Ok(after) => self.table.set_entry(page, Entry::Idle(after)),
             Err(fault) => {
-                let _ = self.table.carry_out(page, before);
+                self.table.put_back(page, before, &mut self.spare);
                 return Err(fault);
             }
         }
@@ -378,7 +381,8 @@ impl<M: Manager, A: Allocator> Coherence<M, A> {
     /// nothing else.
     ///
     /// The message fits the configuration, and `from` is another one of its nodes. The bytes of a page that it
-    /// brings are copied once; that takes no memory.
+    /// brings are copied once. That takes no memory, but where there are more than 256 pages: a page is made then
+    /// when it first comes or is first written.
     pub fn handle<P: Post>(
         &mut self,
         from: u8,
@@ -394,7 +398,7 @@ impl<M: Manager, A: Allocator> Coherence<M, A> {
         ensures posted { OnOk result (post.new ≡ P.ops.after post.old (handled M.ops self.old from (owned_message message.entry)).posted) }
         ensures err { OnErr result (self.new ≡ self.old) }
         ensures took { OnOk result (P.ops.takes post.old (handled M.ops self.old from (owned_message message.entry)).posted) }
-        ensures fault { IfErr result (HasRefused P.ops post.old post.new (handled M.ops self.old from (owned_message message.entry)).posted) }
+        ensures fault { IfErr result (λ fault. (IsWantOfPage self.old fault × (post.new ≡ post.old)) ⊎ HasRefused P.ops post.old post.new (handled M.ops self.old from (owned_message message.entry)).posted fault) }
         ensures want { IfErr result IsWant }
     {
         self.sound();

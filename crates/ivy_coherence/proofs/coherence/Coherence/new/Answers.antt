@@ -8,5 +8,5 @@ invariant_of-result g c = (
   rw (c.in_ok-table.ensures.first, c.requires.fresh)
       (first-sound g.met.M.Manager.laws c.args.config.now c.args.me c.requires.limits
       c.requires.here),
-  ap length c.in_ok-spare.ensures ∙ length-replicate c.args.config.now.page_size 0,
+  λ few. ap length c.in_ok-spare.ensures ∙ length-replicate c.args.config.now.page_size 0,
 )

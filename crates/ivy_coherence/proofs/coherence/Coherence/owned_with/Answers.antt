@@ -1,4 +1,6 @@
-use Rattle.ivy_coherence.proofs.Opened.{others_few, others_fit, collect_sound}
+use Rattle.std.proofs.Common.{◌∙◌}
+use Rattle.ivy_pagetable.specs.declared.Request.TheVariants as request
+use Rattle.ivy_coherence.proofs.Opened.{alone_waiting, others_few, others_fit, collect_sound, spare_after, entries_then}
 use Rattle.ivy_coherence.proofs.coherence.Coherence.owned_with.Goals as goal
 
 pub invalidate-requires-clause-few : goal.invalidate-requires-clause-few
@@ -11,8 +13,13 @@ invalidate-requires-clause-fits g c =
     c.requires.page c.requires.call c.ranges.call.fits c.requires.below c.requires.apart
     c.requires.post.config c.requires.post.node
 
-pub invariant_of-self : goal.invariant_of-self
-invariant_of-self g c = (
+pub set_entry-requires-clause-alone : goal.set_entry-requires-clause-alone
+set_entry-requires-clause-alone g c = λ locked.
+    alone_waiting _ _ c.self.view_is c.self.invariant.0 c.args.page request.Write c.args.waiting
+    c.requires.waits
+
+pub invariant_of-self-2 : goal.invariant_of-self-2
+invariant_of-self-2 g c = (
   collect_sound g.met.M.Manager.laws _ _ c.self.view_is c.self.invariant.0 c.args.from c.args.page
       c.args.copies c.args.bytes.now c.args.waiting _ _
       (record {
@@ -21,6 +28,9 @@ invariant_of-self g c = (
         inside = c.requires.page;
         sized = c.requires.sized;
       }) c.requires.waits c.requires.below c.requires.apart
-      (rw (c.set_entry.ensures, c.new.ensures) at c.install.ensures) c.on_replied.ensures,
-  c.self.invariant.1,
+      (rw (c.set_entry.ensures, c.new.ensures) at c.install.ensures.page) c.on_replied.ensures,
+  spare_after _ _ c.self.view_is c.self.invariant.0 c.set_entry.new.self c.size.new.self
+      c.install.new.spare
+      (entries_then _ _ c.self.view_is c.self.invariant.0 c.set_entry.new.self c.args.page _
+      c.set_entry.ensures) (c.in_ok-size.ensures.ok ∙ c.requires.sized) c.install.ensures.kept,
 )

@@ -1,5 +1,10 @@
-use Rattle.ivy_coherence.proofs.Opened.{fault_sound}
+use Rattle.ivy_coherence.proofs.Opened.{alone_free, fault_sound}
 use Rattle.ivy_coherence.proofs.coherence.Coherence.start.Goals as goal
+
+pub set_entry-requires-clause-alone : goal.set_entry-requires-clause-alone
+set_entry-requires-clause-alone g c = λ locked.
+    alone_free _ _ c.self.view_is c.self.invariant.0 (rw (← c.self.view_is) at c.requires.free)
+    c.args.page
 
 pub invariant_of-self : goal.invariant_of-self
 invariant_of-self g c = (

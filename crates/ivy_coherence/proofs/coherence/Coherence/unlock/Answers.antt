@@ -1,21 +1,18 @@
-use Rattle.std.proofs.Common.{◌≡◌, length}
-use Rattle.ivy_coherence.proofs.Opened.{fits_spare, spare_then, unlock_word, unlock_fits, unlock_sound}
+use Rattle.std.proofs.Common.{◌≡◌, length, ap, ◌∙◌}
+use Rattle.ivy_coherence.proofs.Opened.{spare_after, entries_then, unlock_word, unlock_fits, unlock_sound}
 use Rattle.ivy_coherence.proofs.coherence.Coherence.unlock.Goals as goal
-
-pub copy_from-requires : goal.copy_from-requires
-copy_from-requires g c =
-    fits_spare _ _ c.self.view_is c.args.bytes.now c.self.inside.spare c.requires.sized
-    c.self.invariant.1
 
 pub carry_out-out-requires : goal.carry_out-out-requires
 carry_out-out-requires g c =
-    rw (c.word.ensures, c.copy_from.ensures)
+    rw (c.word.ensures, c.in_ok-fill.ensures.ok)
     (unlock_word g.met.M.Manager.laws _ _ c.self.view_is c.self.invariant.0 c.args.page c.args.kind
     c.args.bytes.now c.args.waiting.now c.requires.waits c.requires.sized)
 
 pub serve_put_off-requires-clause-fits : goal.serve_put_off-requires-clause-fits
 serve_put_off-requires-clause-fits g c =
-    let sized : length c.bytes.result.now ≡ c.args.self.now.config.page_size = cc in
+    let sized : length c.bytes.result.now ≡ c.args.self.now.config.page_size =
+    ap length c.bytes.ensures ∙ c.carry_out-out.ensures.sized ∙ ap length c.in_ok-fill.ensures.ok
+    ∙ c.requires.sized in
     unlock_fits g.met.M.Manager.laws _ _ c.self.view_is c.self.invariant.0 c.args.from c.args.page
     c.args.kind c.bytes.result.now c.args.waiting.now _ _ _ _
     (record {
@@ -26,16 +23,12 @@ serve_put_off-requires-clause-fits g c =
     }) c.requires.waits c.unlocked_as-idle.ensures
     c.put_offs-messages.ensures.list c.requires.post.config c.requires.post.node
 
-pub invariant_of-self : goal.invariant_of-self
-invariant_of-self g c = (
-  rw (c.in_err-after.ensures.err.0, c.in_err-after.ensures.err.1) c.self.invariant.0,
-  spare_then _ _ c.self.view_is c.args.bytes.now _ c.requires.sized cc,
-)
-
 pub invariant_of-self-2 : goal.invariant_of-self-2
 invariant_of-self-2 g c =
-    let sized : length c.bytes.result.now ≡ c.args.self.now.config.page_size = cc in
-    let long : length c.carry_out-out.new.self ≡ c.args.self.now.config.page_size = cc in (
+    let long : length c.carry_out-out.new.self ≡ c.args.self.now.config.page_size =
+    c.carry_out-out.ensures.sized ∙ ap length c.in_ok-fill.ensures.ok ∙ c.requires.sized in
+    let sized : length c.bytes.result.now ≡ c.args.self.now.config.page_size =
+    ap length c.bytes.ensures ∙ long in (
       unlock_sound g.met.M.Manager.laws _ _ c.self.view_is c.self.invariant.0 c.args.from
           c.args.page c.args.kind c.bytes.result.now c.carry_out-out.new.self c.args.waiting.now
           c.unlocked_as-idle.result _ c.put_offs-messages.result.now _ _ _ _
@@ -46,7 +39,10 @@ invariant_of-self-2 g c =
             sized = sized;
           }) long c.requires.waits
           c.unlocked_as-idle.ensures c.put_offs-messages.ensures.list c.in_ok-after.ensures.idle
-          (rw (c.set_entry.ensures, c.bytes-2.ensures) at c.install.ensures)
+          (rw c.set_entry.ensures at c.exchange.ensures.page)
           c.in_ok-after.ensures.manager c.in_ok-after.ensures.breaches,
-      spare_then _ _ c.self.view_is c.args.bytes.now _ c.requires.sized cc,
+      spare_after _ _ c.self.view_is c.self.invariant.0 c.set_entry.new.self
+          c.carry_out-out.new.self c.exchange.new.spare
+          (entries_then _ _ c.self.view_is c.self.invariant.0 c.set_entry.new.self c.args.page _
+          c.set_entry.ensures) long c.exchange.ensures.kept,
     )
