@@ -324,7 +324,7 @@ impl<M: Manager, A: Allocator> Coherence<M, A> {
     }
 
     /// The last copy was given up: the word is carried out on the page here, and what was put off is served.
-    /// Where that is refused, the number that stood there is put back.
+    /// Where that is refused, the number that stood there is put back, for which the spare page is there before.
     fn write<P: Post>(
         &mut self,
         from: u8,

@@ -16,7 +16,7 @@ use Rattle.ivy_pagetable.specs.Manager.{Ops, Laws}
 use Rattle.ivy_coherence.specs.declared.Need.{Need}
 use Rattle.ivy_coherence.specs.declared.Need.TheVariants as need
 use Rattle.ivy_coherence.specs.Coherent.{Coherent}
-use Rattle.ivy_coherence.specs.Faults.{Begun, HasToAsk, suffices, hit, faulted, accessed, begun_at, begun}
+use Rattle.ivy_coherence.specs.Faults.{Begun, HasToAsk, MayMakePage, suffices, hit, faulted, accessed, begun_at, begun}
 use Rattle.ivy_pagetable.specs.declared.Entry.{Entry}
 use Rattle.ivy_pagetable.specs.declared.Entry.TheVariants as entry
 use Rattle.ivy_pagetable.specs.Entries.{is_locked}
@@ -27,7 +27,7 @@ use Rattle.ivy_heap.specs.declared.Answer.{Answer}
 use Rattle.ivy_coherence.proofs.Keeping.{begun-keeps}
 use Rattle.ivy_memory.specs.declared.asked.Asked.TheVariants as asked
 use Rattle.ivy_heap.specs.declared.HeapCall.{HeapCall}
-use Rattle.ivy_memory.specs.Asking.{CanAsk, HasToAskFor, CallHasToAsk, MayBeRefused, asked_of}
+use Rattle.ivy_memory.specs.Asking.{CanAsk, HasToAskFor, CallHasToAsk, MayMakePageFor, CallMayMakePage, MayBeRefused, IsMessageWant, asked_of}
 use Rattle.ivy_model.specs.declared.Fault.{Fault}
 use Rattle.ivy_heap.specs.HeapCalls.{IsAddressPosted, IsGrowthPosted, HeapBegun, HeapSide, HeapTold, heap_begun, heap_told}
 use Rattle.ivy_heap.proofs.Rows.{misfit_stays}
@@ -57,10 +57,12 @@ err_there (Ok a) F e h k = absurd h
 err_there (Err x) F e h k = subst F (sym h) k
 
 -- or of one of two
-pub err_refuses : {A E X : Type 0} (r : Result A E) (G : E → Type 0) (R : X → E → Type 0) (e : E)
-    (x y : X) → x ≡ y → IsErrAnd r (λ z. z ≡ e) → R x e → IfErr r (λ f. G f ⊎ R y f)
-err_refuses r G R e x y same is why =
-    err_there r (λ f. G f ⊎ R y f) e is (inr (subst (λ z. R z e) same why))
+pub err_refuses : {A E X : Type 0} (r : Result A E) (W G : E → Type 0) (R : X → E → Type 0) (e : E)
+    (x y : X) → x ≡ y → IsErrAnd r (λ z. z ≡ e) → (W e → G e) → W e ⊎ R x e
+    → IfErr r (λ f. G f ⊎ R y f)
+err_refuses r W G R e x y same is wants why =
+    err_there r (λ f. G f ⊎ R y f) e is
+    (elim why [ inl lacks ↦ inl (wants lacks) | inr refuses ↦ inr (subst (λ z. R z e) same refuses) ])
 
 -- no call is in progress where the code sees none
 pub no_call : {S : Type 0} (n v : NodeMemory S) {b : Bool} → v ≡ n → b ≡ is_some v.asked → b ≡ false
@@ -182,15 +184,20 @@ module _ {S : Type 0} {ops : Ops S} (laws : Laws ops) where
     begun_is =
         ap (λ x. call_begun ops x c number) (sym l.same) ∙ ap (begun_as ops v c number) asking
 
-    -- a call whose word has to be asked for
-    pub call_asks : {A E : Type 0} (r : Result A E) → HasToAsk v.coherence page w
+    -- a call whose word has to be asked for, or whose page may have to be made
+    pub call_asks : {A E : Type 0} (r : Result A E)
+        → HasToAsk v.coherence page w ⊎ MayMakePage v.coherence page w
         → OnErr r
         (CallHasToAsk n.coherence c
-        ⊎ MayBeRefused (asked_of n.coherence.config c) (call_begun ops n c number).answer)
-    call_asks (Ok a) asks = tt
-    call_asks (Err x) asks =
+        ⊎ (CallMayMakePage n.coherence c
+        ⊎ MayBeRefused (asked_of n.coherence.config c) (call_begun ops n c number).answer))
+    call_asks (Ok a) why = tt
+    call_asks (Err x) (inl asks) =
         inl (subst (λ (m : NodeMemory S). CallHasToAsk m.coherence c) l.same
         (subst (HasToAskFor v.coherence) (sym asking) asks))
+    call_asks (Err x) (inr makes) =
+        inr (inl (subst (λ (m : NodeMemory S). CallMayMakePage m.coherence c) l.same
+        (subst (MayMakePageFor v.coherence) (sym asking) makes)))
 
     -- no word waits before it
     pub not_busy : (told : Need) → told ≡ access.need → told ≡ need.Busy → ⊥
@@ -341,14 +348,17 @@ module _ {S : Type 0} {ops : Ops S} (laws : Laws ops) (n v : NodeMemory S) (node
       (Refuses : List Parcel → Fault → Type 0) (e : Fault) → ((f : Fault) → Refuses [] f → ⊥)
       → IsErrAnd r (λ x. x ≡ e) → (IsGrowthPosted heard.posted e × Unasked) ⊎ Refuses heard.posted e
       → IfErr r
-      (λ f. (IsGrowthPosted (memory_handled ops n from m).posted f × Unasked)
+      (λ f. (IsMessageWant n.coherence (memory_handled ops n from m).posted f × Unasked)
       ⊎ Refuses (memory_handled ops n from m).posted f)
   err_posts r Unasked Refuses e none is why =
       err_there r
-      (λ f. (IsGrowthPosted (memory_handled ops n from m).posted f × Unasked)
+      (λ f. (IsMessageWant n.coherence (memory_handled ops n from m).posted f × Unasked)
       ⊎ Refuses (memory_handled ops n from m).posted f) e is
-      (side_posts (λ ps. (IsGrowthPosted ps e × Unasked) ⊎ Refuses ps e)
-      (λ x. elim x [ inl grows ↦ no_address grows.0.0 | inr refuses ↦ none e refuses ]) why)
+      (elim (side_posts (λ ps. (IsGrowthPosted ps e × Unasked) ⊎ Refuses ps e)
+      (λ x. elim x [ inl grows ↦ no_address grows.0.0 | inr refuses ↦ none e refuses ]) why) [
+        | inl grows ↦ inl ((inl grows.0.0, grows.0.1), grows.1)
+        | inr refuses ↦ inr refuses
+      ])
 
   -- the memory after the coherence had the message, or refused it
   pub left_memory : {A E : Type 0} (fits : Bool) (r : Result A E) (new : Coherent S)

@@ -1,5 +1,5 @@
 -- A call that is asked for its reply: what it keeps, and how the code has it.
-use Rattle.std.proofs.Common.{◌≡◌, ℕ, ◌<◌, ◌≤◌, is_some, Bool, true, false, [], length, Option, Some, None, Result, Ok, Err, OnErr, refl, sym, ap, ◌∙◌, subst, arith, if◌then◌else◌}
+use Rattle.std.proofs.Common.{◌≡◌, ℕ, ◌<◌, ◌≤◌, is_some, Bool, true, false, [], length, Option, Some, None, Result, Ok, Err, OnErr, refl, sym, ap, ◌∙◌, subst, arith, if◌then◌else◌, ◌⊎◌, inl, inr}
 use Rattle.std.specs.Prelude.{All}
 use Rattle.ivy_model.specs.declared.Config.{Config}
 use Rattle.ivy_model.specs.declared.Call.{Call}
@@ -15,7 +15,7 @@ use Rattle.ivy_pagetable.specs.Manager.{Ops, Laws}
 use Rattle.ivy_coherence.specs.declared.Need.{Need}
 use Rattle.ivy_coherence.specs.declared.Need.TheVariants as need
 use Rattle.ivy_coherence.specs.Coherent.{Coherent}
-use Rattle.ivy_coherence.specs.Faults.{Begun, HasToAsk, suffices, accessed, begun_at, begun}
+use Rattle.ivy_coherence.specs.Faults.{Begun, HasToAsk, MayMakePage, suffices, accessed, begun_at, begun}
 use Rattle.ivy_coherence.specs.Sound.{IsSound}
 use Rattle.ivy_coherence.proofs.Keeping.{begun-keeps}
 use Rattle.ivy_coherence.specs.Limits.{most_posted}
@@ -25,9 +25,9 @@ use Rattle.ivy_heap.specs.declared.Answer.{Answer}
 use Rattle.ivy_heap.specs.declared.Answer.TheVariants.{Given, Awaited, Unserved}
 use Rattle.ivy_memory.specs.declared.asked.Asked.{Asked}
 use Rattle.ivy_memory.specs.declared.asked.Asked.TheVariants as asked
-use Rattle.ivy_memory.specs.Asking.{CanAsk, HasToAskFor, asked_of}
+use Rattle.ivy_memory.specs.Asking.{CanAsk, HasToAskFor, MayMakePageFor, asked_of}
 use Rattle.ivy_heap.specs.HeapCalls.{HeapSide, closed}
-use Rattle.ivy_memory.specs.Memories.{NodeMemory, CallBegun, HasToAskAgain, reply_of, reply_at, taken_out, answered, unserved, needed, again_unless, again, tried_as, polled_as, polled_at, polled}
+use Rattle.ivy_memory.specs.Memories.{NodeMemory, CallBegun, MayFailAgain, reply_of, reply_at, taken_out, answered, unserved, needed, again_unless, again, tried_as, polled_as, polled_at, polled}
 use Rattle.ivy_memory.specs.Sound.{IsSoundMemory}
 use Rattle.ivy_memory.proofs.Asking.{can_ask}
 use Rattle.ivy_memory.proofs.Sides.{word_words}
@@ -374,13 +374,16 @@ module _ {S : Type 0} {ops : Ops S} (laws : Laws ops) (n v : NodeMemory S) (k : 
       (subst (Begins (taken_out v).coherence) (begun-cleared ops v.coherence page w v.number)
       (begun-begins ops (taken_out v).coherence page w v.number)) refl)
 
-  pub retry_asks : {A E : Type 0} (r : Result A E) → HasToAsk v.coherence page w
-      → OnErr r (HasToAskAgain n)
-  retry_asks (Ok a) asks = tt
-  retry_asks (Err x) asks =
-      subst (λ (m : NodeMemory S). HasToAskAgain m) l.same (record {
+  pub retry_asks : {A E : Type 0} (r : Result A E)
+      → HasToAsk v.coherence page w ⊎ MayMakePage v.coherence page w → OnErr r (MayFailAgain n)
+  retry_asks (Ok a) why = tt
+  retry_asks (Err x) why =
+      subst (λ (m : NodeMemory S). MayFailAgain m) l.same (record {
         call = c;
         asked = l.called;
         untold = untold;
-        asks = subst (HasToAskFor v.coherence) (sym asking) asks;
+        asks = elim why [
+          | inl asks ↦ inl (subst (HasToAskFor v.coherence) (sym asking) asks)
+          | inr makes ↦ inr (subst (MayMakePageFor v.coherence) (sym asking) makes)
+        ];
       })

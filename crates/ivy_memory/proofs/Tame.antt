@@ -1,8 +1,8 @@
 -- Accesses and messages keep what holds of a memory, and post only what can be sent. For every
 -- manager that keeps the laws.
-use Rattle.std.proofs.Common.{◌≡◌, ◌≢◌, ℕ, ◌-◌, ◌^◌, ◌<◌, ◌≤◌, ◌⊎◌, inl, inr, Bool, true, false}
+use Rattle.std.proofs.Common.{◌≡◌, ◌≢◌, ℕ, ◌^◌, ◌<◌, ◌≤◌, ◌⊎◌, inl, inr, Bool, true, false}
 use Rattle.std.proofs.Common.{List, [], ◌∷◌, length, nat_lt, Option, Some, None, refl, sym, ap, ◌∙◌}
-use Rattle.std.proofs.Common.{subst, arith, if◌then◌else◌, ◌==◌}
+use Rattle.std.proofs.Common.{subst, arith, if◌then◌else◌}
 use Rattle.std.specs.Prelude.{All, slice_set}
 use Rattle.std.proofs.lemmas.List.{set-get_or}
 use Rattle.std.proofs.lemmas.Option.{same_Some, none-some}
@@ -21,7 +21,6 @@ use Rattle.ivy_pagetable.specs.declared.Request.TheVariants as asks
 use Rattle.ivy_pagetable.specs.declared.Out.{Out}
 use Rattle.ivy_pagetable.specs.declared.Out.TheVariants as out
 use Rattle.ivy_pagetable.specs.declared.Word.{Word}
-use Rattle.ivy_pagetable.specs.declared.Word.TheVariants as word
 use Rattle.ivy_pagetable.specs.States.{IdleState, WaitingState}
 use Rattle.ivy_pagetable.specs.Entries.{is_locked, copying, owning}
 use Rattle.ivy_pagetable.specs.TableState.{Table}

@@ -18,7 +18,7 @@ use Rattle.ivy_model.specs.Memory.{IsSized, flat_page}
 use Rattle.ivy_model.specs.Memory as model
 use Rattle.ivy_model.specs.Numbers.{fault_number}
 use Rattle.ivy_model.specs.declared.fault.Fault.TheVariants.{NoSuchCount, CountFull}
-use Rattle.ivy_model.specs.Serves.{Serves, ServesKind, Accesses, Refuses, Advances, access_refusal, overwrite}
+use Rattle.ivy_model.specs.Serves.{Serves, ServesKind, Accesses, Refuses, Advances, access_refusal}
 use Rattle.ivy_model.specs.Serves.{with_written}
 use Rattle.ivy_model.specs.Legal.{IsWidth}
 use Rattle.ivy_model.proofs.Counts.{read_count, write_count}

@@ -1,25 +1,28 @@
 -- What a call is to the memory of a node: refused at once, a word of a page, or a call of the heap.
-use Rattle.std.specs.Prelude.{◌≡◌, ◌⊎◌, ◌<◌, ℕ, ◌/◌, ◌%◌, Option, Some, None, Result, Ok, Err}
+use Rattle.std.specs.Prelude.{◌≡◌, ◌⊎◌, ◌<◌, ℕ, ◌/◌, ◌%◌, List, Option, Some, None, Result, Ok, Err}
 use Rattle.ivy_model.specs.declared.Config.{Config}
 use Rattle.ivy_model.specs.declared.Call.{Call}
 use Rattle.ivy_model.specs.declared.CallKind.{CallKind}
 use Rattle.ivy_model.specs.declared.CallKind.TheVariants as kind
 use Rattle.ivy_model.specs.declared.Fault.{Fault}
+use Rattle.ivy_model.specs.declared.Fault.TheVariants.{Memory}
 use Rattle.ivy_model.specs.Accesses.{kind_of_call}
+use Rattle.ivy_model.specs.Limits.{most_pages}
 use Rattle.ivy_model.specs.Numbers.{fault_number}
 use Rattle.ivy_model.specs.Serves.{access_refusal}
+use Rattle.ivy_wire.specs.Data.{Parcel}
 use Rattle.ivy_event.specs.Counts.{word_of_count}
 use Rattle.ivy_pagetable.specs.declared.Word.{Word}
 use Rattle.ivy_pagetable.specs.declared.Word.TheVariants as word
 use Rattle.ivy_pagetable.specs.Words.{IsWord, word_with}
 use Rattle.ivy_coherence.specs.Coherent.{Coherent}
-use Rattle.ivy_coherence.specs.Faults.{HasToAsk}
+use Rattle.ivy_coherence.specs.Faults.{HasToAsk, MayMakePage}
 use Rattle.ivy_memory.specs.declared.asked.Asked.{Asked}
 use Rattle.ivy_memory.specs.declared.asked.Asked.TheVariants as asked
 use Rattle.ivy_heap.specs.declared.HeapCall.TheVariants as heap
 use Rattle.ivy_heap.specs.declared.Answer.{Answer}
 use Rattle.ivy_heap.specs.declared.Answer.TheVariants.{Awaited}
-use Rattle.ivy_heap.specs.HeapCalls.{IsAddress}
+use Rattle.ivy_heap.specs.HeapCalls.{IsAddress, IsAddressPosted}
 
 -- the word of a page, unless it is refused
 abbrev pub word_unless : Option ℕ → ℕ → Word → Asked
@@ -64,6 +67,27 @@ MayBeRefused a answer = IsOfHeap a × (IsAddress answer ⊎ (answer ≡ Awaited)
 
 abbrev pub CallHasToAsk : {S : Type 0} → Coherent S → Call → Type 0
 CallHasToAsk c call = HasToAskFor c (asked_of c.config call)
+
+-- it is a word that may be the first that is written to its page, of many
+abbrev pub MayMakePageFor : {S : Type 0} → Coherent S → Asked → Type 0
+MayMakePageFor c (asked.Refused code) = ⊥
+MayMakePageFor c (asked.Word page w) = MayMakePage c page w
+MayMakePageFor c (asked.Heap k) = ⊥
+
+abbrev pub CallMayMakePage : {S : Type 0} → Coherent S → Call → Type 0
+CallMayMakePage c call = MayMakePageFor c (asked_of c.config call)
+
+-- pages are made one by one: there are more than a narrow configuration has
+abbrev pub MakesPages : {S : Type 0} → Coherent S → Type 0
+MakesPages c = most_pages < c.config.pages
+
+-- want of memory, as a call so answered may meet it: the heap gives a block, or a page is made
+abbrev pub IsCallWant : {S : Type 0} → Coherent S → Asked → Answer → Fault → Type 0
+IsCallWant c a answer fault = ((IsOfHeap a × IsAddress answer) ⊎ MakesPages c) × (fault ≡ Memory)
+
+-- and as a message may, that has these posted
+abbrev pub IsMessageWant : {S : Type 0} → Coherent S → List Parcel → Fault → Type 0
+IsMessageWant c posted fault = (IsAddressPosted posted ⊎ MakesPages c) × (fault ≡ Memory)
 
 -- a word can be asked for: the page is there, and the word lies in it
 abbrev pub CanAsk : Config → Asked → Type 0

@@ -1,6 +1,6 @@
 -- A node's memory: its coherence, the call that it has in progress, and its side of the calls of
 -- the heap.
-use Rattle.std.specs.Prelude.{◌≡◌, ℕ, Option, Some, None, List, [], if◌then◌else◌}
+use Rattle.std.specs.Prelude.{◌≡◌, ◌⊎◌, ℕ, Option, Some, None, List, [], if◌then◌else◌}
 use Rattle.ivy_model.specs.declared.Config.{Config}
 use Rattle.ivy_model.specs.declared.Call.{Call}
 use Rattle.ivy_model.specs.declared.Reply.{Reply}
@@ -19,7 +19,7 @@ use Rattle.ivy_heap.specs.declared.Answer.{Answer}
 use Rattle.ivy_heap.specs.declared.Answer.TheVariants.{Given, Awaited, Unserved}
 use Rattle.ivy_memory.specs.declared.asked.Asked.{Asked}
 use Rattle.ivy_memory.specs.declared.asked.Asked.TheVariants as asked
-use Rattle.ivy_memory.specs.Asking.{asked_of, CallHasToAsk}
+use Rattle.ivy_memory.specs.Asking.{asked_of, CallHasToAsk, CallMayMakePage}
 use Rattle.ivy_heap.specs.HeapCalls.{HeapSide, HeapBegun, HeapTold, first_side, closed, heap_begun, heap_told, reply_told}
 
 -- `number` is that of the call in progress, or of the last one that was in progress where there is
@@ -69,12 +69,12 @@ taken_out m = record {
   side = closed m.side;
 }
 
--- other nodes have to be asked for the call in progress, which has no reply yet
-pub record HasToAskAgain {S : Type 0} (m : NodeMemory S) : Type 0 where
+-- other nodes have to be asked for the call in progress, which has no reply yet, or a page may be made
+pub record MayFailAgain {S : Type 0} (m : NodeMemory S) : Type 0 where
   pub call : Call
   pub asked : m.asked ≡ Some call
   pub untold : reply_at m ≡ None
-  pub asks : CallHasToAsk m.coherence call
+  pub asks : CallHasToAsk m.coherence call ⊎ CallMayMakePage m.coherence call
 
 -- what a call comes to when it begins or is tried again: what it is answered, the memory after, and
 -- what is posted

@@ -8,10 +8,10 @@ ghost use Rattle.ivy_model.specs.Wants.{IsWant};
 ghost use Rattle.ivy_wire.specs.Lent.{owned_content, owned_message};
 ghost use Rattle.ivy_wire.specs.Spelling.{FitsMessage};
 ghost use Rattle.ivy_wire.specs.Posts.{IsPostOf, HasRefused};
-ghost use Rattle.ivy_memory.specs.Asking.{CallHasToAsk, IsOfHeap, MayBeRefused, asked_of};
+ghost use Rattle.ivy_memory.specs.Asking.{CallHasToAsk, CallMayMakePage, IsCallWant, IsMessageWant, MayBeRefused, asked_of};
 ghost use Rattle.ivy_memory.specs.AtOnce.{AnswerAtOnce, IsRowAt};
-ghost use Rattle.ivy_heap.specs.HeapCalls.{IsGrowth, IsGrowthPosted};
-ghost use Rattle.ivy_memory.specs.Memories.{first_memory, reply_of, reply_at, HasToAskAgain, call_begun, polled, memory_handled, memory_told};
+ghost use Rattle.ivy_coherence.specs.Outcomes.{IsWantOfPage};
+ghost use Rattle.ivy_memory.specs.Memories.{first_memory, reply_of, reply_at, MayFailAgain, call_begun, polled, memory_handled, memory_told};
 ghost use Rattle.ivy_coherence.specs.Limits.{most_posted};
 
 use crate::asked::{Asked, RowPlace, asked_of, row_place};
@@ -103,7 +103,8 @@ impl<M: Manager, A: Allocator + Copy> Memory<M, A> {
     /// A call begins, as the one of this number [1, 17, 18]: it is answered at once, or it is in progress from now on.
     ///
     /// Refused with 18 exactly where a call is in progress already. Else only a call that other nodes have to be asked
-    /// for, or one that the heap gives a block for, is refused: any other takes no memory, and asks the post nothing.
+    /// for, or one that the heap gives a block for, is refused: any other takes no memory, and asks the post nothing. Where
+    /// there are more than 256 pages, so may be a word that is the first to be written to its page.
     /// A call that is not refused does begin: it is never Unserved.
     /// Node 0 serves the calls of the heap at once, and any other node asks node 0.
     pub fn begin<P: Post>(&mut self, call: Call, number: u64, post: &mut P) -> Result<Answer, Fault>
@@ -120,14 +121,15 @@ impl<M: Manager, A: Allocator + Copy> Memory<M, A> {
         ensures took { OnOk result (P.ops.takes post.old (call_begun M.ops self.old call number).posted) }
         ensures err { OnErr result (self.new ≡ self.old) }
         ensures fault { self.old.asked ≡ None → IfErr result (λ fault.
-            (IsOfHeap (asked_of self.old.coherence.config call)
-            × IsGrowth (call_begun M.ops self.old call number).answer fault
+            (IsCallWant self.old.coherence (asked_of self.old.coherence.config call)
+            (call_begun M.ops self.old call number).answer fault
             × (post.new ≡ post.old))
             ⊎ HasRefused P.ops post.old post.new
             (call_begun M.ops self.old call number).posted fault) }
         ensures sure { self.old.asked ≡ None → OnErr result (CallHasToAsk self.old.coherence call
+            ⊎ (CallMayMakePage self.old.coherence call
             ⊎ MayBeRefused (asked_of self.old.coherence.config call)
-            (call_begun M.ops self.old call number).answer) }
+            (call_begun M.ops self.old call number).answer)) }
         ensures want { self.old.asked ≡ None → IfErr result IsWant }
     {
         if self.asked.is_some() {
@@ -177,7 +179,8 @@ impl<M: Manager, A: Allocator + Copy> Memory<M, A> {
     /// the call. The call is over with its reply.
     ///
     /// Where the word has no answer now either, and where no call is in progress, nothing changes. Only a word that
-    /// other nodes have to be asked for is refused by a fault: else it takes no memory, and asks the post nothing.
+    /// other nodes have to be asked for is refused by a fault, or, where there are more than 256 pages, one that is the
+    /// first to be written to its page: else it takes no memory, and asks the post nothing.
     pub fn poll_reply<P: Post>(&mut self, post: &mut P) -> Result<Answer, Fault>
         requires post { IsPostOf P.ops post.old self.old.coherence.config self.old.coherence.me }
         ensures few { length (polled M.ops self.old).posted ≤ most_posted }
@@ -186,8 +189,10 @@ impl<M: Manager, A: Allocator + Copy> Memory<M, A> {
         ensures posted { OnOk result (post.new ≡ P.ops.after post.old (polled M.ops self.old).posted) }
         ensures took { OnOk result (P.ops.takes post.old (polled M.ops self.old).posted) }
         ensures err { OnErr result (self.new ≡ self.old) }
-        ensures fault { IfErr result (HasRefused P.ops post.old post.new (polled M.ops self.old).posted) }
-        ensures sure { OnErr result (HasToAskAgain self.old) }
+        ensures fault { IfErr result (λ fault.
+            (IsWantOfPage self.old.coherence fault × (post.new ≡ post.old))
+            ⊎ HasRefused P.ops post.old post.new (polled M.ops self.old).posted fault) }
+        ensures sure { OnErr result (MayFailAgain self.old) }
         ensures want { IfErr result IsWant }
     {
         let Some(call) = self.asked else {
@@ -261,8 +266,9 @@ impl<M: Manager, A: Allocator + Copy> Memory<M, A> {
     /// and as lie in the page of the address.
     ///
     /// It stores none where a call is in progress, where the address is not a multiple of 8 or not one of the heap, and
-    /// where the page may not be written here: then another node has to be asked, by a call. Each word is stored as a
-    /// call that stores it would do at once. It takes no memory, and asks the post nothing.
+    /// where the page may not be written here: then another node has to be asked, by a call. Where there are more than 256
+    /// pages, it stores none either on a page that is not made yet: a call makes it. Each word is stored as a call that
+    /// stores it would do at once. It takes no memory, and asks the post nothing.
     #[inline]
     pub fn store_row(&mut self, addr: u64, from: &[u8]) -> usize
         ensures hits { (node : ℕ) → AnswerAtOnce M.ops (row Stores node addr (numbers_in result from.now)) self.old self.new }
@@ -279,7 +285,8 @@ impl<M: Manager, A: Allocator + Copy> Memory<M, A> {
         self.coherence.store_row(at.page, at.offset, from)
     }
 
-    /// A message of another node [1, 17]. The bytes of a page that it brings are copied once; that takes no memory.
+    /// A message of another node [1, 17]. The bytes of a page that it brings are copied once. That takes no memory, but
+    /// where there are more than 256 pages: a page is made then when it first comes or is first written.
     pub fn handle<P: Post>(
         &mut self,
         from: u8,
@@ -296,7 +303,7 @@ impl<M: Manager, A: Allocator + Copy> Memory<M, A> {
         ensures took { OnOk result (P.ops.takes post.old (memory_handled M.ops self.old from (owned_message message.entry)).posted) }
         ensures err { OnErr result (self.new ≡ self.old) }
         ensures fault { IfErr result (λ fault.
-            (IsGrowthPosted
+            (IsMessageWant self.old.coherence
             (memory_handled M.ops self.old from (owned_message message.entry)).posted fault
             × (post.new ≡ post.old))
             ⊎ HasRefused P.ops post.old post.new

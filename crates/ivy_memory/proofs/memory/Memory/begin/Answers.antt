@@ -1,7 +1,10 @@
-use Rattle.std.proofs.Common.{Some, rules, ◌∙◌, sym, ap, arith}
+use Rattle.std.proofs.Common.{◌≡◌, Some, inr, rules, ◌∙◌, sym, ap, subst, arith}
 use Rattle.ivy_wire.specs.Posts.{HasRefused}
 use Rattle.ivy_memory.proofs.Beginning.{IsBeginning, no_call, can, wide, words_now, words_before, had_memory}
 use Rattle.ivy_memory.proofs.Beginning.{started_memory, not_busy, call_posts}
+use Rattle.ivy_coherence.specs.Outcomes.{IsWantOfPage}
+use Rattle.ivy_memory.specs.Asking.{MakesPages}
+use Rattle.ivy_memory.specs.Memories.{NodeMemory}
 use Rattle.ivy_memory.proofs.Beginning.{few_posted, err_refuses, call_asks, heap_memory}
 use Rattle.ivy_memory.specs.Memories.{asked_after, number_after}
 use Rattle.ivy_memory.proofs.memory.Memory.begin.Goals as goal
@@ -142,9 +145,17 @@ returns-in_err-out-in-Word-clause-fault g c =
       most = omega arith;
       asks = sym c.asked_of.ensures.is ∙ c.in-Word.is;
     } in
-    λ idle. err_refuses c.from_residual.result _
+    λ idle. err_refuses c.from_residual.result
+    (λ f. IsWantOfPage c.self.inside.coherence f × (c.need.new.post ≡ c.args.post.now)) _
     (HasRefused g.P.Post.ops c.args.post.now c.need.new.post) _ _ _
     (call_posts g.met.M.Manager.laws _ _ _ _ _ _ _ at) c.from_residual.ensures.1
+    (λ lacks. (
+      (
+        inr (subst (λ (m : NodeMemory _). MakesPages m.coherence) c.self.view_is lacks.0.0),
+        lacks.0.1,
+      ),
+      lacks.1,
+    ))
     c.in_err-out-in-Word.ensures.fault
 
 pub returns-in_err-out-in-Word-clause-sure : goal.returns-in_err-out-in-Word-clause-sure

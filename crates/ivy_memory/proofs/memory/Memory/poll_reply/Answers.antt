@@ -1,7 +1,9 @@
-use Rattle.std.proofs.Common.{IfErr, ◌∙◌, sym, ap, subst, arith, rules}
+use Rattle.std.proofs.Common.{◌≡◌, ◌∙◌, sym, ap, subst, arith, rules}
 use Rattle.ivy_wire.specs.Posts.{HasRefused}
-use Rattle.ivy_memory.specs.Memories.{CallBegun}
-use Rattle.ivy_memory.proofs.Beginning.{err_there}
+use Rattle.ivy_coherence.specs.Outcomes.{IsWantOfPage}
+use Rattle.ivy_memory.specs.Asking.{MakesPages}
+use Rattle.ivy_memory.specs.Memories.{CallBegun, NodeMemory}
+use Rattle.ivy_memory.proofs.Beginning.{err_refuses}
 use Rattle.ivy_memory.proofs.Polling.{polled-waits, IsRetry, retry_can, given_is, quiet_is, starts_is, waits_is, poll_memory, poll_posts, retry_asks, polled-few}
 use Rattle.ivy_memory.proofs.memory.Memory.poll_reply.Goals as goal
 
@@ -75,11 +77,18 @@ returns-in_err-out g c =
       took = search rules;
       err = search rules;
       fault =
-          subst (λ x. IfErr c.from_residual.result
-          (HasRefused g.P.Post.ops c.args.post.now c.need.new.post x))
-          (poll_posts g.met.M.Manager.laws _ _ _ _ _ _ at)
-          (err_there c.from_residual.result _ _ c.from_residual.ensures.1
-          c.in_err-out.ensures.fault);
+          err_refuses c.from_residual.result
+          (λ f. IsWantOfPage c.self.inside.coherence f × (c.need.new.post ≡ c.args.post.now)) _
+          (HasRefused g.P.Post.ops c.args.post.now c.need.new.post) _ _ _
+          (poll_posts g.met.M.Manager.laws _ _ _ _ _ _ at) c.from_residual.ensures.1
+          (λ lacks. (
+            (
+              subst (λ (m : NodeMemory _). MakesPages m.coherence) c.self.view_is lacks.0.0,
+              lacks.0.1,
+            ),
+            lacks.1,
+          ))
+          c.in_err-out.ensures.fault;
       sure =
           retry_asks g.met.M.Manager.laws _ _ _ _ _ _ at c.from_residual.result
           c.in_err-out.ensures.sure;
