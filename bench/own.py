@@ -161,6 +161,7 @@ OWN = (
     Own("own-product", "product of 32", 1, words("product", ROWS), text(product), 1.1, runs=15),
     Own("own-block", "page read", 1_000_000, words("blocks", 1), copied, 1.0),
     Own("own-heap", "block", 1_000, words("heap", 1), allowed(20_000), 1.0),
+    Own("own-wide", "wide session", 1, words("wide", 2), allowed(200_000_000), 1.0),
 )
 ROW = "{:<14} {:<14} {:>9} {:>12} {:>12} {:>7} {:>6} {:>6}"
 HEAD = ("own code", "unit", "K", "ns each", "other's", "ratio", "limit", "load")
@@ -203,7 +204,25 @@ def weigh_own(program, measure):
     return within
 
 
-MEASURES = (*OWN, Flat("own-memory"))
+@dataclass(frozen=True)
+class Within:
+    """The greatest memory of a run, in MiB."""
+
+    name: str
+    words: tuple
+    limit: int
+
+
+def weigh_within(program, measure):
+    """Prints it. Whether it is within its limit."""
+    peak = program.run(*measure.words)[1]
+    within = peak <= measure.limit
+    print(f"{measure.name}: {peak:.2f} MiB", "" if within else "BEYOND ITS LIMIT", flush=True)
+    return within
+
+
+MEASURES = (*OWN, Flat("own-memory"), Within("own-wide-memory", ("wide", 1, 2), 64))
+WAYS = {Own: time_own, Flat: weigh_own, Within: weigh_within}
 
 
 def measure_own(chosen, unproved):
@@ -214,5 +233,5 @@ def measure_own(chosen, unproved):
         program = Program(kept if kept.parent.is_dir() else Path(room), unproved)
         if any(isinstance(measure, Own) for measure in chosen):
             print(ROW.format(*HEAD), flush=True)
-        within = [(time_own if isinstance(it, Own) else weigh_own)(program, it) for it in chosen]
+        within = [WAYS[type(it)](program, it) for it in chosen]
     return all(within)

@@ -22,7 +22,6 @@ use Rattle.ivy_host.specs.ivy_heap.declared.Answer.TheVariants.{Given, Awaited, 
 use Rattle.ivy_host.specs.ivy_memory.declared.Asked.{Asked}
 use Rattle.ivy_host.specs.ivy_memory.declared.Asked.TheVariants as asked
 use Rattle.ivy_host.specs.ivy_memory.Asking.{asked_of}
-use Rattle.ivy_host.specs.ivy_heap.HeapCalls.{IsGrowth}
 use Rattle.ivy_host.proofs.of_ivy_memory.Sides.{heap_unserved}
 use Rattle.ivy_host.specs.ivy_memory.Memories.{NodeMemory, CallBegun, reply_of, reply_at, taken_out, answered, needed, again_unless, again, begun_as, call_begun, tried_as, polled_as, polled}
 use Rattle.ivy_host.proofs.of_ivy_memory.Polling.{polled_so}
@@ -92,9 +91,9 @@ on_err (Ok a) P h = tt
 on_err (Err e) P h = h
 
 -- an outbox that was not asked, or refused, is as it was
-pub unposted : {B C D : Type 0} {box new : Outbox} → (B × C × (new ≡ box)) ⊎ (D × (new ≡ box))
+pub unposted : {B D : Type 0} {box new : Outbox} → (B × (new ≡ box)) ⊎ (D × (new ≡ box))
     → new ≡ box
-unposted (inl grows) = grows.2
+unposted (inl grows) = grows.1
 unposted (inr refuses) = refuses.1
 
 -- what is not Unserved is served
@@ -238,12 +237,12 @@ module _ (h : H) (k : Call) (a : CallBegun Managed) (calls : IsCall h k a) where
       (subst (λ (x : Fault). RefusesParcels box a.posted x) spent refuses) a.answer refl
 
   -- nor is it for want of numbers that the heap does not grow
-  pub cannot_begin : (box new : Outbox) (f : Fault) (answer : Answer) (of_heap : Type 0)
-      → (of_heap × IsGrowth answer f × (new ≡ box)) ⊎ (RefusesParcels box a.posted f × (new ≡ box))
+  pub cannot_begin : (box new : Outbox) (f : Fault) (Cause : Type 0)
+      → ((Cause × (f ≡ fault.Memory)) × (new ≡ box)) ⊎ (RefusesParcels box a.posted f × (new ≡ box))
       → HasNoNumbers h box f
-  cannot_begin box new f answer of_heap why spent =
+  cannot_begin box new f Cause why spent =
       elim why [
-        | inl grows ↦ let not : fault.Memory ≡ fault.NumbersSpent = sym grows.1.1 ∙ spent in
+        | inl grows ↦ let not : fault.Memory ≡ fault.NumbersSpent = sym grows.0.1 ∙ spent in
             absurd cc
         | inr refuses ↦ cannot_call box f refuses.0 spent
       ]

@@ -41,7 +41,7 @@ use Rattle.ivy_outbox.proofs.Boxes.{as_many}
 use Rattle.ivy_moves.specs.Early.{early_as}
 use Rattle.ivy_site.proofs.Made.{delivery_made, delivery_early}
 use Rattle.ivy_site.proofs.HeldStrings.{hearing-holds}
-use Rattle.ivy_host.specs.ivy_heap.HeapCalls.{IsGrowthPosted}
+use Rattle.ivy_host.specs.ivy_memory.Asking.{IsMessageWant}
 use Rattle.ivy_host.proofs.of_ivy_memory.Same.{told-same, told-asked}
 use Rattle.ivy_host.proofs.Tame.{IsAskingHost}
 
@@ -140,7 +140,8 @@ spent_post n v same k f bytes w r next m body e why spent =
 pub spent_message : {B C : Type 0} (n v : Shown) → v ≡ n
     → (k : Config) (f : Frame) (bytes : List ℕ) (w : Verdict) → IsRead v k f bytes w
     → w ≡ verdict.Next → (m : Message) → f.body ≡ Some m → (e : Fault)
-    → (IsGrowthPosted (memory_handled managed_ops v.node.core.memory f.source m).posted e × B)
+    → (IsMessageWant v.node.core.memory.coherence
+    (memory_handled managed_ops v.node.core.memory f.source m).posted e × B)
     ⊎ (RefusesParcels (box_of v) (memory_handled managed_ops v.node.core.memory f.source m).posted e
     × C)
     → IsSpentDelivery n bytes e

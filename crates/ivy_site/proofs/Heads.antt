@@ -21,7 +21,7 @@ use Rattle.ivy_site.specs.Sites.{SpellsFrame, IsSite, IsSpentDelivery, holding_i
 use Rattle.ivy_site.specs.Inside.{Hears, HoldsString}
 use Rattle.ivy_host.specs.Managers.{Managed, managed_ops}
 use Rattle.ivy_host.specs.ivy_coherence.Limits.{most_posted}
-use Rattle.ivy_host.specs.ivy_heap.HeapCalls.{IsGrowthPosted}
+use Rattle.ivy_host.specs.ivy_memory.Asking.{IsMessageWant}
 use Rattle.ivy_host.specs.ivy_memory.Memories.{NodeMemory, memory_handled, memory_told}
 use Rattle.ivy_moves.specs.ivy_link.declared.Verdict.TheVariants as verdict
 use Rattle.ivy_site.proofs.Delivering.{IsRead, IsHeard, heard_message, spent_message, offered_mine}
@@ -90,11 +90,13 @@ pub spent_from : {B C : Type 0} (n v : Shown) → v ≡ n
     → (k : Config) (f : Frame) (bytes : List ℕ) (w : Verdict) → IsRead v k f bytes w
     → w ≡ verdict.Next → (m : Message) → f.body ≡ Some m → (e : Fault) (from : ℕ)
     → f.source ≡ from
-    → (IsGrowthPosted (memory_handled managed_ops v.node.core.memory from m).posted e × B)
+    → (IsMessageWant v.node.core.memory.coherence
+    (memory_handled managed_ops v.node.core.memory from m).posted e × B)
     ⊎ (RefusesParcels (box_of v) (memory_handled managed_ops v.node.core.memory from m).posted e × C)
     → IsSpentDelivery n bytes e
 spent_from {B} {C} n v same k f bytes w r next m body e from source =
-    subst (λ i. (IsGrowthPosted (memory_handled managed_ops v.node.core.memory i m).posted e × B)
+    subst (λ i. (IsMessageWant v.node.core.memory.coherence
+    (memory_handled managed_ops v.node.core.memory i m).posted e × B)
     ⊎ (RefusesParcels (box_of v) (memory_handled managed_ops v.node.core.memory i m).posted e × C)
     → IsSpentDelivery n bytes e) source (spent_message n v same k f bytes w r next m body e)
 

@@ -6,12 +6,8 @@ pub unposted : {B C X : Type 0} {old new : X} → (B × (new ≡ old)) ⊎ (C ×
 unposted (inl grows) = grows.1
 unposted (inr refuses) = refuses.1
 
-ungrown : {B C D X : Type 0} {old new : X} → (B × D × (new ≡ old)) ⊎ (C × (new ≡ old)) → new ≡ old
-ungrown (inl grows) = grows.2
-ungrown (inr refuses) = refuses.1
-
 -- nor is it asked where a call is in progress
-pub unasked : {A B D C X : Type 0} {old new : X} (a b : Option A) → b ≡ a → (IsSome b → new ≡ old)
-    → (b ≡ None → (B × D × (new ≡ old)) ⊎ (C × (new ≡ old))) → new ≡ old
-unasked None b is h k = ungrown (k is)
+pub unasked : {A B C X : Type 0} {old new : X} (a b : Option A) → b ≡ a → (IsSome b → new ≡ old)
+    → (b ≡ None → (B × (new ≡ old)) ⊎ (C × (new ≡ old))) → new ≡ old
+unasked None b is h k = unposted (k is)
 unasked (Some k) b is h other = h (subst IsSome (sym is) refl)

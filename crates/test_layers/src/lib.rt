@@ -49,4 +49,6 @@ mod posted;
 #[cfg(test)]
 mod program;
 #[cfg(test)]
+mod wide;
+#[cfg(test)]
 mod wire;

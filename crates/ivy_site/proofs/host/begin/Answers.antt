@@ -26,7 +26,7 @@ returns-in_err-answer-clause-spent g c =
       below = subst (λ n. n < 2 ^ 64) (sym c.next_number-number.ensures.is)
           c.next_number-number.ensures.small;
     }) c.requires.idle c.requires.asks)
-    c.args.outbox.now c.begin.new.post _ _ _ (c.in_err-answer.ensures.fault c.requires.idle))
+    c.args.outbox.now c.begin.new.post _ _ (c.in_err-answer.ensures.fault c.requires.idle))
 
 pub returns-clause-ok : goal.returns-clause-ok
 returns-clause-ok g c =

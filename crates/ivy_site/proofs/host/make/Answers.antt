@@ -27,7 +27,7 @@ returns-in_err-begun-clause-spent g c =
       below = subst (λ n. n < 2 ^ 64) (sym c.next_number-number.ensures.is)
           c.next_number-number.ensures.small;
     }) c.requires.idle (c.requires.next c.args.call c.requires.width))
-    c.args.outbox.now c.begin.new.post _ _ _ (c.in_err-begun.ensures.fault c.requires.idle))
+    c.args.outbox.now c.begin.new.post _ _ (c.in_err-begun.ensures.fault c.requires.idle))
 
 pub returns-clause-ok : goal.returns-clause-ok
 returns-clause-ok g c =

@@ -1,16 +1,25 @@
-use Rattle.std.proofs.Common.{rules}
+use Rattle.std.proofs.Common.{rules, refl}
 use Rattle.ivy_host.proofs.of_ivy_memory.Beginning.{err_there}
 use Rattle.ivy_site.specs.Inside.{host_of}
-use Rattle.ivy_site.proofs.Calling.{poll_call, cannot_call, called, called_few}
+use Rattle.ivy_site.proofs.Calling.{poll_call, cannot_begin, called, called_few, on_err, unposted}
 use Rattle.ivy_site.proofs.host.poll.Goals as goal
+
+pub returns-in_err-answer-clause-err : goal.returns-in_err-answer-clause-err
+returns-in_err-answer-clause-err g c =
+    on_err c.from_residual.result _ (
+      c.in_err-answer.ensures.err,
+      unposted c.in_err-answer.ensures.fault,
+      refl,
+      refl,
+    )
 
 pub returns-in_err-answer-clause-spent : goal.returns-in_err-answer-clause-spent
 returns-in_err-answer-clause-spent g c =
     err_there c.from_residual.result _ _ c.from_residual.ensures.1
-    (cannot_call (host_of c.args.memory.now c.args.machine.now c.args.history.now.records) c.args.call
-    _
+    (cannot_begin (host_of c.args.memory.now c.args.machine.now c.args.history.now.records)
+    c.args.call _
     (poll_call (host_of c.args.memory.now c.args.machine.now c.args.history.now.records) c.args.call
-    c.requires.asked) c.args.outbox.now _ c.in_err-answer.ensures.fault.0)
+    c.requires.asked) c.args.outbox.now c.poll_reply.new.post _ _ c.in_err-answer.ensures.fault)
 
 pub returns-clause-ok : goal.returns-clause-ok
 returns-clause-ok g c =

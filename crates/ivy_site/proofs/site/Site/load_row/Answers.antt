@@ -1,4 +1,4 @@
-use Rattle.std.proofs.Common.{rules, ◌≡◌, ◌∙◌, sym, ap, ◌+◌, ◌<◌, ◌^◌, ◌++◌, length, List, ℕ, arith}
+use Rattle.std.proofs.Common.{rules, ◌≡◌, ◌∙◌, sym, ap, ◌++◌, length, List, ℕ, arith}
 use Rattle.ivy_model.specs.declared.Row.TheVariants.{Loads}
 use Rattle.ivy_model.specs.Rows.{numbers_in, row}
 use Rattle.ivy_model.proofs.Rows.{length-numbers_in}

@@ -1,4 +1,5 @@
 use Rattle.std.proofs.Common.{ap, sym, ◌∙◌}
+use Rattle.test_layers.proofs.Unposted.{unposted}
 use Rattle.ivy_host.specs.ivy_fixed.Fixed.{fixed_ops}
 use Rattle.ivy_host.proofs.of_ivy_coherence.Same.{begun-same}
 use Rattle.test_layers.proofs.coherence.Node.needs.Goals as goal
@@ -16,8 +17,8 @@ invariant_of-self g c =
       )
       | in-Err w ↦ (
         ap (λ x. x.config) w.in-Err.ensures.err ∙ c.self.invariant.0,
-        ap (λ p. p.0) w.in-Err.ensures.fault.1 ∙ c.self.invariant.1,
-        ap (λ p. p.1) w.in-Err.ensures.fault.1 ∙ c.self.invariant.2
+        ap (λ p. p.0) (unposted w.in-Err.ensures.fault) ∙ c.self.invariant.1,
+        ap (λ p. p.1) (unposted w.in-Err.ensures.fault) ∙ c.self.invariant.2
             ∙ sym (ap (λ x. x.me) w.in-Err.ensures.err),
       )
     ]

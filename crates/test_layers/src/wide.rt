@@ -1,0 +1,68 @@
+//! Tables of many pages, each of which is made when it is first written.
+ghost use Rattle.std.specs.Prelude.{◌≡◌, ◌<◌, length};
+ghost use Rattle.ivy_pagetable.specs.Words.{IsWord};
+
+use crate::common::expect_same;
+use failing_alloc::Refusing;
+use ivy_model::{Config, Kind};
+use ivy_pagetable::{NodeTable, Out, Word};
+use std::alloc::{Allocator, Global};
+use std::process::Abort;
+use std::test::Fail;
+
+/// More pages than a node makes as it begins.
+const WIDE: Config = Config {
+    nodes: 2,
+    pages: 257,
+    page_size: 64,
+    manager: Kind::Fixed,
+};
+
+const LOAD: Word = Word::Load {
+    width: 8,
+    offset: 8,
+};
+
+const STORE: Word = Word::Store {
+    width: 8,
+    offset: 8,
+    value: 5,
+};
+
+/// The table of node 0 at first. That it has 257 pages of 64 bytes is proved here once.
+fn first_table<'a>(
+    rt: &impl Abort,
+    memory: &'a Refusing<Global>,
+) -> NodeTable<&'a Refusing<Global>>
+    ensures pages { length result.entries ≡ 257 }
+    ensures sized { result.page_size ≡ 64 }
+{
+    NodeTable::new(memory, &WIDE, 0).expect(rt, "memory")
+}
+
+/// What a word of the last page gives; none where it is refused. The table has as many pages then, of the same size.
+fn gives<A: Allocator>(table: &mut NodeTable<A>, word: Word) -> Option<Out>
+    requires pages { length table.old.entries ≡ 257 }
+    requires word { IsWord table.old.page_size word }
+    ensures pages { length table.new.entries ≡ length table.old.entries }
+    ensures sized { table.new.page_size ≡ table.old.page_size }
+{
+    table.carry_out(256, word).ok()
+}
+
+#[test]
+fn pages_are_made_when_written(rt: HostRuntime) {
+    let memory = Refusing::new(rt.alloc());
+    let mut table = first_table(&rt, &memory);
+    memory.refuse(1);
+    expect_same(&rt, gives(&mut table, LOAD), Some(Out::Value(0)));
+    expect_same(&rt, table.store_row(256, 8, &[0, 0, 0, 0, 0, 0, 0, 7]), 0);
+    expect_same(&rt, gives(&mut table, STORE), None);
+    expect_same(&rt, gives(&mut table, LOAD), Some(Out::Value(0)));
+    expect_same(&rt, gives(&mut table, STORE), Some(Out::Done));
+    expect_same(&rt, gives(&mut table, LOAD), Some(Out::Value(5)));
+    memory.refuse(1);
+    expect_same(&rt, table.store_row(256, 8, &[0, 0, 0, 0, 0, 0, 0, 7]), 1);
+    expect_same(&rt, gives(&mut table, LOAD), Some(Out::Value(7)));
+    expect_same(&rt, gives(&mut table, STORE), Some(Out::Done));
+}
