@@ -80,7 +80,7 @@ impl<A: Allocator> Page<A> {
         ensures err { OnErr result (self.new ≡ self.old) }
     {
         self.size(bytes.len())?;
-        self.bytes.copy_from_slice(bytes);
+        self.copy_from(bytes);
         Ok(())
     }
 
