@@ -1,9 +1,12 @@
 -- Calls that a node's memory answers as they begin.
-use Rattle.std.specs.Prelude.{◌≡◌, ℕ, ◌/◌, ◌%◌, None, List, [], ◌∷◌}
+use Rattle.std.specs.Prelude.{◌≡◌, ℕ, ◌/◌, ◌%◌, Bool, ◌&&◌, is_none, None, List, [], ◌∷◌, if◌then◌else◌}
 use Rattle.ivy_model.specs.declared.Config.{Config}
 use Rattle.ivy_model.specs.declared.Record.{Record}
+use Rattle.ivy_model.specs.declared.Row.{Row}
 use Rattle.ivy_model.specs.Serves.{access_refusal}
 use Rattle.ivy_pagetable.specs.Manager.{Ops}
+use Rattle.ivy_pagetable.specs.Rows.{row_len}
+use Rattle.ivy_coherence.specs.Hits.{is_at_hand}
 use Rattle.ivy_heap.specs.declared.Answer.TheVariants.{Given}
 use Rattle.ivy_memory.specs.declared.asked.RowPlace.{RowPlace}
 use Rattle.ivy_memory.specs.Memories.{NodeMemory, call_begun}
@@ -22,3 +25,18 @@ pub record IsRowAt (c : Config) (addr : ℕ) (at : RowPlace) : Type 0 where
   pub permitted : access_refusal c 8 addr ≡ None
   pub page : at.page ≡ addr / c.page_size
   pub offset : at.offset ≡ addr % c.page_size
+
+module _ {S : Type 0} (m : NodeMemory S) (kind : Row) (addr : ℕ) where
+  -- words of 8 bytes from the address on may be carried out at once: no call is in progress, a word of
+  -- the heap is there, and its page is at hand
+  abbrev pub is_row_at_hand : Bool
+  is_row_at_hand =
+      is_none m.asked && is_none (access_refusal m.coherence.config 8 addr)
+      && is_at_hand m.coherence (addr / m.coherence.config.page_size) kind
+
+  -- how many of them, in so many bytes: those that lie in the page of the address
+  abbrev pub row_at_hand : ℕ → ℕ
+  row_at_hand len =
+      if is_row_at_hand
+      then row_len m.coherence.config.page_size (addr % m.coherence.config.page_size) len
+      else 0

@@ -1,5 +1,5 @@
 //! What a call is to the memory of a node.
-ghost use Rattle.std.specs.Prelude.{◌≡◌, ◌/◌, ◌%◌, IfSome};
+ghost use Rattle.std.specs.Prelude.{◌≡◌, ◌/◌, ◌%◌, false, is_none, IfNone, IfSome};
 ghost use Rattle.ivy_model.specs.Config.{IsConfig};
 ghost use Rattle.ivy_model.specs.Legal.{HasKindWidth, HasWidth, IsWidth};
 ghost use Rattle.ivy_model.specs.Serves.{access_refusal};
@@ -78,6 +78,7 @@ pub(crate) struct RowPlace {
 pub(crate) fn row_place(config: &Config, addr: u64) -> Option<RowPlace>
     requires limits { IsConfig config.now }
     ensures at { IfSome result (λ at. IsRowAt config.now addr at) }
+    ensures none { IfNone result (is_none (access_refusal config.now 8 addr) ≡ false) }
 {
     if access_refusal(config, ROW_WIDTH, addr).is_some() {
         return None;

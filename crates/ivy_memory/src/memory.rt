@@ -1,5 +1,6 @@
 //! The memory of one node, as its program sees it: one call in progress, over the node's coherence.
-ghost use Rattle.std.specs.Prelude.{◌≡◌, ◌≢◌, ◌<◌, ◌≤◌, ◌↔◌, ◌⊎◌, ◌*◌, ℕ, None, IsSome, IfSome, IfOk, IfErr, OnOk, OnErr, IsOkUnless, IsErrOf, length};
+ghost use Rattle.std.specs.Prelude.{◌≡◌, ◌≢◌, ◌<◌, ◌≤◌, ◌↔◌, ◌⊎◌, ◌*◌, ◌/◌, ℕ, false, None, IsSome, IfNone, IfSome, IfOk, IfErr, OnOk, OnErr, IsOkUnless, IsErrOf, length};
+ghost use Rattle.ivy_model.specs.declared.Row.{Row};
 ghost use Rattle.ivy_model.specs.declared.Row.TheVariants.{Loads, Stores};
 ghost use Rattle.ivy_model.specs.Config.{IsConfig};
 ghost use Rattle.ivy_model.specs.Legal.{HasWidth};
@@ -9,7 +10,8 @@ ghost use Rattle.ivy_wire.specs.Lent.{owned_content, owned_message};
 ghost use Rattle.ivy_wire.specs.Spelling.{FitsMessage};
 ghost use Rattle.ivy_wire.specs.Posts.{IsPostOf, HasRefused};
 ghost use Rattle.ivy_memory.specs.Asking.{CallHasToAsk, CallMayMakePage, IsCallWant, IsMessageWant, MayBeRefused, asked_of};
-ghost use Rattle.ivy_memory.specs.AtOnce.{AnswerAtOnce, IsRowAt};
+ghost use Rattle.ivy_memory.specs.AtOnce.{AnswerAtOnce, IsRowAt, is_row_at_hand, row_at_hand};
+ghost use Rattle.ivy_pagetable.specs.Either.{MayBeUnmade};
 ghost use Rattle.ivy_coherence.specs.Outcomes.{IsWantOfPage};
 ghost use Rattle.ivy_memory.specs.Memories.{first_memory, reply_of, reply_at, MayFailAgain, call_begun, polled, memory_handled, memory_told};
 ghost use Rattle.ivy_coherence.specs.Limits.{most_posted};
@@ -235,6 +237,7 @@ impl<M: Manager, A: Allocator + Copy> Memory<M, A> {
     fn row_at(&self, addr: u64) -> Option<RowPlace>
         ensures idle { IfSome result (λ at. self.now.asked ≡ None) }
         ensures at { IfSome result (λ at. IsRowAt self.now.coherence.config addr at) }
+        ensures none { IfNone result ((kind : Row) → is_row_at_hand self.now kind addr ≡ false) }
     {
         if self.asked.is_some() {
             return None;
@@ -250,6 +253,7 @@ impl<M: Manager, A: Allocator + Copy> Memory<M, A> {
     /// loads it would be answered at once. It takes no memory, and asks the post nothing.
     #[inline]
     pub fn load_row(&self, addr: u64, into: &mut [u8]) -> usize
+        ensures many { result ≡ row_at_hand self.now Loads addr (length into.old) }
         ensures hits { (node : ℕ) → AnswerAtOnce M.ops (row Loads node addr (numbers_in result into.new)) self.now self.now }
         ensures fits { result * 8 ≤ length into.old }
         ensures sized { length into.new ≡ length into.old }
@@ -271,6 +275,8 @@ impl<M: Manager, A: Allocator + Copy> Memory<M, A> {
     /// stores it would do at once. It takes no memory, and asks the post nothing.
     #[inline]
     pub fn store_row(&mut self, addr: u64, from: &[u8]) -> usize
+        ensures many { (result ≡ row_at_hand self.old Stores addr (length from.now))
+            ⊎ ((result ≡ 0) × MayBeUnmade self.old.coherence.table (addr / self.old.coherence.config.page_size)) }
         ensures hits { (node : ℕ) → AnswerAtOnce M.ops (row Stores node addr (numbers_in result from.now)) self.old self.new }
         ensures fits { result * 8 ≤ length from.now }
         ensures idle { result ≢ 0 → self.old.asked ≡ None }
