@@ -7,7 +7,8 @@ ghost use Rattle.ivy_model.specs.declared.Row.TheVariants.{Loads, Stores};
 ghost use Rattle.ivy_model.specs.Wants.{IsWant};
 ghost use Rattle.ivy_moves.specs.Nodes.{pulsing};
 ghost use Rattle.ivy_program.specs.Owned.{IsFree};
-ghost use Rattle.ivy_site.specs.Calls.{AreAnswered};
+ghost use Rattle.ivy_site.specs.ivy_host.ivy_memory.AtOnce.{IsStored, row_at_hand};
+ghost use Rattle.ivy_site.specs.Calls.{AreAnswered, MayCallInRow};
 ghost use Rattle.ivy_site.specs.Shown.{after_pulse_to};
 ghost use Rattle.ivy_site.specs.Sites.{AfterDelivery};
 ghost use Rattle.ivy_wire.specs.Faults.{checked};
@@ -169,6 +170,7 @@ impl Embedded {
     /// Where it loads none nothing was done, and [`Embedded::begin`] loads the first word or says what is wrong with it.
     #[tactic(auto, using(crate::proofs::Counting::counted_row))]
     pub fn load_row(&mut self, addr: u64, into: &mut [u8]) -> usize
+        ensures many { MayCallInRow self.old.site addr (length into.old) → result ≡ row_at_hand self.old.site.node.core.memory Loads addr (length into.old) }
         ensures loads { OfSite (AreAnswered (row Loads self.old.site.me addr (numbers_in result into.new))) self.old self.new }
         ensures fits { 8 * result ≤ length into.new }
         ensures sized { length into.new ≡ length into.old }
@@ -183,6 +185,7 @@ impl Embedded {
     /// as [`Embedded::load_row`] does: as many as can be written here at once.
     #[tactic(auto, using(crate::proofs::Counting::counted_row))]
     pub fn store_row(&mut self, addr: u64, from: &[u8]) -> usize
+        ensures many { MayCallInRow self.old.site addr (length from.now) → IsStored self.old.site.node.core.memory addr (length from.now) result }
         ensures stores { OfSite (AreAnswered (row Stores self.old.site.me addr (numbers_in result from.now))) self.old self.new }
         ensures fits { 8 * result ≤ length from.now }
         ensures waiting { waiting_in self.new ≡ waiting_in self.old }

@@ -1,9 +1,11 @@
 -- Calls that a node's memory answers as they begin.
-use Rattle.std.specs.Prelude.{◌≡◌, ℕ, ◌/◌, ◌%◌, Bool, ◌&&◌, is_none, None, List, [], ◌∷◌, if◌then◌else◌}
+use Rattle.std.specs.Prelude.{◌≡◌, ◌⊎◌, ℕ, ◌/◌, ◌%◌, Bool, ◌&&◌, is_none, None, List, [], ◌∷◌, if◌then◌else◌}
 use Rattle.ivy_model.specs.declared.Config.{Config}
 use Rattle.ivy_model.specs.declared.Record.{Record}
 use Rattle.ivy_model.specs.declared.Row.{Row}
+use Rattle.ivy_model.specs.declared.Row.TheVariants.{Stores}
 use Rattle.ivy_model.specs.Serves.{access_refusal}
+use Rattle.ivy_pagetable.specs.Either.{MayBeUnmade}
 use Rattle.ivy_pagetable.specs.Manager.{Ops}
 use Rattle.ivy_pagetable.specs.Rows.{row_len}
 use Rattle.ivy_coherence.specs.Hits.{is_at_hand}
@@ -40,3 +42,9 @@ module _ {S : Type 0} (m : NodeMemory S) (kind : Row) (addr : ℕ) where
       if is_row_at_hand
       then row_len m.coherence.config.page_size (addr % m.coherence.config.page_size) len
       else 0
+
+-- so many words are stored: those at hand, or none, on a page that is not made yet
+abbrev pub IsStored : {S : Type 0} → NodeMemory S → ℕ → ℕ → ℕ → Type 0
+IsStored m addr len many =
+    (many ≡ row_at_hand m Stores addr len)
+    ⊎ ((many ≡ 0) × MayBeUnmade m.coherence.table (addr / m.coherence.config.page_size))

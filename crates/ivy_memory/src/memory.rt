@@ -1,5 +1,5 @@
 //! The memory of one node, as its program sees it: one call in progress, over the node's coherence.
-ghost use Rattle.std.specs.Prelude.{◌≡◌, ◌≢◌, ◌<◌, ◌≤◌, ◌↔◌, ◌⊎◌, ◌*◌, ◌/◌, ℕ, false, None, IsSome, IfNone, IfSome, IfOk, IfErr, OnOk, OnErr, IsOkUnless, IsErrOf, length};
+ghost use Rattle.std.specs.Prelude.{◌≡◌, ◌≢◌, ◌<◌, ◌≤◌, ◌↔◌, ◌⊎◌, ◌*◌, ℕ, false, None, IsSome, IfNone, IfSome, IfOk, IfErr, OnOk, OnErr, IsOkUnless, IsErrOf, length};
 ghost use Rattle.ivy_model.specs.declared.Row.{Row};
 ghost use Rattle.ivy_model.specs.declared.Row.TheVariants.{Loads, Stores};
 ghost use Rattle.ivy_model.specs.Config.{IsConfig};
@@ -10,8 +10,7 @@ ghost use Rattle.ivy_wire.specs.Lent.{owned_content, owned_message};
 ghost use Rattle.ivy_wire.specs.Spelling.{FitsMessage};
 ghost use Rattle.ivy_wire.specs.Posts.{IsPostOf, HasRefused};
 ghost use Rattle.ivy_memory.specs.Asking.{CallHasToAsk, CallMayMakePage, IsCallWant, IsMessageWant, MayBeRefused, asked_of};
-ghost use Rattle.ivy_memory.specs.AtOnce.{AnswerAtOnce, IsRowAt, is_row_at_hand, row_at_hand};
-ghost use Rattle.ivy_pagetable.specs.Either.{MayBeUnmade};
+ghost use Rattle.ivy_memory.specs.AtOnce.{AnswerAtOnce, IsRowAt, IsStored, is_row_at_hand, row_at_hand};
 ghost use Rattle.ivy_coherence.specs.Outcomes.{IsWantOfPage};
 ghost use Rattle.ivy_memory.specs.Memories.{first_memory, reply_of, reply_at, MayFailAgain, call_begun, polled, memory_handled, memory_told};
 ghost use Rattle.ivy_coherence.specs.Limits.{most_posted};
@@ -275,8 +274,7 @@ impl<M: Manager, A: Allocator + Copy> Memory<M, A> {
     /// stores it would do at once. It takes no memory, and asks the post nothing.
     #[inline]
     pub fn store_row(&mut self, addr: u64, from: &[u8]) -> usize
-        ensures many { (result ≡ row_at_hand self.old Stores addr (length from.now))
-            ⊎ ((result ≡ 0) × MayBeUnmade self.old.coherence.table (addr / self.old.coherence.config.page_size)) }
+        ensures many { IsStored self.old addr (length from.now) result }
         ensures hits { (node : ℕ) → AnswerAtOnce M.ops (row Stores node addr (numbers_in result from.now)) self.old self.new }
         ensures fits { result * 8 ≤ length from.now }
         ensures idle { result ≢ 0 → self.old.asked ≡ None }

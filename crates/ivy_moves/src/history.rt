@@ -1,5 +1,5 @@
 //! What a node was answered.
-ghost use Rattle.std.specs.Prelude.{◌≡◌, [], ◌∷◌, ◌++◌, ◌+◌, ◌*◌, ◌<◌, ◌≤◌, ◌^◌, length, false, IsTrue, OnOk};
+ghost use Rattle.std.specs.Prelude.{◌≡◌, ◌↔◌, [], ◌∷◌, ◌++◌, ◌+◌, ◌*◌, ◌<◌, ◌≤◌, ◌^◌, length, false, IsTrue, OnOk};
 ghost use Rattle.ivy_model.specs.Rows.{numbers_in, row};
 ghost use Rattle.ivy_moves.specs.Keeping.{read_of, last_of};
 
@@ -111,8 +111,7 @@ impl<A: Allocator> History<A> {
     /// Whether so many more records can be listed with no place for them: the records are not kept, and can be counted.
     #[inline(always)]
     pub fn takes_rows(&self, words: usize) -> bool
-        ensures kept { IsTrue result → self.now.kept ≡ false }
-        ensures room { IsTrue result → length self.now.records + words < 2 ^ 64 }
+        ensures { IsTrue result ↔ ((self.now.kept ≡ false) × (length self.now.records + words < 2 ^ 64)) }
     {
         !self.is_kept && words as u64 <= u64::MAX - self.count
     }

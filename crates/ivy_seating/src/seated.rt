@@ -7,7 +7,8 @@ ghost use Rattle.ivy_moves.specs.Nodes.{pulsing, verdict_of};
 ghost use Rattle.ivy_model.specs.Legal.{HasWidth};
 ghost use Rattle.ivy_program.specs.Owned.{IsFree};
 ghost use Rattle.ivy_program.specs.Steps.{HasEnded};
-ghost use Rattle.ivy_site.specs.Calls.{AreAnswered, BeginsCall};
+ghost use Rattle.ivy_site.specs.ivy_host.ivy_memory.AtOnce.{IsStored, row_at_hand};
+ghost use Rattle.ivy_site.specs.Calls.{AreAnswered, BeginsCall, MayCallInRow};
 ghost use Rattle.ivy_site.specs.Handed.{site_handed};
 ghost use Rattle.ivy_ether.specs.Views.{with_all_handed, with_handed};
 ghost use Rattle.ivy_site.specs.ivy_outbox.Outboxes.{next_dest};
@@ -176,6 +177,7 @@ impl<'e, S: Setup, A: Allocator + Copy> Seated<'e, S, A> {
     #[inline(always)]
     pub fn load_row(&mut self, addr: u64, into: &mut [u8]) -> usize
         ensures ether { self.new.ether ≡ self.old.ether }
+        ensures many { MayCallInRow self.old.site addr (length into.old) → result ≡ row_at_hand self.old.site.node.core.memory Row.Loads addr (length into.old) }
         ensures loads { AreAnswered (row Row.Loads self.old.site.me addr (numbers_in result into.new)) self.old.site self.new.site }
         ensures pass { self.new.pass.known ≡ with_all_handed self.old.pass.known (calls_of (row Row.Loads 0 addr (numbers_in result into.new))) }
         ensures fits { 8 * result ≤ length into.old }
@@ -191,6 +193,7 @@ impl<'e, S: Setup, A: Allocator + Copy> Seated<'e, S, A> {
     #[inline(always)]
     pub fn store_row(&mut self, addr: u64, from: &[u8]) -> usize
         ensures ether { self.new.ether ≡ self.old.ether }
+        ensures many { MayCallInRow self.old.site addr (length from.now) → IsStored self.old.site.node.core.memory addr (length from.now) result }
         ensures stores { AreAnswered (row Row.Stores self.old.site.me addr (numbers_in result from.now)) self.old.site self.new.site }
         ensures pass { self.new.pass.known ≡ with_all_handed self.old.pass.known (calls_of (row Row.Stores 0 addr (numbers_in result from.now))) }
         ensures fits { 8 * result ≤ length from.now }

@@ -6,8 +6,9 @@ use Rattle.ivy_model.specs.declared.Reply.{Reply}
 use Rattle.ivy_host.specs.ivy_heap.declared.Answer.{Answer}
 use Rattle.ivy_host.specs.ivy_heap.declared.Answer.TheVariants.{Given}
 use Rattle.ivy_host.specs.Hosts.{number_of}
+use Rattle.ivy_moves.specs.declared.keep.Keep.TheVariants.{Nothing}
 use Rattle.ivy_moves.specs.Histories.{HistoryState}
-use Rattle.ivy_program.specs.Owned.{IsFree, Rests}
+use Rattle.ivy_program.specs.Owned.{IsFree}
 use Rattle.ivy_program.specs.Steps.{Process}
 use Rattle.ivy_site.specs.Handed.{site_handed}
 use Rattle.ivy_site.specs.Shown.{Shown}
@@ -43,8 +44,14 @@ AreAnswered (r ∷ more) old new =
 pub record TakesRow (process : Process) (history : HistoryState) (events_kept : Bool)
     (addr bytes : ℕ) : Type 0 where
   pub free : IsFree process
-  pub rests : Rests process
   pub unkept : history.kept ≡ false
   pub counted : length history.records + bytes < 2 ^ 64
   pub unlisted : events_kept ≡ false
+  pub below : addr + bytes < 2 ^ 64
+
+-- so own code of this site may make calls in a row
+pub record MayCallInRow (s : Shown) (addr bytes : ℕ) : Type 0 where
+  pub free : IsFree s.node.core.process
+  pub unkept : s.keep ≡ Nothing
+  pub counted : length s.node.core.history + bytes < 2 ^ 64
   pub below : addr + bytes < 2 ^ 64

@@ -1,11 +1,11 @@
 //! What a node's memory, its program and its history do together in a turn that is about a call.
-ghost use Rattle.std.specs.Prelude.{◌≡◌, ◌+◌, ◌*◌, ◌<◌, ◌≤◌, ◌^◌, ◌∷◌, ◌++◌, List, [], None, Some, false, length, IfOk, IfErr, OnOk, OnErr, IsTrue};
+ghost use Rattle.std.specs.Prelude.{◌≡◌, ◌↔◌, ◌+◌, ◌*◌, ◌<◌, ◌≤◌, ◌^◌, ◌∷◌, ◌++◌, List, [], None, Some, false, length, IfOk, IfErr, OnOk, OnErr, IsTrue};
 ghost use Rattle.ivy_model.specs.declared.Call.{Call};
 ghost use Rattle.ivy_model.specs.Legal.{HasWidth};
 ghost use Rattle.ivy_model.specs.Rows.{calls_of, numbers_in, row};
 ghost use Rattle.ivy_moves.specs.Marks.{turns};
 ghost use Rattle.ivy_model.specs.Wants.{IsWant};
-ghost use Rattle.ivy_program.specs.Owned.{AsksNext, IsFree, asking, process_handed};
+ghost use Rattle.ivy_program.specs.Owned.{AsksNext, IsFree, Rests, asking, process_handed};
 ghost use Rattle.ivy_program.specs.Steps.{Asks, step_of};
 ghost use Rattle.ivy_host.specs.ivy_coherence.Limits.{most_posted};
 ghost use Rattle.ivy_site.specs.Calls.{TakesRow, recorded_by, reply_in};
@@ -195,7 +195,8 @@ pub(crate) fn takes_row<A: Allocator + Copy>(
     addr: u64,
     bytes: usize,
 ) -> bool
-    ensures { IsTrue result → TakesRow machine.now history.now events.now.kept addr bytes }
+    ensures takes { IsTrue result ↔ TakesRow machine.now history.now events.now.kept addr bytes }
+    ensures rests { IsTrue result → Rests machine.now }
 {
     machine.is_free()
         && history.takes_rows(bytes)

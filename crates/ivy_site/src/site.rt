@@ -15,7 +15,8 @@ ghost use Rattle.ivy_moves.specs.ivy_link.Linked.{peer_at};
 ghost use Rattle.ivy_moves.specs.ivy_link.Holding.{ready_of};
 ghost use Rattle.ivy_outbox.specs.Outboxes.{next_dest};
 ghost use Rattle.ivy_model.specs.Rows.{numbers_in, row};
-ghost use Rattle.ivy_site.specs.Calls.{AreAnswered, BeginsCall};
+ghost use Rattle.ivy_host.specs.ivy_memory.AtOnce.{IsStored, row_at_hand};
+ghost use Rattle.ivy_site.specs.Calls.{AreAnswered, BeginsCall, MayCallInRow};
 ghost use Rattle.ivy_site.specs.Handed.{site_handed};
 ghost use Rattle.ivy_site.specs.Shown.{holding_at, after_pulse_to};
 ghost use Rattle.ivy_site.specs.Sites.{most_sent, most_delivered, first_shown, first_keeping, AfterTurn, AfterDelivery};
@@ -251,6 +252,7 @@ impl<A: Allocator + Copy> Site<A> {
     /// A row is what its loads are, with nothing between them.
     pub fn load_row(&mut self, addr: u64, into: &mut [u8]) -> usize
         ensures same { IsSameNode self.old self.new }
+        ensures many { MayCallInRow self.old addr (length into.old) → result ≡ row_at_hand self.old.node.core.memory Row.Loads addr (length into.old) }
         ensures loads { AreAnswered (row Row.Loads self.old.me addr (numbers_in result into.new)) self.old self.new }
         ensures fits { 8 * result ≤ length into.old }
         ensures sized { length into.new ≡ length into.old }
@@ -277,6 +279,7 @@ impl<A: Allocator + Copy> Site<A> {
     /// page of the address, and as can be written here at once. It says how many, as [`Site::load_row`] does.
     pub fn store_row(&mut self, addr: u64, from: &[u8]) -> usize
         ensures same { IsSameNode self.old self.new }
+        ensures many { MayCallInRow self.old addr (length from.now) → IsStored self.old.node.core.memory addr (length from.now) result }
         ensures stores { AreAnswered (row Row.Stores self.old.me addr (numbers_in result from.now)) self.old self.new }
         ensures fits { 8 * result ≤ length from.now }
         ensures waiting { self.new.waiting ≡ self.old.waiting }

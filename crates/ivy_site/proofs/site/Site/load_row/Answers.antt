@@ -9,11 +9,11 @@ use Rattle.ivy_site.proofs.site.Site.load_row.Goals as goal
 
 pub invariant_of-self : goal.invariant_of-self
 invariant_of-self g c =
-    let taken = c.takes_row.ensures (search rules) in
+    let taken = c.takes_row.ensures.takes.0 (search rules) in
     let words : ℕ = c.load_row-words.result in
     let numbers : List ℕ = numbers_in words c.load_row-words.new.into in
     let many : length numbers ≡ words = length-numbers_in words c.load_row-words.new.into in
-    let made = row_made Loads _ _ c.self.view_is c.self.invariant.0 taken.rests
+    let made = row_made Loads _ _ c.self.view_is c.self.invariant.0 (c.takes_row.ensures.rests (search rules))
     (free_idle _ c.self.invariant.0 taken.free) numbers c.args.addr
     (omega (arith, taken.counted, c.load_row-words.ensures.fits, many)) c.self.inside.memory
     (c.load_row-words.ensures.hits c.self.inside.outbox.me) c.list_row.new.machine
@@ -33,11 +33,11 @@ invariant_of-self g c =
 
 pub returns-clause-loads : goal.returns-clause-loads
 returns-clause-loads g c =
-    let taken = c.takes_row.ensures (search rules) in
+    let taken = c.takes_row.ensures.takes.0 (search rules) in
     let words : ℕ = c.load_row-words.result in
     let numbers : List ℕ = numbers_in words c.load_row-words.new.into in
     let many : length numbers ≡ words = length-numbers_in words c.load_row-words.new.into in
-    let made = row_made Loads _ _ c.self.view_is c.self.invariant.0 taken.rests
+    let made = row_made Loads _ _ c.self.view_is c.self.invariant.0 (c.takes_row.ensures.rests (search rules))
     (free_idle _ c.self.invariant.0 taken.free) numbers c.args.addr
     (omega (arith, taken.counted, c.load_row-words.ensures.fits, many)) c.self.inside.memory
     (c.load_row-words.ensures.hits c.self.inside.outbox.me) c.list_row.new.machine
