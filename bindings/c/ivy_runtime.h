@@ -33,7 +33,8 @@ typedef struct ivy_process ivy_process;
 
 /* Node `me` joins the others, within `start_ms`. Null, with a line on stderr, where that fails: a peer is not there, or has
  * another configuration or version; both are told then. A peer of which nothing is heard for `death_ms` is taken for dead,
- * which ends this process with status 3 and a line on stderr; 0: never. */
+ * which ends this process with status 3 and a line on stderr; 0: never. Where progress is made in calls, whoever computes
+ * for longer without one is not heard. */
 ivy_process *ivy_join(const ivy_config *config, uint32_t me, ivy_transport transport, ivy_progress progress, long start_ms,
                       long death_ms);
 
@@ -44,7 +45,7 @@ ivy_process *ivy_join(const ivy_config *config, uint32_t me, ivy_transport trans
 ivy_process *ivy_join_logging(const ivy_config *config, uint32_t me, ivy_transport transport, ivy_progress progress,
                               long start_ms, long death_ms, FILE *log);
 
-/* Serves the others until all processes are here, and ends. */
+/* Serves the others until all processes are here, however long that takes, and ends. */
 void ivy_leave(ivy_process *process);
 
 /* A call, and its reply: a status below 256. */

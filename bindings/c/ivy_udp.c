@@ -12,6 +12,9 @@
 
 enum { ROOM = 8192 };
 
+/* Who waits looks so often, for longer than a reply takes, before it sleeps until a string comes. */
+enum { LOOKS = 100 };
+
 typedef struct {
   int socket;
   uint16_t port;
@@ -56,14 +59,20 @@ static void udp_send(void *state, uint32_t to, const uint8_t *bytes, size_t len)
   }
 }
 
+/* The length of a string that came, or 0. */
+static size_t take(udp *u, uint8_t *bytes, size_t room) {
+  ssize_t len = recv(u->socket, bytes, room, MSG_DONTWAIT);
+  return len > 0 ? (size_t)len : 0;
+}
+
 static size_t udp_receive(void *state, uint8_t *bytes, size_t room, long wait_us) {
   udp *u = (udp *)state;
-  ssize_t len = recv(u->socket, bytes, room, MSG_DONTWAIT);
-  if (len > 0 || !wait_us) return len > 0 ? (size_t)len : 0;
+  size_t len = take(u, bytes, room);
+  if (!wait_us) return len;
+  for (int i = 0; !len && i < LOOKS; i++) len = take(u, bytes, room);
   struct pollfd one = { u->socket, POLLIN, 0 };
-  if (poll(&one, 1, (int)((wait_us + 999) / 1000)) <= 0) return 0;
-  len = recv(u->socket, bytes, room, MSG_DONTWAIT);
-  return len > 0 ? (size_t)len : 0;
+  if (!len && poll(&one, 1, (int)((wait_us + 999) / 1000)) > 0) len = take(u, bytes, room);
+  return len;
 }
 
 static void udp_close(void *state) {
