@@ -7,7 +7,7 @@ enum { PAGE = 4096, TAG = 7 };
 
 static MPI_Comm beside; /* what is sent without Ivy, apart */
 static int other;
-static char bytes[LARGEST + HEAD + 1];
+static char bytes[IVY_STRING_MOST];
 
 static void put(size_t len) { MPI_Send(bytes, (int)len, MPI_BYTE, other, TAG, beside); }
 static void get(size_t len) { MPI_Recv(bytes, (int)len, MPI_BYTE, other, TAG, beside, MPI_STATUS_IGNORE); }

@@ -7,7 +7,7 @@
 #include <stdlib.h>
 #include <time.h>
 
-enum { ROUNDS = 10, TIMES = 500, HEAD = 41, LARGEST = 4096 };
+enum { ROUNDS = 10, TIMES = 500 };
 
 /* Microseconds, of all rounds. */
 typedef struct { double took[ROUNDS * TIMES]; int many; } samples;
@@ -16,20 +16,20 @@ typedef struct { double took[ROUNDS * TIMES]; int many; } samples;
 static size_t asked, answered;
 static ivy_transport inner;
 
-static void send_measured(void *state, uint32_t to, const uint8_t *bytes, size_t len) {
+static void send_measured(void *state, uint32_t to, size_t len) {
   if (!asked) asked = len;
-  inner.send(state, to, bytes, len);
+  inner.send(state, to, len);
 }
 
-static size_t receive_measured(void *state, uint8_t *bytes, size_t room, long wait_us) {
-  size_t len = inner.receive(state, bytes, room, wait_us);
-  if (len > answered) answered = len;
-  return len;
+static const uint8_t *receive_measured(void *state, size_t *len, long wait_us) {
+  const uint8_t *string = inner.receive(state, len, wait_us);
+  if (string && *len > answered) answered = *len;
+  return string;
 }
 
 static ivy_transport measured(ivy_transport transport) {
   inner = transport;
-  ivy_transport t = { transport.state, send_measured, receive_measured, transport.close };
+  ivy_transport t = { transport.state, transport.room, send_measured, receive_measured, transport.close };
   return t;
 }
 

@@ -1,21 +1,22 @@
 /* A read miss between two processes over UDP, beside the same bytes by a socket of its own with the same options, which
  * looks and then sleeps as bindings/c/ivy_udp.c does. Called with a port: it and three more are taken. */
-#define _DEFAULT_SOURCE
+#define _GNU_SOURCE
 #include "bindings_pace.h"
 #include <arpa/inet.h>
 #include <netinet/in.h>
 #include <poll.h>
+#include <sched.h>
 #include <string.h>
 #include <sys/mman.h>
 #include <sys/socket.h>
 #include <sys/wait.h>
 #include <unistd.h>
 
-enum { LOOKS = 100, BUFFER = 1 << 21 };
+enum { LOOKS = 50, BUFFER = 1 << 21 };
 
 static int own;
 static struct sockaddr_in other;
-static char bytes[LARGEST + HEAD + 1];
+static char bytes[IVY_STRING_MOST];
 
 static struct sockaddr_in address_of(int port) {
   struct sockaddr_in address;
@@ -61,9 +62,18 @@ static void settle(ivy_process *ivy) {
   while (__sync_fetch_and_add(&both->here, 0) < all) ivy_progress_now(ivy);
 }
 
+/* Each has a processor of its own, as mpirun gives them. */
+static void stay_at(int processor) {
+  cpu_set_t one;
+  CPU_ZERO(&one);
+  CPU_SET(processor, &one);
+  if (sched_setaffinity(0, sizeof one, &one)) fprintf(stderr, "bindings: processor %d is not to be had\n", processor);
+}
+
 static int run(int me, int port, uint32_t page) {
   static samples missed, exchanged, handed, to_and_fro;
   ivy_config config = { 2, 4, page, IVY_DYNAMIC };
+  stay_at(me);
   open_own(port + 2, me);
   ivy_process *ivy = ivy_join(&config, (uint32_t)me, measured(ivy_udp((uint32_t)me, 2, (uint16_t)port, 0, 0, 0)), IVY_IN_CALLS,
                               10000, 0);

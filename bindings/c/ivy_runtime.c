@@ -6,7 +6,7 @@
 #include <string.h>
 #include <time.h>
 
-enum { MOST_NODES = 32, ROOM = 8192, MANY = 64 };
+enum { MOST_NODES = 32, MANY = 64 };
 enum { PULSE_US = 2000, HELLO_US = 20000, LISTEN_US = 500, LEAVE_US = 5000000 };
 
 /* What is said once more by nobody is said so often, since a transport may lose it. */
@@ -75,10 +75,14 @@ static uint64_t get64(const uint8_t *from) { return (uint64_t)get32(from) << 32 
 static void say(ivy_process *p, uint8_t kind, uint32_t set) {
   uint8_t bytes[WORD_LENGTH] = { kind, (uint8_t)p->me };
   const ivy_config *c = &p->config;
+  const ivy_transport *t = &p->transport;
   const uint32_t numbers[6] = { set, IVY_VERSION, c->nodes, c->pages, c->page_size, c->manager };
   for (int i = 0; i < 6; i++) put32(bytes + 2 + 4 * i, numbers[i]);
-  for (uint32_t i = 0; i < c->nodes; i++)
-    if (i != p->me) p->transport.send(p->transport.state, i, bytes, sizeof bytes);
+  for (uint32_t i = 0; i < c->nodes; i++) {
+    if (i == p->me) continue;
+    memcpy(t->room(t->state), bytes, sizeof bytes);
+    t->send(t->state, i, sizeof bytes);
+  }
 }
 
 static void fail(ivy_process *p, int status) {
@@ -93,24 +97,26 @@ static void flush_log(ivy_process *p) {
   fail(p, 5);
 }
 
-/* Sends the strings that wait, once the log has what they follow from. */
-static void send_frames(ivy_process *p) {
-  uint8_t bytes[ROOM];
-  size_t len;
-  uint32_t to;
-  bytes[0] = FRAME;
-  while (ivy_next_frame(&p->node, bytes + 1, ROOM - 1, &len, &to) == IVY_DONE) {
-    flush_log(p);
-    if (to < p->config.nodes) p->transport.send(p->transport.state, to, bytes, len + 1);
-  }
-}
-
 /* Whether a string waits: a buffer without room has none. */
 static int has_frame(ivy_process *p) {
   uint8_t none;
   size_t len;
   uint32_t to;
   return ivy_next_frame(&p->node, &none, 0, &len, &to) == IVY_SHORT_BUFFER;
+}
+
+/* Sends the strings that wait, once the log has what they follow from. */
+static void send_frames(ivy_process *p) {
+  const ivy_transport *t = &p->transport;
+  size_t len;
+  uint32_t to;
+  while (has_frame(p)) {
+    uint8_t *bytes = t->room(t->state);
+    bytes[0] = FRAME;
+    if (ivy_next_frame(&p->node, bytes + 1, IVY_STRING_MOST - 1, &len, &to) != IVY_DONE) return;
+    flush_log(p);
+    if (to < p->config.nodes) t->send(t->state, to, len + 1);
+  }
 }
 
 static void log_call(FILE *log, const call *c) {
@@ -278,18 +284,18 @@ static void keep_time(ivy_process *p) {
 
 /* Hears what came, so many strings at most, waiting so long for the first one; the lock is held, but not while it waits. */
 static int serve(ivy_process *p, long wait_us, int most) {
-  uint8_t bytes[ROOM];
+  const uint8_t *bytes;
   size_t len;
   int heard = 0;
   do {
     if (p->progress == IVY_BY_THREAD) pthread_mutex_unlock(&p->lock);
-    len = p->transport.receive(p->transport.state, bytes, sizeof bytes, heard ? 0 : wait_us);
+    bytes = p->transport.receive(p->transport.state, &len, heard ? 0 : wait_us);
     if (p->progress == IVY_BY_THREAD) pthread_mutex_lock(&p->lock);
     if (!heard) p->now = now_us();
-    if (len) hear(p, bytes, len);
+    if (bytes) hear(p, bytes, len);
     else look_for_dead(p);
-    heard += len > 0;
-  } while (len && heard < most);
+    heard += bytes != NULL;
+  } while (bytes && heard < most);
   keep_time(p);
   return heard;
 }

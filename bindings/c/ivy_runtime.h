@@ -9,13 +9,20 @@
 extern "C" {
 #endif
 
-/* What carries strings between processes. It may lose, repeat and reorder them. */
+/* No string has more bytes: a frame of a page of 4,096 bytes, and a byte that says that it is one. */
+enum { IVY_STRING_MOST = 4096 + 42 };
+
+/* What carries strings between processes. It may lose, repeat and reorder them. Its functions are called by one thread at a
+ * time, but for `receive`, which another one may be in meanwhile. */
 typedef struct ivy_transport {
   void *state;
-  /* Sends a string to a peer, or loses it. */
-  void (*send)(void *state, uint32_t to, const uint8_t *bytes, size_t len);
-  /* The length of a string that came, or 0 where none came within so many microseconds. */
-  size_t (*receive)(void *state, uint8_t *bytes, size_t room, long wait_us);
+  /* Where a string of at most IVY_STRING_MOST bytes is written before it is sent; never null. */
+  uint8_t *(*room)(void *state);
+  /* Sends so many bytes of the room that was given last to a peer, or loses them. */
+  void (*send)(void *state, uint32_t to, size_t len);
+  /* A string that came, which stays until the next call, and its length, which is not 0. Null where none came within so many
+   * microseconds. */
+  const uint8_t *(*receive)(void *state, size_t *len, long wait_us);
   void (*close)(void *state);
 } ivy_transport;
 
