@@ -1,13 +1,16 @@
 /* Strings over MPI. Not proved. */
+#define _POSIX_C_SOURCE 200809L
 #include "ivy_runtime.h"
 #include <mpi.h>
-#include <sched.h>
 #include <stdlib.h>
+#include <time.h>
 
 enum { PLACES = 64, TAG = 1989 };
 
-/* Who waits looks so often, for longer than a reply takes, before it lets others run at each look. */
-enum { LOOKS = 512 };
+/* Who waits looks so often, and then sleeps so long between looks, since MPI has no wait that sleeps. It looks for 200
+ * microseconds and more, so who asked while it slept, and sleeps too, finds it awake with the next request: a sleep takes 60.
+ * To yield instead would give the other programs of a busy machine whole turns, while peers wait for a page. */
+enum { LOOKS = 2500, SLEEP_NS = 10000 };
 
 /* A longer string goes in two pieces, the first of this length: Open MPI hands over what has at most 4,096 bytes with its own
  * head at once, and for more than that it asks the receiver first. */
@@ -18,7 +21,7 @@ enum { PIECE = 4000 };
 typedef struct {
   uint8_t sent[PLACES + 1][IVY_STRING_MOST], came[2][IVY_STRING_MOST];
   MPI_Request under_way[PLACES][2], coming[2];
-  int place, next;
+  int place, next, looks;
 } mpi;
 
 /* The first place that is free, since its bytes are near the processor still. */
@@ -42,7 +45,7 @@ static void mpi_send(void *state, uint32_t to, size_t len) {
   if (first == PIECE) MPI_Isend(bytes + PIECE, (int)len - PIECE, MPI_BYTE, (int)to, TAG, MPI_COMM_WORLD, &under_way[1]);
 }
 
-/* A string that came, or null. What follows a first piece is the next from its source. The next string is asked for before
+/* A string that came, or null where none is there at this look. What follows a first piece is the next from its source. The next string is asked for before
  * it comes, so MPI puts it in its place at once. */
 static const uint8_t *take(mpi *m, size_t *len) {
   MPI_Status status;
@@ -55,6 +58,7 @@ static const uint8_t *take(mpi *m, size_t *len) {
     MPI_Recv(bytes + PIECE, IVY_STRING_MOST - PIECE, MPI_BYTE, status.MPI_SOURCE, TAG, MPI_COMM_WORLD, &status);
     MPI_Get_count(&status, MPI_BYTE, &rest);
   }
+  m->looks = LOOKS;
   m->next = !m->next;
   MPI_Start(&m->coming[m->next]);
   *len = (size_t)(first + rest);
@@ -65,10 +69,14 @@ static const uint8_t *mpi_receive(void *state, size_t *len, long wait_us) {
   mpi *m = (mpi *)state;
   const uint8_t *bytes = take(m, len);
   if (bytes || !wait_us) return bytes;
+  const struct timespec nap = { 0, SLEEP_NS };
   double last = MPI_Wtime() + (double)wait_us / 1e6;
-  for (int i = 0; !bytes && i < LOOKS; i++) bytes = take(m, len);
+  int is_main = 0;
+  MPI_Is_thread_main(&is_main);
+  if (is_main) m->looks = LOOKS; /* a thread beside the main one looks so often after a string alone: others compute */
+  for (; !bytes && m->looks > 0; m->looks--) bytes = take(m, len);
   while (!bytes && MPI_Wtime() < last) {
-    sched_yield();
+    nanosleep(&nap, NULL);
     bytes = take(m, len);
   }
   return bytes;
@@ -101,7 +109,7 @@ ivy_transport ivy_mpi(void) {
   for (int i = 0; i < PLACES; i++) m->under_way[i][0] = m->under_way[i][1] = MPI_REQUEST_NULL;
   for (int i = 0; i < 2; i++)
     MPI_Recv_init(m->came[i], IVY_STRING_MOST, MPI_BYTE, MPI_ANY_SOURCE, TAG, MPI_COMM_WORLD, &m->coming[i]);
-  m->next = 0;
+  m->next = m->looks = 0;
   MPI_Start(&m->coming[0]);
   ivy_transport t = { m, mpi_room, mpi_send, mpi_receive, mpi_close };
   return t;
