@@ -41,7 +41,7 @@ int main(int argc, char **argv) {
     plain(me, lengths[0], lengths[1], 1, &exchanged, put, get);
     hand_over(ivy, me, PAGE, round, &handed);
     settle(ivy);
-    plain(me, lengths[1], lengths[1], 2, &to_and_fro, put, get);
+    plain(me, lengths[1], lengths[1], 0.5, &to_and_fro, put, get);
   }
   if (me) {
     printf("MPI: a request of %zu bytes, a reply of %zu\n", asked, answered);

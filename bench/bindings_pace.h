@@ -82,14 +82,15 @@ static void hand_over(ivy_process *ivy, int me, uint64_t page, int round, sample
   }
 }
 
-/* Process 1 asks, process 0 answers, without Ivy: a half of each in `parts`. */
-static void plain(int me, size_t out, size_t back, double parts, samples *s, void (*put)(size_t len), void (*get)(size_t len)) {
+/* Process 1 sends so many bytes, and process 0 sends so many back, without Ivy. What is told is a part of that time: a half of
+ * it is one way. */
+static void plain(int me, size_t out, size_t back, double part, samples *s, void (*put)(size_t len), void (*get)(size_t len)) {
   for (int i = 0; i < TIMES; i++) {
     double begun = now_us();
     if (me) put(out);
     get(me ? back : out);
     if (!me) put(back);
-    s->took[s->many++] = (now_us() - begun) / parts;
+    s->took[s->many++] = (now_us() - begun) * part;
   }
 }
 

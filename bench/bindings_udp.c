@@ -85,7 +85,7 @@ static int run(int me, int port, uint32_t page) {
     plain(me, both->asked, both->answered, 1, &exchanged, put, get);
     hand_over(ivy, me, page, round, &handed);
     settle(ivy);
-    plain(me, both->answered, both->answered, 2, &to_and_fro, put, get);
+    plain(me, both->answered, both->answered, 0.5, &to_and_fro, put, get);
   }
   if (me) {
     printf("UDP: a request of %zu bytes, a reply of %zu\n", both->asked, both->answered);

@@ -9,7 +9,7 @@
 enum { MOST_NODES = 32, MANY = 64 };
 enum { PULSE_US = 2000, HELLO_US = 20000, LISTEN_US = 500, LEAVE_US = 5000000 };
 
-/* What is said once more by nobody is said so often, since a transport may lose it. */
+/* What is not said again later is said so often at once, since a transport may lose it. */
 enum { REPEATS = 5 };
 
 /* The head of a frame: its length, and where its source, its destination and the number of its message stand. */
@@ -483,6 +483,7 @@ static uint64_t sure(ivy_process *p, uint32_t kind, uint32_t width, uint64_t pla
   if (status != IVY_DONE) {
     fprintf(stderr, "ivy: node %u: call %u at %llu: %s\n", p->me, kind, (unsigned long long)place,
             ivy_status_text(status));
+    if (p->progress == IVY_BY_THREAD) pthread_mutex_lock(&p->lock); /* the thread may be sending */
     fail(p, 4);
   }
   return value;
