@@ -46,7 +46,8 @@ int main(int argc, char **argv) {
   if (me) {
     printf("MPI: a request of %zu bytes, a reply of %zu\n", asked, answered);
     tell("MPI", PAGE, "a read miss", &missed, "a request and its reply of the same bytes", &exchanged);
-    tell("MPI", PAGE, "a page handed to and fro by two that write by turns, one way", &handed, "a ping-pong one way", &to_and_fro);
+    tell("MPI", PAGE, "a page handed to and fro by two that write by turns, one way", &handed, "a ping-pong one way",
+         &to_and_fro);
   }
   ivy_leave(ivy);
   MPI_Finalize();

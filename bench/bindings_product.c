@@ -37,7 +37,8 @@ static void multiply_all_plainly(uint32_t me, uint32_t nodes) {
   fill_plainly(from, to);
   MPI_Allgather(MPI_IN_PLACE, 0, MPI_DATATYPE_NULL, plain_right, part, MPI_UINT8_T, beside);
   multiply_plainly(from, to);
-  MPI_Gather(me ? (void *)plain_product[from] : MPI_IN_PLACE, part, MPI_UINT16_T, plain_product, part, MPI_UINT16_T, 0, beside);
+  MPI_Gather(me ? (void *)plain_product[from] : MPI_IN_PLACE, part, MPI_UINT16_T, plain_product, part, MPI_UINT16_T, 0,
+             beside);
 }
 
 /* Nobody goes on before all are here, and all serve until then. */

@@ -90,7 +90,8 @@ static int run(int me, int port, uint32_t page) {
   if (me) {
     printf("UDP: a request of %zu bytes, a reply of %zu\n", both->asked, both->answered);
     tell("UDP", page, "a read miss", &missed, "a request and its reply of the same bytes", &exchanged);
-    tell("UDP", page, "a page handed to and fro by two that write by turns, one way", &handed, "a ping-pong one way", &to_and_fro);
+    tell("UDP", page, "a page handed to and fro by two that write by turns, one way", &handed, "a ping-pong one way",
+         &to_and_fro);
   }
   ivy_leave(ivy);
   return 0;

@@ -45,8 +45,8 @@ static void mpi_send(void *state, uint32_t to, size_t len) {
   if (first == PIECE) MPI_Isend(bytes + PIECE, (int)len - PIECE, MPI_BYTE, (int)to, TAG, MPI_COMM_WORLD, &under_way[1]);
 }
 
-/* A string that came, or null where none is there at this look. What follows a first piece is the next from its source. The next string is asked for before
- * it comes, so MPI puts it in its place at once. */
+/* A string that came, or null where none is there at this look. What follows a first piece is the next from its source. The
+ * next string is asked for before it comes, so MPI puts it in its place at once. */
 static const uint8_t *take(mpi *m, size_t *len) {
   MPI_Status status;
   int is_there = 0, first = 0, rest = 0;
