@@ -6,8 +6,11 @@
 #include <string.h>
 #include <time.h>
 
-enum { MOST_NODES = 32, ROOM = 8192, MANY = 64 };
-enum { PULSE_US = 2000, HELLO_US = 20000, LISTEN_US = 500 };
+enum { MOST_NODES = 32, MANY = 64 };
+enum { PULSE_US = 2000, HELLO_US = 20000, LISTEN_US = 500, LEAVE_US = 5000000 };
+
+/* What is not said again later is said so often at once, since a transport may lose it. */
+enum { REPEATS = 5 };
 
 /* The head of a frame: its length, and where its source, its destination and the number of its message stand. */
 enum { HEAD = 24, SOURCE = 4, DESTINATION = 5, NUMBER = 8 };
@@ -33,8 +36,10 @@ struct ivy_process {
   uint32_t me, all, calls;
   uint32_t here, known_here; /* who said HELLO; who said that it heard HELLO of all */
   uint32_t done, known_done; /* the same of DONE */
+  int differs;               /* a peer has another configuration */
   int is_done, ending;
   long death_us;
+  int64_t now; /* the clock, as it was read last */
   int64_t heard[MOST_NODES], pulsed, spoke;
   FILE *log;
   uint64_t turns;                       /* so many the log has */
@@ -70,10 +75,14 @@ static uint64_t get64(const uint8_t *from) { return (uint64_t)get32(from) << 32 
 static void say(ivy_process *p, uint8_t kind, uint32_t set) {
   uint8_t bytes[WORD_LENGTH] = { kind, (uint8_t)p->me };
   const ivy_config *c = &p->config;
+  const ivy_transport *t = &p->transport;
   const uint32_t numbers[6] = { set, IVY_VERSION, c->nodes, c->pages, c->page_size, c->manager };
   for (int i = 0; i < 6; i++) put32(bytes + 2 + 4 * i, numbers[i]);
-  for (uint32_t i = 0; i < c->nodes; i++)
-    if (i != p->me) p->transport.send(p->transport.state, i, bytes, sizeof bytes);
+  for (uint32_t i = 0; i < c->nodes; i++) {
+    if (i == p->me) continue;
+    memcpy(t->room(t->state), bytes, sizeof bytes);
+    t->send(t->state, i, sizeof bytes);
+  }
 }
 
 static void fail(ivy_process *p, int status) {
@@ -88,24 +97,26 @@ static void flush_log(ivy_process *p) {
   fail(p, 5);
 }
 
-/* Sends the strings that wait, once the log has what they follow from. */
-static void send_frames(ivy_process *p) {
-  uint8_t bytes[ROOM];
-  size_t len;
-  uint32_t to;
-  bytes[0] = FRAME;
-  while (ivy_next_frame(&p->node, bytes + 1, ROOM - 1, &len, &to) == IVY_DONE) {
-    flush_log(p);
-    if (to < p->config.nodes) p->transport.send(p->transport.state, to, bytes, len + 1);
-  }
-}
-
 /* Whether a string waits: a buffer without room has none. */
 static int has_frame(ivy_process *p) {
   uint8_t none;
   size_t len;
   uint32_t to;
   return ivy_next_frame(&p->node, &none, 0, &len, &to) == IVY_SHORT_BUFFER;
+}
+
+/* Sends the strings that wait, once the log has what they follow from. */
+static void send_frames(ivy_process *p) {
+  const ivy_transport *t = &p->transport;
+  size_t len;
+  uint32_t to;
+  while (has_frame(p)) {
+    uint8_t *bytes = t->room(t->state);
+    bytes[0] = FRAME;
+    if (ivy_next_frame(&p->node, bytes + 1, IVY_STRING_MOST - 1, &len, &to) != IVY_DONE) return;
+    flush_log(p);
+    if (to < p->config.nodes) t->send(t->state, to, len + 1);
+  }
 }
 
 static void log_call(FILE *log, const call *c) {
@@ -147,12 +158,19 @@ static void told_dead(ivy_process *p, uint32_t who) {
   exit(3);
 }
 
-/* Whether the peer has this configuration and version; tells both where it has not. */
-static int agrees(const ivy_process *p, const word *w) {
+/* Whether it is a peer that still has to serve: none goes before it knows that all are done. */
+static int is_needed(const ivy_process *p, uint32_t peer) {
+  return peer != p->me && !(p->is_done && p->done >> peer & 1u);
+}
+
+/* Whether the peer has this configuration and version. Tells of the first that has not. */
+static int agrees(ivy_process *p, const word *w) {
   const ivy_config *c = &p->config;
   if (w->version == IVY_VERSION && w->nodes == c->nodes && w->pages == c->pages && w->page_size == c->page_size
       && w->manager == c->manager)
     return 1;
+  if (p->differs) return 0;
+  p->differs = 1;
   fprintf(stderr,
           "ivy: node %u has version %u, %u nodes, %u pages of %u bytes, manager %u; node %u has version %u, %u nodes, "
           "%u pages of %u bytes, manager %u\n",
@@ -164,12 +182,8 @@ static int agrees(const ivy_process *p, const word *w) {
 static void hear_word(ivy_process *p, const uint8_t *bytes) {
   word w = { bytes[0], bytes[1], get32(bytes + 2), get32(bytes + 6), get32(bytes + 10), get32(bytes + 14),
              get32(bytes + 18), get32(bytes + 22) };
-  if (w.kind == HELLO && !agrees(p, &w)) {
-    say(p, HELLO, p->here);
-    exit(2);
-  }
-  if (w.from >= p->config.nodes || w.from == p->me) return;
-  p->heard[w.from] = now_us();
+  if ((w.kind == HELLO && !agrees(p, &w)) || w.from >= p->config.nodes || w.from == p->me) return;
+  p->heard[w.from] = p->now;
   uint32_t bit = 1u << w.from;
   if (w.kind != DEAD) {
     p->here |= bit;
@@ -178,9 +192,9 @@ static void hear_word(ivy_process *p, const uint8_t *bytes) {
   if (w.kind == DONE) {
     p->done |= bit;
     if (w.set == p->all) p->known_done |= bit;
-  } else if (w.kind == DEAD && !p->is_done) {
+  } else if (w.kind == DEAD) {
     for (uint32_t i = 0; i < p->config.nodes; i++)
-      if (w.set >> i & 1u && i != p->me) told_dead(p, i);
+      if (w.set >> i & 1u && is_needed(p, i)) told_dead(p, i);
   }
 }
 
@@ -189,7 +203,7 @@ static int deliver(ivy_process *p, const uint8_t *bytes, size_t len) {
   uint32_t verdict;
   if (ivy_deliver(&p->node, bytes, len, &verdict) != IVY_DONE || len < HEAD || bytes[SOURCE] >= p->config.nodes) return 0;
   uint32_t from = bytes[SOURCE];
-  p->heard[from] = now_us();
+  p->heard[from] = p->now;
   p->here |= 1u << from;
   p->known_here |= 1u << from;
   p->delivered[from] += verdict == IVY_NEXT;
@@ -244,9 +258,15 @@ static void pulse(ivy_process *p, uint32_t to) {
   send_frames(p);
 }
 
+/* Where nothing more is there to be heard, a peer that was not heard for so long is dead. */
+static void look_for_dead(ivy_process *p) {
+  for (uint32_t i = 0; p->death_us && i < p->config.nodes; i++)
+    if (is_needed(p, i) && p->heard[i] && p->now - p->heard[i] > p->death_us) told_dead(p, i);
+}
+
 /* What is due by the clock: pulses to whom they help, and signs of life. */
 static void keep_time(ivy_process *p) {
-  int64_t now = now_us();
+  int64_t now = p->now;
   if (now - p->pulsed >= PULSE_US) {
     uint32_t kept = 0, owed = 0;
     ivy_kept_set(&p->node, &kept);
@@ -260,22 +280,22 @@ static void keep_time(ivy_process *p) {
     else say(p, p->known_here == p->all ? ALIVE : HELLO, p->here);
     p->spoke = now;
   }
-  for (uint32_t i = 0; p->death_us && !p->is_done && i < p->config.nodes; i++)
-    if (i != p->me && !(p->done >> i & 1u) && p->heard[i] && now - p->heard[i] > p->death_us) told_dead(p, i);
 }
 
 /* Hears what came, so many strings at most, waiting so long for the first one; the lock is held, but not while it waits. */
 static int serve(ivy_process *p, long wait_us, int most) {
-  uint8_t bytes[ROOM];
+  const uint8_t *bytes;
+  size_t len;
   int heard = 0;
-  for (int i = 0; i < most; i++) {
+  do {
     if (p->progress == IVY_BY_THREAD) pthread_mutex_unlock(&p->lock);
-    size_t len = p->transport.receive(p->transport.state, bytes, sizeof bytes, heard ? 0 : wait_us);
+    bytes = p->transport.receive(p->transport.state, &len, heard ? 0 : wait_us);
     if (p->progress == IVY_BY_THREAD) pthread_mutex_lock(&p->lock);
-    if (!len) break;
-    hear(p, bytes, len);
-    heard = 1;
-  }
+    if (!heard) p->now = now_us();
+    if (bytes) hear(p, bytes, len);
+    else look_for_dead(p);
+    heard += bytes != NULL;
+  } while (bytes && heard < most);
   keep_time(p);
   return heard;
 }
@@ -284,7 +304,7 @@ static void *serve_on(void *argument) {
   ivy_process *p = (ivy_process *)argument;
   pthread_mutex_lock(&p->lock);
   while (!p->ending) {
-    if (serve(p, LISTEN_US, MANY)) pthread_cond_broadcast(&p->served);
+    if (serve(p, LISTEN_US, MANY) || p->is_done) pthread_cond_broadcast(&p->served);
   }
   pthread_mutex_unlock(&p->lock);
   return NULL;
@@ -301,6 +321,17 @@ static void end(ivy_process *p) {
     for (int j = 0; j < MOST_AHEAD; j++) free(p->early[i][j].bytes);
   ivy_close(&p->node);
   free(p);
+}
+
+/* Waits until all others are here, and know it. Says whether they are, with this configuration. */
+static int meet(ivy_process *p, long start_ms) {
+  int64_t last = now_us() + start_ms * 1000;
+  while ((p->known_here != p->all || p->here != p->all) && !p->differs && p->now <= last) serve(p, LISTEN_US, MANY);
+  int are_here = p->known_here == p->all && p->here == p->all;
+  if (!are_here && !p->differs)
+    fprintf(stderr, "ivy: node %u: others are not here: those of the set %x are\n", p->me, p->here);
+  for (int i = 0; i < REPEATS; i++) say(p, HELLO, p->here);
+  return are_here && !p->differs;
 }
 
 ivy_process *ivy_join_logging(const ivy_config *config, uint32_t me, ivy_transport transport, ivy_progress progress,
@@ -327,17 +358,10 @@ ivy_process *ivy_join_logging(const ivy_config *config, uint32_t me, ivy_transpo
   p->death_us = death_ms * 1000;
   pthread_mutex_init(&p->lock, NULL);
   pthread_cond_init(&p->served, NULL);
-  int64_t last = now_us() + start_ms * 1000;
-  while (p->known_here != p->all || p->here != p->all) {
-    serve(p, LISTEN_US, MANY);
-    if (p->here == p->all) p->known_here |= 1u << me;
-    if (now_us() > last) {
-      fprintf(stderr, "ivy: node %u: others are not here: those of the set %x are\n", me, p->here);
-      end(p);
-      return NULL;
-    }
+  if (!meet(p, start_ms)) {
+    end(p);
+    return NULL;
   }
-  say(p, HELLO, p->here);
   p->progress = progress;
   if (progress == IVY_BY_THREAD && pthread_create(&p->thread, NULL, serve_on, p)) p->progress = IVY_IN_CALLS;
   return p;
@@ -353,9 +377,10 @@ void ivy_leave(ivy_process *p) {
   p->is_done = 1;
   p->done |= 1u << p->me;
   p->spoke = 0;
-  int64_t last = now_us() + 10000000;
-  while ((p->done != p->all || (p->known_done | 1u << p->me) != p->all) && now_us() < last) wait_on(p);
-  for (int i = 0; i < 5; i++) say(p, DONE, p->done);
+  while (p->done != p->all) wait_on(p);
+  int64_t last = now_us() + LEAVE_US; /* who is done may be gone, and what it said last lost */
+  while ((p->known_done | 1u << p->me) != p->all && p->now < last) wait_on(p);
+  for (int i = 0; i < REPEATS; i++) say(p, DONE, p->done);
   p->ending = 1;
   pthread_mutex_unlock(&p->lock);
   if (p->progress == IVY_BY_THREAD) pthread_join(p->thread, NULL);
@@ -458,6 +483,7 @@ static uint64_t sure(ivy_process *p, uint32_t kind, uint32_t width, uint64_t pla
   if (status != IVY_DONE) {
     fprintf(stderr, "ivy: node %u: call %u at %llu: %s\n", p->me, kind, (unsigned long long)place,
             ivy_status_text(status));
+    if (p->progress == IVY_BY_THREAD) pthread_mutex_lock(&p->lock); /* the thread may be sending */
     fail(p, 4);
   }
   return value;

@@ -9,13 +9,20 @@
 extern "C" {
 #endif
 
-/* What carries strings between processes. It may lose, repeat and reorder them. */
+/* No string has more bytes: a frame of a page of 4,096 bytes, and a byte that says that it is one. */
+enum { IVY_STRING_MOST = 4096 + 42 };
+
+/* What carries strings between processes. It may lose, repeat and reorder them. Its functions are called by one thread at a
+ * time, but for `receive`, which another one may be in meanwhile. */
 typedef struct ivy_transport {
   void *state;
-  /* Sends a string to a peer, or loses it. */
-  void (*send)(void *state, uint32_t to, const uint8_t *bytes, size_t len);
-  /* The length of a string that came, or 0 where none came within so many microseconds. */
-  size_t (*receive)(void *state, uint8_t *bytes, size_t room, long wait_us);
+  /* Where a string of at most IVY_STRING_MOST bytes is written before it is sent; never null. */
+  uint8_t *(*room)(void *state);
+  /* Sends so many bytes of the room that was given last to a peer, or loses them. */
+  void (*send)(void *state, uint32_t to, size_t len);
+  /* A string that came, which stays until the next call, and its length, which is not 0. Null where none came within so many
+   * microseconds. */
+  const uint8_t *(*receive)(void *state, size_t *len, long wait_us);
   void (*close)(void *state);
 } ivy_transport;
 
@@ -33,7 +40,8 @@ typedef struct ivy_process ivy_process;
 
 /* Node `me` joins the others, within `start_ms`. Null, with a line on stderr, where that fails: a peer is not there, or has
  * another configuration or version; both are told then. A peer of which nothing is heard for `death_ms` is taken for dead,
- * which ends this process with status 3 and a line on stderr; 0: never. */
+ * which ends this process with status 3 and a line on stderr; 0: never. Where progress is made in calls, whoever computes
+ * for longer without one is not heard. */
 ivy_process *ivy_join(const ivy_config *config, uint32_t me, ivy_transport transport, ivy_progress progress, long start_ms,
                       long death_ms);
 
@@ -44,7 +52,7 @@ ivy_process *ivy_join(const ivy_config *config, uint32_t me, ivy_transport trans
 ivy_process *ivy_join_logging(const ivy_config *config, uint32_t me, ivy_transport transport, ivy_progress progress,
                               long start_ms, long death_ms, FILE *log);
 
-/* Serves the others until all processes are here, and ends. */
+/* Serves the others until all processes are here, however long that takes, and ends. */
 void ivy_leave(ivy_process *process);
 
 /* A call, and its reply: a status below 256. */

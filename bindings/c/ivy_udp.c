@@ -10,14 +10,16 @@
 #include <sys/socket.h>
 #include <unistd.h>
 
-enum { ROOM = 8192 };
+/* Who waits looks so often, for longer than a reply takes, before it sleeps until a string comes. */
+enum { LOOKS = 50 };
 
 typedef struct {
   int socket;
   uint16_t port;
   unsigned lost, twice, late;
   uint64_t seed;
-  uint8_t held[ROOM]; /* the string that is held back */
+  uint8_t sent[IVY_STRING_MOST], came[IVY_STRING_MOST + 1];
+  uint8_t held[IVY_STRING_MOST]; /* the string that is held back */
   size_t held_len;
   uint32_t held_to;
 } udp;
@@ -39,31 +41,43 @@ static void put(udp *u, uint32_t to, const uint8_t *bytes, size_t len) {
   (void)sent; /* what is not sent is lost */
 }
 
-static void udp_send(void *state, uint32_t to, const uint8_t *bytes, size_t len) {
+static uint8_t *udp_room(void *state) {
+  udp *u = (udp *)state;
+  return u->sent;
+}
+
+static void udp_send(void *state, uint32_t to, size_t len) {
   udp *u = (udp *)state;
   if (draw(u) < u->lost) return;
-  if (!u->held_len && len <= ROOM && draw(u) < u->late) {
-    memcpy(u->held, bytes, len);
+  if (!u->held_len && draw(u) < u->late) {
+    memcpy(u->held, u->sent, len);
     u->held_len = len;
     u->held_to = to;
     return;
   }
-  put(u, to, bytes, len);
-  if (draw(u) < u->twice) put(u, to, bytes, len);
+  put(u, to, u->sent, len);
+  if (draw(u) < u->twice) put(u, to, u->sent, len);
   if (u->held_len) {
     put(u, u->held_to, u->held, u->held_len);
     u->held_len = 0;
   }
 }
 
-static size_t udp_receive(void *state, uint8_t *bytes, size_t room, long wait_us) {
+/* A string that came, or null. One that is longer than any of a node is none of a node still where it is cut. */
+static const uint8_t *take(udp *u, size_t *len) {
+  ssize_t came = recv(u->socket, u->came, sizeof u->came, MSG_DONTWAIT);
+  *len = (size_t)came;
+  return came > 0 ? u->came : NULL;
+}
+
+static const uint8_t *udp_receive(void *state, size_t *len, long wait_us) {
   udp *u = (udp *)state;
-  ssize_t len = recv(u->socket, bytes, room, MSG_DONTWAIT);
-  if (len > 0 || !wait_us) return len > 0 ? (size_t)len : 0;
+  const uint8_t *bytes = take(u, len);
+  if (!wait_us) return bytes;
+  for (int i = 0; !bytes && i < LOOKS; i++) bytes = take(u, len);
   struct pollfd one = { u->socket, POLLIN, 0 };
-  if (poll(&one, 1, (int)((wait_us + 999) / 1000)) <= 0) return 0;
-  len = recv(u->socket, bytes, room, MSG_DONTWAIT);
-  return len > 0 ? (size_t)len : 0;
+  if (!bytes && poll(&one, 1, (int)((wait_us + 999) / 1000)) > 0) bytes = take(u, len);
+  return bytes;
 }
 
 static void udp_close(void *state) {
@@ -92,6 +106,6 @@ ivy_transport ivy_udp(uint32_t me, uint32_t nodes, uint16_t port, unsigned lost,
   u->twice = twice;
   u->late = late;
   u->seed = 88172645463325252ull + me * 2654435761ull;
-  ivy_transport t = { u, udp_send, udp_receive, udp_close };
+  ivy_transport t = { u, udp_room, udp_send, udp_receive, udp_close };
   return t;
 }

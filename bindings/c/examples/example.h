@@ -47,6 +47,10 @@ static inline void begin_example(example *e, int argc, char **argv, uint32_t pag
 #ifdef WITH_MPI
     int level, rank, size;
     MPI_Init_thread(&argc, &argv, MPI_THREAD_MULTIPLE, &level);
+    if (progress == IVY_BY_THREAD && level < MPI_THREAD_MULTIPLE) {
+      fprintf(stderr, "this MPI takes no calls of two threads at once\n");
+      exit(2);
+    }
     MPI_Comm_rank(MPI_COMM_WORLD, &rank);
     MPI_Comm_size(MPI_COMM_WORLD, &size);
     e->me = (uint32_t)rank;

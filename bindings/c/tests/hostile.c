@@ -1,5 +1,5 @@
-/* Strings that are no frames, cut and changed ones, and drawn calls, at one node. A forged frame may do what a peer may do;
- * it never reads or writes outside the node. */
+/* Strings that are no frames, cut and changed ones, and drawn calls, at one node: 2,000,000 or as many as are asked for. A
+ * forged frame may do what a peer may do; it never reads or writes outside the node. */
 #include "ivy.h"
 #include <stdio.h>
 #include <stdlib.h>
@@ -59,7 +59,8 @@ static int pulses_as_told(ivy_node *node) {
   return (ivy_next_frame(node, bytes, sizeof bytes, &len, &dest) == IVY_DONE) == ((kept | owed) == 2);
 }
 
-int main(void) {
+int main(int argc, char **argv) {
+  int times = argc > 1 ? atoi(argv[1]) : TIMES;
   ivy_node node = IVY_NONE, peer = IVY_NONE;
   uint8_t frame[IVY_FRAME_MOST(256)], bytes[IVY_FRAME_MOST(256)];
   size_t len = 0;
@@ -72,7 +73,7 @@ int main(void) {
   if (ivy_begin(&peer, IVY_LOAD, 8, 256, 0, 0, &value) != IVY_BUSY) return 4;
   if (ivy_next_frame(&peer, bytes, 3, &len, &dest) != IVY_SHORT_BUFFER || len < 24) return 5;
   if (ivy_next_frame(&peer, frame, sizeof frame, &len, &dest) != IVY_DONE || dest != 0) return 6;
-  for (int i = 0; i < TIMES; i++) {
+  for (int i = 0; i < times; i++) {
     size_t n = len, to_write;
     memcpy(bytes, frame, len);
     switch (draw(3)) {

@@ -1,0 +1,102 @@
+/* What bindings_mpi.c and bindings_udp.c share: a read miss and a page handed over between two processes, node 0 and node 1,
+ * by turns with the same bytes sent without Ivy. What is told is the median of all rounds. */
+#ifndef BINDINGS_PACE_H
+#define BINDINGS_PACE_H
+#include "ivy_runtime.h"
+#include <stdio.h>
+#include <stdlib.h>
+#include <time.h>
+
+enum { ROUNDS = 10, TIMES = 500 };
+
+/* Microseconds, of all rounds. */
+typedef struct { double took[ROUNDS * TIMES]; int many; } samples;
+
+/* The bytes of the last request, and of the longest string since, with all that the runtime adds. */
+static size_t asked, answered;
+static ivy_transport inner;
+
+static void send_measured(void *state, uint32_t to, size_t len) {
+  if (!asked) asked = len;
+  inner.send(state, to, len);
+}
+
+static const uint8_t *receive_measured(void *state, size_t *len, long wait_us) {
+  const uint8_t *string = inner.receive(state, len, wait_us);
+  if (string && *len > answered) answered = *len;
+  return string;
+}
+
+static ivy_transport measured(ivy_transport transport) {
+  inner = transport;
+  ivy_transport t = { transport.state, transport.room, send_measured, receive_measured, transport.close };
+  return t;
+}
+
+static double now_us(void) {
+  struct timespec t;
+  clock_gettime(CLOCK_MONOTONIC, &t);
+  return (double)t.tv_sec * 1e6 + (double)t.tv_nsec / 1e3;
+}
+
+static int compare(const void *a, const void *b) {
+  double x = *(const double *)a, y = *(const double *)b;
+  return x < y ? -1 : x > y;
+}
+
+static double median(samples *s) {
+  qsort(s->took, (size_t)s->many, sizeof s->took[0], compare);
+  return s->took[s->many / 2];
+}
+
+static void wrong(const char *what) {
+  fprintf(stderr, "bindings: %s\n", what);
+  exit(1);
+}
+
+/* Node 0 stores, and node 1 loads what it stored. */
+static void miss(ivy_process *ivy, int me, uint64_t page, int round, samples *s) {
+  for (uint64_t i = 1 + (uint64_t)round * TIMES; i <= ((uint64_t)round + 1) * TIMES; i++) {
+    if (me) {
+      ivy_await(ivy, 0, i);
+      asked = answered = 0;
+      double begun = now_us();
+      if (ivy_load(ivy, 8, page) != i) wrong("a load is wrong");
+      s->took[s->many++] = now_us() - begun;
+      ivy_advance(ivy, 1);
+    } else {
+      ivy_store(ivy, 8, page, i);
+      ivy_advance(ivy, 0);
+      ivy_await(ivy, 1, i);
+    }
+  }
+}
+
+/* Each raises a number by turns, with the page in its hands: one fault that writes for each time that it goes over. */
+static void hand_over(ivy_process *ivy, int me, uint64_t page, int round, samples *s) {
+  for (uint64_t i = (uint64_t)round * TIMES; i < ((uint64_t)round + 1) * TIMES; i++) {
+    uint64_t own = 2 * i + (uint64_t)me;
+    double begun = now_us();
+    while (ivy_compare_and_swap(ivy, 8, page + 8, own, own + 1) != own) ivy_progress_now(ivy);
+    s->took[s->many++] = (now_us() - begun) / 2;
+  }
+}
+
+/* Process 1 sends so many bytes, and process 0 sends so many back, without Ivy. What is told is a part of that time: a half of
+ * it is one way. */
+static void plain(int me, size_t out, size_t back, double part, samples *s, void (*put)(size_t len), void (*get)(size_t len)) {
+  for (int i = 0; i < TIMES; i++) {
+    double begun = now_us();
+    if (me) put(out);
+    get(me ? back : out);
+    if (!me) put(back);
+    s->took[s->many++] = (now_us() - begun) * part;
+  }
+}
+
+static void tell(const char *by, uint32_t page, const char *what, samples *ours, const char *beside, samples *plainly) {
+  double own = median(ours), other = median(plainly);
+  printf("%s, pages of %u: %s %.2f us, %s %.2f, ratio %.2f\n", by, page, what, own, beside, other, own / other);
+}
+
+#endif
