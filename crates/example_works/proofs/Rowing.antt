@@ -6,10 +6,10 @@ use Rattle.std.proofs.lemmas.List.{drop_at, take_at}
 use Rattle.std.proofs.lemmas.Nat.{from_be_bytes-to_be_bytes_8}
 use Rattle.ivy_model.specs.declared.row.Row.TheVariants.{Loads, Stores}
 use Rattle.ivy_model.specs.Rows.{numbers_in}
-use Rattle.ivy_model.proofs.Rows.{length-numbers_in}
+use Rattle.ivy_model.proofs.Rows.{length-numbers_in, numbers_in-take}
 use Rattle.ivy_calls.specs.declared.answer.Answer.{Answer}
 use Rattle.ivy_calls.specs.Rows.{block_numbers, first_number, in_row}
-use Rattle.ivy_calls.proofs.Rows.{first_number-take, numbers_in-append, numbers_in-take}
+use Rattle.ivy_calls.proofs.Rows.{first_number-take, numbers_in-append}
 use Rattle.ivy_sync.specs.Doing.{loads, stores}
 use Rattle.ivy_sync.specs.Reductions.{finds}
 use Rattle.example_works.specs.declared.matrix.Matrices.{Matrices}

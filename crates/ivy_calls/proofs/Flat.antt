@@ -3,7 +3,6 @@ use Rattle.std.proofs.Common.{◌≡◌, ℕ, ◌<◌, List, [], ◌∷◌, ◌+
 use Rattle.std.proofs.lemmas.List.{map-append}
 use Rattle.ivy_model.specs.declared.call.Call.{Call}
 use Rattle.ivy_model.specs.declared.call.Reply.{Reply}
-use Rattle.ivy_model.specs.declared.call.Record.{Record}
 use Rattle.ivy_model.specs.Flat.{FlatState}
 use Rattle.ivy_model.specs.Legal.{HasWidth, ServesAll}
 use Rattle.ivy_model.specs.Memory.{first}

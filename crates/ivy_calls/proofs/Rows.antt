@@ -1,13 +1,13 @@
 -- Rows of words that are put together, and where one stops.
 use Rattle.std.proofs.Common.{◌≡◌, ℕ, zero, suc, ◌+◌, ◌-◌, ◌*◌, ◌<◌, ◌≤◌, List, [], ◌∷◌, ◌++◌, length, take, drop, replicate, zero-add, get_or-take, append_assoc, refl, sym, ap, subst, ◌∙◌, arith}
-use Rattle.std.proofs.lemmas.List.{drop-drop, drop-take, drop_at, length-take-le, length-replicate, take_at, take-append-le, take-replicate, replicate-append-replicate}
+use Rattle.std.proofs.lemmas.List.{drop-drop, drop_at, length-take-le, length-replicate, take_at, take-append-le, take-replicate, replicate-append-replicate}
 use Rattle.std.proofs.lemmas.Slice.{take-put_mid_below}
 use Rattle.std.specs.Prelude.{IfErr, IsErrAnd, Result, Ok, Err}
 use borrow.Rule.Slice.PartMut.{put_mid, post_of}
 use Rattle.ivy_model.specs.declared.fault.Fault.{Fault}
 use Rattle.ivy_model.specs.declared.row.Row.{Row}
 use Rattle.ivy_model.specs.Rows.{numbers_in, record_in}
-use Rattle.ivy_model.proofs.Rows.{length-numbers_in}
+use Rattle.ivy_model.proofs.Rows.{length-numbers_in, same_numbers}
 use Rattle.ivy_calls.specs.declared.answer.Answer.{Answer}
 use Rattle.ivy_calls.specs.declared.error.CallError.{CallError}
 use Rattle.ivy_calls.specs.Answers.{answer}
@@ -40,25 +40,6 @@ first_number-take m bytes le =
       get_or-take m bytes 6 0 (omega (arith, le)),
       get_or-take m bytes 7 0 (omega (arith, le)),
     ) refl
-
-pub numbers_in-take : (n m : ℕ) (bytes : List ℕ) → 8 * n ≤ m
-    → numbers_in n (take m bytes) ≡ numbers_in n bytes
-numbers_in-take zero m bytes le = refl
-numbers_in-take (suc n) m bytes le =
-    let number : first_number (take m bytes) ≡ first_number bytes =
-    first_number-take m bytes (omega (arith, le)) in
-    let long : m ≡ 8 + (m - 8) = omega (arith, le) in
-    let rest : drop 8 (take m bytes) ≡ take (m - 8) (drop 8 bytes) =
-    ap (λ k. drop 8 (take k bytes)) long ∙ drop-take 8 (m - 8) bytes in
-    (λ j. number j
-    ∷ (ap (numbers_in n) rest
-    ∙ numbers_in-take n (m - 8) (drop 8 bytes) (omega (arith, le))) j)
-
-same_numbers : (n : ℕ) (xs ys : List ℕ) → take (8 * n) xs ≡ take (8 * n) ys
-    → numbers_in n xs ≡ numbers_in n ys
-same_numbers n xs ys e =
-    sym (numbers_in-take n (8 * n) xs (omega arith)) ∙ ap (numbers_in n) e
-    ∙ numbers_in-take n (8 * n) ys (omega arith)
 
 -- words of one number
 pub some_of_same : (n most number : ℕ) (bytes : List ℕ) → n ≤ most

@@ -1,7 +1,6 @@
 -- The memory that a program is tested on.
 use Rattle.std.specs.Prelude.{◌≡◌, ℕ, ◌<◌, ◌⊎◌, List, map, refl}
 use Rattle.std.specs.Coded.{Coded, code_by, coded×, coded_list}
-use Rattle.ivy_model.specs.declared.config.Config.{Config}
 use Rattle.ivy_model.specs.declared.fault.Fault.{Fault}
 use Rattle.ivy_model.specs.declared.fault.Fault.TheVariants.{Memory, TurnLimit}
 use Rattle.ivy_model.specs.Flat.{FlatState, flat_state_code}

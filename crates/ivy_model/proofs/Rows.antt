@@ -1,7 +1,8 @@
 -- Rows of words: how many they are, and which record is at which place.
-use Rattle.std.proofs.Common.{◌≡◌, ℕ, zero, suc, ◌+◌, ◌*◌, ◌<◌, List, [], ◌∷◌, length, drop, slice_get, Some, refl, ap, ◌∙◌, arith}
-use Rattle.std.proofs.lemmas.List.{drop-drop}
+use Rattle.std.proofs.Common.{◌≡◌, ℕ, zero, suc, ◌+◌, ◌-◌, ◌*◌, ◌<◌, ◌≤◌, List, [], ◌∷◌, length, take, drop, slice_get, Some, refl, sym, ap, ◌∙◌, arith}
+use Rattle.std.proofs.lemmas.List.{drop-drop, drop-take}
 use Rattle.byteorder.specs.Endian.{big_number}
+use Rattle.byteorder.specs.Numbers.{big_from-take}
 use Rattle.ivy_model.specs.declared.call.Call.{Call}
 use Rattle.ivy_model.specs.declared.row.Row.{Row}
 use Rattle.ivy_model.specs.declared.row.Row.TheVariants.{Loads, Stores}
@@ -47,3 +48,23 @@ row-at kind node addr (suc k) (suc n) bytes lt =
     ∙ ap (λ (a : ℕ). Some (record_in kind node a (big_number 8 (drop (8 * k) (drop 8 bytes))))) on
     ∙ ap (λ (l : List ℕ). Some (record_in kind node (addr + 8 * suc k) (big_number 8 l)))
     (drop-drop (8 * k) 8 bytes ∙ ap (λ (m : ℕ). drop m bytes) by)
+
+-- the numbers read no byte past their words
+pub numbers_in-take : (n m : ℕ) (bytes : List ℕ) → 8 * n ≤ m
+    → numbers_in n (take m bytes) ≡ numbers_in n bytes
+numbers_in-take zero m bytes le = refl
+numbers_in-take (suc n) m bytes le =
+    let number : big_number 8 (take m bytes) ≡ big_number 8 bytes =
+    big_from-take 0 8 m bytes (omega (arith, le)) in
+    let long : m ≡ 8 + (m - 8) = omega (arith, le) in
+    let rest : drop 8 (take m bytes) ≡ take (m - 8) (drop 8 bytes) =
+    ap (λ k. drop 8 (take k bytes)) long ∙ drop-take 8 (m - 8) bytes in
+    (λ j. number j
+    ∷ (ap (numbers_in n) rest
+    ∙ numbers_in-take n (m - 8) (drop 8 bytes) (omega (arith, le))) j)
+
+pub same_numbers : (n : ℕ) (xs ys : List ℕ) → take (8 * n) xs ≡ take (8 * n) ys
+    → numbers_in n xs ≡ numbers_in n ys
+same_numbers n xs ys e =
+    sym (numbers_in-take n (8 * n) xs (omega arith)) ∙ ap (numbers_in n) e
+    ∙ numbers_in-take n (8 * n) ys (omega arith)

@@ -1,42 +1,20 @@
 -- A row of words that is copied out of a page, or into it, is what carrying its words out one after
 -- another comes to.
-use Rattle.std.proofs.Common.{◌≡◌, ℕ, zero, suc, ◌+◌, ◌-◌, ◌*◌, ◌%◌, ◌<◌, ◌≤◌, List, ◌∷◌}
-use Rattle.std.proofs.Common.{length, take, drop, All, refl, sym, ap, lit<, ◌∙◌, subst, arith}
+use Rattle.std.proofs.Common.{◌≡◌, ℕ, zero, suc, ◌+◌, ◌*◌, ◌%◌, ◌<◌, ◌≤◌, List}
+use Rattle.std.proofs.Common.{length, take, drop, All, refl, sym, ap, lit<, subst, arith}
 use Rattle.std.proofs.Common.{length-drop}
 use Rattle.std.proofs.lemmas.List.{drop-drop, places, same_lists}
 use Rattle.std.proofs.lemmas.List.Elements.{All-drop}
 use Rattle.byteorder.specs.Endian.{big_number, big_bytes}
-use Rattle.byteorder.specs.Numbers.{big_from-take}
 use Rattle.ivy_model.specs.declared.Row.TheVariants.{Loads, Stores}
 use Rattle.ivy_model.specs.Legal.{IsWidth}
 use Rattle.ivy_model.specs.Rows.{numbers_in}
 use Rattle.ivy_model.specs.Serves.{overwrite}
+use Rattle.ivy_model.proofs.Rows.{same_numbers}
 use Rattle.ivy_pagetable.specs.declared.word.Word.TheVariants.{Load, Store}
 use Rattle.ivy_pagetable.specs.Words.{IsWord}
 use Rattle.ivy_pagetable.specs.Rows.{AreCarried, with_row}
 use Rattle.ivy_pagetable.proofs.Words.{bytes_of_number, length-overwrite}
-
-drop_taken : (k m : ℕ) (bytes : List ℕ) → drop k (take m bytes) ≡ take (m - k) (drop k bytes)
-drop_taken k m bytes =
-    same_lists _ _ (grind (arith, places)) (λ i d h. grind (arith, places))
-
--- the numbers read no byte past their words
-pub numbers_in-take : (n m : ℕ) (bytes : List ℕ) → 8 * n ≤ m
-    → numbers_in n (take m bytes) ≡ numbers_in n bytes
-numbers_in-take zero m bytes le = refl
-numbers_in-take (suc n) m bytes le =
-    let number : big_number 8 (take m bytes) ≡ big_number 8 bytes =
-    big_from-take 0 8 m bytes (omega (arith, le)) in
-    let rest : drop 8 (take m bytes) ≡ take (m - 8) (drop 8 bytes) = drop_taken 8 m bytes in
-    (λ j. number j
-    ∷ (ap (numbers_in n) rest
-    ∙ numbers_in-take n (m - 8) (drop 8 bytes) (omega (arith, le))) j)
-
-pub same_numbers : (n : ℕ) (xs ys : List ℕ) → take (8 * n) xs ≡ take (8 * n) ys
-    → numbers_in n xs ≡ numbers_in n ys
-same_numbers n xs ys e =
-    sym (numbers_in-take n (8 * n) xs (omega arith)) ∙ ap (numbers_in n) e
-    ∙ numbers_in-take n (8 * n) ys (omega arith)
 
 eight : IsWidth 8
 eight = (3, lit< tt, refl)
