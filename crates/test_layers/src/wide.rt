@@ -1,5 +1,5 @@
 //! Tables of many pages, each of which is made when it is first written.
-ghost use Rattle.std.specs.Prelude.{◌≡◌, ◌<◌, length};
+ghost use Rattle.std.specs.Prelude.{◌≡◌, length};
 ghost use Rattle.ivy_pagetable.specs.Words.{IsWord};
 
 use crate::common::expect_same;
@@ -30,10 +30,7 @@ const STORE: Word = Word::Store {
 };
 
 /// The table of node 0 at first. That it has 257 pages of 64 bytes is proved here once.
-fn first_table<'a>(
-    rt: &impl Abort,
-    memory: &'a Refusing<Global>,
-) -> NodeTable<&'a Refusing<Global>>
+fn first_table<'a>(rt: &impl Abort, memory: &'a Refusing<Global>) -> NodeTable<&'a Refusing<Global>>
     ensures pages { length result.entries ≡ 257 }
     ensures sized { result.page_size ≡ 64 }
 {
@@ -43,7 +40,8 @@ fn first_table<'a>(
 /// What a word of the last page gives; none where it is refused. The table has as many pages then, of the same size.
 fn gives<A: Allocator>(table: &mut NodeTable<A>, word: Word) -> Option<Out>
     requires pages { length table.old.entries ≡ 257 }
-    requires word { IsWord table.old.page_size word }
+    requires sized { table.old.page_size ≡ 64 }
+    requires word { IsWord 64 word }
     ensures pages { length table.new.entries ≡ length table.old.entries }
     ensures sized { table.new.page_size ≡ table.old.page_size }
 {
