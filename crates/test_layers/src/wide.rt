@@ -48,19 +48,29 @@ fn gives<A: Allocator>(table: &mut NodeTable<A>, word: Word) -> Option<Out>
     table.carry_out(256, word).ok()
 }
 
+/// How many words a row of one word stores on the last page. The table has as many pages then, of the same size.
+fn stores<A: Allocator>(table: &mut NodeTable<A>) -> usize
+    requires pages { length table.old.entries ≡ 257 }
+    requires sized { table.old.page_size ≡ 64 }
+    ensures pages { length table.new.entries ≡ length table.old.entries }
+    ensures sized { table.new.page_size ≡ table.old.page_size }
+{
+    table.store_row(256, 8, &[0, 0, 0, 0, 0, 0, 0, 7])
+}
+
 #[test]
 fn pages_are_made_when_written(rt: HostRuntime) {
     let memory = Refusing::new(rt.alloc());
     let mut table = first_table(&rt, &memory);
     memory.refuse(1);
     expect_same(&rt, gives(&mut table, LOAD), Some(Out::Value(0)));
-    expect_same(&rt, table.store_row(256, 8, &[0, 0, 0, 0, 0, 0, 0, 7]), 0);
+    expect_same(&rt, stores(&mut table), 0);
     expect_same(&rt, gives(&mut table, STORE), None);
     expect_same(&rt, gives(&mut table, LOAD), Some(Out::Value(0)));
     expect_same(&rt, gives(&mut table, STORE), Some(Out::Done));
     expect_same(&rt, gives(&mut table, LOAD), Some(Out::Value(5)));
     memory.refuse(1);
-    expect_same(&rt, table.store_row(256, 8, &[0, 0, 0, 0, 0, 0, 0, 7]), 1);
+    expect_same(&rt, stores(&mut table), 1);
     expect_same(&rt, gives(&mut table, LOAD), Some(Out::Value(7)));
     expect_same(&rt, gives(&mut table, STORE), Some(Out::Done));
 }
