@@ -252,7 +252,7 @@ find_ready() {
 
 # Whether a crate has nearly as long a way as the first that is ready: the others wait for it too.
 is_near() {
-    ((way[$1] * 100 >= way[${ready[0]}] * 94))
+    ((way[$1] * 100 >= way[${ready[0]}] * 97))
 }
 
 # Starts what can begin, as long as jobs are free. One job does for most: the end of a check is one job's work, which
