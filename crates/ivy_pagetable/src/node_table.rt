@@ -1,10 +1,10 @@
 //! The page table of a node of any configuration.
-ghost use Rattle.std.specs.Prelude.{◌≡◌, ◌+◌, ◌*◌, ◌%◌, ℕ, ◌<◌, ◌≤◌, ◌⊎◌, true, All, length, drop, if◌then◌else◌, IfOk, OnOk, OnErr, IsOkUnless};
+ghost use Rattle.std.specs.Prelude.{◌≡◌, ◌+◌, ◌*◌, ◌%◌, ℕ, ◌<◌, ◌≤◌, ◌⊎◌, true, false, All, length, drop, if◌then◌else◌, IsSome, IfSome, IfNone, IfOk, OnOk, OnErr, IsOkUnless};
 ghost use Rattle.ivy_model.specs.declared.Row.TheVariants.{Loads, Stores};
 ghost use Rattle.ivy_model.specs.Rows.{numbers_in};
 ghost use Rattle.ivy_model.specs.Config.{IsConfig};
 ghost use Rattle.ivy_model.specs.Limits.{most_pages};
-ghost use Rattle.ivy_pagetable.specs.Entries.{can_put_off, with_put_off, is_locked};
+ghost use Rattle.ivy_pagetable.specs.Entries.{can_put_off, with_put_off, is_locked, suffices_at};
 ghost use Rattle.ivy_pagetable.specs.Either.{MayBeUnmade};
 ghost use Rattle.ivy_pagetable.specs.Lent.{lent_entry};
 ghost use Rattle.ivy_pagetable.specs.Tables.{entry_at, page_at, with_entry, with_page, first_table};
@@ -160,6 +160,30 @@ impl<A: Allocator> NodeTable<A> {
             Either::Narrow(table) => table.number(page, word),
             Either::Wide(table) => table.number(page, word),
         }
+    }
+
+    /// Carries a word out on the page at once, where no word waits for it, the access suffices and there are 256 pages at
+    /// most, and says what the word gives. Else nothing changes.
+    ///
+    /// A word that hits goes this way alone, which looks at one entry and at one page, and leaves out what other tables and
+    /// other entries need.
+    #[inline(always)]
+    pub fn hit(&mut self, page: u32, word: Word) -> Option<Out>
+        requires page { page < length self.old.entries }
+        requires word { IsWord self.old.page_size word }
+        ensures hit { IsSome result → suffices_at (entry_at self.old page) word ≡ true }
+        ensures miss { IfNone result ((suffices_at (entry_at self.old page) word ≡ false) ⊎ (most_pages < length self.old.entries)) }
+        ensures out { IfSome result (λ out. out ≡ (carried_out word (page_at self.old page)).out) }
+        ensures bytes { IsSome result → self.new ≡ with_page self.old page (carried_out word (page_at self.old page)).bytes }
+        ensures same { IfNone result (self.new ≡ self.old) }
+    {
+        let Either::Narrow(table) = &mut self.table else {
+            return None;
+        };
+        if !table.entry(page).suffices(word) {
+            return None;
+        }
+        Some(table.carry_out(page, word))
     }
 
     /// Carries a word out on the page. It can lack the memory for a page that is written for the first
