@@ -67,17 +67,6 @@ impl<M: Manager, A: Allocator> Model for Coherence<M, A> {
     }) × (c.config.pages ≤ most_pages → length c.spare ≡ c.config.page_size) };
 }
 
-/// Whether a word can be carried out at once where this is the access.
-fn suffices(access: Access, word: Word) -> bool
-    ensures { result ≡ suffices access word }
-{
-    if word.needs_write() {
-        access.writes()
-    } else {
-        access.reads()
-    }
-}
-
 /// Whether the words of a row can be carried out at once where this is the access.
 fn permits(access: Access, kind: Row) -> bool
     ensures { result ≡ permits access kind }
@@ -274,9 +263,45 @@ impl<M: Manager, A: Allocator> Coherence<M, A> {
         if self.locked.is_some() {
             return Ok(Need::Busy);
         }
+        if let Some(out) = self.table.hit(page, word) {
+            return Ok(Need::Have(out));
+        }
+        self.begin(page, word, call, post)
+    }
+
+    #[tactic(auto, unfolding(crate::specs::Faults::begun))]
+    #[inline(always)]
+    /// The access of [`Coherence::need`], whatever the table and the entry, where no word of this node waits.
+    ///
+    /// It stands apart, so that a word that hits does nothing that only other words need.
+    fn begin<P: Post>(
+        &mut self,
+        page: u32,
+        word: Word,
+        call: u64,
+        post: &mut P,
+    ) -> Result<Need, Fault>
+        requires page { page < self.old.config.pages }
+        requires word { IsWord self.old.config.page_size word }
+        requires free { self.old.locked ≡ None }
+        requires call { 1 ≤ call }
+        requires post { IsPostOf P.ops post.old self.old.config self.old.me }
+        ensures sure { OnErr result (HasToAsk self.old page word ⊎ MayMakePage self.old page word) }
+        ensures need { IfOk result (λ need. need ≡ (begun M.ops self.old page word call).need) }
+        ensures ok { OnOk result (self.new ≡ (begun M.ops self.old page word call).after) }
+        ensures posted { OnOk result
+            (post.new ≡ P.ops.after post.old (begun M.ops self.old page word call).posted) }
+        ensures err { OnErr result (self.new ≡ self.old) }
+        ensures took { OnOk result (P.ops.takes post.old (begun M.ops self.old page word call).posted) }
+        ensures fault { IfErr result (λ fault.
+            (IsWantOfPage self.old fault × (post.new ≡ post.old))
+            ⊎ HasRefused P.ops post.old post.new
+            (begun M.ops self.old page word call).posted fault) }
+        ensures want { IfErr result IsWant }
+    {
         match self.table.entry(page) {
             LentEntry::Idle(idle) => {
-                if suffices(idle.access(), word) {
+                if idle.access().suffices(word) {
                     return Ok(Need::Have(self.table.carry_out(page, word)?));
                 }
                 let idle = idle.copied();

@@ -1,9 +1,9 @@
 -- A row of words that is copied out of a page, or into it, is what carrying its words out one after
 -- another comes to.
 use Rattle.std.proofs.Common.{◌≡◌, ℕ, zero, suc, ◌+◌, ◌*◌, ◌%◌, ◌<◌, ◌≤◌, List}
-use Rattle.std.proofs.Common.{length, take, drop, All, refl, sym, ap, lit<, subst, arith}
+use Rattle.std.proofs.Common.{[], length, take, drop, All, refl, sym, ap, ◌∙◌, lit<, subst, arith}
 use Rattle.std.proofs.Common.{length-drop}
-use Rattle.std.proofs.lemmas.List.{drop-drop, places, same_lists}
+use Rattle.std.proofs.lemmas.List.{drop-drop, places, same_lists, set-get_or}
 use Rattle.std.proofs.lemmas.List.Elements.{All-drop}
 use Rattle.byteorder.specs.Endian.{big_number, big_bytes}
 use Rattle.ivy_model.specs.declared.Row.TheVariants.{Loads, Stores}
@@ -12,6 +12,8 @@ use Rattle.ivy_model.specs.Rows.{numbers_in}
 use Rattle.ivy_model.specs.Serves.{overwrite}
 use Rattle.ivy_model.proofs.Rows.{same_numbers}
 use Rattle.ivy_pagetable.specs.declared.word.Word.TheVariants.{Load, Store}
+use Rattle.ivy_pagetable.specs.TableState.{Table}
+use Rattle.ivy_pagetable.specs.Tables.{page_at, with_page}
 use Rattle.ivy_pagetable.specs.Words.{IsWord}
 use Rattle.ivy_pagetable.specs.Rows.{AreCarried, with_row}
 use Rattle.ivy_pagetable.proofs.Words.{bytes_of_number, length-overwrite}
@@ -38,6 +40,13 @@ loads (suc n) offset bytes aligned le =
 pub no_row : (offset : ℕ) (bytes from : List ℕ) → with_row bytes offset 0 from ≡ bytes
 no_row offset bytes from =
     same_lists _ _ (grind (arith, places)) (λ k d h. grind (arith, places))
+
+pub no_words : (t : Table) (page offset : ℕ) (from : List ℕ)
+    → t ≡ with_page t page (with_row (page_at t page) offset 0 from)
+no_words t page offset from =
+    sym (ap (with_page t page) (no_row offset (page_at t page) from)
+    ∙ ap (λ ps. record { page_size = t.page_size; entries = t.entries; pages = ps })
+    (set-get_or t.pages page []))
 
 -- stores put the bytes of the numbers there
 pub stores : (n offset : ℕ) (bytes from : List ℕ) → offset % 8 ≡ 0

@@ -1,28 +1,20 @@
 -- The entries and pages of a table of many pages.
-use Rattle.std.proofs.Common.{◌≡◌, ℕ, zero, suc, ◌<◌, List, [], ◌∷◌, length, get_or, set, replicate, refl, sym, ap, ◌∙◌, arith}
+use Rattle.std.proofs.Common.{◌≡◌, ℕ, zero, suc, ◌<◌, List, [], ◌∷◌, length, get_or, set, replicate, refl, sym, ap, ◌∙◌, subst, arith}
 use Rattle.std.proofs.Common.{map, All, Bool, true, false, ◌&&◌, eqb-true, Option, Some, None, eqb, inl, inr, if◌then◌else◌}
 use Rattle.std.proofs.lemmas.Bool.{cases_Bool, eq-eqb}
 use Rattle.std.proofs.lemmas.List.Elements.{All-get_or}
-use Rattle.std.proofs.lemmas.List.{length-map, length-set, get_or_default, get_or-map, get_or-set_same, get_or-set_other, set-set, set_comm, map-set}
+use Rattle.std.proofs.lemmas.List.{length-map, length-set, get_or-map, get_or-set_same, get_or-set_other, set-set, set_comm, map-set}
 use Rattle.ivy_model.specs.declared.Config.{Config}
 use Rattle.ivy_pagetable.specs.declared.entry.Entry.{Entry}
 use Rattle.ivy_pagetable.specs.declared.entry.Entry.TheVariants as entry
 use Rattle.ivy_pagetable.specs.declared.put_off.PutOff.{PutOff}
 use Rattle.ivy_pagetable.specs.declared.wide_table.Locked.{Locked}
-use Rattle.ivy_pagetable.specs.Entries.{owned, nothing, owning, without, is_locked, can_put_off, with_put_off}
+use Rattle.ivy_pagetable.specs.Entries.{nothing, without, is_locked, can_put_off, with_put_off}
 use Rattle.ivy_pagetable.specs.Pages.{shown_page, HasAllOrNone}
 use Rattle.ivy_pagetable.specs.States.{IdleState}
 use Rattle.ivy_pagetable.specs.TableState.{Table}
-use Rattle.ivy_pagetable.specs.Tables.{first_idle, first_entry, first_table, entry_at, page_at, with_entry, with_page}
+use Rattle.ivy_pagetable.specs.Tables.{first_entry, first_table, entry_at, page_at, with_entry, with_page}
 use Rattle.ivy_pagetable.specs.WideTables.{entries_in, WaitsAt, can_put_off_at, put_off_at, IsWideTable}
-
-idle_first : (me : ℕ) → entry.Idle (first_idle me) ≡ first_entry me
-idle_first me = elim (cases_Bool (eqb me 0)) [
-  | inl y ↦ ap (λ b. entry.Idle (if b then owning else without)) y
-      ∙ sym (ap (λ b. if b then owned else nothing) y)
-  | inr y ↦ ap (λ b. entry.Idle (if b then owning else without)) y
-      ∙ sym (ap (λ b. if b then owned else nothing) y)
-]
 
 each_of : {X Y : Type 0} (f : X → Y) (x : X) (n : ℕ) → map f (replicate n x) ≡ replicate n (f x)
 each_of f x zero = refl
@@ -30,7 +22,7 @@ each_of f x (suc n) = ap (λ ys. f x ∷ ys) (each_of f x n)
 
 -- the table at first
 pub first_wide : (c : Config) (me : ℕ) (idle : List IdleState) (pages : List (List ℕ))
-    → idle ≡ replicate c.pages (first_idle me) → pages ≡ replicate c.pages []
+    → map entry.Idle idle ≡ replicate c.pages (first_entry me) → pages ≡ replicate c.pages []
     → ◌≡◌ {A = Table}
     (record {
       page_size = c.page_size;
@@ -39,12 +31,9 @@ pub first_wide : (c : Config) (me : ℕ) (idle : List IdleState) (pages : List (
     })
     (first_table c me)
 first_wide c me idle pages idle_are pages_are =
-    let entries : entries_in idle None ≡ replicate c.pages (first_entry me) =
-    ap (map entry.Idle) idle_are ∙ each_of entry.Idle (first_idle me) c.pages
-    ∙ ap (replicate c.pages) (idle_first me) in
     let zeros : map (shown_page c.page_size) pages ≡ replicate c.pages (replicate c.page_size 0) =
     ap (map (shown_page c.page_size)) pages_are ∙ each_of (shown_page c.page_size) [] c.pages in
-    (λ j. record { page_size = c.page_size; entries = entries j; pages = zeros j })
+    (λ j. record { page_size = c.page_size; entries = idle_are j; pages = zeros j })
 
 pub entries_long : (idle : List IdleState) (locked : Option Locked)
     → length (entries_in idle locked) ≡ length idle
@@ -121,24 +110,17 @@ pub shown_whole : (size : ℕ) (bytes : List ℕ) → length bytes ≡ size → 
 shown_whole size [] long = ap (λ (n : ℕ). replicate n 0) (sym long)
 shown_whole size (b ∷ bytes) long = refl
 
--- a page has these bytes of its own from now on
+-- a page has these bytes from now on, which are its own
 pub page_set : (t : Table) (size : ℕ) (idle : List IdleState) (locked : Option Locked)
     (pages : List (List ℕ)) → seen_as size idle locked pages ≡ t
-    → (page : ℕ) (own bytes : List ℕ) → shown_page size own ≡ bytes
+    → (page : ℕ) (own bytes : List ℕ) → own ≡ bytes → length bytes ≡ t.page_size
     → seen_as size idle locked (set pages page own) ≡ with_page t page bytes
-page_set t size idle locked pages is page own bytes shown =
+page_set t size idle locked pages is page own bytes same long =
+    let whole : length own ≡ size = ap length same ∙ long ∙ sym (ap (λ x. x.page_size) is) in
     ap (λ ps. record { page_size = size; entries = entries_in idle locked; pages = ps })
-    (map-set (shown_page size) pages page own ∙ ap (set (map (shown_page size) pages) page) shown)
+    (map-set (shown_page size) pages page own
+    ∙ ap (set (map (shown_page size) pages) page) (shown_whole size own whole ∙ same))
     ∙ ap (λ x. with_page x page bytes) is
-
--- the bytes of a page, from those that it has of its own
-pub page_shown : (t : Table) (size : ℕ) (idle : List IdleState) (locked : Option Locked)
-    (pages : List (List ℕ)) → seen_as size idle locked pages ≡ t
-    → (page : ℕ) (own : List ℕ) → page < length pages → own ≡ get_or pages page own
-    → shown_page size own ≡ page_at t page
-page_shown t size idle locked pages is page own lt there =
-    ap (shown_page size) there ∙ sym (get_or-map (shown_page size) pages page own [] lt)
-    ∙ ap (λ x. page_at x page) is
 
 -- a page without bytes of its own is zeros, and another one is its own bytes
 shown_zeros : (size : ℕ) (own : List ℕ) → eqb (length own) 0 ≡ true
@@ -151,31 +133,53 @@ shown_own : (size : ℕ) (own : List ℕ) → eqb (length own) 0 ≡ false → s
 shown_own size [] some = absurd cc
 shown_own size (b ∷ bytes) some = refl
 
-pub blank_page : (t : Table) (size : ℕ) (idle : List IdleState) (locked : Option Locked)
-    (pages : List (List ℕ)) → seen_as size idle locked pages ≡ t
-    → (page : ℕ) (own : List ℕ) → page < length pages → own ≡ get_or pages page own
-    → (b : Bool) → b ≡ eqb (length own) 0 → b ≡ true → page_at t page ≡ replicate size 0
-blank_page t size idle locked pages is page own lt there b told none =
-    sym (page_shown t size idle locked pages is page own lt there)
-    ∙ shown_zeros size own (sym told ∙ none)
+-- a page of the table as which the fields are seen, and the bytes that it has of its own
+pub record OwnPage (t : Table) (size : ℕ) (idle : List IdleState) (locked : Option Locked)
+    (pages : List (List ℕ)) (page : ℕ) (own : List ℕ) : Type 0 where
+  pub is : seen_as size idle locked pages ≡ t
+  pub count : length pages ≡ length idle
+  pub sized : All (HasAllOrNone size) pages
+  pub inside : page < length t.entries
+  pub own_is : own ≡ get_or pages page own
 
-pub own_page : (t : Table) (size : ℕ) (idle : List IdleState) (locked : Option Locked)
-    (pages : List (List ℕ)) → seen_as size idle locked pages ≡ t
-    → (page : ℕ) (own : List ℕ) → page < length pages → own ≡ get_or pages page own
-    → (b : Bool) → b ≡ eqb (length own) 0 → b ≡ false → own ≡ page_at t page
-own_page t size idle locked pages is page own lt there b told some =
-    sym (shown_own size own (sym told ∙ some))
-    ∙ page_shown t size idle locked pages is page own lt there
+module _ {t : Table} {size : ℕ} {idle : List IdleState} {locked : Option Locked}
+    {pages : List (List ℕ)} {page : ℕ} {own : List ℕ}
+    (k : OwnPage t size idle locked pages page own) where
+  within_pages : page < length pages
+  within_pages =
+      let long = entries_long idle locked in
+      let there : length (entries_in idle locked) ≡ length t.entries =
+      ap (λ (x : Table). length x.entries) k.is in
+      let count = k.count in let inside = k.inside in omega (arith, inside, count, long, there)
 
--- and it has as many bytes as a page has
-pub page_whole : (t : Table) (size : ℕ) (idle : List IdleState) (locked : Option Locked)
-    (pages : List (List ℕ)) → seen_as size idle locked pages ≡ t → All (HasAllOrNone size) pages
-    → (page : ℕ) → page < length pages → length (page_at t page) ≡ size
-page_whole t size idle locked pages is sized page lt =
-    let own : List ℕ = get_or pages page [] in
-    ap length (sym (page_shown t size idle locked pages is page own lt
-    (get_or_default pages page [] own lt)))
-    ∙ All-get_or (HasAllOrNone size) pages page [] lt sized
+  -- its bytes are these, or zeros where it has none
+  pub shown : shown_page size own ≡ page_at t page
+  shown =
+      ap (shown_page size) k.own_is
+      ∙ sym (get_or-map (shown_page size) pages page own [] within_pages)
+      ∙ ap (λ x. page_at x page) k.is
+
+  pub blank : (b : Bool) → b ≡ eqb (length own) 0 → b ≡ true → page_at t page ≡ replicate size 0
+  blank b told none = sym shown ∙ shown_zeros size own (sym told ∙ none)
+
+  pub has_own : (b : Bool) → b ≡ eqb (length own) 0 → b ≡ false → own ≡ page_at t page
+  has_own b told some = sym (shown_own size own (sym told ∙ some)) ∙ shown
+
+  -- as many as a page has
+  pub whole : length (page_at t page) ≡ size
+  whole =
+      ap length (sym shown)
+      ∙ subst (HasAllOrNone size) (sym k.own_is)
+      (All-get_or (HasAllOrNone size) pages page own within_pages k.sized)
+
+  -- it has other bytes of its own from now on, which were made of those that it had
+  pub changed : (f : List ℕ → List ℕ) (old new : List ℕ) → old ≡ page_at t page → new ≡ f old
+      → length new ≡ length old
+      → seen_as size idle locked (set pages page new) ≡ with_page t page (f (page_at t page))
+  changed f old new at made long =
+      let same : new ≡ f (page_at t page) = made ∙ ap f at in
+      page_set t size idle locked pages k.is page new (f (page_at t page)) same
+      (sym (ap length same) ∙ long ∙ ap length at ∙ whole ∙ ap (λ x. x.page_size) k.is)
 
 -- another entry stands at a page from now on
 pub entries_set : (t : Table) (size : ℕ) (idle : List IdleState) (locked : Option Locked)
@@ -187,16 +191,6 @@ entries_set t size idle locked pages is page e f idle' locked' same sets =
     ap (λ es. record { page_size = size; entries = es; pages = map (shown_page size) pages })
     (sets ∙ ap (set (entries_in idle locked) page) same)
     ∙ ap (λ x. with_entry x page f) is
-
--- there are as many pages as entries
-pub as_many : (t : Table) (size : ℕ) (idle : List IdleState) (locked : Option Locked)
-    (pages : List (List ℕ)) → seen_as size idle locked pages ≡ t → length pages ≡ length idle
-    → (page : ℕ) → page < length t.entries → page < length pages
-as_many t size idle locked pages is count page lt =
-    let long = entries_long idle locked in
-    let there : length (entries_in idle locked) ≡ length t.entries =
-    ap (λ (x : Table). length x.entries) is in
-    omega (arith, lt, count, long, there)
 
 -- at an idle entry nothing is put off
 none_off : (idle : List IdleState) (page : ℕ) → page < length idle

@@ -7,7 +7,7 @@ use Rattle.ivy_pagetable.specs.declared.access.Access.TheVariants.{Nil, Read, Wr
 use Rattle.ivy_pagetable.specs.declared.put_off.PutOff.{PutOff}
 use Rattle.ivy_pagetable.specs.declared.word.Word.{Word}
 use Rattle.ivy_pagetable.specs.Limits.{most_put_off}
-use Rattle.ivy_pagetable.specs.Accesses.{reads, writes}
+use Rattle.ivy_pagetable.specs.Accesses.{reads, writes, suffices}
 use Rattle.ivy_pagetable.specs.NodeSets.{Nodes}
 use Rattle.ivy_pagetable.specs.States.{IdleState, WaitingState}
 
@@ -45,6 +45,13 @@ writable (entry.Idle s) = writes s.access
 writable (entry.AwaitRead s) = false
 writable (entry.AwaitWrite s) = false
 writable (entry.AwaitAcks s) = false
+
+-- a word may be carried out here at once: none waits, and the access suffices for it
+abbrev pub suffices_at : Entry → Word → Bool
+suffices_at (entry.Idle s) word = suffices s.access word
+suffices_at (entry.AwaitRead s) word = false
+suffices_at (entry.AwaitWrite s) word = false
+suffices_at (entry.AwaitAcks s) word = false
 
 -- at an owner the nodes that have a copy, or whose acknowledgement is missing
 abbrev pub copies_of : Entry → Nodes

@@ -1,12 +1,12 @@
 pub mod Limits
-pub mod Accesses
 pub mod NodeSets
 pub mod Bits
 pub mod States
+pub mod Words
+pub mod Accesses
 pub mod Entries
 pub mod TableState
 pub mod Tables
-pub mod Words
 pub mod Rows
 pub mod Lent
 pub mod Pages

@@ -2,8 +2,7 @@
 use Rattle.std.specs.Prelude.{◌≡◌, ℕ, List, [], slice_index_or, slice_set, replicate, if◌then◌else◌, ◌==◌}
 use Rattle.ivy_model.specs.declared.Config.{Config}
 use Rattle.ivy_pagetable.specs.declared.entry.Entry.{Entry}
-use Rattle.ivy_pagetable.specs.Entries.{nothing, owned, owning, without}
-use Rattle.ivy_pagetable.specs.States.{IdleState}
+use Rattle.ivy_pagetable.specs.Entries.{nothing, owned}
 use Rattle.ivy_pagetable.specs.TableState.{Table}
 
 -- the entry of a page; beyond the pages one of nothing
@@ -31,10 +30,6 @@ with_page t page bytes =
 -- at first node 0 owns each page, and all bytes are 0
 abbrev pub first_entry : ℕ → Entry
 first_entry me = if me == 0 then owned else nothing
-
--- that entry's state, in which no word waits
-abbrev pub first_idle : ℕ → IdleState
-first_idle me = if me == 0 then owning else without
 
 -- the table of a node as the world begins
 abbrev pub first_table : Config → ℕ → Table

@@ -1,5 +1,7 @@
 ghost use Rattle.std.specs.Prelude.{◌≡◌};
-ghost use Rattle.ivy_pagetable.specs.Accesses.{reads, writes};
+ghost use Rattle.ivy_pagetable.specs.Accesses.{reads, writes, suffices};
+
+use crate::word::Word;
 
 /// What this node's program may do with a page without asking another node: the page's protection,
 /// after Li and Hudak (1989).
@@ -26,5 +28,17 @@ impl Access {
         ensures { result ≡ writes self }
     {
         self == Access::Write
+    }
+
+    /// Whether a word can be carried out with it.
+    #[inline(always)]
+    pub fn suffices(self, word: Word) -> bool
+        ensures { result ≡ suffices self word }
+    {
+        if word.needs_write() {
+            self.writes()
+        } else {
+            self.reads()
+        }
     }
 }

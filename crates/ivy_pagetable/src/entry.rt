@@ -1,11 +1,12 @@
 ghost use Rattle.std.specs.Prelude.{◌≡◌, if◌then◌else◌};
-ghost use Rattle.ivy_pagetable.specs.Entries.{is_locked, is_owner, readable, writable, can_put_off, with_put_off};
+ghost use Rattle.ivy_pagetable.specs.Entries.{is_locked, is_owner, readable, writable, suffices_at, can_put_off, with_put_off};
 
 use crate::await_acks::AwaitAcks;
 use crate::await_write::AwaitWrite;
 use crate::idle::Idle;
 use crate::put_off::PutOff;
 use crate::waiting::Waiting;
+use crate::word::Word;
 
 /// The entry of a page at a node.
 #[derive(Drop)]
@@ -60,6 +61,17 @@ impl Entry {
     {
         match self {
             Entry::Idle(idle) => idle.access().writes(),
+            Entry::AwaitRead(_) | Entry::AwaitWrite(_) | Entry::AwaitAcks(_) => false,
+        }
+    }
+
+    /// Whether a word can be carried out at once: no word waits for the page, and the access suffices.
+    #[inline(always)]
+    pub(crate) fn suffices(&self, word: Word) -> bool
+        ensures { result ≡ suffices_at self.now word }
+    {
+        match self {
+            Entry::Idle(idle) => idle.access().suffices(word),
             Entry::AwaitRead(_) | Entry::AwaitWrite(_) | Entry::AwaitAcks(_) => false,
         }
     }

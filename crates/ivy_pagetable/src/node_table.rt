@@ -1,10 +1,11 @@
 //! The page table of a node of any configuration.
-ghost use Rattle.std.specs.Prelude.{◌≡◌, ◌+◌, ◌*◌, ◌%◌, ℕ, ◌<◌, ◌≤◌, ◌⊎◌, true, All, length, drop, if◌then◌else◌, IfOk, OnOk, OnErr, IsOkUnless};
+ghost use Rattle.std.specs.Prelude.{◌≡◌, ◌+◌, ◌*◌, ◌%◌, ℕ, ◌<◌, ◌≤◌, ◌⊎◌, true, false, All, length, drop, if◌then◌else◌, IsTrue, IsFalse, IsSome, IfSome, IfNone, IfOk, OnOk, OnErr, IsOkUnless};
 ghost use Rattle.ivy_model.specs.declared.Row.TheVariants.{Loads, Stores};
 ghost use Rattle.ivy_model.specs.Rows.{numbers_in};
 ghost use Rattle.ivy_model.specs.Config.{IsConfig};
+ghost use Rattle.ivy_model.specs.Serves.{overwrite};
 ghost use Rattle.ivy_model.specs.Limits.{most_pages};
-ghost use Rattle.ivy_pagetable.specs.Entries.{can_put_off, with_put_off, is_locked};
+ghost use Rattle.ivy_pagetable.specs.Entries.{can_put_off, with_put_off, is_locked, suffices_at};
 ghost use Rattle.ivy_pagetable.specs.Either.{MayBeUnmade};
 ghost use Rattle.ivy_pagetable.specs.Lent.{lent_entry};
 ghost use Rattle.ivy_pagetable.specs.Tables.{entry_at, page_at, with_entry, with_page, first_table};
@@ -15,6 +16,7 @@ use crate::entry::Entry;
 use crate::lent::LentEntry;
 use crate::page::Page;
 use crate::put_off::PutOff;
+use crate::row::{put, row_len};
 use crate::table::PageTable;
 use crate::wide_table::WideTable;
 use crate::word::{Out, Word};
@@ -162,6 +164,30 @@ impl<A: Allocator> NodeTable<A> {
         }
     }
 
+    /// Carries a word out on the page at once, where no word waits for it, the access suffices and there are 256 pages at
+    /// most, and says what the word gives. Else nothing changes.
+    ///
+    /// A word that hits goes this way alone, which looks at one entry and at one page, and leaves out what other tables and
+    /// other entries need.
+    #[inline(always)]
+    pub fn hit(&mut self, page: u32, word: Word) -> Option<Out>
+        requires page { page < length self.old.entries }
+        requires word { IsWord self.old.page_size word }
+        ensures hit { IsSome result → suffices_at (entry_at self.old page) word ≡ true }
+        ensures miss { IfNone result ((suffices_at (entry_at self.old page) word ≡ false) ⊎ (most_pages < length self.old.entries)) }
+        ensures out { IfSome result (λ out. out ≡ (carried_out word (page_at self.old page)).out) }
+        ensures bytes { IsSome result → self.new ≡ with_page self.old page (carried_out word (page_at self.old page)).bytes }
+        ensures same { IfNone result (self.new ≡ self.old) }
+    {
+        let Either::Narrow(table) = &mut self.table else {
+            return None;
+        };
+        if !table.entry(page).suffices(word) {
+            return None;
+        }
+        Some(table.carry_out(page, word))
+    }
+
     /// Carries a word out on the page. It can lack the memory for a page that is written for the first
     /// time, where there are more than 256 pages; nothing changes then.
     #[inline(always)]
@@ -196,6 +222,24 @@ impl<A: Allocator> NodeTable<A> {
         }
     }
 
+    /// Copies bytes over those at a place in the page, and says whether it did: where there are more than 256 pages, it does
+    /// not on a page that is not made yet.
+    fn put(&mut self, page: u32, start: usize, from: &[u8]) -> bool
+        requires page { page < length self.old.entries }
+        requires within { start + length from.now ≤ self.old.page_size }
+        ensures put { IsTrue result → self.new ≡ with_page self.old page (overwrite (page_at self.old page) start from.now) }
+        ensures unmade { IsFalse result → MayBeUnmade self.old page }
+        ensures same { IsFalse result → self.new ≡ self.old }
+    {
+        match &mut self.table {
+            Either::Narrow(table) => {
+                table.put(page, start, from);
+                true
+            }
+            Either::Wide(table) => table.put(page, start, from),
+        }
+    }
+
     /// Loads words of 8 bytes from a place in the page on, whose bytes it copies, and says how many words: as many as
     /// `into` has room for and as lie in the page.
     #[inline]
@@ -210,10 +254,11 @@ impl<A: Allocator> NodeTable<A> {
         ensures rest { drop (8 * result) into.new ≡ drop (8 * result) into.old }
         ensures sized { length into.new ≡ length into.old }
     {
-        match &self.table {
-            Either::Narrow(table) => table.load_row(page, offset, into),
-            Either::Wide(table) => table.load_row(page, offset, into),
-        }
+        let bytes = self.page(page);
+        let words = row_len(bytes.len(), offset, into.len());
+        let start = offset as usize;
+        put(into, 0, &bytes[start..start + 8 * words]);
+        words
     }
 
     /// Stores words of 8 bytes from a place in the page on, whose bytes it copies, and says how many words: as many as
@@ -230,9 +275,10 @@ impl<A: Allocator> NodeTable<A> {
         ensures carried { AreCarried Stores offset (numbers_in result from.now) (page_at self.old page) (with_row (page_at self.old page) offset result from.now) }
         ensures bytes { self.new ≡ with_page self.old page (with_row (page_at self.old page) offset result from.now) }
     {
-        match &mut self.table {
-            Either::Narrow(table) => table.store_row(page, offset, from),
-            Either::Wide(table) => table.store_row(page, offset, from),
+        let words = row_len(self.page(page).len(), offset, from.len());
+        if !self.put(page, offset as usize, &from[..8 * words]) {
+            return 0;
         }
+        words
     }
 }

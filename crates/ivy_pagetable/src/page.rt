@@ -1,6 +1,6 @@
-ghost use Rattle.std.specs.Prelude.{◌≡◌, ◌≢◌, ◌==◌, ◌+◌, ◌*◌, ◌≤◌, ℕ, List, [], length, replicate, IfOk, OnOk, OnErr};
+ghost use Rattle.std.specs.Prelude.{◌≡◌, ◌≢◌, ◌==◌, ◌+◌, ◌≤◌, ℕ, List, [], length, replicate, IfOk, OnOk, OnErr};
+ghost use Rattle.ivy_model.specs.Serves.{overwrite};
 ghost use Rattle.ivy_pagetable.specs.Pages.{shown_page};
-ghost use Rattle.ivy_pagetable.specs.Rows.{with_row};
 ghost use Rattle.ivy_pagetable.specs.Words.{IsWord, carried_out};
 
 use crate::row::put;
@@ -91,14 +91,13 @@ impl<A: Allocator> Page<A> {
         self.bytes.fill(0);
     }
 
-    /// Copies the bytes of so many words of 8 bytes to a place in the page.
-    pub(crate) fn store_row(&mut self, offset: u32, words: usize, from: &[u8])
-        requires fits { 8 * words ≤ length from.now }
-        requires within { offset + 8 * words ≤ length self.old }
-        ensures bytes { self.new ≡ with_row self.old offset words from.now }
+    /// Copies bytes over those at a place in the page.
+    pub(crate) fn put(&mut self, start: usize, from: &[u8])
+        requires { start + length from.now ≤ length self.old }
+        ensures bytes { self.new ≡ overwrite self.old start from.now }
         ensures sized { length self.new ≡ length self.old }
     {
-        put(&mut self.bytes, offset as usize, &from[..8 * words]);
+        put(&mut self.bytes, start, from);
     }
 
     /// The bytes, lent.

@@ -5,13 +5,13 @@ ghost use Rattle.ivy_pagetable.specs.Rows.{row_len};
 
 /// How many words of 8 bytes lie in a page of this size from a place on, and in `len` bytes.
 #[inline(always)]
-pub(crate) fn row_len(page_size: u32, offset: u32, len: usize) -> usize
+pub(crate) fn row_len(page_size: usize, offset: u32, len: usize) -> usize
     requires { offset ≤ page_size }
     ensures many { result ≡ row_len page_size offset len }
     ensures fits { 8 * result ≤ len }
     ensures within { offset + 8 * result ≤ page_size }
 {
-    let left = (page_size - offset) as usize;
+    let left = page_size - offset as usize;
     (left / 8).min(len / 8)
 }
 

@@ -1,18 +1,16 @@
-ghost use Rattle.std.specs.Prelude.{◌≡◌, ◌+◌, ◌*◌, ◌%◌, ◌<◌, ◌≤◌, All, length, drop, replicate, if◌then◌else◌, IfOk, IsOkUnless};
+ghost use Rattle.std.specs.Prelude.{◌≡◌, ◌+◌, ◌*◌, ◌<◌, ◌≤◌, All, length, replicate, if◌then◌else◌, IfOk, IsOkUnless};
 ghost use Rattle.std.specs.List.{concat};
-ghost use Rattle.ivy_model.specs.declared.Row.TheVariants.{Loads, Stores};
 ghost use Rattle.ivy_model.specs.Config.{IsConfig};
-ghost use Rattle.ivy_model.specs.Rows.{numbers_in};
+ghost use Rattle.ivy_model.specs.Serves.{overwrite};
 ghost use Rattle.ivy_pagetable.specs.Entries.{can_put_off, with_put_off};
 ghost use Rattle.ivy_pagetable.specs.Tables.{first_entry, entry_at, page_at, with_entry, with_page, first_table};
-ghost use Rattle.ivy_pagetable.specs.Rows.{row_len, AreCarried, with_row};
 ghost use Rattle.ivy_pagetable.specs.Words.{IsWord, carried_out, width_of, offset_of, number_at};
 
 use crate::access::Access;
 use crate::entry::Entry;
 use crate::idle::Idle;
 use crate::put_off::PutOff;
-use crate::row::{put, row_len};
+use crate::row::put;
 use crate::word::{Out, Word};
 use ivy_model::{Config, Fault};
 use std::alloc::{AllocError, Allocator};
@@ -44,13 +42,14 @@ impl<A: Allocator> Model for PageTable<A> {
     ghost invariant = { λ t. length t.region.items ≡ length t.entries.items * t.page_size };
 }
 
-fn first_entry(me: u8) -> Entry
-    ensures { result ≡ first_entry me }
+/// The state of each entry at first: node 0 owns the page, and the others have nothing of it.
+pub(crate) fn first_idle(me: u8) -> Idle
+    ensures { Entry.Idle result ≡ first_entry me }
 {
     if me == 0 {
-        Entry::Idle(Idle::owned())
+        Idle::owned()
     } else {
-        Entry::Idle(Idle::plain(Access::Nil))
+        Idle::plain(Access::Nil)
     }
 }
 
@@ -59,7 +58,7 @@ fn first_entries<A: Allocator>(alloc: A, pages: u32, me: u8) -> Result<Vec<Entry
 {
     let mut entries = Vec::new(alloc);
     for _ in 0..pages {
-        entries.push(first_entry(me))?;
+        entries.push(Entry::Idle(first_idle(me)))?;
     }
     Ok(entries)
 }
@@ -181,41 +180,12 @@ impl<A: Allocator> PageTable<A> {
         word.carry_out(self.page_mut(page))
     }
 
-    /// Loads words of 8 bytes from a place in the page on, whose bytes it copies, and says how many words: as many as
-    /// `into` has room for and as lie in the page.
-    #[inline]
-    pub fn load_row(&self, page: u32, offset: u32, into: &mut [u8]) -> usize
-        requires page { page < length self.now.entries }
-        requires aligned { offset % 8 ≡ 0 }
-        requires within { offset ≤ self.now.page_size }
-        ensures many { result ≡ row_len self.now.page_size offset (length into.old) }
-        ensures fits { 8 * result ≤ length into.old }
-        ensures within { offset + 8 * result ≤ self.now.page_size }
-        ensures carried { AreCarried Loads offset (numbers_in result into.new) (page_at self.now page) (page_at self.now page) }
-        ensures rest { drop (8 * result) into.new ≡ drop (8 * result) into.old }
-        ensures sized { length into.new ≡ length into.old }
-    {
-        let words = row_len(self.page_size, offset, into.len());
-        let start = offset as usize;
-        put(into, 0, &self.page(page)[start..start + 8 * words]);
-        words
-    }
-
-    /// Stores words of 8 bytes from a place in the page on, whose bytes it copies, and says how many words: as many as
-    /// `from` has and as lie in the page.
-    #[inline]
-    pub fn store_row(&mut self, page: u32, offset: u32, from: &[u8]) -> usize
+    /// Copies bytes over those at a place in the page.
+    pub(crate) fn put(&mut self, page: u32, start: usize, from: &[u8])
         requires page { page < length self.old.entries }
-        requires aligned { offset % 8 ≡ 0 }
-        requires within { offset ≤ self.old.page_size }
-        ensures many { result ≡ row_len self.old.page_size offset (length from.now) }
-        ensures fits { 8 * result ≤ length from.now }
-        ensures within { offset + 8 * result ≤ self.old.page_size }
-        ensures carried { AreCarried Stores offset (numbers_in result from.now) (page_at self.old page) (with_row (page_at self.old page) offset result from.now) }
-        ensures bytes { self.new ≡ with_page self.old page (with_row (page_at self.old page) offset result from.now) }
+        requires within { start + length from.now ≤ self.old.page_size }
+        ensures { self.new ≡ with_page self.old page (overwrite (page_at self.old page) start from.now) }
     {
-        let words = row_len(self.page_size, offset, from.len());
-        put(self.page_mut(page), offset as usize, &from[..8 * words]);
-        words
+        put(self.page_mut(page), start, from);
     }
 }

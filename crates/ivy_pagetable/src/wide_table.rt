@@ -1,22 +1,19 @@
 //! The page table of a node that has many pages and uses few.
-ghost use Rattle.std.specs.Prelude.{◌≡◌, ◌+◌, ◌*◌, ◌%◌, ℕ, ◌<◌, ◌≤◌, ◌⊎◌, true, [], All, length, drop, replicate, if◌then◌else◌, ◌↔◌, IsTrue, IfOk, OnOk, OnErr, IsOkUnless};
-ghost use Rattle.ivy_model.specs.declared.Row.TheVariants.{Loads, Stores};
+ghost use Rattle.std.specs.Prelude.{◌≡◌, ◌+◌, ℕ, ◌<◌, ◌≤◌, true, [], All, length, map, replicate, if◌then◌else◌, ◌↔◌, IsTrue, IsFalse, IfOk, OnOk, OnErr, IsOkUnless};
 ghost use Rattle.ivy_model.specs.Config.{IsConfig};
-ghost use Rattle.ivy_model.specs.Rows.{numbers_in};
+ghost use Rattle.ivy_model.specs.Serves.{overwrite};
 ghost use Rattle.ivy_pagetable.specs.Entries.{can_put_off, with_put_off, is_locked};
 ghost use Rattle.ivy_pagetable.specs.Lent.{lent_entry};
-ghost use Rattle.ivy_pagetable.specs.Tables.{first_idle, entry_at, page_at, IsBlank, with_entry, with_page, first_table};
+ghost use Rattle.ivy_pagetable.specs.Tables.{first_entry, entry_at, page_at, IsBlank, with_entry, with_page, first_table};
 ghost use Rattle.ivy_pagetable.specs.WideTables.{WaitsAt, can_put_off_at, put_off_at};
-ghost use Rattle.ivy_pagetable.specs.Rows.{row_len, AreCarried, with_row};
 ghost use Rattle.ivy_pagetable.specs.Words.{IsWord, carried_out, needs_write, width_of, offset_of, number_at};
 
-use crate::access::Access;
 use crate::entry::Entry;
 use crate::idle::Idle;
 use crate::lent::LentEntry;
 use crate::page::Page;
 use crate::put_off::PutOff;
-use crate::row::{put, row_len};
+use crate::table::first_idle;
 use crate::word::{Out, Word};
 use ivy_model::{Config, Fault};
 use std::alloc::{AllocError, Allocator};
@@ -60,18 +57,8 @@ impl<A: Allocator> Model for WideTable<A> {
     ghost invariant = { λ t. IsWideTable t.page_size t.idle.items t.locked t.pages.items t.zeros };
 }
 
-fn first_idle(me: u8) -> Idle
-    ensures { result ≡ first_idle me }
-{
-    if me == 0 {
-        Idle::owned()
-    } else {
-        Idle::plain(Access::Nil)
-    }
-}
-
 fn first_idles<A: Allocator>(alloc: A, pages: u32, me: u8) -> Result<Vec<Idle, A>, AllocError>
-    ensures { IfOk result (λ idles. idles.items ≡ replicate pages (first_idle me)) }
+    ensures { IfOk result (λ idles. map Entry.Idle idles.items ≡ replicate pages (first_entry me)) }
 {
     let mut idles = Vec::with_capacity(alloc, pages as usize)?;
     for _ in 0..pages {
@@ -266,45 +253,19 @@ impl<A: Allocator> WideTable<A> {
         let _ = own.carry_out(word);
     }
 
-    /// Loads words of 8 bytes from a place in the page on, whose bytes it copies, and says how many words: as many as
-    /// `into` has room for and as lie in the page.
-    #[inline]
-    pub fn load_row(&self, page: u32, offset: u32, into: &mut [u8]) -> usize
-        requires page { page < length self.now.entries }
-        requires aligned { offset % 8 ≡ 0 }
-        requires within { offset ≤ self.now.page_size }
-        ensures many { result ≡ row_len self.now.page_size offset (length into.old) }
-        ensures fits { 8 * result ≤ length into.old }
-        ensures within { offset + 8 * result ≤ self.now.page_size }
-        ensures carried { AreCarried Loads offset (numbers_in result into.new) (page_at self.now page) (page_at self.now page) }
-        ensures rest { drop (8 * result) into.new ≡ drop (8 * result) into.old }
-        ensures sized { length into.new ≡ length into.old }
-    {
-        let words = row_len(self.page_size, offset, into.len());
-        let start = offset as usize;
-        put(into, 0, &self.page(page)[start..start + 8 * words]);
-        words
-    }
-
-    /// Stores words of 8 bytes from a place in the page on, whose bytes it copies, and says how many words: as many as
-    /// `from` has and as lie in the page, or none where the page has no bytes of its own.
-    #[inline]
-    pub fn store_row(&mut self, page: u32, offset: u32, from: &[u8]) -> usize
+    /// Copies bytes over those at a place in the page, where it has bytes of its own, and says whether it has.
+    pub(crate) fn put(&mut self, page: u32, start: usize, from: &[u8]) -> bool
         requires page { page < length self.old.entries }
-        requires aligned { offset % 8 ≡ 0 }
-        requires within { offset ≤ self.old.page_size }
-        ensures many { (result ≡ row_len self.old.page_size offset (length from.now)) ⊎ ((result ≡ 0) × IsBlank self.old page) }
-        ensures fits { 8 * result ≤ length from.now }
-        ensures within { offset + 8 * result ≤ self.old.page_size }
-        ensures carried { AreCarried Stores offset (numbers_in result from.now) (page_at self.old page) (with_row (page_at self.old page) offset result from.now) }
-        ensures bytes { self.new ≡ with_page self.old page (with_row (page_at self.old page) offset result from.now) }
+        requires within { start + length from.now ≤ self.old.page_size }
+        ensures put { IsTrue result → self.new ≡ with_page self.old page (overwrite (page_at self.old page) start from.now) }
+        ensures blank { IsFalse result → IsBlank self.old page }
+        ensures same { IsFalse result → self.new ≡ self.old }
     {
         let own = &mut self.pages[page as usize];
         if own.is_none() {
-            return 0;
+            return false;
         }
-        let words = row_len(self.page_size, offset, from.len());
-        own.store_row(offset, words, from);
-        words
+        own.put(start, from);
+        true
     }
 }

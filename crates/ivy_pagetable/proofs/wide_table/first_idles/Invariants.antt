@@ -1,6 +1,7 @@
-use Rattle.std.proofs.Common.{◌≡◌, replicate}
-use Rattle.ivy_pagetable.specs.Tables.{first_idle}
+use Rattle.std.proofs.Common.{◌≡◌, map, replicate}
+use Rattle.ivy_pagetable.specs.declared.entry.Entry.TheVariants as entry
+use Rattle.ivy_pagetable.specs.Tables.{first_entry}
 use Rattle.ivy_pagetable.proofs.wide_table.first_idles.Given as goal
 
 abbrev pub invariant-loop : goal.invariant-loop
-invariant-loop g l = l.idles.items ≡ replicate l.counter (first_idle l.me)
+invariant-loop g l = map entry.Idle l.idles.items ≡ replicate l.counter (first_entry l.me)

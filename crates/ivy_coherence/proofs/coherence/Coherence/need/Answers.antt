@@ -1,44 +1,10 @@
-use Rattle.std.proofs.Common.{◌≡◌, true, false, List, sym, ap, ◌∙◌, subst, is_some}
-use Rattle.ivy_wire.specs.Data.{Parcel}
-use Rattle.ivy_pagetable.specs.Lent.{lent_entry}
-use Rattle.ivy_coherence.specs.Faults.{suffices}
-use Rattle.ivy_coherence.proofs.Opened.{asks, hit_posts, hit_sound, none_of}
+use Rattle.std.proofs.Common.{refl}
+use Rattle.ivy_coherence.proofs.Opened.{hit_sound}
 use Rattle.ivy_coherence.proofs.coherence.Coherence.need.Goals as goal
 
-pub invariant_of-self-then-suffices : goal.invariant_of-self-then-suffices
-invariant_of-self-then-suffices g c = (
+pub invariant_of-self : goal.invariant_of-self
+invariant_of-self g c = (
   hit_sound g.met.M.Manager.laws _ _ c.self.view_is c.self.invariant.0 c.args.page c.args.word _
-      c.requires.page c.requires.word c.in_ok-carry_out-in-Idle.ensures.bytes,
+      c.requires.page c.requires.word (c.in-Some.ensures.bytes refl),
   c.self.invariant.1,
 )
-
-pub returns-then-suffices-clause-posted : goal.returns-then-suffices-clause-posted
-returns-then-suffices-clause-posted g c =
-    let enough : suffices c.in-Idle.idle.now.access c.args.word ≡ true =
-    rw c.access.ensures.access at (sym c.suffices.ensures ∙ c.if-suffices.true) in
-    let free : is_some c.self.inside.locked ≡ false = cc in
-    sym (g.met.P.Post.laws.after_none c.args.post.now)
-    ∙ ap (g.P.Post.ops.after c.args.post.now)
-    (hit_posts g.met.M.Manager.laws _ _ c.self.view_is c.self.invariant.0 c.args.page c.args.word
-    c.args.call c.in-Idle.idle.now (none_of c.self.inside.locked free)
-    (sym c.entry.ensures ∙ ap lent_entry c.in-Idle.is) enough)
-
-pub returns-then-suffices-clause-took : goal.returns-then-suffices-clause-took
-returns-then-suffices-clause-took g c =
-    let enough : suffices c.in-Idle.idle.now.access c.args.word ≡ true =
-    rw c.access.ensures.access at (sym c.suffices.ensures ∙ c.if-suffices.true) in
-    let free : is_some c.self.inside.locked ≡ false = cc in
-    subst (λ (ps : List Parcel). g.P.Post.ops.takes c.args.post.now ps)
-    (hit_posts g.met.M.Manager.laws _ _ c.self.view_is c.self.invariant.0 c.args.page c.args.word
-    c.args.call c.in-Idle.idle.now (none_of c.self.inside.locked free)
-    (sym c.entry.ensures ∙ ap lent_entry c.in-Idle.is) enough)
-    (g.met.P.Post.laws.takes_none c.args.post.now)
-
-pub returns-in_err-start-in-Idle-clause-sure : goal.returns-in_err-start-in-Idle-clause-sure
-returns-in_err-start-in-Idle-clause-sure g c =
-    let short : suffices c.in-Idle.idle.now.access c.args.word ≡ false =
-    rw c.access.ensures.access at (sym c.suffices.ensures ∙ c.if-suffices.false) in
-    let free : is_some c.self.inside.locked ≡ false = cc in
-    asks _ _ c.self.view_is c.args.page c.args.word c.in-Idle.idle.now
-    c.from_residual-in_err-start-in-Idle.result (none_of c.self.inside.locked free)
-    (sym c.entry.ensures ∙ ap lent_entry c.in-Idle.is) short

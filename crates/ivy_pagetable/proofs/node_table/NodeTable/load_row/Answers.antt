@@ -4,16 +4,13 @@ use Rattle.ivy_model.specs.Rows.{numbers_in}
 use Rattle.ivy_model.specs.Serves.{overwrite}
 use Rattle.ivy_pagetable.specs.Rows.{AreCarried}
 use Rattle.ivy_pagetable.proofs.RowsCarried.{loads, loaded}
-use Rattle.ivy_pagetable.proofs.wide_table.WideTable.load_row.Goals as goal
+use Rattle.ivy_pagetable.proofs.node_table.NodeTable.load_row.Goals as goal
 
 pub returns-clause-carried : goal.returns-clause-carried
 returns-clause-carried g c =
     let words : ℕ = c.row_len-words.result in
-    let bytes : List ℕ = c.page.result.now in
-    let size : c.self.inside.page_size ≡ c.args.self.now.page_size =
-    ap (λ t. t.page_size) c.self.view_is in
-    let within : c.args.offset + 8 * words ≤ length bytes =
-    omega (arith, size, c.page.ensures.sized, c.row_len-words.ensures.within) in
+    let bytes : List ℕ = c.page-bytes.result.now in
+    let within : c.args.offset + 8 * words ≤ length bytes = c.row_len-words.ensures.within in
     let count : c.args.offset + 8 * words - c.args.offset ≡ 8 * words = omega arith in
     let put : c.put.new.into ≡ overwrite c.args.into.now 0 (take (8 * words) (drop c.args.offset bytes)) =
     c.put.ensures
@@ -22,6 +19,6 @@ returns-clause-carried g c =
     ap (numbers_in words) put
     ∙ loaded words c.args.offset bytes c.args.into.now within c.row_len-words.ensures.fits in
     subst (λ b. AreCarried Loads c.args.offset (numbers_in words c.put.new.into) b b)
-    c.page.ensures.bytes
+    c.page-bytes.ensures.bytes
     (subst (λ ns. AreCarried Loads c.args.offset ns bytes bytes) (sym numbers)
     (loads words c.args.offset bytes c.requires.aligned within))
