@@ -5,79 +5,68 @@ use std::io::{self, Write};
 
 /// What was expected.
 #[derive(Clone, Copy)]
-pub enum Wanted {
-    /// A word that begins a line, of which one is nearly what stands there.
-    Keyword(Option<&'static str>),
-    Register,
-    Number,
-    Width,
-    Byte,
-    Name,
-    /// No further word.
-    End,
-    /// The number of the next node.
-    Node(u64),
-    /// A line `node 0` before this one.
-    FirstNode,
-    /// A label of this node.
-    Label,
-    /// A name that no other label of this node has.
-    NewLabel,
-    /// A line `ivy order` before this one.
-    FirstLine,
-    /// An equals sign.
-    Equals,
-    /// A call, of which one is nearly what stands there.
-    Call(Option<&'static str>),
-    /// A reply, of which one is nearly what stands there.
-    Reply(Option<&'static str>),
-    /// What no test of a line tells.
-    Other,
+pub struct Wanted {
+    /// What stands before the text, if anything does.
+    number: Option<u64>,
+    text: &'static str,
+    /// The word that is perhaps meant.
+    near: Option<&'static str>,
+    /// What stands behind the text where no word is nearly what was expected.
+    example: &'static str,
 }
 
 impl Wanted {
-    /// What was expected, but for a number or a word that it has.
-    fn text(self) -> &'static str {
-        match self {
-            Wanted::Keyword(_) => "a word that begins a line",
-            Wanted::Register => "a register, `r0` to `r15`",
-            Wanted::Number => "a number, 0 to 18446744073709551615",
-            Wanted::Width => "a width: 1, 2, 4 or 8",
-            Wanted::Byte => "a number, 0 to 255",
-            Wanted::Name => "a name: 1 to 16 small letters and digits, the first a letter",
-            Wanted::End => "the end of the line",
-            Wanted::Node(_) => ", the number of the next node",
-            Wanted::FirstNode => "a line `node 0` before it",
-            Wanted::Label => "the name of a label of this node",
-            Wanted::NewLabel => "a name that no other label of this node has",
-            Wanted::FirstLine => "`ivy order`, and how many nodes, pages and bytes of a page",
-            Wanted::Equals => "`=` and a reply",
-            Wanted::Call(None) => "a call, as `load 8 256`",
-            Wanted::Call(Some(_)) => "a call",
-            Wanted::Reply(None) => "a reply: `value X`, `done` or `refused X`",
-            Wanted::Reply(Some(_)) => "a reply",
-            Wanted::Other => "a text within its limits",
+    /// A text and an example.
+    fn like(text: &'static str, example: &'static str) -> Wanted {
+        Wanted {
+            number: None,
+            text,
+            near: None,
+            example,
         }
     }
 
-    /// The word that is perhaps meant.
-    fn near(self) -> Option<&'static str> {
-        match self {
-            Wanted::Keyword(near) | Wanted::Call(near) | Wanted::Reply(near) => near,
-            _ => None,
+    /// This.
+    pub fn of(text: &'static str) -> Wanted {
+        Wanted::like(text, "")
+    }
+
+    /// A word that begins a line.
+    pub(crate) fn line() -> Wanted {
+        Wanted::of("a word that begins a line")
+    }
+
+    pub(crate) fn call() -> Wanted {
+        Wanted::like("a call", ", as `load 8 256`")
+    }
+
+    pub(crate) fn reply() -> Wanted {
+        Wanted::like("a reply", ": `value X`, `done` or `refused X`")
+    }
+
+    /// The number of the next node.
+    pub(crate) fn node(number: u64) -> Wanted {
+        Wanted {
+            number: Some(number),
+            ..Wanted::of(", the number of the next node")
         }
+    }
+
+    /// The same, of which a word is perhaps meant.
+    pub(crate) fn near(self, near: Option<&'static str>) -> Wanted {
+        Wanted { near, ..self }
     }
 }
 
 impl fmt::Display for Wanted {
     fn fmt<W: fmt::Write>(&self, f: &mut fmt::Formatter<W>) -> fmt::Result {
-        if let Wanted::Node(number) = self {
+        if let Some(number) = self.number {
             number.fmt(f)?;
         }
-        f.write_str(self.text())?;
-        match self.near() {
+        f.write_str(self.text)?;
+        match self.near {
             Some(name) => write!(f, ", perhaps `{name}`"),
-            None => Ok(()),
+            None => f.write_str(self.example),
         }
     }
 }
@@ -116,13 +105,25 @@ fn print_mark<W: Write>(blame: &Blame<'_>, out: &mut W) -> io::Result<()> {
 
 /// Prints a tab as a space, so that the mark stands below its word.
 fn print_line<W: Write>(line: &str, out: &mut W) -> io::Result<()> {
-    let mut before: &[u8] = b"    ";
+    out.write_all(b"   ")?;
     for part in line.split('\t') {
-        out.write_all(before)?;
-        out.write_all(part.as_bytes())?;
-        before = b" ";
+        write!(out, " {part}")?;
     }
     out.write_all(b"\n")
+}
+
+/// Prints where something is at fault, and what was expected there.
+fn print_place<W: Write>(file: &str, blame: &Blame<'_>, out: &mut W) -> io::Result<()> {
+    let (number, column, wanted) = (blame.line, blame.column, blame.wanted);
+    write!(out, "{file}:{number}:{column}: expected {wanted}, found ")
+}
+
+/// Prints what stands there.
+fn print_word<W: Write>(blame: &Blame<'_>, out: &mut W) -> io::Result<()> {
+    match blame.word {
+        Some(word) => writeln!(out, "`{word}`"),
+        None => out.write_all(b"the end of the line\n"),
+    }
 }
 
 /// Prints what is at fault: file, line, column, what was expected and what stands there, and the line with a mark.
@@ -132,12 +133,8 @@ pub fn print_blame<W: Write>(
     blame: &Blame<'_>,
     out: &mut W,
 ) -> io::Result<()> {
-    let (number, column, wanted) = (blame.line, blame.column, blame.wanted);
-    write!(out, "{file}:{number}:{column}: expected {wanted}, found ")?;
-    match blame.word {
-        Some(word) => writeln!(out, "`{word}`")?,
-        None => out.write_all(b"the end of the line\n")?,
-    }
+    print_place(file, blame, out)?;
+    print_word(blame, out)?;
     print_line(line, out)?;
     print_mark(blame, out)
 }

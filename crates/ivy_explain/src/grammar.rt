@@ -14,7 +14,7 @@ pub(crate) enum Operand {
     Name,
 }
 
-/// A line: its first word, and those after it.
+/// A form of words: the first one, and those after it.
 pub(crate) type Form = (&'static str, &'static [Operand]);
 
 /// The most letters of a name.
@@ -54,12 +54,12 @@ impl Operand {
     }
 
     fn wanted(self) -> Wanted {
-        match self {
-            Operand::Register => Wanted::Register,
-            Operand::Number => Wanted::Number,
-            Operand::Width => Wanted::Width,
-            Operand::Name => Wanted::Name,
-        }
+        Wanted::of(match self {
+            Operand::Register => "a register, `r0` to `r15`",
+            Operand::Number => "a number, 0 to 18446744073709551615",
+            Operand::Width => "a width: 1, 2, 4 or 8",
+            Operand::Name => "a name: 1 to 16 small letters and digits, the first a letter",
+        })
     }
 }
 
@@ -74,7 +74,7 @@ pub(crate) fn blame_at<'a>(line: usize, word: Word<'a>, wanted: Wanted) -> Blame
 }
 
 /// What is at fault where a line ends too early.
-pub(crate) fn blame_end<'a>(line: usize, words: &Words<'a>, wanted: Wanted) -> Blame<'a> {
+pub(crate) fn blame_end<'a>(line: usize, words: Words<'_, 'a>, wanted: Wanted) -> Blame<'a> {
     Blame {
         line,
         column: words.end.saturating_add(2),
@@ -83,28 +83,41 @@ pub(crate) fn blame_end<'a>(line: usize, words: &Words<'a>, wanted: Wanted) -> B
     }
 }
 
+/// What is at fault at a place of a line that is to have this, if it does not.
+fn blame_operand<'a>(
+    line: usize,
+    words: Words<'_, 'a>,
+    place: usize,
+    operand: Operand,
+) -> Option<Blame<'a>> {
+    match words.get(place) {
+        None => Some(blame_end(line, words, operand.wanted())),
+        Some(word) if operand.fits(word.text) => None,
+        Some(word) => Some(blame_at(line, word, operand.wanted())),
+    }
+}
+
 /// The first of the words from a place on that is not what it is to be.
 pub(crate) fn blame_operands<'a>(
     line: usize,
-    words: &Words<'a>,
+    words: Words<'_, 'a>,
     from: usize,
     operands: &[Operand],
 ) -> Option<Blame<'a>> {
-    for (number, operand) in operands.iter().enumerate() {
-        match words.get(from.saturating_add(number)) {
-            None => return Some(blame_end(line, words, operand.wanted())),
-            Some(word) if !operand.fits(word.text) => {
-                return Some(blame_at(line, word, operand.wanted()));
-            }
-            Some(_) => {}
+    let mut place = from;
+    for operand in operands {
+        let blame = blame_operand(line, words, place, *operand);
+        if blame.is_some() {
+            return blame;
         }
+        place = place.saturating_add(1);
     }
-    let next = words.get(from.saturating_add(operands.len()))?;
-    Some(blame_at(line, next, Wanted::End))
+    let next = words.get(place)?;
+    Some(blame_at(line, next, Wanted::of("the end of the line")))
 }
 
-/// The form of a line that begins with this word.
-pub(crate) fn form_of(forms: &[Form], word: &str) -> Option<Form> {
+/// The form that begins with this word.
+fn form_of(forms: &[Form], word: &str) -> Option<Form> {
     for form in forms {
         if form.0 == word {
             return Some(*form);
@@ -113,8 +126,8 @@ pub(crate) fn form_of(forms: &[Form], word: &str) -> Option<Form> {
     None
 }
 
-/// The first word of a line that is nearest to a word, where that is nearly it.
-pub(crate) fn nearest(forms: &[Form], word: &str) -> Option<&'static str> {
+/// The first word of a form that is nearest to a word, where that is nearly it.
+fn nearest(forms: &[Form], word: &str) -> Option<&'static str> {
     let mut nearest = Nearest::new(word);
     for form in forms {
         nearest.offer(form.0);
@@ -122,14 +135,21 @@ pub(crate) fn nearest(forms: &[Form], word: &str) -> Option<&'static str> {
     nearest.name()
 }
 
-/// What is at fault in a line that is to be one of these forms.
-pub(crate) fn blame_line<'a>(line: usize, words: &Words<'a>, forms: &[Form]) -> Option<Blame<'a>> {
-    let first = words.get(0)?;
+/// What is at fault in words that are to be one of these forms.
+pub(crate) fn blame_form<'a>(
+    line: usize,
+    words: Words<'_, 'a>,
+    forms: &[Form],
+    wanted: Wanted,
+) -> Option<Blame<'a>> {
+    let Some(first) = words.get(0) else {
+        return Some(blame_end(line, words, wanted));
+    };
     match form_of(forms, first.text) {
         Some((_name, operands)) => blame_operands(line, words, 1, operands),
         None => {
             let near = nearest(forms, first.text);
-            Some(blame_at(line, first, Wanted::Keyword(near)))
+            Some(blame_at(line, first, wanted.near(near)))
         }
     }
 }

@@ -5,6 +5,10 @@ use crate::grammar::blame_at;
 use crate::words::Word;
 use std::alloc::{AllocError, Global};
 
+const TAKEN: &str = "a name that no other label of this node has";
+
+const MISSING: &str = "the name of a label of this node";
+
 /// A name at a node.
 #[derive(Clone, Copy)]
 pub(crate) struct Named<'a> {
@@ -30,14 +34,18 @@ impl<'a> Labels<'a> {
 
     /// Whether the node of a name has a label of that name.
     fn has(&self, named: &Named<'a>) -> bool {
-        self.labels.iter().any(|label| label.node == named.node
-            && label.word.text == named.word.text)
+        for label in self.labels.iter() {
+            if label.node == named.node && label.word.text == named.word.text {
+                return true;
+            }
+        }
+        false
     }
 
     /// Adds a label. It is at fault where its name is taken.
     pub(crate) fn add(&mut self, named: Named<'a>) -> Result<Option<Blame<'a>>, AllocError> {
         if self.has(&named) {
-            return Ok(Some(blame_at(named.line, named.word, Wanted::NewLabel)));
+            return Ok(Some(blame_at(named.line, named.word, Wanted::of(TAKEN))));
         }
         self.labels.push(named)?;
         Ok(None)
@@ -52,7 +60,7 @@ impl<'a> Labels<'a> {
     pub(crate) fn blame(&self, blames: &mut Vec<Blame<'a>>) -> Result<(), AllocError> {
         for jump in self.jumps.iter() {
             if !self.has(jump) {
-                blames.push(blame_at(jump.line, jump.word, Wanted::Label))?;
+                blames.push(blame_at(jump.line, jump.word, Wanted::of(MISSING)))?;
             }
         }
         Ok(())

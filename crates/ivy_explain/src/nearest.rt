@@ -5,26 +5,24 @@ const MOST_WRONG: usize = 2;
 
 /// How many letters two words have in common, from their beginnings.
 fn common_first(one: &[u8], other: &[u8]) -> usize {
-    let mut count = 0usize;
-    for (a, b) in one.iter().zip(other.iter()) {
-        if *a != *b {
-            break;
+    let shortest = one.len().min(other.len());
+    for place in 0..shortest {
+        if one[place] != other[place] {
+            return place;
         }
-        count = count.saturating_add(1);
     }
-    count
+    shortest
 }
 
 /// How many letters two words have in common, from their ends.
 fn common_last(one: &[u8], other: &[u8]) -> usize {
-    let mut count = 0usize;
-    for (a, b) in one.iter().rev().zip(other.iter().rev()) {
-        if *a != *b {
-            break;
+    let shortest = one.len().min(other.len());
+    for place in 0..shortest {
+        if one[one.len() - 1 - place] != other[other.len() - 1 - place] {
+            return place;
         }
-        count = count.saturating_add(1);
     }
-    count
+    shortest
 }
 
 /// How many letters of the longer word stand between what both begin with and what both end with.

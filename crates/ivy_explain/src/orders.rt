@@ -1,8 +1,8 @@
 //! What is at fault in an order.
 
 use crate::blame::{Blame, Wanted};
-use crate::grammar::{Form, Operand, blame_at, blame_end, blame_operands, form_of, nearest};
-use crate::words::{Word, Words};
+use crate::grammar::{Form, Operand, blame_at, blame_end, blame_form, blame_operands};
+use crate::words::{Reader, Word, Words, read_lines};
 use ivy_program::parse_number;
 use std::alloc::{AllocError, Global};
 
@@ -35,102 +35,59 @@ const REPLIES: [Form; 3] = [
     ("refused", &[Operand::Number]),
 ];
 
-/// The words of a line from a place up to another.
-fn part<'a>(
-    alloc: Global,
-    words: &Words<'a>,
-    from: usize,
-    to: usize,
-) -> Result<Words<'a>, AllocError> {
-    let mut part = Vec::new(alloc);
-    let mut end = words.end;
-    for place in from..to {
-        if let Some(word) = words.get(place) {
-            part.push(word)?;
-            end = word.at.saturating_add(word.text.chars().count());
-        }
-    }
-    Ok(Words { words: part, end })
-}
+const FIRST_LINE: &str = "`ivy order`, and how many nodes, pages and bytes of a page";
 
-/// What is at fault in words that are to be a call.
-fn blame_call<'a>(line: usize, words: &Words<'a>) -> Option<Blame<'a>> {
-    let Some(first) = words.get(0) else {
-        return Some(blame_end(line, words, Wanted::Call(None)));
-    };
-    match form_of(&CALLS, first.text) {
-        Some((_name, operands)) => blame_operands(line, words, 1, operands),
-        None => {
-            let near = nearest(&CALLS, first.text);
-            Some(blame_at(line, first, Wanted::Call(near)))
-        }
-    }
-}
-
-/// What is at fault in words that are to be a reply.
-fn blame_reply<'a>(line: usize, words: &Words<'a>) -> Option<Blame<'a>> {
-    let Some(first) = words.get(0) else {
-        return Some(blame_end(line, words, Wanted::Reply(None)));
-    };
-    match form_of(&REPLIES, first.text) {
-        Some((_name, operands)) => blame_operands(line, words, 1, operands),
-        None => {
-            let near = nearest(&REPLIES, first.text);
-            Some(blame_at(line, first, Wanted::Reply(near)))
-        }
-    }
-}
-
-/// The place of the equals sign.
-fn equals_in(words: &Words<'_>) -> Option<usize> {
-    words.words.iter().position(|word| word.text == "=")
-}
+const BYTE: &str = "a number, 0 to 255";
 
 /// Whether a word is a number of one byte.
 fn is_byte(word: Word<'_>) -> bool {
     matches!(parse_number(word.text), Some(0..=255))
 }
 
-/// What is at fault in the line of a record.
-fn blame_record<'a>(
-    alloc: Global,
-    line: usize,
-    words: &Words<'a>,
-) -> Result<Option<Blame<'a>>, AllocError> {
-    let Some(node) = words.get(0) else {
-        return Ok(None);
-    };
-    if !is_byte(node) {
-        return Ok(Some(blame_at(line, node, Wanted::Byte)));
+/// What is at fault in words that are to be a reply.
+fn blame_reply<'a>(line: usize, words: Words<'_, 'a>) -> Option<Blame<'a>> {
+    let blame = blame_form(line, words, &REPLIES, Wanted::reply());
+    if blame.is_some() {
+        return blame;
     }
-    let count = words.words.len();
-    let equals = equals_in(words).unwrap_or(count);
-    let call = part(alloc, words, 1, equals)?;
-    if let Some(blame) = blame_call(line, &call) {
-        return Ok(Some(blame));
+    let code = words.get(1)?;
+    if words.get(0)?.text != "refused" || is_byte(code) {
+        return None;
+    }
+    Some(blame_at(line, code, Wanted::of(BYTE)))
+}
+
+/// What is at fault in the line of a record behind its node.
+fn blame_call<'a>(line: usize, words: Words<'_, 'a>) -> Option<Blame<'a>> {
+    let count = words.count();
+    let equals = words.position("=").unwrap_or(count);
+    let blame = blame_form(line, words.part(1, equals), &CALLS, Wanted::call());
+    if blame.is_some() {
+        return blame;
     }
     if equals == count {
-        return Ok(Some(blame_end(line, words, Wanted::Equals)));
+        return Some(blame_end(line, words, Wanted::of("`=` and a reply")));
     }
-    let reply = part(alloc, words, equals.saturating_add(1), count)?;
-    if let Some(blame) = blame_reply(line, &reply) {
-        return Ok(Some(blame));
-    }
-    match (reply.get(0), reply.get(1)) {
-        (Some(name), Some(code)) if name.text == "refused" && !is_byte(code) => {
-            Ok(Some(blame_at(line, code, Wanted::Byte)))
-        }
-        _ => Ok(None),
+    blame_reply(line, words.part(equals.saturating_add(1), count))
+}
+
+/// What is at fault in the line of a record.
+fn blame_record<'a>(line: usize, words: Words<'_, 'a>) -> Option<Blame<'a>> {
+    let node = words.get(0)?;
+    if is_byte(node) {
+        blame_call(line, words)
+    } else {
+        Some(blame_at(line, node, Wanted::of(BYTE)))
     }
 }
 
 /// What is at fault in the first line.
-fn blame_first<'a>(line: usize, words: &Words<'a>) -> Option<Blame<'a>> {
+fn blame_first<'a>(line: usize, words: Words<'_, 'a>) -> Option<Blame<'a>> {
     for (place, text) in ["ivy", "order"].iter().enumerate() {
         match words.get(place) {
-            None => return Some(blame_end(line, words, Wanted::FirstLine)),
+            None => return Some(blame_end(line, words, Wanted::of(FIRST_LINE))),
             Some(word) if word.text != *text => {
-                return Some(blame_at(line, word, Wanted::FirstLine));
+                return Some(blame_at(line, word, Wanted::of(FIRST_LINE)));
             }
             Some(_) => {}
         }
@@ -139,33 +96,57 @@ fn blame_first<'a>(line: usize, words: &Words<'a>) -> Option<Blame<'a>> {
     blame_operands(line, words, 2, &sizes)
 }
 
+/// An order that is read line by line.
+#[derive(Drop)]
+struct Reading<'a> {
+    /// Whether no line was read yet.
+    is_first: bool,
+    blames: Vec<Blame<'a>>,
+}
+
+impl<'a> Reading<'a> {
+    /// Adds what is at fault where no line was read.
+    fn end(&mut self) -> Result<(), AllocError> {
+        if self.is_first {
+            self.blames.push(Blame {
+                line: 1,
+                column: 1,
+                word: None,
+                wanted: Wanted::of(FIRST_LINE),
+            })?;
+        }
+        Ok(())
+    }
+
+    fn read_all(&mut self, alloc: Global, text: &'a str) -> Result<(), AllocError> {
+        read_lines(alloc, text, self)?;
+        self.end()
+    }
+}
+
+impl<'a> Reader<'a> for Reading<'a> {
+    fn read(&mut self, line: usize, words: Words<'_, 'a>) -> Result<(), AllocError> {
+        let blame = if self.is_first {
+            blame_first(line, words)
+        } else {
+            blame_record(line, words)
+        };
+        self.is_first = false;
+        match blame {
+            Some(blame) => Ok(self.blames.push(blame)?),
+            None => Ok(()),
+        }
+    }
+}
+
 /// What is at fault in each line of an order.
 pub fn blames_of_order<'a>(alloc: Global, text: &'a str) -> Result<Vec<Blame<'a>>, AllocError> {
-    let mut blames = Vec::new(alloc);
-    let mut is_first = true;
-    for (before, line) in text.lines().enumerate() {
-        let words = Words::of(alloc, line)?;
-        let number = before.saturating_add(1);
-        if words.words.is_empty() {
-            continue;
-        }
-        let blame = if is_first {
-            blame_first(number, &words)
-        } else {
-            blame_record(alloc, number, &words)?
-        };
-        is_first = false;
-        if let Some(blame) = blame {
-            blames.push(blame)?;
-        }
+    let mut reading = Reading {
+        is_first: true,
+        blames: Vec::new(alloc),
+    };
+    match reading.read_all(alloc, text) {
+        Ok(()) => Ok(reading.blames),
+        Err(error) => Err(error),
     }
-    if is_first {
-        blames.push(Blame {
-            line: 1,
-            column: 1,
-            word: None,
-            wanted: Wanted::FirstLine,
-        })?;
-    }
-    Ok(blames)
 }

@@ -1,9 +1,9 @@
 //! What is at fault in a text of programs.
 
 use crate::blame::{Blame, Wanted};
-use crate::grammar::{Form, Operand, blame_at, blame_line};
+use crate::grammar::{Form, Operand, blame_at, blame_form};
 use crate::labels::{Labels, Named};
-use crate::words::{Word, Words};
+use crate::words::{Reader, Word, Words, read_lines};
 use Operand::{Name, Number, Register, Width};
 use ivy_program::parse_number;
 use std::alloc::{AllocError, Global};
@@ -34,6 +34,8 @@ const FORMS: [Form; 22] = [
     ("stop", &[]),
 ];
 
+const FIRST_NODE: &str = "a line `node 0` before it";
+
 /// A text of programs that is read line by line.
 #[derive(Drop)]
 struct Reading<'a> {
@@ -44,53 +46,71 @@ struct Reading<'a> {
 }
 
 impl<'a> Reading<'a> {
-    fn blame(&mut self, blame: Option<Blame<'a>>) -> Result<(), AllocError> {
-        if let Some(blame) = blame {
-            self.blames.push(blame)?;
-        }
-        Ok(())
-    }
-
     /// A line `node` has the number of the next node.
-    fn node(&mut self, line: usize, word: Word<'a>) -> Result<(), AllocError> {
+    fn node(&mut self, line: usize, word: Word<'a>) -> Option<Blame<'a>> {
         if parse_number(word.text) != Some(self.nodes) {
-            let blame = blame_at(line, word, Wanted::Node(self.nodes));
-            return self.blame(Some(blame));
+            return Some(blame_at(line, word, Wanted::node(self.nodes)));
         }
         self.nodes = self.nodes.saturating_add(1);
-        Ok(())
+        None
     }
 
-    /// What a line that is well formed names.
-    fn name(&mut self, line: usize, words: &Words<'a>) -> Result<(), AllocError> {
-        let (Some(first), Some(last)) = (words.get(0), words.words.last().copied()) else {
-            return Ok(());
+    /// What is at fault in a line of a node with what it names.
+    fn name(&mut self, first: &str, named: Named<'a>) -> Result<Option<Blame<'a>>, AllocError> {
+        match first {
+            "label" => self.labels.add(named),
+            "jump" | "jumpz" => {
+                self.labels.jump(named)?;
+                Ok(None)
+            }
+            _ => Ok(None),
+        }
+    }
+
+    /// What is at fault in a line that is well formed.
+    fn blame_formed(
+        &mut self,
+        line: usize,
+        words: Words<'_, 'a>,
+    ) -> Result<Option<Blame<'a>>, AllocError> {
+        let (Some(first), Some(word)) = (words.get(0), words.last()) else {
+            return Ok(None);
         };
         if first.text == "node" {
-            return self.node(line, last);
+            return Ok(self.node(line, word));
         }
         if self.nodes == 0 {
-            return self.blame(Some(blame_at(line, first, Wanted::FirstNode)));
+            return Ok(Some(blame_at(line, first, Wanted::of(FIRST_NODE))));
         }
-        let named = Named {
-            node: self.nodes,
-            line,
-            word: last,
-        };
-        match first.text {
-            "label" => {
-                let blame = self.labels.add(named)?;
-                self.blame(blame)
-            }
-            "jump" | "jumpz" => self.labels.jump(named),
-            _ => Ok(()),
-        }
+        let node = self.nodes;
+        self.name(first.text, Named { node, line, word })
     }
 
-    fn read(&mut self, line: usize, words: &Words<'a>) -> Result<(), AllocError> {
-        match blame_line(line, words, &FORMS) {
-            Some(blame) => self.blame(Some(blame)),
-            None => self.name(line, words),
+    fn blame(
+        &mut self,
+        line: usize,
+        words: Words<'_, 'a>,
+    ) -> Result<Option<Blame<'a>>, AllocError> {
+        let blame = blame_form(line, words, &FORMS, Wanted::line());
+        if blame.is_some() {
+            return Ok(blame);
+        }
+        self.blame_formed(line, words)
+    }
+
+    /// Reads all lines, and sorts what is at fault by line.
+    fn read_all(&mut self, alloc: Global, text: &'a str) -> Result<(), AllocError> {
+        read_lines(alloc, text, self)?;
+        self.labels.blame(&mut self.blames)?;
+        self.blames.sort_by_key(|blame| blame.line)
+    }
+}
+
+impl<'a> Reader<'a> for Reading<'a> {
+    fn read(&mut self, line: usize, words: Words<'_, 'a>) -> Result<(), AllocError> {
+        match self.blame(line, words)? {
+            Some(blame) => Ok(self.blames.push(blame)?),
+            None => Ok(()),
         }
     }
 }
@@ -102,16 +122,8 @@ pub fn blames_of_programs<'a>(alloc: Global, text: &'a str) -> Result<Vec<Blame<
         labels: Labels::new(alloc),
         blames: Vec::new(alloc),
     };
-    for (before, line) in text.lines().enumerate() {
-        let words = Words::of(alloc, line)?;
-        reading.read(before.saturating_add(1), &words)?;
+    match reading.read_all(alloc, text) {
+        Ok(()) => Ok(reading.blames),
+        Err(error) => Err(error),
     }
-    let Reading {
-        nodes: _,
-        labels,
-        mut blames,
-    } = reading;
-    labels.blame(&mut blames)?;
-    blames.sort_by_key(|blame| blame.line)?;
-    Ok(blames)
 }

@@ -2,7 +2,6 @@
 
 use crate::head::Head;
 use crate::log::{Happening, Log};
-use ivy_model::Call;
 use ivy_wire::FrameKind;
 use std::alloc::{AllocError, Global};
 
@@ -123,9 +122,8 @@ pub(crate) fn is_pulse(happening: &Happening) -> bool {
 
 /// Whether something is to be seen of a move: a message, a reply, or a call that begins.
 pub(crate) fn is_seen(happening: &Happening) -> bool {
-    let begins = |before: Option<Call>, after: Option<Call>| before.is_none() && after.is_some();
     happening.heard.is_some()
         || happening.sent_after > happening.sent_before
         || happening.record.is_some()
-        || begins(happening.before, happening.after)
+        || (happening.before.is_none() && happening.after.is_some())
 }

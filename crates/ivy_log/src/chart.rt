@@ -149,6 +149,35 @@ struct Since {
     access: Access,
 }
 
+/// The lines of the nodes, as far as they are drawn.
+#[derive(Drop)]
+struct Lanes {
+    accesses: Accesses,
+    since: Vec<Since>,
+}
+
+impl Lanes {
+    /// Nothing is drawn yet.
+    fn of(alloc: Global, chart: Chart) -> Result<Lanes, AllocError> {
+        let nodes = usize::try_from(chart.nodes).unwrap_or(0);
+        let accesses = Accesses::new(alloc, chart.page, nodes)?;
+        match since_of(alloc, &accesses, nodes) {
+            Ok(since) => Ok(Lanes { accesses, since }),
+            Err(error) => Err(error),
+        }
+    }
+}
+
+/// The colours with which the lines begin.
+fn since_of(alloc: Global, accesses: &Accesses, nodes: usize) -> Result<Vec<Since>, AllocError> {
+    let mut since = Vec::new(alloc);
+    for node in 0..nodes {
+        let access = accesses.of(node);
+        since.push(Since { row: 0, access })?;
+    }
+    Ok(since)
+}
+
 /// Draws the line of a node up to a row, where its colour is another one from there on.
 fn change<W: Write>(line: &mut Since, node: u64, to: Since, out: &mut W) -> io::Result<()> {
     if line.access == to.access {
@@ -162,7 +191,8 @@ fn change<W: Write>(line: &mut Since, node: u64, to: Since, out: &mut W) -> io::
 /// Draws the lines of the nodes to their ends.
 fn end_lanes<W: Write>(since: &[Since], height: u64, out: &mut W) -> io::Result<()> {
     let end = height.saturating_add(1);
-    for (node, line) in since.iter().enumerate() {
+    for node in 0..since.len() {
+        let line = since[node];
         draw_lane(node as u64, line.access, (line.row, end), out)?;
     }
     Ok(())
@@ -170,20 +200,23 @@ fn end_lanes<W: Write>(since: &[Since], height: u64, out: &mut W) -> io::Result<
 
 /// Draws the lines of the nodes, coloured by their access to the page.
 fn draw_lanes<W: Write>(
-    accesses: &mut Accesses,
-    since: &mut Vec<Since>,
+    lanes: &mut Lanes,
     log: &Log,
     marks: &Marks,
     out: &mut W,
 ) -> io::Result<()> {
-    for (happening, at) in log.happenings.iter().zip(marks.rows.iter()) {
-        accesses.follow(log, happening);
-        let access = accesses.of(happening.node as usize);
-        if let Some(line) = since.get_mut(happening.node as usize) {
-            change(line, happening.node, Since { row: *at, access }, out)?;
+    for place in 0..log.happenings.len() {
+        let happening = &log.happenings[place];
+        lanes.accesses.follow(log, happening);
+        let to = Since {
+            row: marks.row_of(place),
+            access: lanes.accesses.of(happening.node as usize),
+        };
+        if let Some(line) = lanes.since.get_mut(happening.node as usize) {
+            change(line, happening.node, to, out)?;
         }
     }
-    end_lanes(since, marks.height, out)
+    end_lanes(&lanes.since, marks.height, out)
 }
 
 /// Draws what a node was answered.
@@ -208,14 +241,20 @@ fn draw_move<W: Write>(number: u64, happening: &Happening, y: u64, out: &mut W) 
 
 /// Draws the moves of which something is to be seen.
 fn draw_texts<W: Write>(log: &Log, marks: &Marks, out: &mut W) -> io::Result<()> {
-    let mut number = 0u64;
-    for (happening, at) in log.happenings.iter().zip(marks.rows.iter()) {
-        number = number.saturating_add(1);
+    for place in 0..log.happenings.len() {
+        let happening = &log.happenings[place];
         if is_seen(happening) {
-            draw_move(number, happening, row(*at).saturating_add(4), out)?;
+            let y = row(marks.row_of(place)).saturating_add(4);
+            draw_move((place as u64).saturating_add(1), happening, y, out)?;
         }
     }
     Ok(())
+}
+
+/// How many letters stand beside the line of a node that was answered so.
+fn letters_of(alloc: Global, record: Record) -> Result<u64, AllocError> {
+    let (call, reply) = (CallText(record.call), ReplyText(record.reply));
+    Ok(format!(in alloc; "{call} = {reply}")?.len() as u64)
 }
 
 /// Where the picture ends at the right: behind the last line, the legend and what stands beside the lines.
@@ -223,9 +262,8 @@ fn width_of(alloc: Global, chart: Chart, log: &Log) -> Result<u64, AllocError> {
     let mut width = lane(chart.nodes).max(LEGEND * LETTER + MARGIN);
     for happening in log.happenings.iter() {
         if let Some(record) = happening.record {
-            let (call, reply) = (CallText(record.call), ReplyText(record.reply));
-            let letters = format!(in alloc; "{call} = {reply}")?.len() as u64;
-            let end = lane(happening.node).saturating_add(letters.saturating_mul(LETTER));
+            let long = letters_of(alloc, record)?.saturating_mul(LETTER);
+            let end = lane(happening.node).saturating_add(long);
             width = width.max(end.saturating_add(MARGIN));
         }
     }
@@ -264,31 +302,24 @@ pub struct Picture {
     /// The corner at the right, below.
     size: Spot,
     marks: Marks,
-    accesses: Accesses,
-    since: Vec<Since>,
+    lanes: Lanes,
 }
 
 impl Picture {
     /// What is to be drawn of what was seen of a run.
     pub fn of(alloc: Global, chart: Chart, log: &Log) -> Result<Picture, AllocError> {
-        let nodes = usize::try_from(chart.nodes).unwrap_or(0);
-        let accesses = Accesses::new(alloc, chart.page, nodes)?;
-        let mut since = Vec::new(alloc);
-        for node in 0..nodes {
-            let access = accesses.of(node);
-            since.push(Since { row: 0, access })?;
-        }
+        let width = width_of(alloc, chart, log)?;
         let marks = Marks::of(alloc, log)?;
+        let lanes = Lanes::of(alloc, chart)?;
         let size = Spot {
-            x: width_of(alloc, chart, log)?,
+            x: width,
             y: row(marks.height.saturating_add(2)),
         };
         Ok(Picture {
             chart,
             size,
             marks,
-            accesses,
-            since,
+            lanes,
         })
     }
 
@@ -300,7 +331,7 @@ impl Picture {
     fn draw_all<W: Write>(&mut self, log: &Log, out: &mut W) -> io::Result<()> {
         begin(self.chart, self.size, out)?;
         draw_nodes(self.chart.nodes, out)?;
-        draw_lanes(&mut self.accesses, &mut self.since, log, &self.marks, out)?;
+        draw_lanes(&mut self.lanes, log, &self.marks, out)?;
         draw_ways(log, &self.marks, out)?;
         draw_texts(log, &self.marks, out)?;
         out.write_all(b"</svg>\n")

@@ -57,7 +57,7 @@ impl Counts {
     /// A string was sent, perhaps once more.
     fn string(&mut self, head: &Head, is_pulse: bool) {
         let node = usize::from(head.source);
-        let page = head.page().map(|page| page as usize);
+        let page = head.page_place();
         self.add(node, page, Measure::Bytes, head.len as u64);
         if is_pulse && head.kind != FrameKind::Ack {
             self.add(node, page, Measure::Again, 1);
@@ -81,7 +81,7 @@ impl Counts {
         };
         for head in sent {
             if head.kind == FrameKind::Inval {
-                let page = head.page().map(|page| page as usize);
+                let page = head.page_place();
                 self.add(usize::from(head.source), page, Measure::WriteFault, 1);
                 return;
             }

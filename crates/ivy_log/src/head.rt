@@ -71,6 +71,11 @@ impl Head {
         self.about?.page
     }
 
+    /// The same, as a place among all pages.
+    pub(crate) fn page_place(&self) -> Option<usize> {
+        Some(self.page()? as usize)
+    }
+
     /// Whether its message is of a call of the node that sent it.
     pub fn is_of_its_source(&self) -> bool {
         match self.about {

@@ -1,7 +1,7 @@
 //! Where everything stands in a picture.
 
 use crate::access::is_seen;
-use crate::log::Log;
+use crate::log::{Happening, Log};
 use ivy_moves::Move;
 use ivy_moves::ivy_link::Verdict;
 use std::alloc::{AllocError, Global};
@@ -77,24 +77,15 @@ pub(crate) struct Marks {
 }
 
 impl Marks {
-    /// Of which moves something is to be seen, and which strings they sent.
-    fn sent(alloc: Global, log: &Log) -> Result<Marks, AllocError> {
-        let mut marks = Marks {
-            rows: Vec::new(alloc),
-            senders: Vec::new(alloc),
-            ways: Vec::new(alloc),
-            height: 0,
-        };
-        for happening in log.happenings.iter() {
-            if is_seen(happening) {
-                marks.height = marks.height.saturating_add(1);
-            }
-            marks.rows.push(marks.height)?;
-            let is_again = matches!(happening.step, Move::Pulse { .. });
-            let height = marks.height;
-            marks.send(log.sent_by(happening).len(), (height, is_again))?;
+    /// Whether something is to be seen of a move, and which strings it sent.
+    fn pass(&mut self, log: &Log, happening: &Happening) -> Result<(), AllocError> {
+        if is_seen(happening) {
+            self.height = self.height.saturating_add(1);
         }
-        Ok(marks)
+        self.rows.push(self.height)?;
+        let is_again = matches!(happening.step, Move::Pulse { .. });
+        let sender = (self.height, is_again);
+        self.send(log.sent_by(happening).len(), sender)
     }
 
     /// So many strings are sent.
@@ -103,6 +94,11 @@ impl Marks {
             self.senders.push(sender)?;
         }
         Ok(())
+    }
+
+    /// The row of a move, by its place among all.
+    pub(crate) fn row_of(&self, place: usize) -> u64 {
+        self.rows.get(place).copied().unwrap_or(0)
     }
 
     /// Where a string leaves.
@@ -118,44 +114,65 @@ impl Marks {
 
     /// Adds the ways of the strings that came.
     fn come(&mut self, log: &Log) -> Result<(), AllocError> {
-        for (at, happening) in log.happenings.iter().enumerate() {
-            let Move::Deliver { index, to } = happening.step else {
-                continue;
-            };
-            let (string, number) = (index as usize, self.rows.get(at).copied().unwrap_or(0));
-            if let Some((from, is_again)) = self.start(log, string) {
-                self.ways.push(Way {
-                    string,
-                    from,
-                    to: Spot {
-                        x: lane(to),
-                        y: row(number),
-                    },
-                    heard: happening.heard,
-                    is_again,
-                })?;
+        for place in 0..log.happenings.len() {
+            let happening = &log.happenings[place];
+            if let Move::Deliver { index, to } = happening.step {
+                let end = Spot {
+                    x: lane(to),
+                    y: row(self.row_of(place)),
+                };
+                self.add(log, index as usize, end, happening.heard)?;
             }
         }
         Ok(())
     }
 
+    /// Adds the way of a string to where it came or was lost.
+    fn add(
+        &mut self,
+        log: &Log,
+        string: usize,
+        to: Spot,
+        heard: Option<Verdict>,
+    ) -> Result<(), AllocError> {
+        if let Some((from, is_again)) = self.start(log, string) {
+            self.ways.push(Way {
+                string,
+                from,
+                to,
+                heard,
+                is_again,
+            })?;
+        }
+        Ok(())
+    }
+
+    /// Whether a string came.
+    fn has_way(&self, string: usize) -> bool {
+        for way in self.ways.iter() {
+            if way.string == string {
+                return true;
+            }
+        }
+        false
+    }
+
+    /// Where the way of a lost string ends: below the row of the move that sent it.
+    fn end_of_lost(&self, log: &Log, string: usize) -> Option<Spot> {
+        let head = log.strings.get(string)?;
+        let (from, _is_again) = self.start(log, string)?;
+        Some(Spot {
+            x: lane(u64::from(head.dest)),
+            y: from.y.saturating_add(ROW),
+        })
+    }
+
     /// Adds the ways of the strings that never came.
     fn lose(&mut self, log: &Log) -> Result<(), AllocError> {
-        for (string, head) in log.strings.iter().enumerate() {
-            let is_lost = !self.ways.iter().any(|way| way.string == string);
-            if let Some((from, is_again)) = self.start(log, string) {
-                if is_lost {
-                    let to = Spot {
-                        x: lane(u64::from(head.dest)),
-                        y: from.y.saturating_add(ROW),
-                    };
-                    self.ways.push(Way {
-                        string,
-                        from,
-                        to,
-                        heard: None,
-                        is_again,
-                    })?;
+        for string in 0..log.strings.len() {
+            if !self.has_way(string) {
+                if let Some(to) = self.end_of_lost(log, string) {
+                    self.add(log, string, to, None)?;
                 }
             }
         }
@@ -164,9 +181,24 @@ impl Marks {
 
     /// Where everything stands in the picture of a run.
     pub(crate) fn of(alloc: Global, log: &Log) -> Result<Marks, AllocError> {
-        let mut marks = Marks::sent(alloc, log)?;
-        marks.come(log)?;
-        marks.lose(log)?;
-        Ok(marks)
+        let mut marks = Marks {
+            rows: Vec::new(alloc),
+            senders: Vec::new(alloc),
+            ways: Vec::new(alloc),
+            height: 0,
+        };
+        match marks.read(log) {
+            Ok(()) => Ok(marks),
+            Err(error) => Err(error),
+        }
+    }
+
+    /// Goes through what was seen of a run.
+    fn read(&mut self, log: &Log) -> Result<(), AllocError> {
+        for happening in log.happenings.iter() {
+            self.pass(log, happening)?;
+        }
+        self.come(log)?;
+        self.lose(log)
     }
 }

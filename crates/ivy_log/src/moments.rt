@@ -61,10 +61,13 @@ fn orders_in(sent: &[Head]) -> u64 {
 
 /// Whether one of these asks for a page.
 fn asks(sent: &[Head]) -> bool {
-    sent.iter().any(|head| {
-        (head.kind == FrameKind::ReadReq || head.kind == FrameKind::WriteReq)
-            && head.is_of_its_source()
-    })
+    for head in sent {
+        let is_request = matches!(head.kind, FrameKind::ReadReq | FrameKind::WriteReq);
+        if is_request && head.is_of_its_source() {
+            return true;
+        }
+    }
+    false
 }
 
 impl Watch {

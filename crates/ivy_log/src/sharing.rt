@@ -108,18 +108,21 @@ impl Writes {
     }
 }
 
+fn print_page<W: Write>(number: usize, page: Written, out: &mut W) -> io::Result<()> {
+    let (one, other) = page.nodes;
+    let (one, other) = (one.min(other), one.max(other));
+    writeln!(
+        out,
+        "false sharing: page {number} is written by turns, at different words, as by nodes {one} and {other}"
+    )
+}
+
 /// Names the pages that two nodes write by turns at different words, and no word of which two nodes write.
 pub fn print_sharing<W: Write>(writes: &Writes, out: &mut W) -> io::Result<()> {
-    for (number, page) in writes.pages.iter().enumerate() {
+    for number in 0..writes.pages.len() {
+        let page = writes.pages[number];
         if page.turns >= LEAST_TURNS && !page.is_shared {
-            let (one, other) = (
-                page.nodes.0.min(page.nodes.1),
-                page.nodes.0.max(page.nodes.1),
-            );
-            writeln!(
-                out,
-                "false sharing: page {number} is written by turns, at different words, as by nodes {one} and {other}"
-            )?;
+            print_page(number, page, out)?;
         }
     }
     Ok(())

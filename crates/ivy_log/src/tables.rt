@@ -6,8 +6,9 @@ use std::io::{self, Write};
 
 /// Prints the numbers of a tally, each under its name.
 fn print_numbers<W: Write>(tally: &Tally, out: &mut W) -> io::Result<()> {
-    for (name, number) in Tally::names().iter().zip(tally.numbers()) {
-        let width = name.len();
+    let (names, numbers) = (Tally::names(), tally.numbers());
+    for place in 0..names.len().min(numbers.len()) {
+        let (number, width) = (numbers[place], names[place].len());
         write!(out, "  {number:>width$}")?;
     }
     out.write_all(b"\n")
@@ -23,15 +24,20 @@ fn print_names<W: Write>(out: &mut W) -> io::Result<()> {
 
 /// Whether anything was counted.
 fn is_zero(tally: &Tally) -> bool {
-    tally.numbers().iter().all(|number| *number == 0)
+    for number in tally.numbers() {
+        if *number != 0 {
+            return false;
+        }
+    }
+    true
 }
 
 /// Prints a line for each of these of which anything was counted.
 fn print_rows<W: Write>(name: &str, rows: &[Tally], out: &mut W) -> io::Result<()> {
-    for (number, tally) in rows.iter().enumerate() {
-        if !is_zero(tally) {
+    for number in 0..rows.len() {
+        if !is_zero(&rows[number]) {
             write!(out, "{name} {number:>3}")?;
-            print_numbers(tally, out)?;
+            print_numbers(&rows[number], out)?;
         }
     }
     Ok(())
@@ -49,11 +55,10 @@ pub fn print_counts<W: Write>(counts: &Counts, out: &mut W) -> io::Result<()> {
 /// Prints what was counted in all under either manager, side by side.
 pub fn print_both<W: Write>(fixed: &Counts, dynamic: &Counts, out: &mut W) -> io::Result<()> {
     out.write_all(b"                   fixed    dynamic\n")?;
-    let (left, right) = (fixed.all.numbers(), dynamic.all.numbers());
-    for (place, name) in Tally::names().iter().enumerate() {
-        if place < left.len() && place < right.len() {
-            writeln!(out, "{name:<14}{:>10} {:>10}", left[place], right[place])?;
-        }
+    let (names, left, right) = (Tally::names(), fixed.all.numbers(), dynamic.all.numbers());
+    for place in 0..names.len().min(left.len()).min(right.len()) {
+        let name = names[place];
+        writeln!(out, "{name:<14}{:>10} {:>10}", left[place], right[place])?;
     }
     Ok(())
 }

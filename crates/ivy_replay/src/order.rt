@@ -53,6 +53,16 @@ fn records_of(
     Ok(records)
 }
 
+/// The records of these calls, each of which is answered.
+fn answered_records(
+    text: &Text<'_>,
+    moves: &[Move],
+    moments: &[Moment],
+) -> Result<Vec<Record>, Fault> {
+    let later = answered(text, moves)?;
+    records_of(text, &later, moments)
+}
+
 /// The calls of a run, in the order in which they were carried out.
 fn moments_in<P: Progress>(
     text: &Text<'_>,
@@ -70,8 +80,7 @@ fn candidate<P: Progress>(
     progress: &mut P,
 ) -> Result<Vec<Record>, Fault> {
     let moments = moments_in(text, moves, progress)?;
-    let later = answered(text, moves)?;
-    records_of(text, &later, &moments)
+    answered_records(text, moves, &moments)
 }
 
 /// The order of records that explains the run of a text by these moves: it is legal, and each node's part of it is what

@@ -4,7 +4,7 @@ use crate::progress::Progress;
 use crate::text::Text;
 use crate::world::{asked_of, history_of, node_of};
 use ivy_log::{Happening, Head, Log, Receivers, Verdict};
-use ivy_model::{Config, Fault};
+use ivy_model::{Call, Config, Fault};
 use ivy_moves::Move;
 use ivy_world::World;
 use std::alloc::{AllocError, Global};
@@ -17,6 +17,18 @@ pub struct Play {
     world: World<Global>,
     receivers: Receivers,
     log: Log,
+}
+
+/// What is to be noted of a move before it is made.
+#[derive(Clone, Copy)]
+struct Before {
+    step: Move,
+    /// The node whose event it is.
+    node: u64,
+    /// How many strings were sent, and how many replies were recorded at the node.
+    sent: usize,
+    records: usize,
+    asked: Option<Call>,
 }
 
 impl Play {
@@ -73,39 +85,66 @@ impl Play {
         Ok(Some(verdict))
     }
 
+    /// What is to be noted of a move before it is made.
+    fn before(&self, step: Move) -> Before {
+        let node = node_of(step);
+        Before {
+            step,
+            node,
+            sent: self.world.sent().len(),
+            records: history_of(&self.world, node).len(),
+            asked: asked_of(&self.world, node),
+        }
+    }
+
+    /// Notes what a move did.
+    fn note(
+        &mut self,
+        before: &Before,
+        heard: Option<Verdict>,
+        served: Vec<usize>,
+    ) -> Result<(), AllocError> {
+        let node = before.node;
+        self.log.happenings.push(Happening {
+            step: before.step,
+            node,
+            sent_before: before.sent,
+            sent_after: self.world.sent().len(),
+            heard,
+            served,
+            before: before.asked,
+            after: asked_of(&self.world, node),
+            record: history_of(&self.world, node).get(before.records).copied(),
+        })?;
+        Ok(())
+    }
+
+    /// Notes what a move did, and which messages its node served.
+    fn note_served(&mut self, before: &Before) -> Result<(), AllocError> {
+        let mut served = Vec::new(self.alloc);
+        match self.hear(before.step, &mut served) {
+            Ok(heard) => self.note(before, heard, served),
+            Err(error) => Err(error),
+        }
+    }
+
     /// Makes a move, and notes what it did [1, 17, 19].
     pub fn make(&mut self, step: Move) -> Result<(), Fault> {
-        let node = node_of(step);
-        let records = history_of(&self.world, node).len();
-        let before = asked_of(&self.world, node);
-        let sent_before = self.world.sent().len();
+        let before = self.before(step);
         if let Err((_place, fault)) = self.world.run(&[step]) {
             return Err(fault);
         }
         self.read_strings()?;
-        let mut served = Vec::new(self.alloc);
-        let heard = self.hear(step, &mut served)?;
-        self.log.happenings.push(Happening {
-            step,
-            node,
-            sent_before,
-            sent_after: self.world.sent().len(),
-            heard,
-            served,
-            before,
-            after: asked_of(&self.world, node),
-            record: history_of(&self.world, node).get(records).copied(),
-        })?;
-        Ok(())
+        Ok(self.note_served(&before)?)
     }
 }
 
 impl Play {
     /// Makes moves, and tells how far it is.
     fn make_all<P: Progress>(&mut self, moves: &[Move], progress: &mut P) -> Result<(), Fault> {
-        for (made, step) in moves.iter().enumerate() {
+        for made in 0..moves.len() {
             progress.tell(made as u64, "moves");
-            self.make(*step)?;
+            self.make(moves[made])?;
         }
         Ok(())
     }

@@ -57,9 +57,9 @@ fn prints_same(one: &Play, other: &Play) -> bool {
 /// The moves without so many from a place on.
 fn without(alloc: Global, named: &[Named], from: usize, count: usize) -> Result<Vec<Named>, Fault> {
     let mut rest = Vec::new(alloc);
-    for (place, one) in named.iter().enumerate() {
+    for place in 0..named.len() {
         if place < from || place - from >= count {
-            rest.push(*one)?;
+            rest.push(named[place])?;
         }
     }
     Ok(rest)
@@ -89,10 +89,15 @@ impl Shortening<'_> {
     fn drop_at(&mut self, from: usize, count: usize) -> Result<bool, Fault> {
         self.runs = self.runs.saturating_add(1);
         let rest = without(self.text.alloc, &self.named, from, count)?;
-        let Some(play) = replayed(&self.text, &rest)? else {
-            return Ok(false);
-        };
-        let is_same = prints_same(&play, &self.wanted);
+        match replayed(&self.text, &rest)? {
+            Some(play) => self.take(&play),
+            None => Ok(false),
+        }
+    }
+
+    /// Goes on with the moves of a play, if it prints what is wanted. It says whether it does.
+    fn take(&mut self, play: &Play) -> Result<bool, Fault> {
+        let is_same = prints_same(play, &self.wanted);
         if is_same {
             self.named = Named::all_of(self.text.alloc, play.log())?;
         }
@@ -158,9 +163,11 @@ impl Shortening<'_> {
     fn shorten<P: Progress>(&mut self, moves: &[Move], progress: &mut P) -> Result<Shorter, Fault> {
         self.halve(progress)?;
         let is_least = self.pick(progress)?;
+        let moves = self.left(moves)?;
+        let runs = self.runs;
         Ok(Shorter {
-            moves: self.left(moves)?,
-            runs: self.runs,
+            moves,
+            runs,
             is_least,
         })
     }

@@ -62,6 +62,20 @@ fn schedule_of<'a, T: Texts, E: Write>(
     }
 }
 
+/// The texts of the programs, and of the schedule where there is one.
+fn texts_of<'a, T: Texts, E: Write>(
+    alloc: Global,
+    given: &Given<'a>,
+    files: &T,
+    err: &mut E,
+) -> Result<(String, Option<String>), Failure<'a>> {
+    let programs = sound_text(alloc, Kind::Programs, given.name(), files, err)?;
+    match schedule_of(alloc, given.schedule(), files, err) {
+        Ok(schedule) => Ok((programs, schedule)),
+        Err(failure) => Err(failure),
+    }
+}
+
 /// What is asked of programs, with the texts of the files.
 fn asked<'a, T: Texts, E: Write>(
     alloc: Global,
@@ -71,13 +85,14 @@ fn asked<'a, T: Texts, E: Write>(
 ) -> Result<Answered<'a>, Failure<'a>>
     ensures { IfOk result EndsWithin }
 {
-    let programs = sound_text(alloc, Kind::Programs, given.name(), files, err)?;
-    let schedule = schedule_of(alloc, given.schedule(), files, err)?;
-    Ok(Answered::Asks(Request {
-        given,
-        programs,
-        schedule,
-    }))
+    match texts_of(alloc, &given, files, err) {
+        Ok((programs, schedule)) => Ok(Answered::Asks(Request {
+            given,
+            programs,
+            schedule,
+        })),
+        Err(failure) => Err(failure),
+    }
 }
 
 /// Says what is at fault in a text.

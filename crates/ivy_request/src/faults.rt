@@ -31,14 +31,20 @@ fn kind_by(first: &str) -> Option<Kind> {
     }
 }
 
+/// What a text is that has this line, if the line tells.
+fn kind_by_line(alloc: Global, line: &str) -> Result<Option<Kind>, AllocError> {
+    let words = words_of(alloc, line)?;
+    match words.first() {
+        Some(first) => Ok(kind_by(first)),
+        None => Ok(None),
+    }
+}
+
 /// What a text is, by the first of its lines whose first word tells. Else it is taken for programs.
 fn kind_of(alloc: Global, text: &str) -> Result<Kind, AllocError> {
     for line in text.lines() {
-        let words = words_of(alloc, line)?;
-        if let Some(first) = words.first() {
-            if let Some(kind) = kind_by(first) {
-                return Ok(kind);
-            }
+        if let Some(kind) = kind_by_line(alloc, line)? {
+            return Ok(kind);
         }
     }
     Ok(Kind::Programs)
@@ -83,6 +89,46 @@ fn tell<E: Write>(file: &str, text: &str, blames: &[Blame<'_>], err: &mut E) -> 
     Ok(())
 }
 
+/// Whether one of these is of a line.
+fn has_line(blames: &[Blame<'_>], line: usize) -> bool {
+    for blame in blames {
+        if blame.line == line {
+            return true;
+        }
+    }
+    false
+}
+
+/// Adds a line that a parser finds at fault and no test of a line does.
+fn add_line(blames: &mut Vec<Blame<'_>>, line: usize) -> Result<(), AllocError> {
+    if has_line(blames, line) {
+        return Ok(());
+    }
+    blames.push(Blame {
+        line,
+        column: 1,
+        word: None,
+        wanted: Wanted::of("a text within its limits"),
+    })?;
+    Ok(())
+}
+
+/// Tells what is at fault in a text of which this line is.
+fn tell_faults<E: Write>(
+    alloc: Global,
+    kind: Kind,
+    file: &str,
+    text: &str,
+    line: u64,
+    err: &mut E,
+) -> Result<(), AllocError> {
+    let mut blames = blames_of(alloc, kind, text)?;
+    add_line(&mut blames, usize::try_from(line).unwrap_or(usize::MAX))?;
+    // The status tells of the fault also where the stream takes nothing.
+    let _ = tell(file, text, &blames, err);
+    Ok(())
+}
+
 /// Whether a text is no fault. Else it is told what is, on a stream.
 pub(crate) fn is_sound<E: Write>(
     alloc: Global,
@@ -91,22 +137,13 @@ pub(crate) fn is_sound<E: Write>(
     text: &str,
     err: &mut E,
 ) -> Result<bool, Fault> {
-    let Some(line) = line_at_fault(alloc, kind, text)? else {
-        return Ok(true);
-    };
-    let mut blames = blames_of(alloc, kind, text)?;
-    let line = usize::try_from(line).unwrap_or(usize::MAX);
-    if !blames.iter().any(|blame| blame.line == line) {
-        blames.push(Blame {
-            line,
-            column: 1,
-            word: None,
-            wanted: Wanted::Other,
-        })?;
+    match line_at_fault(alloc, kind, text)? {
+        Some(line) => {
+            tell_faults(alloc, kind, file, text, line, err)?;
+            Ok(false)
+        }
+        None => Ok(true),
     }
-    // The status tells of the fault also where the stream takes nothing.
-    let _ = tell(file, text, &blames, err);
-    Ok(false)
 }
 
 /// A text that is no fault, of which standard error is told else.

@@ -28,18 +28,27 @@ pub(crate) struct Given<'a> {
     only_files: bool,
 }
 
+/// What is at fault in a word that is to be a number of this at most, if anything is.
+fn fault_of_number<'a>(name: &'static str, word: &'a str, most: u64) -> Option<Misuse<'a>> {
+    let Some(number) = parse_number(word) else {
+        return Some(Misuse::at(name, "` takes a number, and not `", word));
+    };
+    if number > most {
+        return Some(Misuse::of(name, "` is 1000000 at most"));
+    }
+    None
+}
+
 /// What is at fault in a word behind an option, if anything is.
 fn fault_of<'a>(choice: &'static Choice, word: &'a str) -> Option<Misuse<'a>> {
-    let number = parse_number(word);
     match choice.value {
-        Value::Number(_) | Value::Moves(_) if number.is_none() => {
-            Some(Misuse::at(choice.name, "` takes a number, and not `", word))
-        }
-        Value::Moves(_) if number > Some(MOST_MOVES) => {
-            Some(Misuse::of(choice.name, "` is 1000000 at most"))
-        }
-        Value::Manager if word != "fixed" && word != "dynamic" => Some(Misuse::no_manager(word)),
-        _ => None,
+        Value::Number(_) => fault_of_number(choice.name, word, u64::MAX),
+        Value::Moves(_) => fault_of_number(choice.name, word, MOST_MOVES),
+        Value::Manager => match word {
+            "fixed" | "dynamic" => None,
+            _ => Some(Misuse::no_manager(word)),
+        },
+        Value::Nothing | Value::Word | Value::Folder => None,
     }
 }
 
@@ -57,12 +66,20 @@ impl<'a> Given<'a> {
             open: None,
             only_files: false,
         };
-        for word in words {
-            given.take(word.as_str())?;
+        match given.take_all(words) {
+            Ok(()) => Ok(given),
+            Err(failure) => Err(failure),
         }
-        match given.missing() {
-            Some(misuse) => Err(misuse.into()),
-            None => Ok(given),
+    }
+
+    /// Takes all words.
+    fn take_all(&mut self, words: &'a [String]) -> Result<(), Failure<'a>> {
+        for word in words {
+            self.take(word.as_str())?;
+        }
+        match self.missing() {
+            Some(misuse) => Err(Failure::Misused(misuse)),
+            None => Ok(()),
         }
     }
 
@@ -95,11 +112,11 @@ impl<'a> Given<'a> {
 
     fn file(&mut self, word: &'a str) -> Result<(), Failure<'a>> {
         let most = if self.command.takes_schedule { 2 } else { 1 };
-        if self.files.len() >= most {
-            return Err(Misuse::at(self.command.name, "` takes no further file `", word).into());
+        if self.files.len() < most {
+            return Ok(self.files.push(word)?);
         }
-        self.files.push(word)?;
-        Ok(())
+        let misuse = Misuse::at(self.command.name, "` takes no further file `", word);
+        Err(Failure::Misused(misuse))
     }
 
     /// An option, perhaps with its value behind an equals sign.
@@ -108,12 +125,23 @@ impl<'a> Given<'a> {
             Some((name, value)) => (name, Some(value)),
             None => (word, None),
         };
-        let Some(choice) = self.command.choice(name) else {
-            return Err(Misuse::no_option(self.command, name).into());
-        };
+        match self.command.choice(name) {
+            Some(choice) => self.begin(choice, value),
+            None => Err(Failure::Misused(Misuse::no_option(self.command, name))),
+        }
+    }
+
+    /// An option of the command, with its value where that is given.
+    fn begin(
+        &mut self,
+        choice: &'static Choice,
+        value: Option<&'a str>,
+    ) -> Result<(), Failure<'a>> {
         let takes_none = matches!(choice.value, Value::Nothing);
         match value {
-            Some(_) if takes_none => Err(Misuse::of(choice.name, "` takes no value").into()),
+            Some(_) if takes_none => {
+                Err(Failure::Misused(Misuse::of(choice.name, "` takes no value")))
+            }
             Some(value) => self.choose(choice, value),
             None if takes_none => self.choose(choice, ""),
             None => {
@@ -123,18 +151,23 @@ impl<'a> Given<'a> {
         }
     }
 
-    fn choose(&mut self, choice: &'static Choice, word: &'a str) -> Result<(), Failure<'a>> {
+    /// What is at fault in an option and the word behind it, if anything is.
+    fn fault_at(&self, choice: &'static Choice, word: &'a str) -> Option<Misuse<'a>> {
         if self.has(choice.name) {
-            return Err(Misuse::of(choice.name, "` is given twice").into());
+            Some(Misuse::of(choice.name, "` is given twice"))
+        } else {
+            fault_of(choice, word)
         }
-        if let Some(misuse) = fault_of(choice, word) {
-            return Err(misuse.into());
+    }
+
+    fn choose(&mut self, choice: &'static Choice, word: &'a str) -> Result<(), Failure<'a>> {
+        match self.fault_at(choice, word) {
+            Some(misuse) => Err(Failure::Misused(misuse)),
+            None => {
+                let name = choice.name;
+                Ok(self.chosen.push(Chosen { name, word })?)
+            }
         }
-        self.chosen.push(Chosen {
-            name: choice.name,
-            word,
-        })?;
-        Ok(())
     }
 
     /// The file of a command.

@@ -4,20 +4,26 @@ use crate::failure::Failure;
 use ivy_explain::ivy_texts::{Order, RecordText, ReplyText, Settings, parse_order};
 use ivy_explain::{Broken, first_broken};
 use ivy_model::{Config, Fault, Kind, Record};
+use ivy_program::words_of;
 use std::alloc::{AllocError, Global};
 use std::io::{self, Write};
 
+fn has_words(alloc: Global, line: &str) -> Result<bool, AllocError> {
+    Ok(!words_of(alloc, line)?.is_empty())
+}
+
 /// The line of a record of an order: the records are its lines with words, after the first.
 fn line_of(alloc: Global, text: &str, place: usize) -> Result<usize, AllocError> {
-    let mut found = 0usize;
-    for (before, line) in text.lines().enumerate() {
-        if ivy_program::words_of(alloc, line)?.is_empty() {
-            continue;
+    let mut left = place.saturating_add(2);
+    let mut number = 0usize;
+    for line in text.lines() {
+        number = number.saturating_add(1);
+        if has_words(alloc, line)? {
+            left = left.saturating_sub(1);
         }
-        if found == place.saturating_add(1) {
-            return Ok(before.saturating_add(1));
+        if left == 0 {
+            return Ok(number);
         }
-        found = found.saturating_add(1);
     }
     Ok(0)
 }
@@ -75,15 +81,15 @@ fn broken_of(alloc: Global, order: &Order<Global>) -> Result<Option<Broken>, Fau
     first_broken(alloc, &config_of(order)?, &order.records)
 }
 
-/// Prints whether an order is legal, and else the first record at which no legal order goes on. It says whether it is.
-pub(crate) fn judge<'a, W: Write>(
+/// Prints whether an order is legal, of this text.
+fn judge_order<W: Write>(
     alloc: Global,
-    file: &'a str,
+    file: &str,
     text: &str,
+    order: &Order<Global>,
     out: &mut W,
-) -> Result<bool, Failure<'a>> {
-    let order = parse_order(alloc, text)?;
-    match broken_of(alloc, &order)? {
+) -> Result<bool, Failure<'static>> {
+    match broken_of(alloc, order)? {
         Some(broken) => {
             print_place(alloc, file, text, &order.records, &broken, out)?;
             Ok(false)
@@ -93,4 +99,15 @@ pub(crate) fn judge<'a, W: Write>(
             Ok(true)
         }
     }
+}
+
+/// Prints whether an order is legal, and else the first record at which no legal order goes on. It says whether it is.
+pub(crate) fn judge<'a, W: Write>(
+    alloc: Global,
+    file: &'a str,
+    text: &str,
+    out: &mut W,
+) -> Result<bool, Failure<'a>> {
+    let order = parse_order(alloc, text)?;
+    judge_order(alloc, file, text, &order, out)
 }

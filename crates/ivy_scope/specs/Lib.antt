@@ -1,1 +1,4 @@
+pub mod Delivered
+pub mod SoFar
 pub mod Statuses
+pub mod Told

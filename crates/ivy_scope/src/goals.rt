@@ -16,18 +16,31 @@ fn goal_of(words: &[&str]) -> Option<Goal> {
     }
 }
 
+/// Adds what words ask for that `and` joins.
+fn add_goals<'a>(goals: &mut Vec<Goal>, words: &[&str], text: &'a str) -> Result<(), Failure<'a>> {
+    for part in words.split(|word| *word == "and") {
+        match goal_of(part) {
+            Some(goal) => goals.push(goal)?,
+            None => return Err(Failure::Misused(Misuse::no_goal(text))),
+        }
+    }
+    Ok(())
+}
+
+/// Adds what a text asks for.
+fn read_goals<'a>(alloc: Global, goals: &mut Vec<Goal>, text: &'a str) -> Result<(), Failure<'a>> {
+    let words = words_of(alloc, text)?;
+    add_goals(goals, &words, text)
+}
+
 /// What is asked for: `node I prints X`, more of them joined by `and`; nothing where there is no text.
 pub(crate) fn goals_of(alloc: Global, text: Option<&str>) -> Result<Vec<Goal>, Failure<'_>> {
     let mut goals = Vec::new(alloc);
     let Some(text) = text else {
         return Ok(goals);
     };
-    let words = words_of(alloc, text)?;
-    for part in words.split(|word| *word == "and") {
-        match goal_of(part) {
-            Some(goal) => goals.push(goal)?,
-            None => return Err(Misuse::no_goal(text).into()),
-        }
+    match read_goals(alloc, &mut goals, text) {
+        Ok(()) => Ok(goals),
+        Err(failure) => Err(failure),
     }
-    Ok(goals)
 }

@@ -12,8 +12,11 @@ mod refused;
 mod sessions;
 mod settled;
 mod views;
+mod watched;
 
 pub use command::perform;
 pub use ivy_replay;
 pub use ivy_request::{Failure, Misuse, ivy_files};
+pub use ivy_session;
 pub use logs::Logs;
+pub use watched::{End, ReportSoFar, Watch, run_watched};

@@ -1,10 +1,10 @@
 //! The logs of a session's nodes, as nodes in processes of their own write them.
 
+use crate::watched::ReportSoFar;
 use ivy_lines::{Head, push_log};
 use ivy_model::{Config, Fault};
 use ivy_request::ivy_files::FilesOf;
 use ivy_request::{Failure, Misuse};
-use ivy_watched::ReportSoFar;
 use std::alloc::Global;
 use std::fs;
 use std::io::ErrorKind;

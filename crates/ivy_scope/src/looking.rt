@@ -30,8 +30,8 @@ fn print_values<W: Write>(
 fn print_outputs<W: Write>(outputs: &[Vec<u64>], out: &mut W) -> io::Result<()> {
     let mut count = 0u64;
     out.write_all(b"outputs:")?;
-    for (node, values) in outputs.iter().enumerate() {
-        count = print_values(node, values, count, out)?;
+    for node in 0..outputs.len() {
+        count = print_values(node, &outputs[node], count, out)?;
     }
     let end = if count == 0 { " none\n" } else { "\n" };
     out.write_all(end.as_bytes())

@@ -1,10 +1,10 @@
 //! Calls of a session that are refused, told as they are found.
 
+use crate::watched::Watch;
 use ivy_model::{Record, Reply};
 use ivy_request::ivy_explain::{Lines, Place, Walk};
 use ivy_request::{Listing, Refusal, Told};
-use ivy_watched::Watch;
-use ivy_watched::ivy_session::{Gate, Role};
+use ivy_session::{Gate, Role};
 use std::alloc::{AllocError, Global};
 use std::io::Write;
 use std::sync::{Mutex, Wait};

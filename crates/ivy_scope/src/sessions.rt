@@ -4,14 +4,14 @@ ghost use Rattle.ivy_scope.specs.Statuses.{IsStatus};
 
 use crate::logs::{Logs, write_logs};
 use crate::refused::Refusals;
+use crate::watched::{End, ReportSoFar, run_watched};
 use ivy_model::{Config, Fault, Record};
 use ivy_program::parse;
 use ivy_request::ivy_explain::ivy_texts::{RecordText, print_output};
 use ivy_request::{
     FAILED, Failure, Listing, Request, STANDSTILL, Standing, Wishes, print_calls, print_standing,
 };
-use ivy_watched::ivy_session::Keep;
-use ivy_watched::{End, ReportSoFar, run_watched};
+use ivy_session::Keep;
 use std::alloc::{AllocError, Global};
 use std::io::{self, Write};
 use std::sync::Wait;

@@ -61,6 +61,28 @@ fn print_nodes<W: Write>(
     Ok(())
 }
 
+/// Prints what each node of the programs of a request printed and what it came to.
+fn print_standings<W: Write>(
+    alloc: Global,
+    request: &Request<'_>,
+    world: &World<Global>,
+    out: &mut W,
+) -> Result<(), Failure<'static>> {
+    let listing = Listing::of(alloc, request.programs())?;
+    let nodes = standings_of(alloc, world)?;
+    Ok(print_nodes(&listing, &nodes, world, out)?)
+}
+
+/// Whether all programs have ended.
+fn have_ended(world: &World<Global>) -> bool {
+    for node in 0..world.nodes() {
+        if !ended_in(world, node) {
+            return false;
+        }
+    }
+    true
+}
+
 /// Prints what a world came to. It gives the exit status: whether it stands still while a program has not ended.
 fn print_world<W: Write>(
     alloc: Global,
@@ -71,13 +93,11 @@ fn print_world<W: Write>(
 ) -> Result<u8, Failure<'static>>
     ensures { IfOk result IsStatus }
 {
-    let listing = Listing::of(alloc, request.programs())?;
-    let nodes = standings_of(alloc, world)?;
-    print_nodes(&listing, &nodes, world, out)?;
+    print_standings(alloc, request, world, out)?;
     if rest == Rest::Going {
         writeln!(out, "it was still going after {MOST_MOVES} moves")?;
     }
-    let waits = rest == Rest::Still && !nodes.iter().all(|node| node.has_ended);
+    let waits = rest == Rest::Still && !have_ended(world);
     Ok(if waits { STANDSTILL } else { 0 })
 }
 

@@ -1,0 +1,24 @@
+use Rattle.std.proofs.Common.{arith, inl, inr}
+use Rattle.std.proofs.lemmas.Bool.{cases_eq}
+use Rattle.std.proofs.lemmas.Option.{slice_get_within}
+use Rattle.ivy_scope.specs.Delivered.{IsSiteDelivered}
+use Rattle.ivy_scope.proofs.watched.delivered.is_delivered.Goals as goal
+
+pub loop-from-preserved : goal.loop-from-preserved
+loop-from-preserved g c =
+    let here : IsSiteDelivered c.args.sites.now c.loop-from.from =
+    c.is_delivered_from.ensures c.if-not-is_delivered_from.false in
+    λ i below. elim (cases_eq i c.loop-from.from) [
+      | inl e ↦ rw e here
+      | inr ne ↦ c.loop-from.invariant i (omega (arith, below, ne))
+    ]
+
+pub returns : goal.returns
+returns g c = λ t from j s u apart here there.
+    c.loop-from.invariant from
+    (omega (
+      arith,
+      slice_get_within c.args.sites.now from s here,
+      c.requires.each,
+      c.loop-from-test.false,
+    )) j s u apart here there

@@ -1,0 +1,16 @@
+//! Watched sessions: each reply is told as it is recorded, and a session that stands still ends at once.
+//!
+//! A watched session need not come to the end of its programs. Its report says what the nodes came to; their event lists
+//! are the parts of one run all the same.
+
+mod closing;
+mod delivered;
+mod notes;
+mod seat;
+mod session;
+mod so_far;
+mod watch;
+
+pub use session::run_watched;
+pub use so_far::ReportSoFar;
+pub use watch::{End, Watch};

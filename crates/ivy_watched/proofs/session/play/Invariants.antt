@@ -1,4 +1,0 @@
-use Rattle.ivy_watched.proofs.session.play.Given as goal
-
-abbrev pub ghosts-play_at : goal.ghosts-play_at
-ghosts-play_at g a = record { ether = a.ether.now }

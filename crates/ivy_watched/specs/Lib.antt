@@ -1,3 +1,0 @@
-pub mod Delivered
-pub mod SoFar
-pub mod Told
