@@ -40,7 +40,6 @@ use std::alloc::{AllocError, Allocator};
 use std::marker::Model;
 
 /// One node of a shared memory, with the program that it runs.
-#[derive(Drop)]
 pub struct Site<A: Allocator> {
     alloc: A,
     memory: Memory<NodeManager<A>, A>,
@@ -49,6 +48,22 @@ pub struct Site<A: Allocator> {
     history: History<A>,
     outbox: Outbox<A>,
     events: Events<A>,
+}
+
+// What ends a site is proved here, once: a crate above that has one would prove anew what ends each of its some thirty
+// types, were it derived.
+impl<A: Allocator> Drop for Site<A> {
+    fn drop(self) {
+        let Site {
+            alloc: _,
+            memory: _,
+            machine: _,
+            keep: _,
+            history: _,
+            outbox: _,
+            events: _,
+        } = self;
+    }
 }
 
 impl<A: Allocator> Model for Site<A> {
