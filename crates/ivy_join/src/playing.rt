@@ -17,7 +17,7 @@ use ivy_wire::Bytes;
 use std::alloc::Allocator;
 
 /// What became of an event of a log.
-#[derive(Clone, Copy, Debug, PartialEq, Eq)]
+#[derive(Clone, Copy)]
 pub(crate) enum Outcome {
     /// It was made.
     Made,

@@ -1,5 +1,5 @@
 -- A node with own code goes on by events, calls and answers, whose lines it notes and writes.
-use Rattle.std.proofs.Common.{◌≡◌, ℕ, ◌≤◌, List, [], ◌∷◌, ◌++◌, length, take, Option, None, map, refl, sym, ap, subst, ◌∙◌, append-nil, append_assoc, arith}
+use Rattle.std.proofs.Common.{◌≡◌, ℕ, ◌<◌, ◌≤◌, List, [], ◌∷◌, ◌++◌, length, take, Option, None, map, refl, sym, ap, subst, ◌∙◌, append-nil, append_assoc, arith}
 use Rattle.std.specs.Io.KnownBytes.{Appends}
 use Rattle.std.proofs.KnownBytes.{Appends-nil, Appends-trans}
 use Rattle.std.proofs.lemmas.List.{take_all}
@@ -17,7 +17,7 @@ use Rattle.ivy_process.specs.declared.failure.Failure.{Failure}
 use Rattle.ivy_process.specs.declared.recalling.Recalled.{Recalled}
 use Rattle.ivy_process.specs.declared.recalling.Recalled.TheVariants.{Told, Open, New}
 use Rattle.ivy_process.specs.Logging.{Served, lines_of, GoesOn, Streams, StreamsWhole}
-use Rattle.ivy_process.specs.Owned.{Begun, begun, HasResumed, HasWorked, IsRecalled, Notes, OwnStreams, Replies, Resumes, ResumesUnless}
+use Rattle.ivy_process.specs.Owned.{Begun, begun, HasResumed, HasWorked, IsRecalled, Notes, OwnStreams, Replies, RepliesFrom, Resumes, ResumesUnless}
 use Rattle.ivy_process.proofs.Logged.{goes-further, streams-begin}
 
 did-events : (events : List Event) → events_in (map Did events) ≡ events
@@ -101,14 +101,12 @@ resumes-begin past b d log on = record {
   again = λ below. refl;
 }
 
--- so it is where its node went on in two steps, and nothing was told
-pub resumes-first : (from : Begun) (past : List Entry) (b mid d : Served) (log : Option (List ℕ))
-    (told : List Answer) → begun past b log ≡ from → GoesOn b mid → GoesOn mid d → told ≡ []
-    → (past ≡ from.past) × (0 ≤ length past) × Resumes from 0 d log told
-resumes-first from past b mid d log told is x y none =
-    let first : Resumes from 0 d log [] =
-    subst (λ f. Resumes f 0 d log []) is (resumes-begin past b d log (goes-further b mid d x y)) in
-    (ap (λ (f : Begun). f.past) is, omega arith, subst (Resumes from 0 d log) (sym none) first)
+-- so it is where the log is called by another name
+pub resumes-woken : (from : Begun) (past : List Entry) (b d : Served) (log log' : Option (List ℕ))
+    → begun past b log ≡ from → GoesOn b d → log' ≡ log → Resumes from 0 d log' []
+resumes-woken from past b d log log' is on same =
+    subst (λ l. Resumes from 0 d l []) (sym same)
+    (subst (λ f. Resumes f 0 d log []) is (resumes-begin past b d log on))
 
 -- the log has no answer more
 abbrev HasNoAnswer : List Entry → ℕ → Type 0
@@ -138,27 +136,61 @@ answered-now from place end b d log log' told call reply x none at replies =
       again = λ below. absurd (omega (arith, at, below));
     }
 
--- no call failed, the log has no answer to this one, and it is answered by the node
-pub answered-unless : (failure : Option Failure) (from : Begun) (past : List Entry) (place end : ℕ)
-    (b d : Served) (log log' : Option (List ℕ)) (told told' : List Answer) (call : Call) (reply : Reply)
-    (recalled : Recalled) → failure ≡ None
-    → (past ≡ from.past) × (place ≤ length past) × ResumesUnless failure from place b log told
+-- the log has no answer to the call, and it is answered by the node
+pub replied-now : (past : List Entry) (place end : ℕ) (b d : Served) (log log' : Option (List ℕ))
+    (call : Call) (reply : Reply) (recalled : Recalled)
     → ((reply : Reply) (next : ℕ) → recalled ≡ Told reply next → ⊥) → IsRecalled past place call recalled
-    → end ≡ length past → told' ≡ told ++ record { call = call; reply = reply } ∷ []
-    → Replies call reply b d log log'
-    → (past ≡ from.past) × (end ≤ length past) × ResumesUnless failure from end d log' told'
-answered-unless failure from past place end b d log log' told told' call reply recalled ok is other said at
-    more replies =
+    → end ≡ length past → Replies call reply b d log log'
+    → RepliesFrom past call reply place end b d log log'
+replied-now past place end b d log log' call reply recalled other said at replies =
+    let none : HasNoAnswer past place = none-recalled past place call recalled other said in record {
+      within = omega (arith, at);
+      resumes = λ from told same x.
+          answered-now from place end b d log log' told call reply x
+          (subst (λ l. HasNoAnswer l place) (sym same) none) (at ∙ ap length (sym same)) replies;
+    }
+
+-- the log has the answer
+pub replied-again : (past : List Entry) (place next : ℕ) (b : Served) (log : Option (List ℕ))
+    (call : Call) (reply : Reply) → IsRecalled past place call (Told reply next)
+    → RepliesFrom past call reply place next b b log log
+replied-again past place next b log call reply said =
+    let one : List Answer = record { call = call; reply = reply } ∷ [] in record {
+      within = said.1;
+      resumes = λ from told same x.
+          let none : x.fresh ≡ [] = x.again (subst (λ l. place < length l) (sym same) said.0) in
+          let more : answers_in (take next from.past) ≡ answers_in (take place from.past) ++ one =
+          subst (λ l. answers_in (take next l) ≡ answers_in (take place l) ++ one) (sym same) said.2 in
+          record {
+            within = subst (λ l. next ≤ length l) (sym same) said.1;
+            fresh = x.fresh;
+            streams = x.streams;
+            are = ap (λ l. l ++ one)
+                (x.are ∙ ap (λ l. answers_in (take place from.past) ++ l) none
+                ∙ append-nil (answers_in (take place from.past)))
+                ∙ sym more ∙ sym (append-nil (answers_in (take next from.past)))
+                ∙ ap (λ l. answers_in (take next from.past) ++ l) (sym none);
+            again = λ below. none;
+          };
+    }
+
+-- no call failed, and one more was answered
+pub replied-unless : (failure : Option Failure) (from : Begun) (past : List Entry) (place place' : ℕ)
+    (b d : Served) (log log' : Option (List ℕ)) (told told' : List Answer) (call : Call) (reply : Reply)
+    → failure ≡ None
+    → (past ≡ from.past) × (place ≤ length past) × ResumesUnless failure from place b log told
+    → told' ≡ told ++ record { call = call; reply = reply } ∷ []
+    → RepliesFrom past call reply place place' b d log log'
+    → (past ≡ from.past) × (place' ≤ length past) × ResumesUnless failure from place' d log' told'
+replied-unless failure from past place place' b d log log' told told' call reply ok is more r =
     let before : Resumes from place b log told =
     subst (λ f. ResumesUnless f from place b log told) ok is.2 in
-    let none : HasNoAnswer from.past place =
-    subst (λ l. HasNoAnswer l place) is.0 (none-recalled past place call recalled other said) in
-    let after : Resumes from end d log' (told ++ record { call = call; reply = reply } ∷ []) =
-    answered-now from place end b d log log' told call reply before none (at ∙ ap length is.0) replies in (
+    let after : Resumes from place' d log' (told ++ record { call = call; reply = reply } ∷ []) =
+    r.resumes from told (sym is.0) before in (
       is.0,
-      omega (arith, at),
-      subst (λ f. ResumesUnless f from end d log' told') (sym ok)
-          (subst (λ l. Resumes from end d log' l) (sym more) after),
+      r.within,
+      subst (λ f. ResumesUnless f from place' d log' told') (sym ok)
+          (subst (λ l. Resumes from place' d log' l) (sym more) after),
     )
 
 -- the work is done, and then the node serves until its input has ended

@@ -86,6 +86,14 @@ abbrev pub ResumesUnless : Option Failure → Begun → ℕ → Served → Optio
 ResumesUnless (Some failure) from place new log told = Unit {0}
 ResumesUnless None from place new log told = Resumes from place new log told
 
+-- the call was answered so, by what its log says from a place on, or else by the node: from wherever its work has come
+-- that far, it has come to this place, with one answer more
+pub record RepliesFrom (past : List Entry) (call : Call) (reply : Reply) (place place' : ℕ)
+    (old new : Served) (log log' : Option (List ℕ)) : Type 0 where
+  pub within : place' ≤ length past
+  pub resumes : (from : Begun) (told : List Answer) → from.past ≡ past → Resumes from place old log told
+      → Resumes from place' new log' (told ++ record { call = call; reply = reply } ∷ [])
+
 -- its work was told again all that the log says, and then was answered by the node
 pub record HasResumed (from : Begun) (new : Served) (log : Option (List ℕ)) (told : List Answer) : Type 0
   where

@@ -49,10 +49,15 @@ impl Inside {
 }
 
 /// Lines between two threads, of which one puts and the other takes.
-#[derive(Drop)]
 pub struct Mail {
     inside: Mutex<Inside>,
     bell: Parker,
+}
+
+impl Drop for Mail {
+    fn drop(self) {
+        let Mail { inside: _, bell: _ } = self;
+    }
 }
 
 impl Mail {

@@ -7,7 +7,7 @@ use std::str;
 use std::sync::Wait;
 
 /// What was read.
-#[derive(Clone, Copy, Debug, PartialEq, Eq)]
+#[derive(Clone, Copy)]
 pub(crate) enum Found {
     /// A line, which ended in LF.
     Line,

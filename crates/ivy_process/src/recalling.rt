@@ -9,7 +9,7 @@ use ivy_wire::Bytes;
 use std::alloc::Global;
 
 /// What a log says of a call that is made again.
-#[derive(Clone, Copy, Debug, PartialEq, Eq)]
+#[derive(Clone, Copy)]
 pub(crate) enum Recalled {
     /// It was answered so. What the log says of later calls begins in this place.
     Told { reply: Reply, next: usize },

@@ -15,7 +15,7 @@ const QUIET_MILLIS: u64 = 2;
 const LONG_MILLIS: u64 = 1000;
 
 /// What is done to lines.
-#[derive(Clone, Copy, Debug, PartialEq, Eq)]
+#[derive(Clone, Copy)]
 pub struct Harm {
     /// So many of a hundred are lost.
     pub lose: u64,
@@ -26,11 +26,20 @@ pub struct Harm {
 }
 
 /// Lines on their way through a medium.
-#[derive(Drop)]
 pub struct Router {
     harm: Harm,
     generator: Lcg64Xsh32,
     held: Vec<String>,
+}
+
+impl Drop for Router {
+    fn drop(self) {
+        let Router {
+            harm: _,
+            generator: _,
+            held: _,
+        } = self;
+    }
 }
 
 impl Router {

@@ -29,14 +29,14 @@ pub enum Ending {
 }
 
 /// What was heard.
-#[derive(Clone, Copy, Debug, PartialEq, Eq)]
+#[derive(Clone, Copy)]
 struct Heard {
     lines: u64,
     has_ended: bool,
 }
 
 /// What a service has told and when it pulsed last.
-#[derive(Clone, Copy, Debug, PartialEq, Eq)]
+#[derive(Clone, Copy)]
 pub(crate) struct Service {
     pub(crate) pulsed: u64,
     pub(crate) was_told: bool,
@@ -81,7 +81,7 @@ fn tell_end<E: Write>(node: &Node, service: &mut Service, err: &mut E) {
 }
 
 /// Hears what waits, makes turns, speaks, and pulses where it is time. It says whether there is no more to do.
-pub(crate) fn serve_once<R: Wait, I: Inbox, C: Clockwork, L: Write, O: Write, E: Write>(
+fn serve_once<R: Wait, I: Inbox, C: Clockwork, L: Write, O: Write, E: Write>(
     rt: &R,
     clock: &C,
     inbox: &I,
@@ -114,6 +114,49 @@ pub(crate) fn serve_once<R: Wait, I: Inbox, C: Clockwork, L: Write, O: Write, E:
     Ok(false)
 }
 
+/// Has a node go on with what it holds, and pulse to each other node: it may have been killed before.
+pub(crate) fn wake(node: &mut Node) -> Result<(), Failure>
+    ensures { OnOk result (GoesOn node.old node.new) }
+{
+    node.go_on_all()?;
+    node.pulse()
+}
+
+/// Serves until there is no more to do, or where it is asked to, until the calls of the node's code have their replies. It
+/// says whether they had.
+pub(crate) fn serve_on<R: Wait, I: Inbox, C: Clockwork, L: Write, O: Write, E: Write>(
+    rt: &R,
+    clock: &C,
+    inbox: &I,
+    node: &mut Node,
+    service: &mut Service,
+    log: &mut L,
+    out: &mut O,
+    err: &mut E,
+    until_free: bool,
+) -> Result<bool, Failure>
+    ensures { OnOk result (Streams node.old node.new (L.contents log.old) (L.contents log.new)) }
+{
+    for _ in rt.forever() {
+        if until_free && node.is_free() {
+            return Ok(true);
+        }
+        if serve_once(rt, clock, inbox, node, service, log, out, err)? {
+            return Ok(false);
+        }
+    }
+    Ok(false)
+}
+
+/// How a node's service ended.
+fn ending_of(node: &Node) -> Ending {
+    if node.ended() {
+        Ending::Ended
+    } else {
+        Ending::Waits
+    }
+}
+
 /// Serves until the input has ended and the program's next turn does nothing.
 ///
 /// What the node did stands in the log before a frame or a printed value of it goes out. After a nap in which nothing
@@ -130,21 +173,12 @@ pub fn serve<R: Wait, I: Inbox, C: Clockwork, L: Write, O: Write, E: Write>(
 ) -> Result<Ending, Failure>
     ensures { OnOk result (StreamsWhole node.old node.new (L.contents log.old) (L.contents log.new)) }
 {
-    node.go_on_all()?;
-    node.pulse()?;
+    wake(node)?;
     let mut service = Service {
         pulsed: clock.millis(),
         was_told: false,
     };
-    for _ in rt.forever() {
-        if serve_once(rt, clock, inbox, node, &mut service, log, out, err)? {
-            break;
-        }
-    }
+    serve_on(rt, clock, inbox, node, &mut service, log, out, err, false)?;
     node.speak(log, out, err)?;
-    Ok(if node.ended() {
-        Ending::Ended
-    } else {
-        Ending::Waits
-    })
+    Ok(ending_of(node))
 }

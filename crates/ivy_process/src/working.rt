@@ -1,14 +1,14 @@
 //! Own code at a node in a process: the memory that its work has, and the service around it.
-ghost use Rattle.std.specs.Prelude.{◌≡◌, ◌∷◌, [], IfOk, OnOk};
+ghost use Rattle.std.specs.Prelude.{◌≡◌, ◌≤◌, [], IfOk, length};
 ghost use Rattle.ivy_model.specs.Legal.{HasWidth};
-ghost use Rattle.ivy_process.specs.Logging.{Streams};
-ghost use Rattle.ivy_process.specs.Owned.{begun, HasResumed, HasWorked, Replies};
+ghost use Rattle.ivy_process.specs.Logging.{GoesOn, StreamsWhole};
+ghost use Rattle.ivy_process.specs.Owned.{begun, HasResumed, HasWorked, Replies, RepliesFrom, Resumes};
 
 use crate::failure::Failure;
 use crate::mail::Inbox;
 use crate::node::Node;
 use crate::recalling::{Recalled, check_told, recall};
-use crate::serving::{Clockwork, Service, serve, serve_once};
+use crate::serving::{Clockwork, Service, serve, serve_on, wake};
 use crate::story::Story;
 use ivy_join::ivy_lines::OwnLog;
 use ivy_join::ivy_lines::ivy_calls::{Answer, SharedMemory, Work};
@@ -31,6 +31,16 @@ impl Beginning for Brand {
     ghost begun = { record { past = []; events = []; unlogged = []; log = None } };
 }
 
+/// A node that serves its own code, with what it speaks to.
+#[derive(Drop)]
+struct Post<L, O, E> {
+    node: Node,
+    service: Service,
+    log: L,
+    out: O,
+    err: E,
+}
+
 /// The memory of a node in a process as its work has it. A work that is begun again makes its calls again: those that the
 /// log has are answered as it says.
 ///
@@ -43,11 +53,7 @@ struct OwnMemory<'a, S: Beginning, R, C, I, L: Write, O, E> {
     past: &'a OwnLog<Global>,
     /// The place in the log behind what the work was told of it.
     place: usize,
-    node: Node,
-    service: Service,
-    log: L,
-    out: O,
-    err: E,
+    post: Post<L, O, E>,
     told: Story,
     failure: Option<Failure>,
     of: PhantomData<S>,
@@ -62,31 +68,7 @@ impl<'a, S: Beginning, R, C, I, L: Write, O, E> Model for OwnMemory<'a, S, R, C,
 
     ghost view = { λ m. m.told };
 
-    ghost invariant = { λ m. (m.past.now.entries.items ≡ S.begun.past) × (m.place ≤ length m.past.now.entries.items) × ResumesUnless m.failure S.begun m.place m.node (L.contents m.log) m.told };
-}
-
-/// Serves until each call that was made has its reply.
-fn await_reply<R: Wait, C: Clockwork, I: Inbox, L: Write, O: Write, E: Write>(
-    rt: &R,
-    clock: &C,
-    inbox: &I,
-    node: &mut Node,
-    service: &mut Service,
-    log: &mut L,
-    out: &mut O,
-    err: &mut E,
-) -> Result<(), Failure>
-    ensures { OnOk result (Streams node.old node.new (L.contents log.old) (L.contents log.new)) }
-{
-    for _ in rt.forever() {
-        if node.is_free() {
-            return Ok(());
-        }
-        if serve_once(rt, clock, inbox, node, service, log, out, err)? {
-            break;
-        }
-    }
-    Err(Failure::Unanswered)
+    ghost invariant = { λ m. (m.past.now.entries.items ≡ S.begun.past) × (m.place ≤ length m.past.now.entries.items) × ResumesUnless m.failure S.begun m.place m.post.node (L.contents m.post.log) m.told };
 }
 
 /// Serves until the call that was made has its reply.
@@ -94,17 +76,26 @@ fn hear_reply<R: Wait, C: Clockwork, I: Inbox, L: Write, O: Write, E: Write>(
     rt: &R,
     clock: &C,
     inbox: &I,
-    node: &mut Node,
-    service: &mut Service,
-    log: &mut L,
-    out: &mut O,
-    err: &mut E,
+    post: &mut Post<L, O, E>,
     call: Call,
 ) -> Result<Reply, Failure>
-    ensures { IfOk result (λ reply. Replies call reply node.old node.new (L.contents log.old) (L.contents log.new)) }
+    ensures { IfOk result (λ reply. Replies call reply post.old.node post.new.node (L.contents post.old.log) (L.contents post.new.log)) }
 {
-    await_reply(rt, clock, inbox, node, service, log, out, err)?;
-    node.answer(call)
+    let is_free = serve_on(
+        rt,
+        clock,
+        inbox,
+        &mut post.node,
+        &mut post.service,
+        &mut post.log,
+        &mut post.out,
+        &mut post.err,
+        true,
+    )?;
+    if !is_free {
+        return Err(Failure::Unanswered);
+    }
+    post.node.answer(call)
 }
 
 /// Makes a call, and serves until it has its reply.
@@ -112,21 +103,14 @@ fn ask<R: Wait, C: Clockwork, I: Inbox, L: Write, O: Write, E: Write>(
     rt: &R,
     clock: &C,
     inbox: &I,
-    node: &mut Node,
-    service: &mut Service,
-    log: &mut L,
-    out: &mut O,
-    err: &mut E,
+    post: &mut Post<L, O, E>,
     call: Call,
 ) -> Result<Reply, Failure>
     requires width { HasWidth call }
-    ensures { IfOk result (λ reply. Replies call reply node.old node.new (L.contents log.old) (L.contents log.new)) }
+    ensures { IfOk result (λ reply. Replies call reply post.old.node post.new.node (L.contents post.old.log) (L.contents post.new.log)) }
 {
-    if !node.is_free() {
-        return Err(Failure::Unanswered);
-    }
-    node.ask(call)?;
-    hear_reply(rt, clock, inbox, node, service, log, out, err, call)
+    post.node.ask(call)?;
+    hear_reply(rt, clock, inbox, post, call)
 }
 
 /// Answers a call that the log has or lacks, but for its reply.
@@ -134,26 +118,48 @@ fn reply_to<R: Wait, C: Clockwork, I: Inbox, L: Write, O: Write, E: Write>(
     rt: &R,
     clock: &C,
     inbox: &I,
-    node: &mut Node,
-    service: &mut Service,
-    log: &mut L,
-    out: &mut O,
-    err: &mut E,
+    post: &mut Post<L, O, E>,
     call: Call,
     recalled: Recalled,
 ) -> Result<Reply, Failure>
     requires width { HasWidth call }
-    ensures { IfOk result (λ reply. Replies call reply node.old node.new (L.contents log.old) (L.contents log.new)) }
+    ensures { IfOk result (λ reply. Replies call reply post.old.node post.new.node (L.contents post.old.log) (L.contents post.new.log)) }
 {
     match recalled {
-        Recalled::New => ask(rt, clock, inbox, node, service, log, out, err, call),
-        _ => hear_reply(rt, clock, inbox, node, service, log, out, err, call),
+        Recalled::New => ask(rt, clock, inbox, post, call),
+        _ => hear_reply(rt, clock, inbox, post, call),
     }
 }
 
 /// The line of an entry of a log.
 fn line_of(log: &OwnLog<Global>, place: usize) -> u64 {
     log.lines.get(place).copied().unwrap_or(0)
+}
+
+/// Answers a call as the log says from a place on, or else by the node. The place behind what the work was told is given
+/// too.
+fn reply_from<R: Wait, C: Clockwork, I: Inbox, L: Write, O: Write, E: Write>(
+    rt: &R,
+    clock: &C,
+    inbox: &I,
+    past: &OwnLog<Global>,
+    place: usize,
+    post: &mut Post<L, O, E>,
+    call: Call,
+) -> Result<(Reply, usize), Failure>
+    requires width { HasWidth call }
+    requires within { place ≤ length past.now.entries.items }
+    ensures { IfOk result (λ r. RepliesFrom past.now.entries.items call r.0 place r.1 post.old.node post.new.node (L.contents post.old.log) (L.contents post.new.log)) }
+{
+    let recalled = match recall(&past.entries, place, call) {
+        Ok(recalled) => recalled,
+        Err(at) => return Err(Failure::Differs(line_of(past, at))),
+    };
+    if let Recalled::Told { reply, next } = recalled {
+        return Ok((reply, next));
+    }
+    let reply = reply_to(rt, clock, inbox, post, call, recalled)?;
+    Ok((reply, past.entries.len()))
 }
 
 impl<'a, S, R, C, I, L, O, E> SharedMemory for OwnMemory<'a, S, R, C, I, L, O, E>
@@ -177,33 +183,18 @@ where
         if self.failure.is_some() {
             return Err(Fault::TurnLimit);
         }
-        let recalled = match recall(&self.past.entries, self.place, call) {
-            Ok(recalled) => recalled,
-            Err(at) => {
-                self.failure = Some(Failure::Differs(line_of(self.past, at)));
-                return Err(Fault::TurnLimit);
-            }
-        };
-        if let Recalled::Told { reply, next } = recalled {
-            self.place = next;
-            self.told.push(&Answer { call, reply });
-            return Ok(reply);
-        }
-        let replied = reply_to(
+        let found = reply_from(
             self.rt,
             self.clock,
             self.inbox,
-            &mut self.node,
-            &mut self.service,
-            &mut self.log,
-            &mut self.out,
-            &mut self.err,
+            self.past,
+            self.place,
+            &mut self.post,
             call,
-            recalled,
         );
-        match replied {
-            Ok(reply) => {
-                self.place = self.past.entries.len();
+        match found {
+            Ok((reply, next)) => {
+                self.place = next;
                 self.told.push(&Answer { call, reply });
                 Ok(reply)
             }
@@ -215,15 +206,6 @@ where
     }
 }
 
-/// A node whose work is done, with what it speaks to.
-#[derive(Drop)]
-struct Parts<L, O, E> {
-    node: Node,
-    log: L,
-    out: O,
-    err: E,
-}
-
 impl<'a, S, R, C, I, L, O, E> OwnMemory<'a, S, R, C, I, L, O, E>
 where
     S: Beginning,
@@ -232,16 +214,13 @@ where
     E: Drop,
 {
     /// The node, its log and its streams, where no call failed, and the work has made all calls that the log has.
-    fn into_parts(self) -> Result<Parts<L, O, E>, Failure>
-        ensures { IfOk result (λ parts. HasResumed S.begun parts.node (L.contents parts.log) self.entry) }
+    fn into_post(self) -> Result<Post<L, O, E>, Failure>
+        ensures { IfOk result (λ post. HasResumed S.begun post.node (L.contents post.log) self.entry) }
     {
         let OwnMemory {
             past,
             place,
-            node,
-            log,
-            out,
-            err,
+            post,
             told: _,
             failure,
             ..
@@ -250,12 +229,7 @@ where
             return Err(failure);
         }
         match check_told(&past.entries, place) {
-            Ok(()) => Ok(Parts {
-                node,
-                log,
-                out,
-                err,
-            }),
+            Ok(()) => Ok(post),
             Err(at) => Err(Failure::Differs(line_of(past, at))),
         }
     }
@@ -272,50 +246,99 @@ pub struct Worked<T, L> {
     pub log: L,
 }
 
-/// The memory of a work that begins, at a node that goes on with what it holds, and pulses to the others.
-fn memory_of<'a, S, R, C, I, L, O, E>(
-    rt: &'a R,
-    clock: &'a C,
-    inbox: &'a I,
-    past: &'a OwnLog<Global>,
+/// A node that goes on with what it holds, and pulses to the others, with what it speaks to.
+fn awake<C: Clockwork, L: Drop, O: Drop, E: Drop>(
+    clock: &C,
     node: Node,
     log: L,
     out: O,
     err: E,
-) -> Result<OwnMemory<'a, S, R, C, I, L, O, E>, Failure>
-where
-    S: Beginning,
-    C: Clockwork,
-    L: Write + Drop,
-    O: Drop,
-    E: Drop,
-    requires { begun past.now.entries.items node (L.contents log) ≡ S.begun }
-    ensures { IfOk result (λ memory. memory ≡ []) }
+) -> Result<Post<L, O, E>, Failure>
+    ensures on { IfOk result (λ post. GoesOn node post.node) }
+    ensures log { IfOk result (λ post. post.log ≡ log) }
 {
     let mut node = node;
-    node.go_on_all()?;
-    node.pulse()?;
+    wake(&mut node)?;
     let service = Service {
         pulsed: clock.millis(),
         // That its code may make a call is no end.
         was_told: true,
     };
+    Ok(Post {
+        node,
+        service,
+        log,
+        out,
+        err,
+    })
+}
+
+/// The memory of a work that begins.
+fn memory_of<'a, S, R, C, I, L, O, E>(
+    rt: &'a R,
+    clock: &'a C,
+    inbox: &'a I,
+    past: &'a OwnLog<Global>,
+    post: Post<L, O, E>,
+) -> OwnMemory<'a, S, R, C, I, L, O, E>
+where
+    S: Beginning,
+    L: Write,
+    requires past { past.now.entries.items ≡ S.begun.past }
+    requires began { Resumes S.begun 0 post.node (L.contents post.log) [] }
+    ensures { result ≡ [] }
+{
     let memory = OwnMemory::<S, R, C, I, L, O, E> {
         rt,
         clock,
         inbox,
         past,
         place: 0,
-        node,
-        service,
-        log,
-        out,
-        err,
+        post,
         told: Story::new(),
         failure: None,
         of: PhantomData,
     };
-    Ok(memory)
+    memory
+}
+
+/// Where a work gave something, serves until the input has ended.
+fn finish<R, C, I, T, L, O, E>(
+    rt: &R,
+    clock: &C,
+    inbox: &I,
+    gave: Result<T, Fault>,
+    post: Post<L, O, E>,
+) -> Result<Worked<T, L>, Failure>
+where
+    R: Wait,
+    C: Clockwork,
+    I: Inbox,
+    T: Drop,
+    L: Write + Drop,
+    O: Write + Drop,
+    E: Write + Drop,
+    ensures { IfOk result (λ worked. (gave ≡ Ok worked.gave) × StreamsWhole post.node worked.node (L.contents post.log) (L.contents worked.log)) }
+{
+    let gave = match gave {
+        Ok(gave) => gave,
+        Err(fault) => return Err(Failure::GaveUp(fault)),
+    };
+    let mut post = post;
+    serve(
+        rt,
+        clock,
+        inbox,
+        &mut post.node,
+        &mut post.log,
+        &mut post.out,
+        &mut post.err,
+    )?;
+    Ok(Worked {
+        gave,
+        node: post.node,
+        log: post.log,
+    })
 }
 
 /// Does the work of a node that began so, and then serves until the input has ended.
@@ -343,27 +366,11 @@ where
     ensures { IfOk result (λ worked. HasWorked (W.done work.now) past.now.entries.items node worked.node (L.contents log) (L.contents worked.log) worked.gave) }
 {
     let me = node.me();
-    let mut memory = memory_of::<S, R, C, I, L, O, E>(rt, clock, inbox, past, node, log, out, err)?;
+    let post = awake(clock, node, log, out, err)?;
+    let mut memory = memory_of::<S, R, C, I, L, O, E>(rt, clock, inbox, past, post);
     let gave = work.work(me, &mut memory);
-    let mut parts = memory.into_parts()?;
-    let gave = match gave {
-        Ok(gave) => gave,
-        Err(fault) => return Err(Failure::GaveUp(fault)),
-    };
-    serve(
-        rt,
-        clock,
-        inbox,
-        &mut parts.node,
-        &mut parts.log,
-        &mut parts.out,
-        &mut parts.err,
-    )?;
-    Ok(Worked {
-        gave,
-        node: parts.node,
-        log: parts.log,
-    })
+    let last = memory.into_post()?;
+    finish(rt, clock, inbox, gave, last)
 }
 
 /// Does the work of a node with own code, and then serves the other nodes until its input has ended.

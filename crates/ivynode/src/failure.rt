@@ -11,7 +11,7 @@ use std::fmt;
 use std::io::{self, ErrorKind, Write};
 
 /// Why a command was not carried out. Its text is what standard error is told.
-#[derive(Debug, Drop)]
+#[derive(Drop)]
 pub enum Failure {
     /// The words of the command line are no command.
     BadCommandLine(&'static str),

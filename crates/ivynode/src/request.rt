@@ -11,14 +11,14 @@ use ivy_program::parse_number;
 use std::alloc::Global;
 
 /// What is told of the program.
-#[derive(Clone, Copy, Debug, PartialEq, Eq)]
+#[derive(Clone, Copy)]
 pub(crate) enum Help {
     Usage,
     Version,
 }
 
 /// A node that is to run.
-#[derive(Clone, Copy, Debug, PartialEq, Eq)]
+#[derive(Clone, Copy)]
 pub(crate) struct Asked<'a> {
     pub(crate) file: &'a str,
     pub(crate) node: u64,
@@ -61,30 +61,43 @@ fn manager_of(word: Option<&str>) -> Result<Kind, Failure> {
     }
 }
 
-fn run<'a>(alloc: Global, words: &'a [String]) -> Result<Request<'a>, Failure> {
-    let words = Words::new(alloc, words, &RUN_VALUES, &["--sync"])?;
+fn settings_of(words: &Words<'_>) -> Result<Settings, Failure> {
+    Ok(Settings {
+        pages: words.number("--pages", 16, 0, MOST)?,
+        page_size: words.number("--page-size", 256, 0, MOST)?,
+        manager: manager_of(words.value("--manager")?)?,
+    })
+}
+
+fn limits_of(words: &Words<'_>) -> Result<Limits, Failure> {
+    Ok(Limits {
+        pulse_millis: words.number("--pulse-ms", 20, 1, 60_000)?,
+        turns: words.number("--turns", 100_000_000, 1, MOST)?,
+        kept: words.number("--kept", 1_000_000, 1, MOST)?,
+    })
+}
+
+/// The node that words ask for. They are borrowed, since each way out would end them if they were owned.
+fn asked_of<'a>(words: &Words<'a>) -> Result<Asked<'a>, Failure> {
     let [file, node] = *words.plain.as_slice() else {
         return Err(Failure::BadCommandLine("run takes a file and a node"));
     };
     let Some(node) = parse_number(node) else {
         return Err(Failure::BadCommandLine("the node is no number"));
     };
-    Ok(Request::Run(Asked {
+    Ok(Asked {
         file,
         node,
-        settings: Settings {
-            pages: words.number("--pages", 16, 0, MOST)?,
-            page_size: words.number("--page-size", 256, 0, MOST)?,
-            manager: manager_of(words.value("--manager")?)?,
-        },
+        settings: settings_of(words)?,
         log: words.value("--log")?,
         is_synced: words.value("--sync")?.is_some(),
-        limits: Limits {
-            pulse_millis: words.number("--pulse-ms", 20, 1, 60_000)?,
-            turns: words.number("--turns", 100_000_000, 1, MOST)?,
-            kept: words.number("--kept", 1_000_000, 1, MOST)?,
-        },
-    }))
+        limits: limits_of(words)?,
+    })
+}
+
+fn run<'a>(alloc: Global, words: &'a [String]) -> Result<Request<'a>, Failure> {
+    let words = Words::new(alloc, words, &RUN_VALUES, &["--sync"])?;
+    Ok(Request::Run(asked_of(&words)?))
 }
 
 fn join<'a>(alloc: Global, words: &'a [String]) -> Result<Request<'a>, Failure>
@@ -107,17 +120,21 @@ fn join_own<'a>(alloc: Global, words: &'a [String]) -> Result<Request<'a>, Failu
     Ok(Request::JoinOwn { logs: words.plain })
 }
 
+fn harm_of(words: &Words<'_>) -> Result<Harm, Failure> {
+    Ok(Harm {
+        lose: words.number("--lose", 0, 0, 100)?,
+        repeat: words.number("--repeat", 0, 0, 100)?,
+        reorder: words.number("--reorder", 0, 0, 65_536)?,
+    })
+}
+
 fn router<'a>(alloc: Global, words: &'a [String]) -> Result<Request<'a>, Failure> {
     let words = Words::new(alloc, words, &ROUTER_VALUES, &[])?;
     if !words.plain.is_empty() {
         return Err(Failure::BadCommandLine("router takes no file"));
     }
     Ok(Request::Router {
-        harm: Harm {
-            lose: words.number("--lose", 0, 0, 100)?,
-            repeat: words.number("--repeat", 0, 0, 100)?,
-            reorder: words.number("--reorder", 0, 0, 65_536)?,
-        },
+        harm: harm_of(&words)?,
         seed: words.number("--seed", 1, 0, MOST)?,
     })
 }

@@ -8,10 +8,11 @@ use Rattle.ivy_process.proofs.working.ask.Goals as goal
 pub returns : goal.returns
 returns g c =
     let L = g.L.Write.contents in
+    let post = c.args.post.now in
     IfOk-weaker c.hear_reply.result _ _
     (λ reply replies.
-    own-further (begun [] c.args.node.now (L c.args.log.now)) [] c.ask.new.self c.hear_reply.new.node
-    (L c.args.log.now) (L c.hear_reply.new.log) [] (record { call = c.args.call; reply = reply } ∷ [])
-    (noted-own [] (Asked c.args.call) c.args.node.now c.ask.new.self (L c.args.log.now) refl c.in_ok-ask.ensures)
+    own-further (begun [] post.node (L post.log)) [] c.ask.new.self c.hear_reply.new.post.node
+    (L post.log) (L c.hear_reply.new.post.log) [] (record { call = c.args.call; reply = reply } ∷ [])
+    (noted-own [] (Asked c.args.call) post.node c.ask.new.self (L post.log) refl c.in_ok-ask.ensures)
     replies)
     c.hear_reply.ensures

@@ -8,12 +8,13 @@ use Rattle.ivy_process.proofs.working.hear_reply.Goals as goal
 pub returns : goal.returns
 returns g c =
     let L = g.L.Write.contents in
+    let post = c.args.post.now in
     IfOk-weaker c.answer.result _ _
     (λ reply noted.
-    own-further (begun [] c.args.node.now (L c.args.log.now)) [] c.await_reply.new.node c.answer.new.self
-    (L c.await_reply.new.log) (L c.await_reply.new.log) [] (record { call = c.args.call; reply = reply } ∷ [])
-    (streams-own [] c.args.node.now c.await_reply.new.node (L c.args.log.now) (L c.await_reply.new.log)
-    c.in_ok-await_reply.ensures)
-    (noted-own [] (Answered (record { call = c.args.call; reply = reply })) c.await_reply.new.node
-    c.answer.new.self (L c.await_reply.new.log) refl noted))
+    own-further (begun [] post.node (L post.log)) [] c.serve_on.new.node c.answer.new.self
+    (L c.serve_on.new.log) (L c.serve_on.new.log) [] (record { call = c.args.call; reply = reply } ∷ [])
+    (streams-own [] post.node c.serve_on.new.node (L post.log) (L c.serve_on.new.log)
+    c.in_ok-is_free.ensures)
+    (noted-own [] (Answered (record { call = c.args.call; reply = reply })) c.serve_on.new.node
+    c.answer.new.self (L c.serve_on.new.log) refl noted))
     c.answer.ensures

@@ -1,18 +1,33 @@
-use Rattle.std.proofs.Common.{sym, subst}
+use Rattle.std.proofs.Common.{ap, sym, subst}
+use Rattle.std.specs.Prelude.{IfOk}
+use Rattle.std.proofs.lemmas.Result.{IfOk-weaker}
 use Rattle.ivy_process.specs.Owned.{Begun, begun, HasResumed}
-use Rattle.ivy_process.proofs.Owned.{has-worked}
+use Rattle.ivy_process.proofs.Owned.{has-worked, resumes-woken}
 use Rattle.ivy_process.proofs.working.work_from.Goals as goal
+
+pub memory_of-memory-requires-clause-past : goal.memory_of-memory-requires-clause-past
+memory_of-memory-requires-clause-past g c = ap (λ (f : Begun). f.past) c.requires
+
+pub memory_of-memory-requires-clause-began : goal.memory_of-memory-requires-clause-began
+memory_of-memory-requires-clause-began g c =
+    let L = g.L.Write.contents in
+    let post = c.in_ok-post.post in
+    resumes-woken g.S.Beginning.begun c.args.past.now.entries.items c.args.node post.node
+    (L c.args.log) (L post.log) c.requires c.in_ok-post.ensures.on (ap L c.in_ok-post.ensures.log)
 
 pub returns : goal.returns
 returns g c =
     let L = g.L.Write.contents in
-    let parts = c.in_ok-parts.parts in
+    let last = c.in_ok-last.last in
+    let told = c.work-gave.new.memory in
+    let done = g.W.Work.done c.args.work.now in
     let from : Begun = begun c.args.past.now.entries.items c.args.node (L c.args.log) in
-    let resumed : HasResumed from parts.node (L parts.log) c.work-gave.new.memory =
-    subst (λ f. HasResumed f parts.node (L parts.log) c.work-gave.new.memory) (sym c.requires)
-    c.in_ok-parts.ensures in
-    has-worked (g.W.Work.done c.args.work.now) c.args.past.now.entries.items c.args.node parts.node
-    c.serve.new.node (L c.args.log) (L parts.log) (L c.serve.new.log) c.work-gave.new.memory c.in-Ok.gave
-    resumed c.in_ok-serve.ensures
-    (subst (λ me. g.W.Work.done c.args.work.now me c.work-gave.new.memory c.in-Ok.gave) c.me-me.ensures
-    c.in-Ok.ensures)
+    let resumed : HasResumed from last.node (L last.log) told =
+    subst (λ f. HasResumed f last.node (L last.log) told) (sym c.requires) c.in_ok-last.ensures in
+    IfOk-weaker c.finish.result _ _
+    (λ worked both.
+    has-worked done c.args.past.now.entries.items c.args.node last.node worked.node (L c.args.log)
+    (L last.log) (L worked.log) told worked.gave resumed both.1
+    (subst (λ me. done me told worked.gave) c.me-me.ensures
+    (subst (λ r. IfOk r (λ out. done c.me-me.result told out)) both.0 c.work-gave.ensures)))
+    c.finish.ensures

@@ -1,6 +1,6 @@
 use Rattle.std.proofs.Common.{refl}
 use Rattle.ivy_process.proofs.Logged.{stays, streams-begin, streams-further}
-use Rattle.ivy_process.proofs.working.await_reply.Goals as goal
+use Rattle.ivy_process.proofs.serving.serve_on.Goals as goal
 
 pub loop-init : goal.loop-init
 loop-init g c =
@@ -9,6 +9,12 @@ loop-init g c =
 
 pub loop-preserved : goal.loop-preserved
 loop-preserved g c =
+    let L = g.L.Write.contents in
+    streams-further c.args.node.now c.loop.node c.serve_once.new.node (L c.args.log.now) (L c.loop.log)
+    (L c.serve_once.new.log) c.loop.invariant c.in_ok-serve_once.ensures
+
+pub returns-then-branch : goal.returns-then-branch
+returns-then-branch g c =
     let L = g.L.Write.contents in
     streams-further c.args.node.now c.loop.node c.serve_once.new.node (L c.args.log.now) (L c.loop.log)
     (L c.serve_once.new.log) c.loop.invariant c.in_ok-serve_once.ensures
