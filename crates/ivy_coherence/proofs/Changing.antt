@@ -5,12 +5,14 @@ use Rattle.std.proofs.lemmas.List.{length-set, get_or-set_same, get_or-set_other
 use Rattle.ivy_model.specs.declared.Config.{Config}
 use Rattle.ivy_pagetable.specs.declared.Entry.{Entry}
 use Rattle.ivy_pagetable.specs.declared.Out.{Out}
+use Rattle.ivy_pagetable.specs.declared.Word.{Word}
 use Rattle.ivy_pagetable.specs.Entries.{nothing, is_owner, is_locked}
 use Rattle.ivy_pagetable.specs.TableState.{Table}
 use Rattle.ivy_pagetable.specs.Tables.{entry_at, page_at, with_entry, with_page}
 use Rattle.ivy_pagetable.specs.Manager.{Ops, KeepsElsewhere}
 use Rattle.ivy_coherence.specs.Coherent.{Coherent}
-use Rattle.ivy_coherence.specs.Sound.{IsSoundEntry, IsSound}
+use Rattle.ivy_coherence.specs.Sound.{WaitAlong, IsSoundEntry, IsSound}
+use Rattle.ivy_coherence.proofs.Along.{none_along, AreAlong}
 use Rattle.ivy_coherence.proofs.NextHop.{IsManaged}
 use Rattle.ivy_coherence.proofs.IdleServing.{IsPlace}
 
@@ -53,9 +55,9 @@ pub record AreLocks (page : ℕ) (locked : Bool) (old new : Option ℕ) : Type 0
   pub only : (p : ℕ) → new ≡ Some p → ((p ≡ page) × (locked ≡ true)) ⊎ ((p ≢ page) × (old ≡ Some p))
   pub others : (p : ℕ) → p ≢ page → old ≡ Some p → new ≡ Some p
 
--- the entry of a page, the pages, the manager and the lock after a change at the page
+-- the entry of a page, the pages, the manager, the lock and what waits along after a change at the page
 pub record IsChange {S : Type 0} (ops : Ops S) (c : Coherent S) (page : ℕ) (e : Entry)
-    (pages : List (List ℕ)) (m : S) (lock : Option ℕ) : Type 0 where
+    (pages : List (List ℕ)) (m : S) (lock : Option ℕ) (more : List Word) : Type 0 where
   pub inside : page < c.config.pages
   pub entry : IsSoundEntry c.config c.me e
   pub sized : ArePages c.config pages
@@ -63,10 +65,11 @@ pub record IsChange {S : Type 0} (ops : Ops S) (c : Coherent S) (page : ℕ) (e 
   pub hop : ops.next_hop m page < c.config.nodes
   pub away : is_owner e ≡ false → ops.next_hop m page ≢ c.me
   pub locks : AreLocks page (is_locked e) c.locked lock
+  pub along : AreAlong c page e lock more
 
 abbrev pub changed_to : {S : Type 0} → Coherent S → ℕ → Entry → List (List ℕ) → S → Option ℕ
-    → Option Out → ℕ → Coherent S
-changed_to c page e pages m lock done breaches = record {
+    → List Word → Option Out → List Out → ℕ → Coherent S
+changed_to c page e pages m lock more done done_more breaches = record {
   config = c.config;
   me = c.me;
   table = record {
@@ -76,7 +79,9 @@ changed_to c page e pages m lock done breaches = record {
   };
   manager = m;
   locked = lock;
+  more = more;
   done = done;
+  done_more = done_more;
   breaches = breaches;
 }
 
@@ -91,10 +96,10 @@ locks c page none = record {
 
 module _ {S : Type 0} {ops : Ops S} where
   pub change-sound : (c : Coherent S) (page : ℕ) (e : Entry) (pages : List (List ℕ)) (m : S)
-      (lock : Option ℕ) (done : Option Out) (breaches : ℕ)
-      → IsSound ops c → IsChange ops c page e pages m lock
-      → IsSound ops (changed_to c page e pages m lock done breaches)
-  change-sound c page e pages m lock answer breaches s h =
+      (lock : Option ℕ) (more : List Word) (done : Option Out) (done_more : List Out) (breaches : ℕ)
+      → IsSound ops c → IsChange ops c page e pages m lock more
+      → IsSound ops (changed_to c page e pages m lock more done done_more breaches)
+  change-sound c page e pages m lock more answer answers breaches s h =
       let within : page < length c.table.entries =
       (let k = s.entries in let i = h.inside in omega (arith, i, k)) in
       let hops : (p : ℕ) → p ≢ page → ops.next_hop m p ≡ ops.next_hop c.manager p =
@@ -134,6 +139,23 @@ module _ {S : Type 0} {ops : Ops S} where
           | inl x ↦ h.locks.here (ap is_locked (sym x.1) ∙ is) ∙ ap Some (sym x.0)
           | inr x ↦ h.locks.others p x.0 (s.others p (ap is_locked (sym x.1) ∙ is))
         ];
+        along = λ p is. elim (entry_with c.table page e p within) [
+          | inl x ↦
+              subst (λ z. WaitAlong c.config z more) (sym x.1)
+              (h.along.here (is ∙ ap Some x.0))
+          | inr x ↦
+              subst (λ z. WaitAlong c.config z more) (sym x.1)
+              (elim (h.along.same) [
+                | inl y ↦
+                    subst (WaitAlong c.config (entry_at c.table p)) (sym y)
+                    (s.along p
+                    (elim (h.locks.only p is) [ inl z ↦ absurd (x.0 z.0) | inr z ↦ z.1 ]))
+                | inr y ↦
+                    subst (WaitAlong c.config (entry_at c.table p)) (sym y)
+                    (none_along c.config (entry_at c.table p))
+              ])
+        ];
+        alone = h.along.alone;
       }
 
   -- the pages of a node, and the same with other bytes of one

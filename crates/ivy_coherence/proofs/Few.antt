@@ -18,6 +18,7 @@ use Rattle.ivy_pagetable.proofs.Bits.{with_below}
 use Rattle.ivy_coherence.specs.Coherent.{Coherent}
 use Rattle.ivy_coherence.specs.Limits.{most_posted}
 use Rattle.ivy_coherence.specs.Serving.{invalidations}
+use Rattle.ivy_coherence.specs.Several.{all_carried}
 use Rattle.ivy_coherence.specs.Steps.{unlocked, handled}
 use Rattle.ivy_coherence.specs.Faults.{begun}
 use Rattle.ivy_coherence.specs.Sound.{IsSound}
@@ -29,8 +30,9 @@ module _ {S : Type 0} (ops : Ops S) where
       (bytes : List ℕ) (w : WaitingState) → length w.put_off ≤ most_put_off
       → length (unlocked ops c from page i reply bytes w).posted ≤ most_posted
   unlocked-few c from page i reply bytes w few =
-      let k = put_off_served-few ops c.me page (carried_out w.word bytes).bytes from i c.manager c.breaches
-      reply w.put_off in omega (arith, k, few)
+      let k =
+      put_off_served-few ops c.me page (all_carried c.more (carried_out w.word bytes).bytes).bytes from i
+      c.manager c.breaches reply w.put_off in omega (arith, k, few)
 
   put_off-few : (c : Coherent S) (page : ℕ) (e : Entry) → IsSound ops c → entry_at c.table page ≡ e
       → length (put_offs e) ≤ most_put_off

@@ -1,5 +1,5 @@
 -- Words in a row whose page is at hand are carried out at once.
-use Rattle.std.proofs.Common.{◌≡◌, ℕ, ◌+◌, ◌<◌, Bool, true, List, [], ◌∷◌, length, Option}
+use Rattle.std.proofs.Common.{◌≡◌, ◌≢◌, ℕ, ◌+◌, ◌<◌, Bool, true, false, not, ◌&&◌, List, [], ◌∷◌, length, Option}
 use Rattle.std.proofs.Common.{Some, None, refl, sym, ap, ◌∙◌, subst, set-set, if◌then◌else◌, arith}
 use Rattle.std.specs.Prelude.{is_none}
 use Rattle.std.proofs.lemmas.Bool.{and_parts}
@@ -11,15 +11,17 @@ use Rattle.ivy_pagetable.specs.declared.Entry.{Entry}
 use Rattle.ivy_pagetable.specs.declared.Entry.TheVariants as entry
 use Rattle.ivy_pagetable.specs.declared.Out.{Out}
 use Rattle.ivy_pagetable.specs.declared.Word.{Word}
+use Rattle.ivy_pagetable.specs.States.{IdleState}
 use Rattle.ivy_pagetable.specs.TableState.{Table}
 use Rattle.ivy_pagetable.specs.Tables.{entry_at, page_at, with_page}
 use Rattle.ivy_pagetable.specs.Words.{carried_out}
 use Rattle.ivy_pagetable.specs.Rows.{word_in, out_in, AreCarried}
 use Rattle.ivy_pagetable.specs.Manager.{Ops}
-use Rattle.ivy_coherence.specs.declared.need.Need.TheVariants.{Have}
+use Rattle.ivy_coherence.specs.declared.need.Need.TheVariants.{Have, Started}
 use Rattle.ivy_coherence.specs.Coherent.{Coherent}
-use Rattle.ivy_coherence.specs.Faults.{Begun, suffices, hit, faulted, accessed, begun_at, begun}
-use Rattle.ivy_coherence.specs.Hits.{permits, permits_at, is_at_hand, AreHits}
+use Rattle.ivy_pagetable.specs.Accesses.{suffices}
+use Rattle.ivy_coherence.specs.Faults.{Begun, HasToAsk, hit, faulted, accessed, begun_at, begun}
+use Rattle.ivy_coherence.specs.Hits.{permits, permits_at, is_at_hand, all_taken, lacks_at, has_to_wait, AreHits}
 use Rattle.ivy_coherence.specs.Sound.{IsSound}
 
 is_free : (o : Option ℕ) → is_none o ≡ true → o ≡ None
@@ -30,6 +32,59 @@ suffices_is : (kind : Row) (access : Access) (offset number : ℕ)
     → suffices access (word_in kind offset number) ≡ permits access kind
 suffices_is Loads access offset number = refl
 suffices_is Stores access offset number = refl
+
+-- whether every answer was taken
+pub taken_is : (b : Bool) (outs : List Out) → (b ≡ true → outs ≡ []) → (b ≡ false → outs ≢ [])
+    → all_taken outs ≡ b
+taken_is true outs none some = ap all_taken (none refl)
+taken_is false [] none some = absurd (some refl refl)
+taken_is false (o ∷ os) none some = refl
+
+all_are_taken : (outs : List Out) → all_taken outs ≡ true → outs ≡ []
+all_are_taken [] h = refl
+all_are_taken (o ∷ os) h = absurd cc
+
+refused : (b : Bool) → not b ≡ true → b ≡ false
+refused true h = absurd cc
+refused false h = refl
+
+-- What a row lacks that has to wait.
+pub record Lacks {S : Type 0} (ops : Ops S) (c : Coherent S) (page : ℕ) (w : Word) (call : ℕ) : Type 0
+  where
+    pub taken : c.done_more ≡ []
+    pub asks : HasToAsk c page w
+    pub starts : (begun ops c page w call).need ≡ Started
+
+module _ {S : Type 0} (ops : Ops S) (c : Coherent S) (page : ℕ) (kind : Row)
+    (offset number call : ℕ) where
+  abbrev lacking : Word
+  lacking = word_in kind offset number
+
+  faults : (e : Entry) → lacks_at e kind ≡ true → (s : IdleState)
+      × (e ≡ entry.Idle s) × (suffices s.access lacking ≡ false)
+  faults (entry.Idle s) h =
+      (s, refl, suffices_is kind s.access offset number ∙ refused (permits s.access kind) h)
+  faults (entry.AwaitRead s) h = absurd cc
+  faults (entry.AwaitWrite s) h = absurd cc
+  faults (entry.AwaitAcks s) h = absurd cc
+
+  -- its first word has to be asked for, and begins to wait
+  pub lacks : has_to_wait c page kind ≡ true → Lacks ops c page lacking call
+  unfolding begun
+  lacks h =
+      let free = and_parts (is_none c.locked && all_taken c.done_more)
+      (lacks_at (entry_at c.table page) kind) h in
+      let taken = and_parts (is_none c.locked) (all_taken c.done_more) free.0 in
+      let at = faults (entry_at c.table page) free.1 in
+      record {
+        taken = all_are_taken c.done_more taken.1;
+        asks = record { free = is_free c.locked taken.0; idle = at.0; is = at.1; short = at.2 };
+        starts =
+            ap (λ o. (begun_at ops c page lacking call o).need) (is_free c.locked taken.0)
+            ∙ ap (λ e. (accessed ops c page lacking call e).need) at.1
+            ∙ ap (λ b. (if b then hit ops c page lacking
+            else faulted ops c page lacking call at.0).need) at.2;
+      }
 
 module _ {S : Type 0} (ops : Ops S) (page : ℕ) (kind : Row) where
   -- the table with these bytes of the page

@@ -18,7 +18,7 @@ use Rattle.ivy_pagetable.specs.declared.PutOff.{PutOff}
 use Rattle.ivy_pagetable.specs.declared.Request.{Request}
 use Rattle.ivy_pagetable.specs.declared.Request.TheVariants as request
 use Rattle.ivy_pagetable.specs.declared.Word.{Word}
-use Rattle.ivy_pagetable.specs.Accesses.{reads}
+use Rattle.ivy_pagetable.specs.Accesses.{reads, suffices}
 use Rattle.ivy_model.specs.Limits.{most_nodes}
 use Rattle.ivy_pagetable.specs.NodeSets.{Nodes, nodes_of, nodes_with}
 use Rattle.ivy_pagetable.specs.States.{IdleState, WaitingState, AwaitWriteState, AwaitAcksState}
@@ -31,9 +31,11 @@ use Rattle.ivy_pagetable.proofs.Words.{length-carried_out}
 use Rattle.ivy_coherence.specs.Coherent.{Coherent}
 use Rattle.ivy_coherence.specs.Serving.{Serving, serving, told, put_off_served, invalidations}
 use Rattle.ivy_coherence.specs.Steps.{CoherenceEffect, collected, still_collecting, IsWaiting, IsCollecting, unlocked_as, breach, after_serving, unlocked, put_by, given_up, asked, handled}
-use Rattle.ivy_coherence.specs.Faults.{Begun, hit, faulted, waiting_from, begun, suffices}
+use Rattle.ivy_coherence.specs.Faults.{Begun, hit, faulted, waiting_from, begun}
 use Rattle.ivy_coherence.specs.IdleSound.{CanBeServed, AreOthers, IsSoundIdle}
-use Rattle.ivy_coherence.specs.Sound.{IsSoundEntry, IsSound}
+use Rattle.ivy_coherence.specs.Several.{all_carried}
+use Rattle.ivy_coherence.specs.Sound.{WaitAlong, IsSoundEntry, IsSound}
+use Rattle.ivy_coherence.proofs.Along.{put_along, length-all_carried, kept_along, idle_along, freed_along, locked_along, more_fits}
 use Rattle.ivy_coherence.proofs.IdleServing.{IsServing, all_none, all_one, parcel_fits, fewer_others, copying-sound, owning-sound, keeps_all, all_served-keeps}
 use Rattle.ivy_coherence.proofs.Rows.{Rows, AccessRows, MayAsk, asking-fits, asker_foreign, handled-by_rows, fault-by_rows, begun-by_rows}
 use Rattle.ivy_coherence.proofs.Changing.{AreLocks, change-sound, same_pages, other_page, same_locks, unlocks, locks, place, managed}
@@ -51,10 +53,16 @@ KeepsBegun ops c b = IsSound ops b.after × All (FitsParcel c.config c.me) b.pos
 -- what was put off is served with these bytes, the bytes of the page are `now`, and no word waits
 -- at this node
 abbrev pub settled_with : {S : Type 0} → Ops S → Coherent S → ℕ → ℕ → IdleState → Option Request
-    → List ℕ → List ℕ → Option Out → List PutOff → CoherenceEffect S
-settled_with ops c from page i reply bytes now done qs =
-    after_serving ops (record c { table = with_page c.table page now; locked = None; done = done })
-    page (put_off_served ops c.me from page bytes i c.manager c.breaches reply qs)
+    → List ℕ → List ℕ → Option Out → List Out → List PutOff → CoherenceEffect S
+settled_with ops c from page i reply bytes now done outs qs =
+    after_serving ops
+    (record c {
+      table = with_page c.table page now;
+      locked = None;
+      more = [];
+      done = done;
+      done_more = outs;
+    }) page (put_off_served ops c.me from page bytes i c.manager c.breaches reply qs)
 
 -- those that are told to give a copy up
 each_told : (P : Parcel → Type 0) (f : ℕ → Parcel) (p : ℕ → Bool) (xs : List ℕ)
@@ -99,6 +107,8 @@ module _ {S : Type 0} {ops : Ops S} where
       away = s.away;
       locked = s.locked;
       others = s.others;
+      along = s.along;
+      alone = s.alone;
     },
     all_none (FitsParcel c.config c.me),
   )
@@ -107,10 +117,11 @@ module _ {S : Type 0} {ops : Ops S} where
       → page < c.config.pages → entry_at c.table page ≡ e → CanBeServed c.config c.me q
       → can_put_off e ≡ true → Keeps ops c (put_by ops c page e q)
   put_by-keeps c page e q s inside is can room = (
-    change-sound c page (with_put_off e q) c.table.pages c.manager c.locked c.done c.breaches s
+    change-sound c page (with_put_off e q) c.table.pages c.manager c.locked c.more c.done
+        c.done_more c.breaches s
         (entry-sound c page e (with_put_off e q) s inside is
         (put_entry-sound c.config c.me e q (entry_is c page e s is) can room) (owner_put e q)
-        (locked_put e q)),
+        (locked_put e q) (put_along c.config e q c.more)),
     all_none (FitsParcel c.config c.me),
   )
 
@@ -140,7 +151,8 @@ module _ {S : Type 0} {ops : Ops S} (laws : Laws ops) where
       (place c page (page_at c.table page) s inside (s.sized page inside))
       (serving i c.manager c.breaches []) (q ∷ []) (idle-start c page i s inside is)
       (all_one (CanBeServed c.config c.me) q can) in (
-        change-sound c page (entry.Idle v.idle) c.table.pages v.manager c.locked c.done v.breaches s
+        change-sound c page (entry.Idle v.idle) c.table.pages v.manager c.locked c.more c.done
+            c.done_more v.breaches s
             (record {
               inside = inside;
               entry = idle-sound c.config c.me v.idle h.idle;
@@ -149,6 +161,7 @@ module _ {S : Type 0} {ops : Ops S} (laws : Laws ops) where
               hop = h.hop;
               away = h.away;
               locks = same_locks c page false s (sym (ap is_locked is));
+              along = idle_along c page i (entry.Idle v.idle) s is;
             }),
         h.fits,
       )
@@ -164,7 +177,7 @@ module _ {S : Type 0} {ops : Ops S} (laws : Laws ops) where
       let free : is_owner (entry_at c.table page) ≡ false = ap is_owner is in
       let at : IsManaged ops c.config c.me page c.manager = managed c page s inside in (
         change-sound c page (entry.AwaitWrite (record { had_copy = false; waiting = w.waiting }))
-            c.table.pages m c.locked c.done c.breaches s
+            c.table.pages m c.locked c.more c.done c.done_more c.breaches s
             (record {
               inside = inside;
               entry = writing-sound c.config c.me (record { had_copy = false; waiting = w.waiting })
@@ -175,6 +188,9 @@ module _ {S : Type 0} {ops : Ops S} (laws : Laws ops) where
               away = λ o. invalidated-away laws c.config c.me page c.manager at q.origin can.foreign
                   (s.away page inside free);
               locks = same_locks c page true s (sym (ap is_locked is));
+              along = kept_along c page
+                  (entry.AwaitWrite (record { had_copy = false; waiting = w.waiting })) s
+                  (λ h. subst (λ z. WaitAlong c.config z c.more) is h);
             }),
         all_one (FitsParcel c.config c.me) _
             (parcel_fits c.config c.me q.origin q.origin q.call (content.InvalAck page) s.here
@@ -230,18 +246,18 @@ module _ {S : Type 0} {ops : Ops S} (laws : Laws ops) where
   -- what was put off is served with these bytes, and no word waits then; the page's own bytes may
   -- be others
   put_off_served-keeps : (c : Coherent S) (from page : ℕ) (i : IdleState) (reply : Option Request)
-      (bytes now : List ℕ) (done : Option Out) (qs : List PutOff) → IsSound ops c
+      (bytes now : List ℕ) (done : Option Out) (outs : List Out) (qs : List PutOff) → IsSound ops c
       → page < c.config.pages → length bytes ≡ c.config.page_size → length now ≡ c.config.page_size
       → is_locked (entry_at c.table page) ≡ true → All (CanBeServed c.config c.me) qs
       → IsServing ops c.config c.me page c.manager
       (serving i (told ops from page c.manager reply) c.breaches [])
-      → Keeps ops c (settled_with ops c from page i reply bytes now done qs)
-  put_off_served-keeps c from page i reply bytes now done qs s inside sized long lock can start =
+      → Keeps ops c (settled_with ops c from page i reply bytes now done outs qs)
+  put_off_served-keeps c from page i reply bytes now done outs qs s inside sized long lock can start =
       let v : Serving S = put_off_served ops c.me from page bytes i c.manager c.breaches reply qs in
       let h : IsServing ops c.config c.me page c.manager v
       = all_served-keeps laws c.config c.me page bytes c.manager (place c page bytes s inside sized)
       (serving i (told ops from page c.manager reply) c.breaches []) qs start can in (
-        change-sound c page (entry.Idle v.idle) (set c.table.pages page now) v.manager None done
+        change-sound c page (entry.Idle v.idle) (set c.table.pages page now) v.manager None [] done outs
             v.breaches s
             (record {
               inside = inside;
@@ -251,6 +267,7 @@ module _ {S : Type 0} {ops : Ops S} (laws : Laws ops) where
               hop = h.hop;
               away = h.away;
               locks = unlocks c page s lock;
+              along = freed_along c page (entry.Idle v.idle);
             }),
         h.fits,
       )
@@ -266,8 +283,12 @@ module _ {S : Type 0} {ops : Ops S} (laws : Laws ops) where
   unlocked-keeps c from page i reply bytes w s inside sized lock word can start =
       let long : length (carried_out w.word bytes).bytes ≡ c.config.page_size =
       length-carried_out w.word bytes (subst (λ n. IsWord n w.word) (sym sized) word) ∙ sized in
-      put_off_served-keeps c from page i reply _ _ (Some (carried_out w.word bytes).out) w.put_off s inside
-      long long lock can start
+      let all : length (all_carried c.more (carried_out w.word bytes).bytes).bytes ≡ c.config.page_size =
+      length-all_carried c.more (carried_out w.word bytes).bytes c.config.page_size long
+      (more_fits c page s lock) in
+      put_off_served-keeps c from page i reply _ _ (Some (carried_out w.word bytes).out)
+      (all_carried c.more (carried_out w.word bytes).bytes).outs w.put_off s inside
+      all all lock can start
 
   -- a copy comes for the word that waits to read; the page comes alone for one that waits to write;
   -- the last copy was given up
@@ -317,8 +338,8 @@ module _ {S : Type 0} {ops : Ops S} (laws : Laws ops) where
       entry_is c page (entry.AwaitWrite w) s is in
       let word = good.writing w refl in
       change-sound c page (entry.AwaitAcks (record { left = copies; waiting = w.waiting }))
-      (set c.table.pages page bytes) (ops.on_replied c.manager page true from) c.locked c.done
-      c.breaches s
+      (set c.table.pages page bytes) (ops.on_replied c.manager page true from) c.locked c.more c.done
+      c.done_more c.breaches s
       (record {
         inside = inside;
         entry = collecting-sound c.config c.me (record { left = copies; waiting = w.waiting })
@@ -328,6 +349,8 @@ module _ {S : Type 0} {ops : Ops S} (laws : Laws ops) where
         hop = written_hop c page from s inside below;
         away = λ o. absurd cc;
         locks = same_locks c page true s (sym (ap is_locked is));
+        along = kept_along c page (entry.AwaitAcks (record { left = copies; waiting = w.waiting })) s
+            (λ h. subst (λ z. WaitAlong c.config z c.more) is h);
       })
 
   -- an acknowledgement came, and others are missing
@@ -340,10 +363,11 @@ module _ {S : Type 0} {ops : Ops S} (laws : Laws ops) where
       entry_is c page (entry.AwaitAcks w) s is in
       let word = (good.collecting w refl).0 in
       let e : Entry = entry.AwaitAcks (record { left = left; waiting = w.waiting }) in
-      change-sound c page e c.table.pages c.manager c.locked c.done c.breaches s
+      change-sound c page e c.table.pages c.manager c.locked c.more c.done
+      c.done_more c.breaches s
       (entry-sound c page (entry.AwaitAcks w) e s inside is
       (collecting-sound c.config c.me (record { left = left; waiting = w.waiting }) word.0
-      word.1 others good.put_off good.few) refl refl)
+      word.1 others good.put_off good.few) refl refl (λ h. h))
 
   -- the entry that a word waits at
   reads-at : (e : Entry) (w : WaitingState) → IsWaiting e request.Read w → e ≡ entry.AwaitRead w
@@ -392,31 +416,31 @@ module _ {S : Type 0} {ops : Ops S} (laws : Laws ops) where
       ((entry_is c page (entry.AwaitAcks h.0) s h.1.0).collecting h.0 refl).0.0
 
   pub unlocking-keeps : (c : Coherent S) (from page : ℕ) (kind : Request) (bytes now : List ℕ)
-      (done : Option Out) (w : WaitingState) → IsSound ops c → from < c.config.nodes → from ≢ c.me
-      → page < c.config.pages → length bytes ≡ c.config.page_size → length now ≡ c.config.page_size
+      (done : Option Out) (outs : List Out) (w : WaitingState) → IsSound ops c
+      → from < c.config.nodes → from ≢ c.me → page < c.config.pages → length bytes ≡ c.config.page_size → length now ≡ c.config.page_size
       → IsWaiting (entry_at c.table page) kind w
       → Keeps ops c
-      (settled_with ops c from page (unlocked_as kind) (Some kind) bytes now done w.put_off)
-  unlocking-keeps c from page request.Write bytes now done w s below foreign inside sized long
+      (settled_with ops c from page (unlocked_as kind) (Some kind) bytes now done outs w.put_off)
+  unlocking-keeps c from page request.Write bytes now done outs w s below foreign inside sized long
       waits =
       let h = writes-at (entry_at c.table page) w waits in
       let good : IsSoundEntry c.config c.me (entry.AwaitWrite h.0) =
       entry_is c page (entry.AwaitWrite h.0) s h.1.0 in
-      put_off_served-keeps c from page owning (Some request.Write) bytes now done w.put_off s inside sized
+      put_off_served-keeps c from page owning (Some request.Write) bytes now done outs w.put_off s inside sized
       long
       (ap is_locked h.1.0)
       (subst (λ (x : WaitingState). All (CanBeServed c.config c.me) x.put_off) (sym h.1.1)
       good.put_off) (page-start c page from s inside below)
-  unlocking-keeps c from page request.Read bytes now done w s below foreign inside sized long
+  unlocking-keeps c from page request.Read bytes now done outs w s below foreign inside sized long
       waits =
       let is : entry_at c.table page ≡ entry.AwaitRead w =
       reads-at (entry_at c.table page) w waits in
-      put_off_served-keeps c from page copying (Some request.Read) bytes now done w.put_off s inside sized
+      put_off_served-keeps c from page copying (Some request.Read) bytes now done outs w.put_off s inside sized
       long
       (ap is_locked is)
       (entry_is c page (entry.AwaitRead w) s is).put_off
       (copy-start c page from s inside (ap is_owner is) below foreign)
-  unlocking-keeps c from page request.Invalidate _ _ _ w s below foreign inside sized long waits =
+  unlocking-keeps c from page request.Invalidate _ _ _ _ w s below foreign inside sized long waits =
       absurd (never-waits (entry_at c.table page) w waits)
 
   pub last-keeps : (c : Coherent S) (from page : ℕ) (w : WaitingState) → IsSound ops c
@@ -536,6 +560,8 @@ module _ {S : Type 0} {ops : Ops S} (laws : Laws ops) where
           away = s.away;
           locked = s.locked;
           others = s.others;
+          along = s.along;
+          alone = s.alone;
         },
         all_none (FitsParcel c.config c.me),
       )
@@ -555,7 +581,7 @@ module _ {S : Type 0} {ops : Ops S} (laws : Laws ops) where
         locked = Some page;
       })
   locking c page e s inside none good lock owner =
-      change-sound c page e c.table.pages c.manager (Some page) c.done c.breaches s
+      change-sound c page e c.table.pages c.manager (Some page) c.more c.done c.done_more c.breaches s
       (record {
         inside = inside;
         entry = good;
@@ -564,6 +590,7 @@ module _ {S : Type 0} {ops : Ops S} (laws : Laws ops) where
         hop = s.hop page inside;
         away = λ free. s.away page inside (owner free);
         locks = subst (λ b. AreLocks page b c.locked (Some page)) (sym lock) (locks c page none);
+        along = locked_along c page e s none;
       })
 
   pub not_owner : (owner readable : Bool) → (owner ≡ true → readable ≡ true) → readable ≡ false

@@ -2,6 +2,7 @@ pub mod NextHop
 pub mod IdleServing
 pub mod FewServed
 pub mod Undoing
+pub mod Along
 pub mod Changing
 pub mod Rows
 pub mod SoundEntries
@@ -10,3 +11,6 @@ pub mod Few
 pub mod Same
 pub mod Opened
 pub mod Hits
+pub mod Rests
+pub mod RowWaits
+pub mod Takes

@@ -30,17 +30,20 @@ use Rattle.ivy_pagetable.proofs.Words.{taken_back}
 use Rattle.ivy_pagetable.specs.Manager.{Ops, Laws}
 use Rattle.ivy_coherence.specs.Coherent.{Coherent}
 use Rattle.ivy_coherence.specs.Limits.{most_posted}
+use Rattle.ivy_coherence.specs.Several.{all_carried}
 use Rattle.ivy_coherence.specs.Serving.{put_off_served, invalidations}
-use Rattle.ivy_coherence.specs.Steps.{asked, asked_at, IsWaiting, IsCollecting, is_none, unlocked_as}
-use Rattle.ivy_coherence.specs.Faults.{IsIdleAt, HasToAsk, MayMakePage, suffices, fault_entry, hit, faulted, accessed, begun_at, begun}
+use Rattle.ivy_coherence.specs.Steps.{unlocked, asked, asked_at, IsWaiting, IsCollecting, is_none, unlocked_as}
+use Rattle.ivy_pagetable.specs.Accesses.{suffices}
+use Rattle.ivy_coherence.specs.Faults.{IsIdleAt, HasToAsk, MayMakePage, fault_entry, hit, faulted, accessed, begun_at, begun}
 use Rattle.ivy_coherence.specs.IdleSound.{CanBeServed, AreOthers, IsSoundIdle}
 use Rattle.ivy_coherence.specs.Sound.{IsSound}
 use Rattle.ivy_pagetable.specs.Entries.{can_put_off, with_put_off, owning, is_locked}
 use Rattle.ivy_coherence.proofs.IdleServing.{fewer_others}
+use Rattle.ivy_coherence.proofs.Along.{put_along}
 use Rattle.ivy_coherence.proofs.Changing.{change-sound}
 use Rattle.ivy_coherence.proofs.FewServed.{nodes-few}
 use Rattle.ivy_coherence.proofs.SoundEntries.{entry_is, entry-sound, put_entry-sound, owner_put, locked_put}
-use Rattle.ivy_coherence.proofs.Keeping.{idle_asked-keeps, hit-keeps, fault-keeps, invalidations-fit, waiting_word, collecting_word, unlocking-keeps, last-keeps, giving-keeps, collecting-keeps}
+use Rattle.ivy_coherence.proofs.Keeping.{Keeps, idle_asked-keeps, hit-keeps, fault-keeps, invalidations-fit, waiting_word, collecting_word, unlocking-keeps, last-keeps, giving-keeps, collecting-keeps}
 use Rattle.ivy_coherence.proofs.Keeping.{left-keeps}
 
 pub none_of : (o : Option ℕ) → is_some o ≡ false → o ≡ None
@@ -236,10 +239,12 @@ module _ {S : Type 0} {ops : Ops S} (n v : Coherent S) (same : v ≡ n) (s : IsS
       let now : t ≡ with_entry v.table page (with_put_off e q) =
       is ∙ ap (λ b. if b then with_entry v.table page (with_put_off e q) else v.table) room in
       subst (λ x. IsSound ops (record v { table = x })) (sym now)
-      (change-sound v page (with_put_off e q) v.table.pages v.manager v.locked v.done v.breaches s
+      (change-sound v page (with_put_off e q) v.table.pages v.manager v.locked v.more v.done
+      v.done_more v.breaches s
       (entry-sound v page e (with_put_off e q) s (here (λ x. page < x.config.pages) inside) refl
       (put_entry-sound v.config v.me e q (s.each page)
-      (here (λ x. CanBeServed x.config x.me q) can) room) (owner_put e q) (locked_put e q)))
+      (here (λ x. CanBeServed x.config x.me q) can) room) (owner_put e q) (locked_put e q)
+      (put_along v.config e q v.more)))
 
   pub waits_here : (page : ℕ) (kind : Request) (w : WaitingState)
       → IsWaiting (entry_at n.table page) kind w → IsWaiting (entry_at v.table page) kind w
@@ -277,12 +282,13 @@ module _ {S : Type 0} {ops : Ops S} (laws : Laws ops) (n v : Coherent S) (same :
   unlock_fits from page kind bytes w i qs k node comes waits idle list config me =
       let at : Comes v from page bytes = came from page bytes comes in
       let keeps =
-      unlocking-keeps laws v from page kind bytes bytes None w s at.below at.foreign at.inside
+      unlocking-keeps laws v from page kind bytes bytes None [] w s at.below at.foreign at.inside
       at.sized at.sized (waits_there page kind w waits) in
       rw (idle, list) (fits_at n v same k node config me _ keeps.1)
 
   pub unlock_sound : (from page : ℕ) (kind : Request) (bytes now : List ℕ) (w : WaitingState)
-      (i after : IdleState) (qs : List PutOff) (t : Table) (m : S) (o : Option Out) (b : ℕ)
+      (i after : IdleState) (qs : List PutOff) (t : Table) (m : S) (o : Option Out)
+      (os : List Out) (b : ℕ)
       → Comes n from page bytes → length now ≡ n.config.page_size
       → IsWaiting (entry_at n.table page) kind w
       → i ≡ unlocked_as kind → qs ≡ w.put_off
@@ -297,10 +303,12 @@ module _ {S : Type 0} {ops : Ops S} (laws : Laws ops) (n v : Coherent S) (same :
         table = t;
         manager = m;
         locked = None;
+        more = [];
         done = o;
+        done_more = os;
         breaches = b;
       })
-  unlock_sound from page kind bytes now w i after qs t m o b comes long waits idle list idle_is
+  unlock_sound from page kind bytes now w i after qs t m o os b comes long waits idle list idle_is
       table manager breaches =
       let at : Comes v from page bytes = came from page bytes comes in
       let sized : length now ≡ v.config.page_size =
@@ -312,7 +320,7 @@ module _ {S : Type 0} {ops : Ops S} (laws : Laws ops) (n v : Coherent S) (same :
         sized = long;
       })).sized in
       let keeps =
-      unlocking-keeps laws v from page kind bytes now o w s at.below at.foreign at.inside
+      unlocking-keeps laws v from page kind bytes now o os w s at.below at.foreign at.inside
       at.sized sized (waits_there page kind w waits) in
       rw (table, manager, breaches, idle_is, idle, list) keeps.0
 
@@ -321,22 +329,31 @@ module _ {S : Type 0} {ops : Ops S} (laws : Laws ops) (n v : Coherent S) (same :
       → IsWord v.config.page_size w.word
   last_word page w waits = collecting_word laws v page w s (collects_there page w waits)
 
+  -- where nothing waits along
+  last_alone : (from page : ℕ) (w : WaitingState) → v.more ≡ [] → page < n.config.pages
+      → IsCollecting (entry_at n.table page) w
+      → Keeps ops v
+      (unlocked ops (record v { more = [] }) from page owning None (page_at v.table page) w)
+  last_alone from page w alone inside waits =
+      subst (λ ws. Keeps ops v
+      (unlocked ops (record v { more = ws }) from page owning None (page_at v.table page) w)) alone
+      (last-keeps laws v from page w s
+      (subst (λ (x : Coherent S). page < x.config.pages) (sym same) inside)
+      (collects_there page w waits))
+
   pub last_fits : (from page : ℕ) (now : List ℕ) (w : WaitingState) (i : IdleState)
-      (qs : List PutOff) (k : Config) (node : ℕ) → page < n.config.pages
+      (qs : List PutOff) (k : Config) (node : ℕ) → v.more ≡ [] → page < n.config.pages
       → IsCollecting (entry_at n.table page) w
       → now ≡ (carried_out w.word (page_at v.table page)).bytes → i ≡ owning → qs ≡ w.put_off
       → k ≡ n.config → node ≡ n.me
       → All (FitsParcel k node)
       (put_off_served ops v.me from page now i v.manager v.breaches None qs).posted
-  last_fits from page now w i qs k node inside waits bytes_are idle list config me =
-      let keeps =
-      last-keeps laws v from page w s
-      (subst (λ (x : Coherent S). page < x.config.pages) (sym same) inside)
-      (collects_there page w waits) in
+  last_fits from page now w i qs k node alone inside waits bytes_are idle list config me =
+      let keeps = last_alone from page w alone inside waits in
       rw (bytes_are, idle, list) (fits_at n v same k node config me _ keeps.1)
 
   pub last_sound : (from page : ℕ) (now : List ℕ) (w : WaitingState) (i after : IdleState)
-      (qs : List PutOff) (t : Table) (m : S) (o : Out) (b : ℕ) → page < n.config.pages
+      (qs : List PutOff) (t : Table) (m : S) (o : Out) (b : ℕ) → v.more ≡ [] → page < n.config.pages
       → IsCollecting (entry_at n.table page) w
       → now ≡ (carried_out w.word (page_at v.table page)).bytes → i ≡ owning → qs ≡ w.put_off
       → after ≡ (put_off_served ops v.me from page now i v.manager v.breaches None qs).idle
@@ -351,16 +368,63 @@ module _ {S : Type 0} {ops : Ops S} (laws : Laws ops) (n v : Coherent S) (same :
         table = t;
         manager = m;
         locked = None;
+        more = [];
         done = Some o;
+        done_more = [];
         breaches = b;
       })
-  last_sound from page now w i after qs t m o b inside waits bytes_are idle list idle_is table
+  last_sound from page now w i after qs t m o b alone inside waits bytes_are idle list idle_is table
       manager out breaches =
-      let keeps =
+      let keeps = last_alone from page w alone inside waits in
+      rw (table, manager, out, breaches, idle_is, bytes_are, idle, list) keeps.0
+
+  -- with the words that wait along
+  last_along : (from page : ℕ) (w : WaitingState) → page < n.config.pages
+      → IsCollecting (entry_at n.table page) w
+      → Keeps ops v (unlocked ops v from page owning None (page_at v.table page) w)
+  last_along from page w inside waits =
       last-keeps laws v from page w s
       (subst (λ (x : Coherent S). page < x.config.pages) (sym same) inside)
-      (collects_there page w waits) in
-      rw (table, manager, out, breaches, idle_is, bytes_are, idle, list) keeps.0
+      (collects_there page w waits)
+
+  pub all_fits : (from page : ℕ) (now : List ℕ) (w : WaitingState) (i : IdleState)
+      (qs : List PutOff) (k : Config) (node : ℕ) → page < n.config.pages
+      → IsCollecting (entry_at n.table page) w
+      → now ≡ (all_carried v.more (carried_out w.word (page_at v.table page)).bytes).bytes
+      → i ≡ owning → qs ≡ w.put_off → k ≡ n.config → node ≡ n.me
+      → All (FitsParcel k node)
+      (put_off_served ops v.me from page now i v.manager v.breaches None qs).posted
+  all_fits from page now w i qs k node inside waits bytes_are idle list config me =
+      let keeps = last_along from page w inside waits in
+      rw (bytes_are, idle, list) (fits_at n v same k node config me _ keeps.1)
+
+  pub all_sound : (from page : ℕ) (now : List ℕ) (w : WaitingState) (i after : IdleState)
+      (qs : List PutOff) (t : Table) (m : S) (o : Out) (os : List Out) (b : ℕ)
+      → page < n.config.pages → IsCollecting (entry_at n.table page) w
+      → now ≡ (all_carried v.more (carried_out w.word (page_at v.table page)).bytes).bytes
+      → i ≡ owning → qs ≡ w.put_off
+      → after ≡ (put_off_served ops v.me from page now i v.manager v.breaches None qs).idle
+      → t ≡ with_page (with_entry v.table page (entry.Idle after)) page now
+      → m ≡ (put_off_served ops v.me from page now i v.manager v.breaches None qs).manager
+      → o ≡ (carried_out w.word (page_at v.table page)).out
+      → os ≡ (all_carried v.more (carried_out w.word (page_at v.table page)).bytes).outs
+      → b ≡ (put_off_served ops v.me from page now i v.manager v.breaches None qs).breaches
+      → IsSound ops
+      (record {
+        config = v.config;
+        me = v.me;
+        table = t;
+        manager = m;
+        locked = None;
+        more = [];
+        done = Some o;
+        done_more = os;
+        breaches = b;
+      })
+  all_sound from page now w i after qs t m o os b inside waits bytes_are idle list idle_is table
+      manager out outs breaches =
+      let keeps = last_along from page w inside waits in
+      rw (table, manager, out, outs, breaches, idle_is, bytes_are, idle, list) keeps.0
 
   -- a node that waits to write gives its copy up
   pub giving_sound : (page : ℕ) (w : WaitingState) (q : PutOff) (t : Table) (m : S)

@@ -19,8 +19,9 @@ use Rattle.ivy_pagetable.specs.Words.{IsWord, needs_write}
 use Rattle.ivy_pagetable.specs.Manager.{Ops, Laws}
 use Rattle.ivy_coherence.specs.Coherent.{Coherent}
 use Rattle.ivy_coherence.specs.IdleSound.{CanBeServed, AreOthers, IsSoundIdle}
-use Rattle.ivy_coherence.specs.Sound.{IsSoundEntry, IsSound, first_coherent}
+use Rattle.ivy_coherence.specs.Sound.{WaitAlong, IsSoundEntry, IsSound, first_coherent}
 use Rattle.ivy_coherence.proofs.IdleServing.{all_none, without-sound, owning-sound, keeps_all}
+use Rattle.ivy_coherence.proofs.Along.{kept_along}
 use Rattle.ivy_coherence.proofs.Changing.{IsChange, same_pages, same_locks}
 
 -- entries of each kind
@@ -128,8 +129,9 @@ module _ {S : Type 0} {ops : Ops S} where
   pub entry-sound : (c : Coherent S) (page : ℕ) (e f : Entry) → IsSound ops c
       → page < c.config.pages → entry_at c.table page ≡ e → IsSoundEntry c.config c.me f
       → is_owner f ≡ is_owner e → is_locked f ≡ is_locked e
-      → IsChange ops c page f c.table.pages c.manager c.locked
-  entry-sound c page e f s inside is good owner lock = record {
+      → (WaitAlong c.config e c.more → WaitAlong c.config f c.more)
+      → IsChange ops c page f c.table.pages c.manager c.locked c.more
+  entry-sound c page e f s inside is good owner lock along = record {
     inside = inside;
     entry = good;
     sized = same_pages c s;
@@ -137,6 +139,7 @@ module _ {S : Type 0} {ops : Ops S} where
     hop = s.hop page inside;
     away = λ free. s.away page inside (ap is_owner is ∙ sym owner ∙ free);
     locks = same_locks c page (is_locked f) s (lock ∙ sym (ap is_locked is));
+    along = kept_along c page f s (λ h. along (subst (λ z. WaitAlong c.config z c.more) is h));
   }
 
 entry_first : (n p : ℕ) (e : Entry)
@@ -193,4 +196,6 @@ module _ {S : Type 0} {ops : Ops S} (laws : Laws ops) where
           sym (first_entry-free (me == 0)) ∙ ap is_locked (sym x) ∙ h in cc)
       | inr x ↦ absurd (let f : false ≡ true = ap is_locked (sym x) ∙ h in cc)
     ];
+    along = λ p h. absurd cc;
+    alone = λ free. refl;
   }

@@ -1,15 +1,14 @@
 -- What an access of this node's program comes to (Li and Hudak 1989): what the program is told, the
 -- state after, and what is posted, in order.
-use Rattle.std.specs.Prelude.{◌≡◌, ℕ, Bool, true, false, List, [], ◌∷◌, Option, Some, None, if◌then◌else◌}
+use Rattle.std.specs.Prelude.{◌≡◌, ℕ, true, false, List, [], ◌∷◌, Option, Some, None, if◌then◌else◌}
 use Rattle.ivy_wire.specs.declared.Content.TheVariants as content
 use Rattle.ivy_wire.specs.Data.{Parcel}
 use Rattle.ivy_wire.specs.Posts.{parcel_to}
-use Rattle.ivy_pagetable.specs.declared.Access.{Access}
 use Rattle.ivy_pagetable.specs.declared.Entry.{Entry}
 use Rattle.ivy_pagetable.specs.declared.Entry.TheVariants as entry
 use Rattle.ivy_pagetable.specs.declared.Word.{Word}
 use Rattle.ivy_pagetable.specs.States.{IdleState, WaitingState}
-use Rattle.ivy_pagetable.specs.Accesses.{reads, writes}
+use Rattle.ivy_pagetable.specs.Accesses.{reads, suffices}
 use Rattle.ivy_pagetable.specs.TableState.{Table}
 use Rattle.ivy_pagetable.specs.Tables.{entry_at, page_at, with_entry, with_page}
 use Rattle.ivy_pagetable.specs.Words.{carried_out, needs_write}
@@ -25,10 +24,6 @@ pub record Begun (S : Type 0) : Type 0 where
   pub need : Need
   pub after : Coherent S
   pub posted : List Parcel
-
--- the word may be carried out at once, with this access to its page
-abbrev pub suffices : Access → Word → Bool
-suffices access word = if needs_write word then writes access else reads access
 
 -- no word waits for the page
 abbrev pub IsIdleAt : Table → ℕ → IdleState → Type 0
@@ -58,6 +53,16 @@ fault_entry word call s =
     then entry.AwaitAcks (record { left = s.copies; waiting = waiting_from word call })
     else entry.AwaitWrite (record { had_copy = reads s.access; waiting = waiting_from word call }))
     else entry.AwaitRead (waiting_from word call)
+
+-- these words wait along with the one that has begun to wait
+abbrev pub along : {S : Type 0} → List Word → Coherent S → Coherent S
+along [] c = c
+along (word ∷ words) c = record c { more = word ∷ words }
+
+-- where that one has begun to wait
+abbrev pub along_where : {S : Type 0} → Need → List Word → Coherent S → Coherent S
+along_where Started words c = along words c
+along_where need words c = c
 
 module _ {S : Type 0} (ops : Ops S) where
   -- an entry of this node is locked already: nothing changes
@@ -110,3 +115,9 @@ module _ {S : Type 0} (ops : Ops S) where
   -- an access of this node's program, for the call of this number
   unfoldable pub begun : Coherent S → ℕ → Word → ℕ → Begun S
   begun c page word call = begun_at c page word call c.locked
+
+  -- an access to a row of words, of which this is the first: where it has to wait, the others wait along
+  abbrev pub begun_row : Coherent S → ℕ → Word → List Word → ℕ → Begun S
+  begun_row c page word rest call =
+      let b = begun c page word call in
+      record { need = b.need; after = along_where b.need rest b.after; posted = b.posted }

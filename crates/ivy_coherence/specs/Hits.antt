@@ -1,10 +1,11 @@
 -- Rows of words that are carried out at once, where the access to their page suffices.
-use Rattle.std.specs.Prelude.{◌≡◌, ℕ, ◌+◌, Bool, false, ◌&&◌, is_none, List, [], ◌∷◌}
+use Rattle.std.specs.Prelude.{◌≡◌, ℕ, ◌+◌, Bool, true, false, not, ◌&&◌, is_none, List, [], ◌∷◌}
 use Rattle.ivy_model.specs.declared.Row.{Row}
 use Rattle.ivy_model.specs.declared.Row.TheVariants.{Loads, Stores}
 use Rattle.ivy_pagetable.specs.declared.Access.{Access}
 use Rattle.ivy_pagetable.specs.declared.Entry.{Entry}
 use Rattle.ivy_pagetable.specs.declared.Entry.TheVariants as entry
+use Rattle.ivy_pagetable.specs.declared.Out.{Out}
 use Rattle.ivy_pagetable.specs.Accesses.{reads, writes}
 use Rattle.ivy_pagetable.specs.Tables.{entry_at}
 use Rattle.ivy_pagetable.specs.Rows.{word_in, out_in}
@@ -26,6 +27,23 @@ permits_at e kind = false
 -- no word of this node waits for a page, and those of this page may be carried out at once
 abbrev pub is_at_hand : {S : Type 0} → Coherent S → ℕ → Row → Bool
 is_at_hand c page kind = is_none c.locked && permits_at (entry_at c.table page) kind
+
+-- every answer was taken
+abbrev pub all_taken : List Out → Bool
+all_taken [] = true
+all_taken (o ∷ os) = false
+
+-- the words of a row have to be asked for, with this entry of their page: no word waits there, and
+-- its access does not suffice
+abbrev pub lacks_at : Entry → Row → Bool
+lacks_at (entry.Idle s) kind = not (permits s.access kind)
+lacks_at e kind = false
+
+-- words of this page would wait together: no word of this node waits for a page, no answer of words
+-- that waited along is left, and the page has to be asked for
+abbrev pub has_to_wait : {S : Type 0} → Coherent S → ℕ → Row → Bool
+has_to_wait c page kind =
+    is_none c.locked && all_taken c.done_more && lacks_at (entry_at c.table page) kind
 
 -- each word is carried out in the call in which it is asked for, whatever number that call has, and
 -- nothing is posted

@@ -1,4 +1,6 @@
 pub mod Limits
+pub mod Several
+pub mod Rests
 pub mod Serving
 pub mod IdleSound
 pub mod Served
@@ -7,6 +9,7 @@ pub mod Steps
 pub mod Outcomes
 pub mod Faults
 pub mod Hits
+pub mod Takes
 pub mod Sound
 pub use Rattle.ivy_model.specs.Config
 pub use Rattle.ivy_model.specs.Wants

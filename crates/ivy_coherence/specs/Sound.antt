@@ -1,5 +1,5 @@
 -- What holds of a node's coherence, whatever comes to it.
-use Rattle.std.specs.Prelude.{◌≡◌, ◌≢◌, ℕ, ◌<◌, ◌≤◌, Bool, true, false, length, All, Some, None}
+use Rattle.std.specs.Prelude.{◌≡◌, ◌≢◌, ℕ, ◌<◌, ◌≤◌, Bool, true, false, List, [], length, All, Some, None}
 use Rattle.ivy_model.specs.declared.Config.{Config}
 use Rattle.ivy_model.specs.Config.{IsConfig}
 use Rattle.ivy_pagetable.specs.declared.Entry.{Entry}
@@ -28,6 +28,14 @@ pub record IsSoundEntry (c : Config) (me : ℕ) (e : Entry) : Type 0 where
   pub put_off : All (CanBeServed c me) (put_offs e)
   pub few : length (put_offs e) ≤ most_put_off
 
+-- words that wait along with that of an entry lie in its page too, and none of them needs to write
+-- where that one only reads
+abbrev pub WaitAlong : Config → Entry → List Word → Type 0
+WaitAlong c (entry.Idle s) words = words ≡ []
+WaitAlong c (entry.AwaitRead s) words = All (Waits c false) words
+WaitAlong c (entry.AwaitWrite s) words = All (IsWord c.page_size) words
+WaitAlong c (entry.AwaitAcks s) words = All (IsWord c.page_size) words
+
 -- what holds of the whole: each entry is sound, and at most one of them is locked
 pub record IsSound {S : Type 0} (ops : Ops S) (c : Coherent S) : Type 0 where
   pub limits : IsConfig c.config
@@ -47,6 +55,9 @@ pub record IsSound {S : Type 0} (ops : Ops S) (c : Coherent S) : Type 0 where
   -- the locked entry, if there is one
   pub locked : (p : ℕ) → c.locked ≡ Some p → is_locked (entry_at c.table p) ≡ true
   pub others : (p : ℕ) → is_locked (entry_at c.table p) ≡ true → c.locked ≡ Some p
+  -- the words that wait along with the one that waits there
+  pub along : (p : ℕ) → c.locked ≡ Some p → WaitAlong c.config (entry_at c.table p) c.more
+  pub alone : c.locked ≡ None → c.more ≡ []
 
 -- a node as it begins
 abbrev pub first_coherent : {S : Type 0} → Ops S → Config → ℕ → Coherent S
@@ -56,6 +67,8 @@ first_coherent ops c me = record {
   table = first_table c me;
   manager = ops.first c me;
   locked = None;
+  more = [];
   done = None;
+  done_more = [];
   breaches = 0;
 }

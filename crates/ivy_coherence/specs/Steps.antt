@@ -17,6 +17,7 @@ use Rattle.ivy_pagetable.specs.Tables.{entry_at, page_at, with_entry, with_page}
 use Rattle.ivy_pagetable.specs.Words.{carried_out}
 use Rattle.ivy_pagetable.specs.Manager.{Ops}
 use Rattle.ivy_coherence.specs.Coherent.{Coherent}
+use Rattle.ivy_coherence.specs.Several.{all_carried}
 use Rattle.ivy_coherence.specs.Serving.{Serving, counted, is_write, put_off_served, invalidations}
 
 -- the coherence after a message, and what is posted
@@ -65,16 +66,23 @@ module _ {S : Type 0} (ops : Ops S) where
     posted = v.posted;
   }
 
-  -- the word that waited is carried out on these bytes; then what was put off is served, in order
-  -- of arrival
+  -- the word that waited is carried out on these bytes, and those that waited along with it behind it;
+  -- then what was put off is served, in order of arrival
   abbrev pub unlocked : Coherent S → ℕ → ℕ → IdleState → Option Request → List ℕ → WaitingState
       → CoherenceEffect S
   unlocked c from page idle reply bytes s =
       let now = carried_out s.word bytes in
+      let rest = all_carried c.more now.bytes in
       after_serving
-      (record c { table = with_page c.table page now.bytes; locked = None; done = Some now.out })
+      (record c {
+        table = with_page c.table page rest.bytes;
+        locked = None;
+        more = [];
+        done = Some now.out;
+        done_more = rest.outs;
+      })
       page
-      (put_off_served ops c.me from page now.bytes idle c.manager c.breaches reply s.put_off)
+      (put_off_served ops c.me from page rest.bytes idle c.manager c.breaches reply s.put_off)
 
   -- with the copy, or the page, that was asked for
   abbrev pub unlocked_by_reply : Coherent S → ℕ → ℕ → Request → List ℕ → WaitingState

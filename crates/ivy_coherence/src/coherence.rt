@@ -1,5 +1,5 @@
 //! The entries and pages of one node, and the rules by which they change.
-ghost use Rattle.std.specs.Prelude.{◌≡◌, ◌≢◌, ◌<◌, ◌≤◌, ◌+◌, ◌*◌, ◌%◌, ◌^◌, ◌⊎◌, ℕ, true, false, None, List, IfOk, IfErr, OnOk, OnErr, IsOkUnless, length, if◌then◌else◌};
+ghost use Rattle.std.specs.Prelude.{◌≡◌, ◌≢◌, ◌<◌, ◌≤◌, ◌+◌, ◌*◌, ◌%◌, ◌^◌, ◌⊎◌, ℕ, true, false, None, List, [], IfOk, IfErr, OnOk, OnErr, IsOkUnless, length, min, if◌then◌else◌};
 ghost use Rattle.ivy_model.specs.declared.Row.TheVariants.{Loads, Stores};
 ghost use Rattle.ivy_model.specs.Config.{IsConfig};
 ghost use Rattle.ivy_model.specs.Rows.{numbers_in};
@@ -10,12 +10,17 @@ ghost use Rattle.ivy_pagetable.specs.Tables.{entry_at, page_at};
 ghost use Rattle.ivy_pagetable.specs.Words.{IsWord, needs_write};
 ghost use Rattle.ivy_pagetable.specs.Rows.{row_len};
 ghost use Rattle.ivy_pagetable.specs.Either.{MayBeUnmade};
-ghost use Rattle.ivy_coherence.specs.Faults.{suffices, IsIdleAt, HasToAsk, MayMakePage, fault_entry, fault_posted, faulted, begun};
-ghost use Rattle.ivy_coherence.specs.Hits.{permits, is_at_hand, AreHits};
+ghost use Rattle.ivy_pagetable.specs.Accesses.{suffices};
+ghost use Rattle.ivy_coherence.specs.Faults.{IsIdleAt, HasToAsk, MayMakePage, fault_entry, fault_posted, faulted, begun, begun_row};
+ghost use Rattle.ivy_coherence.specs.Rests.{first_word, other_words};
+ghost use Rattle.ivy_coherence.specs.Hits.{permits, is_at_hand, has_to_wait, AreHits};
 ghost use Rattle.ivy_coherence.specs.Outcomes.{IsWantOfPage};
+ghost use Rattle.ivy_coherence.specs.Several.{first_out, later_outs};
+ghost use Rattle.ivy_coherence.specs.Takes.{are_given, AreTaken, given_there};
 ghost use Rattle.ivy_coherence.specs.Sound.{first_coherent, IsSound};
 
 use crate::need::Need;
+use crate::rest::{Rest, number_of, put_number, word_at};
 use crate::serving::invalidate;
 use ivy_model::{Config, Fault, Row};
 use ivy_pagetable::{
@@ -39,6 +44,8 @@ pub struct Coherence<M: Manager, A: Allocator> {
     /// The bytes of a page that comes are written here, and become the page of the table once the post
     /// took all. No value shows them.
     pub(crate) spare: Page<A>,
+    /// The words that wait along with the one at the locked entry, and their answers.
+    pub(crate) rest: Rest<A>,
 }
 
 impl<M: Manager, A: Allocator> Model for Coherence<M, A> {
@@ -54,7 +61,17 @@ impl<M: Manager, A: Allocator> Model for Coherence<M, A> {
 
     ghost coded = { Prim.hlevel (codes, nodes_code) };
 
-    ghost view = { λ c. record { config = c.config; me = c.me; table = c.table; manager = c.manager; locked = c.locked; done = c.done; breaches = c.breaches } };
+    ghost view = { λ c. record {
+      config = c.config;
+      me = c.me;
+      table = c.table;
+      manager = c.manager;
+      locked = c.locked;
+      more = c.rest.words;
+      done = c.done;
+      done_more = c.rest.outs;
+      breaches = c.breaches;
+    } };
 
     ghost invariant = { λ c. IsSound M.ops (record {
       config = c.config;
@@ -62,9 +79,12 @@ impl<M: Manager, A: Allocator> Model for Coherence<M, A> {
       table = c.table;
       manager = c.manager;
       locked = c.locked;
+      more = c.rest.words;
       done = c.done;
+      done_more = c.rest.outs;
       breaches = c.breaches;
-    }) × (c.config.pages ≤ most_pages → length c.spare ≡ c.config.page_size) };
+    }) × (c.config.pages ≤ most_pages → length c.spare ≡ c.config.page_size)
+        × (c.rest.size ≡ c.config.page_size) };
 }
 
 /// Whether the words of a row can be carried out at once where this is the access.
@@ -92,6 +112,7 @@ impl<M: Manager, A: Allocator + Copy> Coherence<M, A> {
     {
         let table = NodeTable::new(alloc, config, me)?;
         let spare = Page::zeros(alloc, config.page_size as usize)?;
+        let rest = Rest::new(alloc, config.page_size)?;
         Ok(Coherence {
             config: *config,
             me,
@@ -101,6 +122,7 @@ impl<M: Manager, A: Allocator + Copy> Coherence<M, A> {
             done: None,
             breaches: 0,
             spare,
+            rest,
         })
     }
 }
@@ -154,6 +176,57 @@ impl<M: Manager, A: Allocator> Coherence<M, A> {
         ensures taken { self.new ≡ record self.old { done = None } }
     {
         self.done.take()
+    }
+
+    /// Takes out the answer of the word that faulted, as [`Coherence::returned`] does; that of the next of the words that
+    /// were carried out along with it is there then. It takes no memory.
+    pub fn returned_next(&mut self) -> Option<Out>
+        ensures answer { result ≡ self.old.done }
+        ensures taken { self.new ≡ record self.old {
+          done = first_out self.old.done_more;
+          done_more = later_outs self.old.done_more;
+        } }
+    {
+        let answer = self.done;
+        self.done = self.rest.take();
+        answer
+    }
+
+    /// Takes out the answers of words of a row of this kind, one after another as [`Coherence::returned_next`] does, all that are
+    /// there but at most so many, and says how many. The numbers of words that were loaded are copied. It takes no memory.
+    pub fn returned_row(&mut self, kind: Row, most: usize, into: &mut [u8]) -> usize
+        requires room { kind ≡ Loads → 8 * most ≤ length into.old }
+        ensures many { result ≡ min most (given_there kind self.old.done self.old.done_more) }
+        ensures taken { AreTaken kind (numbers_in result into.new) self.old self.new }
+        ensures sized { length into.new ≡ length into.old }
+    {
+        if most == 0 {
+            return 0;
+        }
+        let Some(number) = number_of(kind, self.done) else {
+            return 0;
+        };
+        let words = self.rest.take_row(kind, most - 1, into);
+        put_number(kind, into, number);
+        self.done = self.rest.take();
+        words + 1
+    }
+
+    /// Whether an answer is there, and just so many behind it, all of words of a row of this kind. It takes no memory.
+    pub fn has_given(&self, kind: Row, behind: usize) -> bool
+        ensures { result ≡ are_given kind behind self.now.done self.now.done_more }
+    {
+        number_of(kind, self.done).is_some()
+            && self.rest.left() == behind
+            && self.rest.given(kind) == behind
+    }
+
+    /// Whether the answers of all words that were carried out along with one that faulted were taken. It takes no memory.
+    pub fn is_taken(&self) -> bool
+        ensures none { result ≡ true → self.now.done_more ≡ [] }
+        ensures some { result ≡ false → self.now.done_more ≢ [] }
+    {
+        self.rest.is_taken()
     }
 
     /// What the word's page is asked for by, and the entry that it waits at then.
@@ -314,6 +387,73 @@ impl<M: Manager, A: Allocator> Coherence<M, A> {
         }
     }
 
+    /// An access of this node's program to words of 8 bytes in a row of a page, by the call of this number for the first of
+    /// them [1, 17]. The bytes have the numbers of the words, at which loads do not look.
+    ///
+    /// It is the access of [`Coherence::need`] to the first word. Where that one has to wait, the others wait along with it,
+    /// and are carried out behind it with nothing between; else they are left alone. No answer of words that were carried out
+    /// before may be there still.
+    pub fn need_row<P: Post>(
+        &mut self,
+        page: u32,
+        kind: Row,
+        offset: u32,
+        words: usize,
+        bytes: &[u8],
+        call: u64,
+        post: &mut P,
+    ) -> Result<Need, Fault>
+        requires page { page < self.old.config.pages }
+        requires aligned { offset % 8 ≡ 0 }
+        requires some { 1 ≤ words }
+        requires within { offset + 8 * words ≤ self.old.config.page_size }
+        requires many { 8 * words ≤ length bytes.now }
+        requires taken { self.old.done_more ≡ [] }
+        requires call { 1 ≤ call }
+        requires post { IsPostOf P.ops post.old self.old.config self.old.me }
+        ensures sure { OnErr result (HasToAsk self.old page (first_word kind offset bytes.now)
+            ⊎ MayMakePage self.old page (first_word kind offset bytes.now)) }
+        ensures need { IfOk result (λ need.
+            need ≡ (begun M.ops self.old page (first_word kind offset bytes.now) call).need) }
+        ensures ok { OnOk result (self.new ≡ (begun_row M.ops self.old page
+            (first_word kind offset bytes.now) (other_words kind offset words bytes.now) call).after) }
+        ensures posted { OnOk result (post.new ≡ P.ops.after post.old
+            (begun M.ops self.old page (first_word kind offset bytes.now) call).posted) }
+        ensures err { OnErr result (self.new ≡ self.old) }
+        ensures took { OnOk result (P.ops.takes post.old
+            (begun M.ops self.old page (first_word kind offset bytes.now) call).posted) }
+        ensures fault { IfErr result (λ fault.
+            (IsWantOfPage self.old fault × (post.new ≡ post.old))
+            ⊎ HasRefused P.ops post.old post.new
+            (begun M.ops self.old page (first_word kind offset bytes.now) call).posted fault) }
+        ensures want { IfErr result IsWant }
+    {
+        self.sound();
+        let word = word_at(kind, offset, bytes);
+        let need = self.need(page, word, call, post)?;
+        match need {
+            Need::Started => self.rest.wait(kind, offset + 8, words - 1, &bytes[8..]),
+            Need::Have(_) | Need::Busy => {}
+        }
+        Ok(need)
+    }
+
+    /// Whether words of a page, begun together by [`Coherence::need_row`], would wait: no word of this node waits, all answers
+    /// of words that waited along with an earlier one were taken, and the access does not suffice. It takes no memory.
+    #[tactic(auto, using(crate::proofs::Hits::taken_is))]
+    pub fn has_to_wait(&self, page: u32, kind: Row) -> bool
+        requires { page < self.now.config.pages }
+        ensures { result ≡ has_to_wait self.now page kind }
+    {
+        if self.locked.is_some() || !self.is_taken() {
+            return false;
+        }
+        match self.table.entry(page) {
+            LentEntry::Idle(idle) => !permits(idle.access(), kind),
+            LentEntry::AwaitRead(_) | LentEntry::AwaitWrite(_) | LentEntry::AwaitAcks(_) => false,
+        }
+    }
+
     /// Whether words of a page can be carried out at once: no word of this node waits, and the access suffices.
     #[inline(always)]
     fn is_at_hand(&self, page: u32, kind: Row) -> bool
@@ -371,6 +511,7 @@ impl<M: Manager, A: Allocator> Coherence<M, A> {
         ensures me { self.new.me ≡ self.old.me }
         ensures locked { self.new.locked ≡ self.old.locked }
         ensures done { self.new.done ≡ self.old.done }
+        ensures done_more { self.new.done_more ≡ self.old.done_more }
         ensures sound { IsSound M.ops self.new }
     {
         if !self.is_at_hand(page, Row::Stores) {

@@ -1,6 +1,6 @@
 //! Messages of other nodes.
 ghost use Rattle.std.specs.FinSet as set;
-ghost use Rattle.std.specs.Prelude.{◌≡◌, ◌≢◌, ◌<◌, ◌≤◌, ◌^◌, ◌⊎◌, ℕ, true, false, Some, None, OnOk, OnErr, IfErr, length};
+ghost use Rattle.std.specs.Prelude.{◌≡◌, ◌≢◌, ◌<◌, ◌≤◌, ◌^◌, ◌⊎◌, ℕ, true, false, Some, None, [], OnOk, OnErr, IfErr, length};
 ghost use Rattle.ivy_model.specs.Wants.{IsWant};
 ghost use Rattle.ivy_wire.specs.Lent.{owned_message};
 ghost use Rattle.ivy_wire.specs.Spelling.{FitsMessage};
@@ -135,7 +135,7 @@ impl<M: Manager, A: Allocator> Coherence<M, A> {
     }
 
     /// The page's bytes come for the word that waits, to read or to write. The word is carried out on a copy of
-    /// them, what was put off is served with that, and it becomes the page.
+    /// them, and the words that wait along with it; what was put off is served with that, and it becomes the page.
     fn unlock<P: Post>(
         &mut self,
         from: u8,
@@ -156,6 +156,7 @@ impl<M: Manager, A: Allocator> Coherence<M, A> {
     {
         self.spare.fill(bytes)?;
         let out = self.spare.carry_out(waiting.word());
+        self.rest.carry(&mut self.spare);
         let at = Place {
             me: self.me,
             from,
@@ -169,6 +170,7 @@ impl<M: Manager, A: Allocator> Coherence<M, A> {
         let after = serve_put_off(at, reply, idle, &mut self.manager, breaches, messages, post)?;
         self.table.set_entry(page, Entry::Idle(after));
         self.table.exchange(page, &mut self.spare);
+        self.rest.end();
         self.done = Some(out);
         self.locked = None;
         Ok(())
@@ -324,7 +326,6 @@ impl<M: Manager, A: Allocator> Coherence<M, A> {
     }
 
     /// The last copy was given up: the word is carried out on the page here, and what was put off is served.
-    /// Where that is refused, the number that stood there is put back, for which the spare page is there before.
     fn write<P: Post>(
         &mut self,
         from: u8,
@@ -336,6 +337,76 @@ impl<M: Manager, A: Allocator> Coherence<M, A> {
         requires foreign { from ≢ self.old.me }
         requires page { page < self.old.config.pages }
         requires waits { IsCollecting (entry_at self.old.table page) waiting.now }
+        requires post { IsPostOf P.ops post.old self.old.config self.old.me }
+        ensures { IsStep P.ops post.old post.new result self.old self.new
+            (unlocked_by_last M.ops self.old from page waiting.now) }
+    {
+        if self.rest.is_waiting() {
+            return self.write_all(from, page, waiting, post);
+        }
+        self.write_one(from, page, waiting, post)
+    }
+
+    /// The same with the words that wait along, on a copy of the page, which becomes the page once the post took all: so
+    /// none of them has to be taken back.
+    fn write_all<P: Post>(
+        &mut self,
+        from: u8,
+        page: u32,
+        waiting: &Waiting,
+        post: &mut P,
+    ) -> Result<(), Fault>
+        requires from { from < self.old.config.nodes }
+        requires foreign { from ≢ self.old.me }
+        requires page { page < self.old.config.pages }
+        requires waits { IsCollecting (entry_at self.old.table page) waiting.now }
+        requires post { IsPostOf P.ops post.old self.old.config self.old.me }
+        ensures { IsStep P.ops post.old post.new result self.old self.new
+            (unlocked_by_last M.ops self.old from page waiting.now) }
+    {
+        self.spare.fill(self.table.page(page))?;
+        let first = self.spare.carry_out(waiting.word());
+        self.rest.carry(&mut self.spare);
+        let at = Place {
+            me: self.me,
+            from,
+            page,
+            bytes: self.spare.bytes(),
+        };
+        let breaches = &mut self.breaches;
+        let messages = waiting.put_offs();
+        let after = serve_put_off(
+            at,
+            None,
+            Idle::owned(),
+            &mut self.manager,
+            breaches,
+            messages,
+            post,
+        )?;
+        self.table.set_entry(page, Entry::Idle(after));
+        let now = &mut self.spare;
+        self.table.exchange(page, now);
+        self.rest.end();
+        self.done = Some(first);
+        self.locked = None;
+        Ok(())
+    }
+
+    /// The last copy was given up, and no word waits along: the word is carried out on the page here, and what was put off
+    /// is served. Where that is refused, the number that stood there is put back, for which the spare page is there before.
+    fn write_one<P: Post>(
+        &mut self,
+        from: u8,
+        page: u32,
+        waiting: &Waiting,
+        post: &mut P,
+    ) -> Result<(), Fault>
+        requires from { from < self.old.config.nodes }
+        requires foreign { from ≢ self.old.me }
+        requires page { page < self.old.config.pages }
+        requires waits { IsCollecting (entry_at self.old.table page) waiting.now }
+        requires alone { self.old.more ≡ [] }
         requires post { IsPostOf P.ops post.old self.old.config self.old.me }
         ensures { IsStep P.ops post.old post.new result self.old self.new
             (unlocked_by_last M.ops self.old from page waiting.now) }
@@ -371,6 +442,7 @@ impl<M: Manager, A: Allocator> Coherence<M, A> {
                 return Err(fault);
             }
         }
+        self.rest.clear();
         self.done = Some(out);
         self.locked = None;
         Ok(())

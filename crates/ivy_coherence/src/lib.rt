@@ -1,15 +1,16 @@
 //! Faults and requests at one node: what an access of its program comes to, and what a message of another
 //! node does, over any manager and any post.
 //!
-//! `serving` has the messages at an entry where no word waits, `handle` those at any entry, and `need` the accesses.
-//! What an event posts is posted together or not at all. A bracket such as `[1, 17]` in a doc comment has the numbers
-//! of the faults that the call may answer: 1 is a growth that was refused, 17 that no message numbers are left. A call
-//! without one answers no fault.
+//! `serving` has the messages at an entry where no word waits, `handle` those at any entry, `need` the accesses, and
+//! `rest` the words that wait along with one. What an event posts is posted together or not at all. A bracket such as
+//! `[1, 17]` in a doc comment has the numbers of the faults that the call may answer: 1 is a growth that was refused,
+//! 17 that no message numbers are left. A call without one answers no fault.
 #![tactic(auto)]
 
 mod coherence;
 mod handle;
 mod need;
+mod rest;
 mod serving;
 
 pub use coherence::Coherence;

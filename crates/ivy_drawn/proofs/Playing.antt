@@ -19,7 +19,7 @@ plays_more : (r mid end : Run) (steps : List Step) (s : Step) → PlaysTo r step
     → PlaysTo mid (s ∷ []) end → PlaysTo r (steps ++ s ∷ []) end
 plays_more r mid end [] s is last = subst (λ x. PlaysTo x (s ∷ []) end) is last
 plays_more r mid end (Calls i call ∷ steps) s plays last =
-    plays_more (run_handed i (call ∷ []) r) mid end steps s plays last
+    plays_more (run_handed i ((call ∷ []) ∷ []) r) mid end steps s plays last
 plays_more r mid end (Makes m ∷ steps) s plays last =
     (plays.0, plays.1, plays_more (with_world r plays.0) mid end steps s plays.2 last)
 
@@ -56,7 +56,7 @@ played_move c moves more m old new is same made p =
 
 -- one call more
 pub played_call : (c : Config) (moves : List Move) (i : ℕ) (call : Call) (old new : Run)
-    → new ≡ run_handed i (call ∷ []) old → IsPlayed c moves old → IsPlayed c moves new
+    → new ≡ run_handed i ((call ∷ []) ∷ []) old → IsPlayed c moves old → IsPlayed c moves new
 played_call c moves i call old new is p = record {
   steps = p.steps ++ Calls i call ∷ [];
   made = moves_more p.steps (Calls i call) ∙ append-nil (moves_in p.steps) ∙ p.made;
@@ -66,7 +66,7 @@ played_call c moves i call old new is p = record {
 
 -- one call more, where it was not refused
 pub played_hand : (c : Config) (moves : List Move) (i : ℕ) (call : Call) (old new : Run)
-    (r : Result (Unit {0}) Fault) → OnOk r (new ≡ run_handed i (call ∷ []) old)
+    (r : Result (Unit {0}) Fault) → OnOk r (new ≡ run_handed i ((call ∷ []) ∷ []) old)
     → OnErr r (new ≡ old) → IsPlayed c moves old → IsPlayed c moves new
 played_hand c moves i call old new (Ok u) ok err p = played_call c moves i call old new ok p
 played_hand c moves i call old new (Err e) ok err p = subst (IsPlayed c moves) (sym err) p

@@ -1,8 +1,8 @@
 -- What is known at the end of a play.
-use Rattle.std.proofs.Common.{◌≡◌, ℕ, zero, suc, ◌+◌, ◌<◌, ◌≤◌, get_or, take, arith, List, [], ◌∷◌, ◌++◌, length, slice_get, option_map, Option, Some, None, append-nil, refl, sym, ap, subst, ◌∙◌}
+use Rattle.std.proofs.Common.{◌≡◌, ℕ, zero, suc, ◌+◌, ◌<◌, ◌≤◌, get_or, take, arith, List, [], ◌∷◌, ◌++◌, length, map, slice_get, option_map, Option, Some, None, inl, inr, append-nil, refl, sym, ap, subst, ◌∙◌}
 use Rattle.std.specs.Prelude.{◌↔◌, IfSome, IsTrue, Bool, false, true}
 use Rattle.std.proofs.lemmas.List.{take_more_same, get_or-map, length-map}
-use Rattle.std.proofs.lemmas.Option.{none-some, slice_get-map, slice_get_within}
+use Rattle.std.proofs.lemmas.Option.{slice_get-map, slice_get_within}
 use Rattle.ivy_model.specs.declared.Call.{Call}
 use Rattle.ivy_model.specs.declared.Config.{Config}
 use Rattle.ivy_model.specs.declared.Record.{Record}
@@ -18,6 +18,7 @@ use Rattle.ivy_moves.specs.Nodes.{Node}
 use Rattle.ivy_moves.specs.Worlds.{World, Leads}
 use Rattle.ivy_world.specs.ivy_host.Hosts.{Host, host_rules, answered_by}
 use Rattle.ivy_world.specs.ivy_host.Managers.{Managed, managed_ops}
+use Rattle.ivy_world.specs.ivy_host.ivy_memory.Memories.{in_progress}
 use Rattle.ivy_world.specs.proof_headline.RunState.{Run}
 use Rattle.ivy_world.specs.proof_headline.Reached.{opening_of}
 use Rattle.ivy_world.specs.proof_headline.Keeping.{Keeps}
@@ -85,10 +86,14 @@ explained_at c w end order (m ∷ moves) goes led =
     let next = goes.1 led.0 led.1 in
     explained_at c led.0 end (order ++ next.0) moves next.1 led.2
 
-owed_none : (asked : Option Call) (rest : List Record) → asked ≡ None → IsOwed asked rest → rest ≡ []
-owed_none asked [] none owed = refl
-owed_none asked (r ∷ []) none owed = absurd (none-some r.call (sym none ∙ owed))
-owed_none asked (r ∷ s ∷ rest) none owed = absurd owed
+none_called : (rest : List Record) → map (λ (r : Record). r.call) rest ≡ [] → rest ≡ []
+none_called [] is = refl
+none_called (r ∷ rest) is =
+    let f : r.call ∷ map (λ (x : Record). x.call) rest ≡ [] = is in absurd cc
+
+owed_none : (asked : List Call) (rest : List Record) → asked ≡ [] → IsOwed asked rest → rest ≡ []
+owed_none asked rest none (inl is) = is
+owed_none asked rest none (inr calls) = none_called rest (calls ∙ none)
 
 abbrev answer_of : N → Answered
 answer_of n = answered_by n.core
@@ -101,7 +106,9 @@ part_is c w order i n explained there none =
     let at : slice_get (answered_in w) i ≡ Some (answer_of n) =
     slice_get-map answer_of w.nodes i ∙ ap (option_map answer_of) there in
     let p = explained.parts i (answer_of n) at in
-    p.1 ∙ ap (λ l. n.core.history ++ l) (owed_none n.core.memory.asked p.0 none p.2)
+    p.1 ∙ ap (λ l. n.core.history ++ l) (owed_none
+    (in_progress n.core.memory.asked n.core.memory.along) p.0
+    (ap (λ a. in_progress a n.core.memory.along) none) p.2)
     ∙ append-nil n.core.history
 
 -- below the length there is an element

@@ -39,7 +39,7 @@ with_world r w = record { config = r.config; programs = r.programs; world = w }
 -- a move leads to a world
 abbrev pub PlaysTo : Run → List Step → Run → Type 0
 PlaysTo r [] end = end ≡ r
-PlaysTo r (Calls i call ∷ steps) end = PlaysTo (run_handed i (call ∷ []) r) steps end
+PlaysTo r (Calls i call ∷ steps) end = PlaysTo (run_handed i ((call ∷ []) ∷ []) r) steps end
 PlaysTo r (Makes move ∷ steps) end =
     (mid : World (Host Managed)) × Moves (host_rules managed_ops) r.config r.world move mid
     × PlaysTo (with_world r mid) steps end

@@ -18,7 +18,7 @@ use Rattle.ivy_drawn.specs.declared.report.Outcome.{Outcome}
 use Rattle.ivy_drawn.specs.declared.report.Outcome.TheVariants.{Gave, GaveUp, Waits}
 use Rattle.ivy_drawn.specs.Played.{IsPlayed, IsStillWhere}
 
--- what each node of a world was answered, and the call that it has in progress
+-- what each node of a world was answered, and the calls that it has in progress
 abbrev pub answered_in : World (Host Managed) → List Answered
 answered_in w = map (λ (n : Node (Host Managed)). answered_by n.core) w.nodes
 
@@ -61,8 +61,8 @@ standing_of Waits = Waits
 
 -- Exactly these moves, with calls of the nodes' work between them, led from the opening to this
 -- world, of which all holds that is promised of worlds; where it is said to stand still it does; one
--- legal order explains what the nodes were answered, each with no more than a record of the call
--- that it has in progress; and the work of each node that has ended has done what it had to, by
+-- legal order explains what the nodes were answered, each with no more than the records of the
+-- calls that it has in progress; and the work of each node that has ended has done what it had to, by
 -- exactly its part of that order, which is its history. Where all have ended, that is what one knows
 -- of a finished session: the theorems of whole programs start from it.
 pub record IsPlayReport {Out : Type 0} (c : Config) (done : ℕ → List Answer → Out → Type 0)

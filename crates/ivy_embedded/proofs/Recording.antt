@@ -6,7 +6,7 @@ use Rattle.ivy_model.specs.declared.Call.{Call}
 use Rattle.ivy_model.specs.declared.Record.{Record}
 use Rattle.ivy_model.specs.declared.Reply.{Reply}
 use Rattle.ivy_moves.specs.Cores.{Outcome}
-use Rattle.ivy_program.specs.Steps.{Step, Local, Asks, Ends, step_of}
+use Rattle.ivy_program.specs.Steps.{Step, Local, Asks, Ends, step_of, along_of}
 use Rattle.ivy_site.specs.ivy_host.ivy_heap.declared.Answer.{Answer}
 use Rattle.ivy_site.specs.ivy_host.ivy_heap.declared.Answer.TheVariants.{Given, Awaited, Unserved}
 use Rattle.ivy_site.specs.ivy_host.ivy_memory.Memories.{CallBegun, call_begun, polled}
@@ -44,11 +44,11 @@ with-grows n c a Awaited o about is =
 with-grows n c a Unserved o about is = absurd (none-some o is)
 
 if-grows : (n : H) (c : Call) (b : Bool) (o : Outcome H) → IsAbout n c
-    → (if b then begins_as n c (call_begun managed_ops n.memory c (length n.history + 1)) else None)
+    → (if b then begins_as n c (call_begun managed_ops n.memory c (along_of n.process) (length n.history + 1)) else None)
     ≡ Some o → Grows n o.after.history
 if-grows n c false o about is = absurd (none-some o is)
 if-grows n c true o about is =
-    let a : CallBegun Managed = call_begun managed_ops n.memory c (length n.history + 1) in
+    let a : CallBegun Managed = call_begun managed_ops n.memory c (along_of n.process) (length n.history + 1) in
     with-grows n c a a.answer o about is
 
 steps-grows : (n : H) (t : Step) (o : Outcome H) → n.memory.asked ≡ None → step_of n.process ≡ t

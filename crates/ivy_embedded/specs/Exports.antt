@@ -83,8 +83,8 @@ AfterCall (Some reply) old new = (call : Call) × IsCallOf old call × Replies c
 
 -- the call is handed in, and the node has a turn
 abbrev pub AfterBegin : Call → Option Reply → Shown → Shown → Type 0
-AfterBegin call None old new = Waits (site_handed (call ∷ []) old) new
-AfterBegin call (Some reply) old new = Replies call reply (site_handed (call ∷ []) old) new
+AfterBegin call None old new = Waits (site_handed ((call ∷ []) ∷ []) old) new
+AfterBegin call (Some reply) old new = Replies call reply (site_handed ((call ∷ []) ∷ []) old) new
 
 -- the status, and the value, which was the one before, tell the reply
 abbrev pub Tells : Reply → ℕ → ℕ → ℕ → Type 0

@@ -94,7 +94,7 @@ closed_here i v x contained same =
     let b : one_if (x.node == i) ≡ 1 = ap one_if (eq-eqb x.node i (sym same)) in omega arith
 
 -- what a pass knows after a step with a list
-abbrev pub gave : View → List Call → List Mark → List (List ℕ) → List (List ℕ) → List Item → Bool
+abbrev pub gave : View → List (List Call) → List Mark → List (List ℕ) → List (List ℕ) → List Item → Bool
     → View
 gave v calls es took put items rep = record v {
   handed = calls;
@@ -117,7 +117,7 @@ pub list_else : (parts : ℕ → List Mark) (i j : ℕ) (es : List Mark) → i �
 list_else parts i j es apart = ap (λ b. if b then es else parts j) (ne_eqb i j apart)
 
 module _ {C : Type 0} (rules : Core C) (c : Config) (opening : World C)
-    (hand : List Call → C → C) where
+    (hand : List (List Call) → C → C) where
   pub item_stays : (end end' : World C) (views views' : List View)
       → ((s : List ℕ) → Contains end.sent s → Contains end'.sent s)
       → ((j : ℕ) (l : List Mark) → Reported views j l → Reported views' j l) → (x : Item)
@@ -127,7 +127,7 @@ module _ {C : Type 0} (rules : Core C) (c : Config) (opening : World C)
   item_stays end end' views views' more stays (Report i es) h = stays i es.marks h
 
   -- a node to which the same calls were handed begins as the same
-  pub same_start : (calls calls' : ℕ → List Call) (start start' : World C) (i : ℕ)
+  pub same_start : (calls calls' : ℕ → List (List Call)) (start start' : World C) (i : ℕ)
       → IsStart rules c opening hand calls start → IsStart rules c opening hand calls' start'
       → calls i ≡ calls' i → slice_get start.nodes i ≡ slice_get start'.nodes i
   same_start calls calls' start start' i is is' same = elim (slice_get_cases opening.nodes i).1 [
@@ -150,7 +150,7 @@ module _ {C : Type 0} (rules : Core C) (c : Config) (opening : World C)
       record { node = l.node; there = sym same ∙ l.there; happen = l.happen }
 
   -- a run in which node i alone went on, or had calls handed to it
-  pub record Goes (calls calls' : ℕ → List Call) (parts parts' : ℕ → List Mark) (old : World C)
+  pub record Goes (calls calls' : ℕ → List (List Call)) (parts parts' : ℕ → List Mark) (old : World C)
       (i : ℕ) : Type 0 where
     pub end : World C
     pub run : AreRunParts rules c opening hand calls' parts' end
@@ -158,7 +158,7 @@ module _ {C : Type 0} (rules : Core C) (c : Config) (opening : World C)
     pub others : (j : ℕ) → i ≢ j → (parts' j ≡ parts j) × (calls' j ≡ calls j)
 
   -- what this leaves of all views, where pass p sits at the node and knows w now
-  pub record Advanced (views : List View) (starter : ℕ) (issued : List ℕ) (calls : ℕ → List Call)
+  pub record Advanced (views : List View) (starter : ℕ) (issued : List ℕ) (calls : ℕ → List (List Call))
       (parts : ℕ → List Mark) (end : World C) (p : ℕ) (w : View) : Type 0 where
     pub seats : (j : ℕ) → total (sits j) (set views p w) ≡ total (sits j) views
     pub fresh : (j : ℕ) → total (sits j) (set views p w) ≡ 0 → (parts j ≡ []) × (calls j ≡ [])
@@ -168,7 +168,7 @@ module _ {C : Type 0} (rules : Core C) (c : Config) (opening : World C)
 
   pub advanced : (items : List Item) (views : List View) (starter : ℕ) (issued : List ℕ)
       (parts : ℕ → List Mark) (end : World C) (p : ℕ) (v : View) (i : ℕ)
-      (calls' : ℕ → List Call) (parts' : ℕ → List Mark) (handed : List Call) (es : List Mark)
+      (calls' : ℕ → List (List Call)) (parts' : ℕ → List Mark) (handed : List (List Call)) (es : List Mark)
       (took put : List (List ℕ)) (given : List Item) (rep : Bool)
       (k : RuleHolds rules c opening hand items views starter issued parts end)
       (at : get_elem? views p ≡ some v) → v.node ≡ Some i → v.reported ≡ false
@@ -218,7 +218,7 @@ module _ {C : Type 0} (rules : Core C) (c : Config) (opening : World C)
       sit : IsNode rules c opening hand k.calls parts i v.handed v.events
       sit = mine.sitting i sitting
 
-      keep : (j : ℕ) (h : List Call) (l : List Mark) → i ≢ j
+      keep : (j : ℕ) (h : List (List Call)) (l : List Mark) → i ≢ j
           → IsNode rules c opening hand k.calls parts j h l
           → IsNode rules c opening hand calls' parts' j h l
       keep j h l apart old =
@@ -273,7 +273,7 @@ module _ {C : Type 0} (rules : Core C) (c : Config) (opening : World C)
           (λ _ yes _. absurd (true≢false (sym yes ∙ unreported)))
 
   -- what a step with a list leaves
-  pub record Stepped (views : List View) (starter : ℕ) (issued : List ℕ) (calls : ℕ → List Call)
+  pub record Stepped (views : List View) (starter : ℕ) (issued : List ℕ) (calls : ℕ → List (List Call))
       (old : World C) (p : ℕ) (w : View) (i : ℕ) (at : World C) (es : List Mark) : Type 0 where
     pub parts : ℕ → List Mark
     pub end : World C

@@ -35,20 +35,20 @@ pub seat_there : (o : Option ℕ) → IsSome o → (i : ℕ) × (o ≡ Some i)
 seat_there None there = absurd (true≢false (sym there))
 seat_there (Some i) there = (i, refl)
 
--- these calls more for node i, and none for the others
-abbrev more_at : ℕ → List Call → ℕ → List Call
+-- these rows of calls more for node i, and none for the others
+abbrev more_at : ℕ → List (List Call) → ℕ → List (List Call)
 more_at i more j = if i == j then more else []
 
-more_here : (i j : ℕ) (more : List Call) → i ≡ j → more_at i more j ≡ more
+more_here : (i j : ℕ) (more : List (List Call)) → i ≡ j → more_at i more j ≡ more
 more_here i j more same = ap (λ b. if b then more else []) (eq-eqb i j same)
 
-more_else : (i j : ℕ) (more : List Call) → i ≢ j → more_at i more j ≡ []
+more_else : (i j : ℕ) (more : List (List Call)) → i ≢ j → more_at i more j ≡ []
 more_else i j more apart = ap (λ b. if b then more else []) (ne_eqb i j apart)
 
 module _ {C : Type 0} (rules : Core C) (c : Config) (opening : World C)
-    (hand : List Call → C → C) (law : IsHanding rules hand) where
+    (hand : List (List Call) → C → C) (law : IsHanding rules hand) where
   -- the world in which calls were handed to one node more
-  changed_there : (start : World C) (i : ℕ) (more : List Call) (n : Node C)
+  changed_there : (start : World C) (i : ℕ) (more : List (List Call)) (n : Node C)
       → slice_get start.nodes i ≡ Some n
       → IsChangedBy (λ j. hand (more_at i more j)) start
       (record start { nodes = set start.nodes i (node_changed (hand more) n) })
@@ -74,7 +74,7 @@ module _ {C : Type 0} (rules : Core C) (c : Config) (opening : World C)
       }
 
   -- it begins with the calls and then those
-  starts_on : (calls more : ℕ → List Call) (start start' : World C)
+  starts_on : (calls more : ℕ → List (List Call)) (start start' : World C)
       → IsStart rules c opening hand calls start
       → IsChangedBy (λ j. hand (more j)) start start'
       → IsStart rules c opening hand (λ j. calls j ++ more j) start'
@@ -96,7 +96,7 @@ module _ {C : Type 0} (rules : Core C) (c : Config) (opening : World C)
   ]
 
   -- the run goes on with the calls
-  grows : (calls : ℕ → List Call) (parts : ℕ → List Mark) (end : World C) (i : ℕ) (more : List Call)
+  grows : (calls : ℕ → List (List Call)) (parts : ℕ → List Mark) (end : World C) (i : ℕ) (more : List (List Call))
       → AreRunParts rules c opening hand calls parts end → i < length opening.nodes
       → Goes rules c opening hand calls (λ j. calls j ++ more_at i more j) parts parts end i
   grows calls parts end i more run inside =
@@ -119,7 +119,7 @@ module _ {C : Type 0} (rules : Core C) (c : Config) (opening : World C)
       }
 
   -- calls are handed to the pass's node
-  handed : (p : ℕ) (v : View) (i : ℕ) (more : List Call) (items : List Item) (views : List View)
+  handed : (p : ℕ) (v : View) (i : ℕ) (more : List (List Call)) (items : List Item) (views : List View)
       → v.node ≡ Some i → v.reported ≡ false → RuleKept rules c opening hand items views
       → get_elem? views p ≡ some v
       → RuleKept rules c opening hand items (set views p (with_all_handed v more))
@@ -128,7 +128,7 @@ module _ {C : Type 0} (rules : Core C) (c : Config) (opening : World C)
       let mine = kept.fits p v at in
       let own = mine.sitting i sitting in
       let on = grows kept.calls k.2 k.3 i more kept.run own.inside in
-      let calls' : ℕ → List Call = (λ j. kept.calls j ++ more_at i more j) in
+      let calls' : ℕ → List (List Call) = (λ j. kept.calls j ++ more_at i more j) in
       let a = advanced rules c opening hand items views k.0 k.1 k.2 k.3 p v i calls' k.2
       (v.handed ++ more) v.events v.took v.put v.items v.reported kept at sitting unreported on
       own.part
@@ -152,7 +152,7 @@ module _ {C : Type 0} (rules : Core C) (c : Config) (opening : World C)
       )
 
   -- and a newcomer comes beside it
-  pub hands : (p : ℕ) (v : View) (i : ℕ) (more : List Call) → v.node ≡ Some i → v.reported ≡ false
+  pub hands : (p : ℕ) (v : View) (i : ℕ) (more : List (List Call)) → v.node ≡ Some i → v.reported ≡ false
       → Forks (RuleKept rules c opening hand) p v (with_all_handed v more) newcomer
   hands p v i more sitting unreported items views k at =
       let w : View = with_all_handed v more in

@@ -17,10 +17,10 @@ use Rattle.ivy_host.proofs.Tame.{first_length}
 use Rattle.ivy_ether.specs.Programs.{beginning, all_handed_from, all_handed}
 use Rattle.ivy_ether.specs.Rule.{IsHanding, IsStart, AreRunParts, StartsWith}
 
-pub handed_more : (some more : List Call) (p : Program)
+pub handed_more : (some more : List (List Call)) (p : Program)
     → handed (some ++ more) p ≡ handed more (handed some p)
 handed_more some more (Written is) = refl
-handed_more some more (Called calls) = ap Called (sym (append_assoc calls some more))
+handed_more some more (Called rows) = ap Called (sym (append_assoc rows some more))
 
 pub is_handing : IsHanding (host_rules managed_ops) handing
 is_handing = record {
@@ -32,7 +32,7 @@ is_handing = record {
 }
 
 -- the programs of the nodes
-handed-from : (calls : ℕ → List Call) (k j : ℕ) (ps : List Program) (i : ℕ) (p : Program)
+handed-from : (calls : ℕ → List (List Call)) (k j : ℕ) (ps : List Program) (i : ℕ) (p : Program)
     → k + i ≡ j → slice_get ps i ≡ Some p
     → slice_get (all_handed_from k calls ps) i ≡ Some (handed (calls j) p)
 handed-from calls k j [] i p at is = absurd (none-some p is)
@@ -43,26 +43,26 @@ handed-from calls k j (q ∷ ps) zero p at is =
 handed-from calls k j (q ∷ ps) (suc i) p at is =
     handed-from calls (k + 1) j ps i p (omega (arith, at)) is
 
-pub handed-at : (calls : ℕ → List Call) (ps : List Program) (i : ℕ) (p : Program)
+pub handed-at : (calls : ℕ → List (List Call)) (ps : List Program) (i : ℕ) (p : Program)
     → slice_get ps i ≡ Some p → slice_get (all_handed calls ps) i ≡ Some (handed (calls i) p)
 handed-at calls ps i p is = handed-from calls 0 i ps i p (omega arith) is
 
-length-handed : (calls : ℕ → List Call) (k : ℕ) (ps : List Program)
+length-handed : (calls : ℕ → List (List Call)) (k : ℕ) (ps : List Program)
     → length (all_handed_from k calls ps) ≡ length ps
 length-handed calls k [] = refl
 length-handed calls k (p ∷ ps) = let e = length-handed calls (k + 1) ps in omega (arith, e)
 
-pub length-all_handed : (calls : ℕ → List Call) (ps : List Program)
+pub length-all_handed : (calls : ℕ → List (List Call)) (ps : List Program)
     → length (all_handed calls ps) ≡ length ps
 length-all_handed calls ps = length-handed calls 0 ps
 
-pub handed_count : (c : Config) (calls : ℕ → List Call) (ps : List Program)
+pub handed_count : (c : Config) (calls : ℕ → List (List Call)) (ps : List Program)
     → length (beginning c (all_handed calls ps)).nodes ≡ length ps
 handed_count c calls ps =
     first_length managed_ops c 0 (all_handed calls ps) ∙ length-all_handed calls ps
 
 -- the nodes as they begin
-pub opened : (c : Config) (programs : List Program) (calls : ℕ → List Call)
+pub opened : (c : Config) (programs : List Program) (calls : ℕ → List (List Call))
     → IsStart (host_rules managed_ops) c (beginning c programs) handing calls
     (beginning c (all_handed calls programs))
 opened c programs calls = opening_handed managed_ops c calls programs (all_handed calls programs)
@@ -72,7 +72,7 @@ opened c programs calls = opening_handed managed_ops c calls programs (all_hande
     })
 
 -- whatever was handed to the others
-abbrev pub starts_with : (c : Config) (programs : List Program) (node : ℕ) (calls : List Call)
+abbrev pub starts_with : (c : Config) (programs : List Program) (node : ℕ) (calls : List (List Call))
     → StartsWith (host_rules managed_ops) c (beginning c programs) handing node calls
 starts_with c programs node calls = record {
   calls = λ _. calls;
@@ -82,7 +82,7 @@ starts_with c programs node calls = record {
 }
 
 -- a run of nodes to which calls were handed is one of the programs with these calls
-pub from_start : (c : Config) (programs : List Program) (calls : ℕ → List Call)
+pub from_start : (c : Config) (programs : List Program) (calls : ℕ → List (List Call))
     (parts : ℕ → List Mark) (end : World (Host Managed))
     → AreRunParts (host_rules managed_ops) c (beginning c programs) handing calls parts end
     → AreParts (host_rules managed_ops) c (beginning c (all_handed calls programs)) parts end

@@ -35,7 +35,7 @@ off : false ≡ true → ⊥
 off e = true≢false (sym e)
 
 module _ {C : Type 0} (rules : Core C) (c : Config) (opening : World C)
-    (hand : List Call → C → C) where
+    (hand : List (List Call) → C → C) where
   -- what the events of the pass's node send, they send in the run
   sends_there : (items : List Item) (views : List View) (starter : ℕ) (issued : List ℕ)
       (parts : ℕ → List Mark) (end : World C) (p : ℕ) (v : View) (es : List Mark) (b : List ℕ)
@@ -448,7 +448,7 @@ module _ {C : Type 0} (rules : Core C) (c : Config) (opening : World C)
         closed = mine.closed;
       }
 
-  pub fits_newcomer : (starter : ℕ) (issued : List ℕ) (calls : ℕ → List Call)
+  pub fits_newcomer : (starter : ℕ) (issued : List ℕ) (calls : ℕ → List (List Call))
       (parts : ℕ → List Mark) (end : World C) (views : List View) (q : ℕ)
       → FitsRun rules c opening hand starter issued calls parts end views q newcomer
   fits_newcomer starter issued calls parts end views q = record {

@@ -18,12 +18,12 @@ use Rattle.ivy_ether.specs.Rule as rule
 abbrev pub any_config : Config
 any_config = record { nodes = 0; pages = 0; page_size = 0; manager = Fixed }
 
--- the programs from this number on, where these calls were handed to each node
-abbrev pub all_handed_from : ℕ → (ℕ → List Call) → List Program → List Program
+-- the programs from this number on, where these rows of calls were handed to each node
+abbrev pub all_handed_from : ℕ → (ℕ → List (List Call)) → List Program → List Program
 all_handed_from i calls [] = []
 all_handed_from i calls (p ∷ ps) = handed (calls i) p ∷ all_handed_from (i + 1) calls ps
 
-abbrev pub all_handed : (ℕ → List Call) → List Program → List Program
+abbrev pub all_handed : (ℕ → List (List Call)) → List Program → List Program
 all_handed calls programs = all_handed_from 0 calls programs
 
 module _ (c : Config) (programs : List Program) where

@@ -51,29 +51,30 @@ pub record Reported (views : List View) (i : ℕ) (list : List Mark) : Type 0 wh
   pub reported : view.reported ≡ true
   pub events : view.events ≡ list
 
--- What a way to hand calls to a node has to be: neither turns nor messages see it, none is no
--- change, and some and then more are all of them.
-pub record IsHanding {C : Type 0} (rules : Core C) (hand : List Call → C → C) : Type 0 where
-  pub unseen : (calls : List Call) → IsUnseen rules (hand calls)
+-- What a way to hand rows of calls to a node has to be: neither turns nor messages see it, none is
+-- no change, and some and then more are all of them.
+pub record IsHanding {C : Type 0} (rules : Core C) (hand : List (List Call) → C → C) : Type 0 where
+  pub unseen : (calls : List (List Call)) → IsUnseen rules (hand calls)
   pub none : (core : C) → hand [] core ≡ core
-  pub more : (some more : List Call) (core : C) → hand (some ++ more) core ≡ hand more (hand some core)
+  pub more : (some more : List (List Call)) (core : C)
+      → hand (some ++ more) core ≡ hand more (hand some core)
 
 module _ {C : Type 0} (rules : Core C) (c : Config) (opening : World C)
-    (hand : List Call → C → C) where
+    (hand : List (List Call) → C → C) where
   -- the world as it begins, where these calls were handed to each node
-  abbrev pub IsStart : (ℕ → List Call) → World C → Type 0
+  abbrev pub IsStart : (ℕ → List (List Call)) → World C → Type 0
   IsStart calls start = IsChangedBy (λ i. hand (calls i)) opening start
 
   -- these lists are the parts of a run of nodes to which these calls were handed
-  pub record AreRunParts (calls : ℕ → List Call) (parts : ℕ → List Mark)
+  pub record AreRunParts (calls : ℕ → List (List Call)) (parts : ℕ → List Mark)
       (end : World C) : Type 0 where
     pub start : World C
     pub starts : IsStart calls start
     pub run : AreParts rules c start parts end
 
   -- of node i: this is its part, and these calls were handed to it
-  pub record IsNode (calls : ℕ → List Call) (parts : ℕ → List Mark) (i : ℕ) (own : List Call)
-      (events : List Mark) : Type 0 where
+  pub record IsNode (calls : ℕ → List (List Call)) (parts : ℕ → List Mark) (i : ℕ)
+      (own : List (List Call)) (events : List Mark) : Type 0 where
     pub inside : i < length opening.nodes
     pub part : parts i ≡ events
     pub handed : calls i ≡ own
@@ -81,7 +82,7 @@ module _ {C : Type 0} (rules : Core C) (c : Config) (opening : World C)
   -- what is known of one view: who is the starter, and what it issued; what its site's list and calls
   -- are, and those of the sites whose passes it took in; that what the pass took was sent; that what
   -- the starter was told was reported
-  pub record FitsRun (starter : ℕ) (issued : List ℕ) (calls : ℕ → List Call)
+  pub record FitsRun (starter : ℕ) (issued : List ℕ) (calls : ℕ → List (List Call))
       (parts : ℕ → List Mark) (end : World C) (views : List View) (pass : ℕ)
       (v : View) : Type 0 where
     pub starts : v.starts ≡ true → (pass ≡ starter) × (v.issued ≡ issued)
@@ -103,7 +104,7 @@ module _ {C : Type 0} (rules : Core C) (c : Config) (opening : World C)
   -- item fits
   pub record RuleHolds (items : List Item) (views : List View) (starter : ℕ) (issued : List ℕ)
       (parts : ℕ → List Mark) (end : World C) : Type 0 where
-    pub calls : ℕ → List Call
+    pub calls : ℕ → List (List Call)
     pub run : AreRunParts calls parts end
     pub seats : (i : ℕ) → total (seat_in i) items + total (sits i) views ≤ times i issued
     pub once : (i : ℕ) → times i issued ≤ 1
@@ -118,8 +119,8 @@ module _ {C : Type 0} (rules : Core C) (c : Config) (opening : World C)
       × RuleHolds items views starter issued parts end
 
   -- a world as it begins, where these calls were handed to this node, and any to the others
-  pub record StartsWith (node : ℕ) (handed : List Call) : Type 0 where
-    pub calls : ℕ → List Call
+  pub record StartsWith (node : ℕ) (handed : List (List Call)) : Type 0 where
+    pub calls : ℕ → List (List Call)
     pub own : calls node ≡ handed
     pub start : World C
     pub starts : IsStart calls start
@@ -142,7 +143,7 @@ module _ {C : Type 0} (rules : Core C) (c : Config) (opening : World C)
 
   -- some run has the pass's list as its node's part, and each string that the pass took was sent
   pub record RuleRuns (v : View) : Type 0 where
-    pub calls : ℕ → List Call
+    pub calls : ℕ → List (List Call)
     pub parts : ℕ → List Mark
     pub end : World C
     pub run : AreRunParts calls parts end
@@ -151,7 +152,7 @@ module _ {C : Type 0} (rules : Core C) (c : Config) (opening : World C)
 
   -- the reports that the starter took, and the passes, are of parts of one run
   pub record RuleTold (v : View) : Type 0 where
-    pub calls : ℕ → List Call
+    pub calls : ℕ → List (List Call)
     pub parts : ℕ → List Mark
     pub end : World C
     pub run : AreRunParts calls parts end

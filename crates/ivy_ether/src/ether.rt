@@ -2,7 +2,7 @@
 ghost use Rattle.std.specs.Prelude.{◌≡◌, ◌⊎◌, ◌<◌, ℕ, List, Some, None, ◌∷◌, [], false, true, Contains, MatchOption, MatchResult, MatchBool, IfOk, IsOkUnless, IsSome, length, replicate, vec_len};
 ghost use Rattle.crossbeam_queue.specs.Passes.{view, IsPassOf};
 ghost use Rattle.ivy_model.specs.Rows.{calls_of, numbers_in, row};
-ghost use Rattle.ivy_program.specs.Programs.{Called};
+ghost use Rattle.ivy_program.specs.Programs.{Called, one_by_one};
 ghost use Rattle.ivy_ether.specs.Programs.{MayGive, SendsFrom, Runs, Told};
 ghost use Rattle.ivy_ether.specs.Rule.{times};
 ghost use Rattle.ivy_ether.specs.Views.{with_put, with_refused, with_taken, with_empty, with_report, with_issued, with_seat, with_handed, with_all_handed, with_given, with_closed, with_told};
@@ -293,7 +293,7 @@ impl<S: Setup, A: Allocator + Copy> Ether<S, A> {
 
     fn hand_given<E: Handed>(&self, pass: &mut Pass<Wired<A>>, call: Call)
         requires pass { pass.old.ether ≡ self.now }
-        requires given { E.calls ≡ call ∷ [] }
+        requires given { E.calls ≡ (call ∷ []) ∷ [] }
         requires seated { IsSome pass.old.known.node }
         requires unreported { pass.old.known.reported ≡ false }
         ensures pass { pass.new.ether ≡ pass.old.ether }
@@ -315,7 +315,7 @@ impl<S: Setup, A: Allocator + Copy> Ether<S, A> {
         self.hand_given::<Brand>(pass, call)
     }
 
-    fn hand_row_given<E: Handed>(
+    fn hand_words_given<E: Handed>(
         &self,
         pass: &mut Pass<Wired<A>>,
         kind: Row,
@@ -324,7 +324,6 @@ impl<S: Setup, A: Allocator + Copy> Ether<S, A> {
         bytes: &[u8],
     )
         requires pass { pass.old.ether ≡ self.now }
-        requires given { E.calls ≡ calls_of (row kind 0 addr (numbers_in words bytes.now)) }
         requires seated { IsSome pass.old.known.node }
         requires unreported { pass.old.known.reported ≡ false }
         ensures pass { pass.new.ether ≡ pass.old.ether }
@@ -335,7 +334,8 @@ impl<S: Setup, A: Allocator + Copy> Ether<S, A> {
         self.queue.another::<Hands<E>>(&mut pass.token);
     }
 
-    /// The calls on so many words of 8 bytes in a row from `addr` on, whose bytes these are, are handed to the pass's node.
+    /// The calls on so many words of 8 bytes in a row from `addr` on, whose bytes these are, are handed to the pass's node,
+    /// as calls made one after another.
     /// However many they are, it costs what [`Ether::hand`] does.
     pub fn hand_row(
         &self,
@@ -349,9 +349,27 @@ impl<S: Setup, A: Allocator + Copy> Ether<S, A> {
         requires seated { IsSome pass.old.known.node }
         requires unreported { pass.old.known.reported ≡ false }
         ensures pass { pass.new.ether ≡ pass.old.ether }
-        ensures known { pass.new.known ≡ with_all_handed pass.old.known (calls_of (row kind 0 addr (numbers_in words bytes.now))) }
+        ensures known { pass.new.known ≡ with_all_handed pass.old.known (one_by_one (calls_of (row kind 0 addr (numbers_in words bytes.now)))) }
     {
-        self.hand_row_given::<Brand>(pass, kind, addr, words, bytes)
+        self.hand_words_given::<Brand>(pass, kind, addr, words, bytes)
+    }
+
+    /// The same calls are handed to it as calls made together.
+    pub fn hand_together(
+        &self,
+        pass: &mut Pass<Wired<A>>,
+        kind: Row,
+        addr: u64,
+        words: usize,
+        bytes: &[u8],
+    )
+        requires pass { pass.old.ether ≡ self.now }
+        requires seated { IsSome pass.old.known.node }
+        requires unreported { pass.old.known.reported ≡ false }
+        ensures pass { pass.new.ether ≡ pass.old.ether }
+        ensures known { pass.new.known ≡ with_all_handed pass.old.known (calls_of (row kind 0 addr (numbers_in words bytes.now)) ∷ []) }
+    {
+        self.hand_words_given::<Brand>(pass, kind, addr, words, bytes)
     }
 
     fn give<E: Given>(&self, pass: &mut Pass<Wired<A>>, events: &Events<A>)

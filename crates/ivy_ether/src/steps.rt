@@ -23,12 +23,12 @@ impl Given for Brand {
     ghost frame = { [] };
 }
 
-/// The calls that are handed to a node. Each step picks them.
+/// The calls that are handed to a node, in rows. Each step picks them.
 pub trait Handed {
     ghost use Rattle.std.specs.Prelude.{List};
     ghost use Rattle.ivy_model.specs.declared.Call.{Call};
 
-    ghost calls: { List Call };
+    ghost calls: { List (List Call) };
 }
 
 impl Handed for Brand {

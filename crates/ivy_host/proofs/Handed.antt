@@ -1,5 +1,5 @@
 -- Neither a turn that does something nor a message sees what a node's owner will call later.
-use Rattle.std.proofs.Common.{◌≡◌, ◌∙◌, ℕ, zero, suc, ◌+◌, ◌^◌, nat_lt, List, [], ◌∷◌, ◌++◌, length, map, append-nil, slice_get, Bool, true, false, Option, Some, None, option_map, if◌then◌else◌, refl, sym, ap, arith}
+use Rattle.std.proofs.Common.{◌≡◌, ◌∙◌, ℕ, zero, suc, ◌+◌, ◌^◌, nat_lt, List, [], ◌∷◌, length, map, append-nil, slice_get, Bool, true, false, Option, Some, None, option_map, if◌then◌else◌, refl, sym, ap, arith}
 use Rattle.std.proofs.lemmas.Option.{same_Some, none-some}
 use Rattle.ivy_model.specs.declared.Call.{Call}
 use Rattle.ivy_model.specs.declared.Config.{Config}
@@ -7,10 +7,9 @@ use Rattle.ivy_model.specs.declared.Reply.{Reply}
 use Rattle.ivy_wire.specs.Data.{Message}
 use Rattle.ivy_pagetable.specs.Manager.{Ops}
 use Rattle.ivy_program.specs.Programs.{Program, Written, Called, handed}
-use Rattle.ivy_program.specs.States.{State}
-use Rattle.ivy_program.specs.Steps.{Step, Local, Asks, Ends, step, step_of, after_reply, answered_with, at_state}
+use Rattle.ivy_program.specs.Steps.{Step, Local, Asks, Ends, step_of, at_state, along_of}
 use Rattle.ivy_program.specs.Owned.{process_handed}
-use Rattle.ivy_program.proofs.Handing.{handed_reply, handed_step}
+use Rattle.ivy_program.proofs.Handing.{handed_reply, handed_along, handed_step}
 use Rattle.ivy_moves.specs.Carrying.{IsUnseen, IsChangedBy, changed, node_changed}
 use Rattle.ivy_moves.specs.Cores.{Outcome}
 use Rattle.ivy_moves.specs.Nodes.{Node}
@@ -18,10 +17,10 @@ use Rattle.ivy_memory.specs.ivy_heap.declared.Answer.{Answer}
 use Rattle.ivy_memory.specs.ivy_heap.declared.Answer.TheVariants.{Given, Awaited, Unserved}
 use Rattle.ivy_memory.specs.Memories.{NodeMemory, CallBegun, call_begun, polled}
 use Rattle.ivy_host.specs.Openings.{first_node, first_nodes, opening}
-use Rattle.ivy_host.specs.Hosts.{Host, host_rules, begins, begins_as, begins_with, quietly, recorded, serving, steps, turn_of, turned_at}
+use Rattle.ivy_host.specs.Hosts.{Host, host_rules, begins_as, begins_with, quietly, recorded, serving, steps, turn_of, turned_at}
 use Rattle.ivy_host.specs.Handing.{handing}
 
-module _ {S : Type 0} (ops : Ops S) (more : List Call) where
+module _ {S : Type 0} (ops : Ops S) (more : List (List Call)) where
   recorded-handed : (n : Host S) (m : NodeMemory S) (c : Call) (r : Reply)
       → recorded (handing more n) m c r ≡ handing more (recorded n m c r)
   recorded-handed n m c r =
@@ -60,8 +59,12 @@ module _ {S : Type 0} (ops : Ops S) (more : List Call) where
   stepped-handed n (Asks c) o is e =
       ap (steps ops (handing more n))
       (handed_step more n.process.program n.process.state (Asks c) is (λ x. cc))
+      ∙ ap (λ ks. if nat_lt (length n.history + 1) (2 ^ 64)
+      then begins_as (handing more n) c (call_begun ops n.memory c ks (length n.history + 1)) else None)
+      (handed_along more n.process.program n.process.state
+      (λ ends. let f : Ends ≡ Asks c = sym ends ∙ is in cc))
       ∙ begun-handed (nat_lt (length n.history + 1) (2 ^ 64)) n c
-      (call_begun ops n.memory c (length n.history + 1)) o e
+      (call_begun ops n.memory c (along_of n.process) (length n.history + 1)) o e
   stepped-handed n Ends o is e = absurd (none-some o e)
 
   turned-handed : (n : Host S) (asked : Option Call) (o : Outcome (Host S))
@@ -96,7 +99,7 @@ handing_none n =
     (handed_none n.process.program)
 
 -- the further calls that each of these programs was handed, by its number
-pub record AreHanded (more : ℕ → List Call) (old new : List Program) : Type 0 where
+pub record AreHanded (more : ℕ → List (List Call)) (old new : List Program) : Type 0 where
   pub count : length new ≡ length old
   pub each : (i : ℕ) (p : Program) → slice_get old i ≡ Some p
       → slice_get new i ≡ Some (handed (more i) p)
@@ -120,7 +123,7 @@ module _ {S : Type 0} (ops : Ops S) (c : Config) where
   first_nodes-length me [] = refl
   first_nodes-length me (p ∷ ps) = ap suc (first_nodes-length (me + 1) ps)
 
-  module _ (more : ℕ → List Call) (old new : List Program) (h : AreHanded more old new) where
+  module _ (more : ℕ → List (List Call)) (old new : List Program) (h : AreHanded more old new) where
     handed-at : (i : ℕ) (n : Node (Host S)) (o : Option Program) → slice_get old i ≡ o
         → option_map (first_node ops c i) o ≡ Some n
         → slice_get (first_nodes ops c 0 new) i ≡ Some (node_changed (handing (more i)) n)

@@ -11,7 +11,7 @@ use Rattle.ivy_moves.specs.ivy_link.declared.Verdict.{Verdict}
 use Rattle.ivy_moves.specs.ivy_link.declared.Verdict.TheVariants as verdict
 use Rattle.ivy_moves.specs.ivy_link.Linked.{has_numbers, sends}
 use Rattle.ivy_moves.specs.ivy_link.Accepted.{offered, accepted}
-use Rattle.ivy_program.specs.Steps.{Step, Local, Asks, Ends, step_of, at_state}
+use Rattle.ivy_program.specs.Steps.{Step, Local, Asks, Ends, step_of, at_state, along_of}
 use Rattle.ivy_moves.specs.Cores.{Outcome}
 use Rattle.ivy_moves.specs.Nodes.{Node, Effect, stays, posting, accepting, served_next, received_as, received, delivered_as, delivered}
 use Rattle.ivy_memory.specs.ivy_heap.declared.Answer.{Answer}
@@ -43,7 +43,7 @@ module _ where
   begun-program : (n : Host Managed) (c : Call) (o : Outcome (Host Managed))
       → begins managed_ops n c ≡ Some o → o.after.process.program ≡ n.process.program
   begun-program n c o e =
-      let a = call_begun managed_ops n.memory c (length n.history + 1) in
+      let a = call_begun managed_ops n.memory c (along_of n.process) (length n.history + 1) in
       with-program n c a a.answer o
       (guarded (nat_lt (length n.history + 1) (2 ^ 64)) (begins_as n c a) o e).1
 

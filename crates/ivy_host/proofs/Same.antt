@@ -3,7 +3,7 @@ use Rattle.std.proofs.Common.{◌≡◌, ◌+◌, ◌^◌, Bool, true, false, le
 use Rattle.std.proofs.lemmas.Option.{same_Some, none-some}
 use Rattle.ivy_model.specs.declared.Call.{Call}
 use Rattle.ivy_pagetable.specs.Manager.{Ops}
-use Rattle.ivy_program.specs.Steps.{Step, Local, Asks, Ends, step_of, at_state}
+use Rattle.ivy_program.specs.Steps.{Step, Local, Asks, Ends, step_of, at_state, along_of}
 use Rattle.ivy_moves.specs.Cores.{Outcome}
 use Rattle.ivy_memory.specs.ivy_heap.declared.Answer.{Answer}
 use Rattle.ivy_memory.specs.ivy_heap.declared.Answer.TheVariants.{Given, Awaited, Unserved}
@@ -27,12 +27,15 @@ module _ {S : Type 0} (ops : Ops S) where
   with-same n c a Unserved o same is = absurd (none-some o is)
 
   if-same : (n : Host S) (c : Call) (b : Bool) (o : Outcome (Host S))
-      → (if b then begins_as n c (call_begun ops n.memory c (length n.history + 1)) else None)
-      ≡ Some o → IsSame n o
+      → (if b
+      then begins_as n c (call_begun ops n.memory c (along_of n.process) (length n.history + 1))
+      else None) ≡ Some o → IsSame n o
   if-same n c false o is = absurd (none-some o is)
   if-same n c true o is =
-      let a : CallBegun S = call_begun ops n.memory c (length n.history + 1) in
-      with-same n c a a.answer o (call-same ops n.memory c (length n.history + 1)) is
+      let a : CallBegun S =
+      call_begun ops n.memory c (along_of n.process) (length n.history + 1) in
+      with-same n c a a.answer o
+      (call-same ops n.memory c (along_of n.process) (length n.history + 1)) is
 
   begins-same : (n : Host S) (c : Call) (o : Outcome (Host S)) → begins ops n c ≡ Some o
       → SameNode n.memory.coherence o.after.memory.coherence

@@ -2,12 +2,15 @@
 -- that keeps the laws.
 use Rattle.std.proofs.Common.{◌≡◌, ◌≢◌, ℕ, zero, suc, ◌+◌, ◌^◌, ◌<◌, Bool, true, false, List, []}
 use Rattle.std.proofs.Common.{◌∷◌, length, map, get_or, Option, Some, None, nat_lt, slice_get, refl}
-use Rattle.std.proofs.Common.{sym, ap, ◌∙◌, subst, arith, if◌then◌else◌}
+use Rattle.std.proofs.Common.{◌++◌, sym, ap, ◌∙◌, subst, arith, if◌then◌else◌}
 use Rattle.std.specs.Prelude.{All}
 use Rattle.std.proofs.lemmas.Bool.{ltb-true}
+use Rattle.std.proofs.lemmas.List.{length-append}
+use Rattle.std.proofs.lemmas.List.Elements.{All-nil}
 use Rattle.std.proofs.lemmas.Option.{same_Some, none-some}
 use Rattle.ivy_model.specs.declared.Config.{Config}
 use Rattle.ivy_model.specs.declared.Call.{Call}
+use Rattle.ivy_model.specs.declared.Reply.{Reply}
 use Rattle.ivy_model.specs.Config.{IsConfig}
 use Rattle.ivy_model.specs.Legal.{HasWidth}
 use Rattle.ivy_wire.specs.Data.{Message}
@@ -15,50 +18,74 @@ use Rattle.ivy_wire.specs.Spelling.{FitsMessage, FitsParcel}
 use Rattle.ivy_pagetable.specs.Manager.{Ops, Laws}
 use Rattle.ivy_memory.proofs.of_ivy_coherence.IdleServing.{all_none}
 use Rattle.ivy_program.specs.Programs.{Program}
-use Rattle.ivy_program.specs.Steps.{Step, Local, Asks, Ends, step_of, at_state}
+use Rattle.ivy_program.specs.Steps.{Process, Step, Local, Asks, Ends, step_of, at_state, answered_with, AsksRow, along_of}
+use Rattle.ivy_program.proofs.Along.{asks_along, along_wide}
 use Rattle.ivy_program.proofs.Running.{asked_legal}
 use Rattle.ivy_moves.specs.Cores.{Outcome}
 use Rattle.ivy_moves.specs.Nodes.{Node}
 use Rattle.ivy_moves.specs.Following.{IsTame, IsOpening}
 use Rattle.ivy_memory.specs.ivy_heap.declared.Answer.{Answer}
 use Rattle.ivy_memory.specs.ivy_heap.declared.Answer.TheVariants.{Given, Awaited, Unserved}
-use Rattle.ivy_memory.specs.Memories.{CallBegun, call_begun, polled}
+use Rattle.ivy_memory.specs.Memories.{NodeMemory, CallBegun, call_begun, polled}
 use Rattle.ivy_memory.specs.Sound.{IsSoundMemory}
 use Rattle.ivy_host.specs.Sound.{IsSoundHost}
 use Rattle.ivy_host.specs.Hosts.{Host, recorded, quietly, begins_with, begins_as, begins, steps, turned_at, turn_of, serving, host_rules, first_host}
 use Rattle.ivy_host.specs.Openings.{first_node, first_nodes, opening}
-use Rattle.ivy_memory.proofs.Tame.{SameNode, KeepsMemory, IsBegun, first_sound-memory, told-sound, call-sound, call-begun}
+use Rattle.ivy_memory.proofs.Tame.{SameNode, KeepsMemory, GoesOn, IsBegunAs, IsBegun, first_sound-memory, told-sound, call-sound, call-begun}
 use Rattle.ivy_memory.proofs.Polling.{polled-keeps, polled-begun}
-use Rattle.ivy_memory.proofs.Same.{told-same, told-asked, told-number}
+use Rattle.ivy_memory.proofs.Same.{told-same, told-asked, told-along, told-number}
 
--- a call in progress is the one that the program makes
+-- the calls in progress are those that the program makes
 abbrev pub IsAskingHost : {S : Type 0} → Host S → Type 0
-IsAskingHost n = (k : Call) → n.memory.asked ≡ Some k → step_of n.process ≡ Asks k
+IsAskingHost n =
+    (k : Call) → n.memory.asked ≡ Some k → AsksRow n.process (k ∷ n.memory.along)
+
+-- the first one of them is its next
+pub asks_first : {S : Type 0} (n : Host S) → IsAskingHost n → (k : Call)
+    → n.memory.asked ≡ Some k → step_of n.process ≡ Asks k
+asks_first n asking k is = (asking k is).0
+
+-- it makes the first ones of the calls that it makes
+pub first_asks : (p : Process) (calls more : List Call) → AsksRow p (calls ++ more) → AsksRow p calls
+first_asks p [] more row = tt
+first_asks p (call ∷ calls) more row =
+    (row.0, λ r. first_asks (answered_with p r) calls more (row.1 r))
 
 module _ {S : Type 0} where
-  pub begins_with-asking : {i : ℕ} (n : Host S) (k : Call) (a : CallBegun S) (r : Answer)
-      (o : Outcome (Host S)) → step_of n.process ≡ Asks k → IsBegun k i a → a.answer ≡ r
-      → begins_with n k a r ≡ Some o → IsAskingHost o.after
-  begins_with-asking n k a Awaited o asks begun is at =
+  goes-asking : (m : NodeMemory S) (p : Process) (calls : List Call) (number : ℕ)
+      → GoesOn calls number m → AsksRow p calls → (j : Call) → m.asked ≡ Some j
+      → AsksRow p (j ∷ m.along)
+  goes-asking m p calls number goes row j is =
+      let x = goes.first j is in first_asks p (j ∷ m.along) x.0 (subst (AsksRow p) x.1 row)
+
+  -- whatever the call is answered: the program makes it and those along with it, and later ones
+  -- after its reply
+  pub begins_with-asking : (i : ℕ) (n : Host S) (k : Call) (calls later : List Call)
+      (a : CallBegun S) (r : Answer) (o : Outcome (Host S)) → AsksRow n.process (k ∷ calls)
+      → ((q : Reply) → AsksRow (answered_with n.process q) later)
+      → IsBegunAs k calls later i a.after r → begins_with n k a r ≡ Some o → IsAskingHost o.after
+  begins_with-asking i n k calls later a Awaited o asks rest begun at =
       subst (λ (x : Outcome (Host S)). IsAskingHost x.after)
       (same_Some (record { after = record n { memory = a.after }; posted = a.posted }) o at)
-      (λ j h. asks ∙ ap Asks (begun.same j h))
-  begins_with-asking n k a (Given r) o asks begun is at =
+      (goes-asking a.after n.process (k ∷ calls) i begun asks)
+  begins_with-asking i n k calls later a (Given r) o asks rest begun at =
       subst (λ (x : Outcome (Host S)). IsAskingHost x.after)
       (same_Some (record { after = recorded n a.after k r; posted = a.posted }) o at)
-      (λ j h. absurd (none-some j (sym (begun.over r is) ∙ h)))
-  begins_with-asking n k a Unserved o asks begun is at = absurd (none-some o at)
+      (goes-asking a.after (answered_with n.process r) later (i + 1) begun (rest r))
+  begins_with-asking i n k calls later a Unserved o asks rest begun at = absurd (none-some o at)
 
 module _ {S : Type 0} (ops : Ops S) where
   begins_if-asking : (n : Host S) (k : Call) (b : Bool) (o : Outcome (Host S))
       → n.memory.asked ≡ None → step_of n.process ≡ Asks k
-      → (if b then begins_as n k (call_begun ops n.memory k (length n.history + 1)) else None)
-      ≡ Some o → IsAskingHost o.after
+      → (if b
+      then begins_as n k (call_begun ops n.memory k (along_of n.process) (length n.history + 1))
+      else None) ≡ Some o → IsAskingHost o.after
   begins_if-asking n k false o idle asks is = absurd (none-some o is)
   begins_if-asking n k true o idle asks is =
-      let a : CallBegun S = call_begun ops n.memory k (length n.history + 1) in
-      begins_with-asking n k a a.answer o asks
-      (call-begun ops n.memory k (length n.history + 1) idle) refl is
+      let calls : List Call = along_of n.process in
+      let a : CallBegun S = call_begun ops n.memory k calls (length n.history + 1) in
+      begins_with-asking (length n.history + 1) n k calls [] a a.answer o (asks_along n.process k asks) (λ r. tt)
+      (call-begun ops n.memory k calls (length n.history + 1) idle) is
 
   pub begins-asking : (n : Host S) (k : Call) (o : Outcome (Host S)) → n.memory.asked ≡ None
       → step_of n.process ≡ Asks k → begins ops n k ≡ Some o → IsAskingHost o.after
@@ -78,10 +105,12 @@ module _ {S : Type 0} (ops : Ops S) where
       → n.memory.asked ≡ a → turned_at ops n a ≡ Some o → IsAskingHost o.after
   at-asking n (Some k) o asking at is =
       let a : CallBegun S = polled ops n.memory in
-      begins_with-asking n k a a.answer o (asking k at) (polled-begun ops n.memory k at) refl is
+      let row = asking k at in
+      begins_with-asking n.memory.number n k n.memory.along n.memory.along a a.answer o row row.1
+      (polled-begun ops n.memory k at) is
   at-asking n None o asking at is = steps-asking n (step_of n.process) o at refl is
 
-  -- after a turn, a call in progress is the one that the program makes, if it was so before
+  -- after a turn, the calls in progress are those that the program makes, if it was so before
   pub turn-asking : (n : Host S) (o : Outcome (Host S)) → IsAskingHost n → turn_of ops n ≡ Some o
       → IsAskingHost o.after
   unfolding turn_of
@@ -91,7 +120,9 @@ module _ {S : Type 0} (ops : Ops S) where
   pub serve-asking : (n : Host S) (from : ℕ) (m : Message) → IsAskingHost n
       → IsAskingHost (serving ops n from m).after
   unfolding serving
-  serve-asking n from m h k asked = h k (sym (told-asked ops n.memory from m) ∙ asked)
+  serve-asking n from m h k asked =
+      subst (λ calls. AsksRow n.process (k ∷ calls)) (sym (told-along ops n.memory from m))
+      (h k (sym (told-asked ops n.memory from m) ∙ asked))
 
   pub first-asking : (c : Config) (me : ℕ) (p : Program)
       → IsAskingHost (first_host ops c me p)
@@ -119,39 +150,43 @@ module _ {S : Type 0} {ops : Ops S} (laws : Laws ops) where
         (subst (λ j. All (FitsParcel n.memory.coherence.config j) o.posted) s.me fits),
   )
 
-  begins_with-tame : (c : Config) (i : ℕ) (n : Host S) (k : Call) (a : CallBegun S) (r : Answer)
-      (o : Outcome (Host S)) → IsSoundHost ops c i n → KeepsMemory ops n.memory a
-      → IsBegun k (length n.history + 1) a → a.answer ≡ r → IsAskingHost o.after
-      → begins_with n k a r ≡ Some o → Tamed c i o
-  begins_with-tame c i n k a (Given r) o s h begun given asking is =
+  begins_with-tame : (c : Config) (i : ℕ) (n : Host S) (k : Call) (calls later : List Call)
+      (a : CallBegun S) (r : Answer) (o : Outcome (Host S)) → IsSoundHost ops c i n
+      → KeepsMemory ops n.memory a → IsBegunAs k calls later (length n.history + 1) a.after r
+      → IsAskingHost o.after → begins_with n k a r ≡ Some o → Tamed c i o
+  begins_with-tame c i n k calls later a (Given r) o s h begun asking is =
       let same : record { after = recorded n a.after k r; posted = a.posted } ≡ o =
       same_Some _ o is in
       subst (Tamed c i) same
       (tamed c i n (record { after = recorded n a.after k r; posted = a.posted }) s h.0 h.2 h.1
-      (λ j asked. absurd (none-some j (sym (begun.over r given) ∙ asked)))
+      (λ j asked. begun.numbered j asked
+      ∙ ap (λ m. m + 1) (sym (length-append n.history _)))
       (subst (λ (x : Outcome (Host S)). IsAskingHost x.after) (sym same) asking))
-  begins_with-tame c i n k a Awaited o s h begun given asking is =
+  begins_with-tame c i n k calls later a Awaited o s h begun asking is =
       let same : record { after = record n { memory = a.after }; posted = a.posted } ≡ o =
       same_Some _ o is in
       subst (Tamed c i) same
       (tamed c i n (record { after = record n { memory = a.after }; posted = a.posted }) s h.0
       h.2 h.1 begun.numbered
       (subst (λ (x : Outcome (Host S)). IsAskingHost x.after) (sym same) asking))
-  begins_with-tame c i n k a Unserved o s h begun given asking is = absurd (none-some o is)
+  begins_with-tame c i n k calls later a Unserved o s h begun asking is = absurd (none-some o is)
 
   begins_if-tame : (c : Config) (i : ℕ) (n : Host S) (k : Call) (b : Bool) (o : Outcome (Host S))
       → IsSoundHost ops c i n → n.memory.asked ≡ None → HasWidth k
       → nat_lt (length n.history + 1) (2 ^ 64) ≡ b → IsAskingHost o.after
-      → (if b then begins_as n k (call_begun ops n.memory k (length n.history + 1)) else None)
-      ≡ Some o → Tamed c i o
+      → (if b
+      then begins_as n k (call_begun ops n.memory k (along_of n.process) (length n.history + 1))
+      else None) ≡ Some o → Tamed c i o
   begins_if-tame c i n k false o s idle w small asking is = absurd (none-some o is)
   begins_if-tame c i n k true o s idle w small asking is =
       let number : ℕ = length n.history + 1 in
-      let a : CallBegun S = call_begun ops n.memory k number in
+      let calls : List Call = along_of n.process in
+      let a : CallBegun S = call_begun ops n.memory k calls number in
       let below : number < 2 ^ 64 = ltb-true number (2 ^ 64) small in
-      begins_with-tame c i n k a a.answer o s
-      (call-sound laws n.memory k number s.memory idle w (omega arith) below)
-      (call-begun ops n.memory k number idle) refl asking is
+      begins_with-tame c i n k calls [] a a.answer o s
+      (call-sound laws n.memory k calls number s.memory idle w (along_wide n.process) (omega arith)
+      below)
+      (call-begun ops n.memory k calls number idle) asking is
 
   begins-tame : (c : Config) (i : ℕ) (n : Host S) (k : Call) (o : Outcome (Host S))
       → IsSoundHost ops c i n → n.memory.asked ≡ None → step_of n.process ≡ Asks k
@@ -177,9 +212,11 @@ module _ {S : Type 0} {ops : Ops S} (laws : Laws ops) where
       → IsSoundHost ops c i n → n.memory.asked ≡ a → turned_at ops n a ≡ Some o → Tamed c i o
   at-tame c i n (Some k) o s at is =
       let a : CallBegun S = polled ops n.memory in
-      begins_with-tame c i n k a a.answer o s (polled-keeps laws n.memory k s.memory at)
-      (subst (λ number. IsBegun k number a) (s.numbered k at) (polled-begun ops n.memory k at))
-      refl (at-asking ops n (Some k) o s.asking at is) is
+      let calls : List Call = n.memory.along in
+      begins_with-tame c i n k calls calls a a.answer o s (polled-keeps laws n.memory k s.memory at)
+      (subst (λ number. IsBegun k calls calls number a) (s.numbered k at)
+      (polled-begun ops n.memory k at))
+      (at-asking ops n (Some k) o s.asking at is) is
   at-tame c i n None o s at is = steps-tame c i n _ o s at refl is
 
   turn-tame : (c : Config) (i : ℕ) (n : Host S) (o : Outcome (Host S)) → IsSoundHost ops c i n
@@ -199,7 +236,7 @@ module _ {S : Type 0} {ops : Ops S} (laws : Laws ops) where
       tamed c i n _ s told.0 (told-same ops n.memory source m) told.1
       (λ k asked. told-number ops n.memory source m
       ∙ s.numbered k (sym (told-asked ops n.memory source m) ∙ asked))
-      (λ k asked. s.asking k (sym (told-asked ops n.memory source m) ∙ asked))
+      (serve-asking ops n source m s.asking)
 
   -- turns and messages keep what holds of a node, and post only what can be sent
   pub tame : (c : Config) → IsTame (host_rules ops) c (IsSoundHost ops c)

@@ -4,6 +4,6 @@ use Rattle.ivy_model.specs.declared.Call.{Call}
 use Rattle.ivy_program.specs.Owned.{process_handed}
 use Rattle.ivy_host.specs.Hosts.{Host}
 
--- its program has these calls too, and nothing else changes
-abbrev pub handing : {S : Type 0} → List Call → Host S → Host S
+-- its program has these rows of calls too, and nothing else changes
+abbrev pub handing : {S : Type 0} → List (List Call) → Host S → Host S
 handing more n = record n { process = process_handed more n.process }

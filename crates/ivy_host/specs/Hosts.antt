@@ -10,11 +10,11 @@ use Rattle.ivy_wire.specs.Data.{Message}
 use Rattle.ivy_pagetable.specs.Manager.{Ops}
 use Rattle.ivy_program.specs.Programs.{Program}
 use Rattle.ivy_program.specs.States.{first_state}
-use Rattle.ivy_program.specs.Steps.{Process, Step, Local, Asks, Ends, step_of, at_state, answered_with}
+use Rattle.ivy_program.specs.Steps.{Process, Step, Local, Asks, Ends, step_of, along_of, at_state, answered_with}
 use Rattle.ivy_moves.specs.Cores.{Core, Outcome}
 use Rattle.ivy_memory.specs.ivy_heap.declared.Answer.{Answer}
 use Rattle.ivy_memory.specs.ivy_heap.declared.Answer.TheVariants.{Given, Awaited, Unserved}
-use Rattle.ivy_memory.specs.Memories.{NodeMemory, CallBegun, first_memory, call_begun, polled, memory_handled, memory_told}
+use Rattle.ivy_memory.specs.Memories.{NodeMemory, CallBegun, in_progress, first_memory, call_begun, polled, memory_handled, memory_told}
 
 -- a node's memory, its program and where it stands, and what it was answered
 pub record Host (S : Type 0) : Type 0 where
@@ -27,9 +27,10 @@ module _ {S : Type 0} where
   abbrev pub number_of : Host S → ℕ
   number_of n = n.memory.coherence.me
 
-  -- what the node was answered, and the call that it has in progress
+  -- what the node was answered, and the calls that it has in progress
   abbrev pub answered_by : Host S → Answered
-  answered_by n = record { history = n.history; asked = n.memory.asked }
+  answered_by n =
+      record { history = n.history; asked = in_progress n.memory.asked n.memory.along }
 
   -- a reply is recorded, and the program goes on with it
   abbrev pub recorded : Host S → NodeMemory S → Call → Reply → Host S
@@ -60,7 +61,8 @@ module _ {S : Type 0} (ops : Ops S) where
   abbrev pub begins : Host S → Call → Option (Outcome (Host S))
   begins n c =
       if nat_lt (length n.history + 1) (2 ^ 64)
-      then begins_as n c (call_begun ops n.memory c (length n.history + 1)) else None
+      then begins_as n c (call_begun ops n.memory c (along_of n.process) (length n.history + 1))
+      else None
 
   -- the program's next step: its own, a call that begins, or none where it has ended
   abbrev pub steps : Host S → Step → Option (Outcome (Host S))

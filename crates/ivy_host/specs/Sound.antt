@@ -1,9 +1,9 @@
 -- What holds of a node but for its link, whatever comes to it.
-use Rattle.std.specs.Prelude.{◌≡◌, ℕ, ◌+◌, length, Some}
+use Rattle.std.specs.Prelude.{◌≡◌, ℕ, ◌+◌, ◌∷◌, length, Some}
 use Rattle.ivy_model.specs.declared.Config.{Config}
 use Rattle.ivy_model.specs.declared.Call.{Call}
 use Rattle.ivy_pagetable.specs.Manager.{Ops}
-use Rattle.ivy_program.specs.Steps.{Asks, step_of}
+use Rattle.ivy_program.specs.Steps.{AsksRow}
 use Rattle.ivy_host.specs.Hosts.{Host}
 use Rattle.ivy_memory.specs.Sound.{IsSoundMemory}
 
@@ -12,8 +12,9 @@ pub record IsSoundHost {S : Type 0} (ops : Ops S) (c : Config) (i : ℕ) (n : Ho
   pub memory : IsSoundMemory ops n.memory
   pub config : n.memory.coherence.config ≡ c
   pub me : n.memory.coherence.me ≡ i
-  -- the call in progress is the one that the program makes
-  pub asking : (call : Call) → n.memory.asked ≡ Some call → step_of n.process ≡ Asks call
+  -- the calls in progress are those that the program makes
+  pub asking : (call : Call) → n.memory.asked ≡ Some call
+      → AsksRow n.process (call ∷ n.memory.along)
   -- and has the number after those of the records
   pub numbered : (call : Call) → n.memory.asked ≡ Some call
       → n.memory.number ≡ length n.history + 1

@@ -1,12 +1,12 @@
 -- The calls that own code made at each node, while its log is made again.
-use Rattle.std.proofs.Common.{◌≡◌, ℕ, zero, suc, ◌+◌, ◌<◌, ◌≤◌, List, [], ◌∷◌, ◌++◌, length, map, take, set, replicate, get_or, slice_get, Option, Some, None, option_map, refl, sym, ap, ◌∙◌, append-nil, append_assoc, below_more, arith, inl, inr}
+use Rattle.std.proofs.Common.{◌≡◌, ℕ, zero, suc, ◌+◌, ◌<◌, ◌≤◌, List, [], ◌∷◌, ◌++◌, length, map, take, set, replicate, get_or, slice_get, Option, Some, None, option_map, refl, sym, ap, subst, ◌∙◌, append-nil, append_assoc, below_more, arith, inl, inr}
 use Rattle.std.proofs.lemmas.Bool.{cases_eq}
-use Rattle.std.proofs.lemmas.List.{length-map, take_all}
+use Rattle.std.proofs.lemmas.List.{length-map, map-append, take_all}
 use Rattle.std.proofs.lemmas.Option.{same_Some, none-some, get_or_from_slice_get, slice_get-map, slice_get_within}
 use Rattle.ivy_model.specs.declared.Call.{Call}
 use Rattle.ivy_moves.specs.Events.{Event}
 use Rattle.ivy_moves.proofs.Places.{set-there, set-elsewhere}
-use Rattle.ivy_program.specs.Programs.{Program, Called}
+use Rattle.ivy_program.specs.Programs.{Program, Called, one_by_one}
 use Rattle.ivy_lines.specs.declared.own.Entry.TheVariants.{Did}
 use Rattle.ivy_lines.specs.Own.{Entry, call_in, calls_in}
 use Rattle.ivy_lines.proofs.Owned.{flat-taken}
@@ -19,19 +19,28 @@ use Rattle.ivy_join.proofs.Handed.{there_is}
 -- none were made
 pub none-called : (node : ℕ) (old new : List Program) → new ≡ old → HasCalled node [] old new
 none-called node old new same = record {
-  here = λ calls at. ap (λ l. slice_get l node) same ∙ at
-      ∙ ap (λ l. Some (Called l)) (sym (append-nil calls));
+  here = λ rows at. ap (λ l. slice_get l node) same ∙ at
+      ∙ ap (λ l. Some (Called l)) (sym (append-nil rows));
   elsewhere = λ i apart. ap (λ l. slice_get l i) same;
 }
 
 -- first these, then those
-pub called-further : (node : ℕ) (more rest : List Call) (a b d : List Program) → HasCalled node more a b
+pub called-further : (node : ℕ) (more rest : List (List Call)) (a b d : List Program)
+    → HasCalled node more a b
     → HasCalled node rest b d → HasCalled node (more ++ rest) a d
 called-further node more rest a b d x y = record {
-  here = λ calls at. y.here (calls ++ more) (x.here calls at)
-      ∙ ap (λ l. Some (Called l)) (append_assoc calls more rest);
+  here = λ rows at. y.here (rows ++ more) (x.here rows at)
+      ∙ ap (λ l. Some (Called l)) (append_assoc rows more rest);
   elsewhere = λ i apart. y.elsewhere i apart ∙ x.elsewhere i apart;
 }
+
+-- the same of calls that are made one at a time
+calls-further : (node : ℕ) (more rest : List Call) (a b d : List Program)
+    → HasCalled node (one_by_one more) a b → HasCalled node (one_by_one rest) b d
+    → HasCalled node (one_by_one (more ++ rest)) a d
+calls-further node more rest a b d x y =
+    subst (λ l. HasCalled node l a d) (sym (map-append (λ (call : Call). call ∷ []) more rest))
+    (called-further node (one_by_one more) (one_by_one rest) a b d x y)
 
 -- an event makes no call
 pub did-called : (node : ℕ) (event : Event) (old new : List Program) (outcome : Outcome) → new ≡ old
@@ -52,10 +61,10 @@ plays-begin node entries made old = record {
 -- one entry more
 pub plays-more : (node : ℕ) (entries : List Entry) (first made : ℕ) (entry : Entry) (a b d : List Program)
     → made < length entries → entry ≡ get_or entries made entry → PlaysOn node entries first made a b
-    → HasCalled node (call_in entry) b d → PlaysOn node entries first (made + 1) a d
+    → HasCalled node (one_by_one (call_in entry)) b d → PlaysOn node entries first (made + 1) a d
 plays-more node entries first made entry a b d below there x y = record {
   more = x.more ++ call_in entry;
-  called = called-further node x.more (call_in entry) a b d x.called y;
+  called = calls-further node x.more (call_in entry) a b d x.called y;
   are = flat-taken call_in entries made entry below there
       ∙ ap (λ l. l ++ call_in entry) x.are
       ∙ append_assoc (calls_in (take first entries)) x.more (call_in entry);
@@ -66,7 +75,7 @@ pub plays-same : (node : ℕ) (entries : List Entry) (first made : ℕ) (a b d :
     → PlaysOn node entries first made a b → HasCalled node [] b d → PlaysOn node entries first made a d
 plays-same node entries first made a b d x y = record {
   more = x.more ++ [];
-  called = called-further node x.more [] a b d x.called y;
+  called = calls-further node x.more [] a b d x.called y;
   are = x.are ∙ ap (λ l. calls_in (take first entries) ++ l) (sym (append-nil x.more));
 }
 
@@ -81,8 +90,10 @@ have-on logs made node entries m m' old new log was have on i es k at now = elim
       let so : k ≡ m' =
       same_Some k m' (sym now ∙ ap (slice_get (set made node m')) same ∙ set-there made node m' m was) in
       ap (slice_get new) same
-      ∙ on.called.here (calls_in (take m entries)) (have node entries m log was)
-      ∙ ap (λ l. Some (Called l)) (sym on.are)
+      ∙ on.called.here (one_by_one (calls_in (take m entries))) (have node entries m log was)
+      ∙ ap (λ l. Some (Called l))
+      (sym (map-append (λ (call : Call). call ∷ []) (calls_in (take m entries)) on.more))
+      ∙ ap (λ l. Some (Called (one_by_one l))) (sym on.are)
       ∙ ap (λ j. Some (program_by (take j entries))) (sym so)
       ∙ ap (λ l. Some (program_by (take k l))) (sym mine))
   | inr apart ↦

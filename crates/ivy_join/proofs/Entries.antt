@@ -1,6 +1,6 @@
 -- A site with own code goes on by the entries of its log.
 use Rattle.std.proofs.Common.{◌≡◌, ℕ, zero, suc, ◌+◌, ◌<◌, List, [], ◌∷◌, ◌++◌, length, take, get_or, Contains, Bool, Result, Ok, Err, IfOk, IsTrue, refl, sym, ap, subst, ◌∙◌, append-nil, append_assoc, arith}
-use Rattle.std.proofs.lemmas.List.{take_more}
+use Rattle.std.proofs.lemmas.List.{map-append, take_more}
 use Rattle.std.proofs.lemmas.List.Concat.{flat_map-append}
 use Rattle.std.proofs.lemmas.List.Elements.{Contains-append_left, Contains-append_right}
 use Rattle.ivy_model.specs.declared.Call.{Call}
@@ -13,7 +13,7 @@ use Rattle.ivy_lines.proofs.Owned.{marks-append}
 use Rattle.ivy_moves.specs.Events.{Event}
 use Rattle.ivy_moves.specs.Marks.{marks, marks_of}
 use Rattle.ivy_moves.specs.Parts.{AllCanBeMade}
-use Rattle.ivy_program.specs.Programs.{Program, Written, Called, handed}
+use Rattle.ivy_program.specs.Programs.{Program, Written, Called, handed, one_by_one}
 use Rattle.ivy_site.proofs.of_ivy_host.Handed.{handed_none}
 use Rattle.ivy_site.specs.Handed.{site_handed}
 use Rattle.ivy_site.specs.Shown.{Shown}
@@ -22,10 +22,11 @@ use Rattle.ivy_join.specs.Remade.{CanTake, GoesOnByEntries}
 use Rattle.ivy_join.proofs.Steps.{took-further}
 use Rattle.ivy_join.proofs.Taken.{can-more-strings, taken-own}
 
--- further calls, and then others
-handed-further : (more rest : List Call) (p : Program) → handed rest (handed more p) ≡ handed (more ++ rest) p
+-- further rows of calls, and then others
+handed-further : (more rest : List (List Call)) (p : Program)
+    → handed rest (handed more p) ≡ handed (more ++ rest) p
 handed-further more rest (Written is) = refl
-handed-further more rest (Called calls) = ap Called (append_assoc calls more rest)
+handed-further more rest (Called rows) = ap Called (append_assoc rows more rest)
 
 -- what was delivered before
 abbrev Took : List (List ℕ) → Shown → Type 0
@@ -52,7 +53,7 @@ module _ (sent : List (List ℕ)) where
     took = took-further sent s s' took on;
   }
 
-  pub asked-on : (call : Call) (s s' : Shown) → Took sent s → s' ≡ site_handed (call ∷ []) s
+  pub asked-on : (call : Call) (s s' : Shown) → Took sent s → s' ≡ site_handed ((call ∷ []) ∷ []) s
       → GoesOnByEntries sent (Asked call ∷ []) s s'
   asked-on call s s' took is = subst (GoesOnByEntries sent (Asked call ∷ []) s) (sym is) (record {
     me = refl;
@@ -103,9 +104,14 @@ module _ (sent : List (List ℕ)) where
       subst (λ l. GoesOnByEntries sent l a d) (sym longer) (record {
         me = y.me ∙ x.me;
         config = y.config ∙ x.config;
-        program = y.program ∙ ap (handed (calls_in (entry ∷ []))) x.program
-            ∙ handed-further (calls_in (take i entries)) (calls_in (entry ∷ [])) (program_in a)
-            ∙ ap (λ l. handed l (program_in a)) (sym (flat_map-append call_in (take i entries) (entry ∷ [])));
+        program = y.program ∙ ap (handed (one_by_one (calls_in (entry ∷ [])))) x.program
+            ∙ handed-further (one_by_one (calls_in (take i entries)))
+            (one_by_one (calls_in (entry ∷ []))) (program_in a)
+            ∙ ap (λ l. handed l (program_in a))
+            (sym (map-append (λ (call : Call). call ∷ []) (calls_in (take i entries))
+            (calls_in (entry ∷ []))))
+            ∙ ap (λ l. handed (one_by_one l) (program_in a))
+            (sym (flat_map-append call_in (take i entries) (entry ∷ [])));
         events = y.events ∙ ap (λ l. l ++ marks (events_in (entry ∷ []))) x.events
             ∙ append_assoc a.events (marks (events_in (take i entries))) (marks (events_in (entry ∷ [])))
             ∙ ap (λ l. a.events ++ l)

@@ -22,15 +22,15 @@ use Rattle.ivy_join.specs.Joining.{program_in, events_at, listed, IsNode, ArePla
 use Rattle.ivy_join.specs.Owned.{HasCalled}
 
 module _ (sites : List Shown) (node : ℕ) (old : Shown) (there : slice_get sites node ≡ Some old)
-    (more : List Call) where
+    (more : List (List Call)) where
   abbrev new : Shown
   new = site_handed more old
 
   abbrev after : List Shown
   after = set sites node new
 
-  -- each node is handed these calls, or none
-  abbrev more_at : ℕ → List Call
+  -- each node is handed these rows of calls, or none
+  abbrev more_at : ℕ → List (List Call)
   more_at i = if i == node then more else []
 
   more_here : more_at node ≡ more
@@ -79,8 +79,8 @@ module _ (sites : List Shown) (node : ℕ) (old : Shown) (there : slice_get site
   -- and its program has these calls too
   pub called-handed : HasCalled node more (programs_of sites) (programs_of after)
   called-handed = record {
-    here = λ calls at. changed_there node (Called calls) at
-        ∙ ap (λ m. Some (Called (calls ++ m))) more_here;
+    here = λ rows at. changed_there node (Called rows) at
+        ∙ ap (λ m. Some (Called (rows ++ m))) more_here;
     elsewhere = λ i apart. slice_get-map program_in after i
         ∙ ap (option_map program_in) (set-elsewhere sites node i new (λ e. apart (sym e)))
         ∙ sym (slice_get-map program_in sites i);
@@ -123,7 +123,7 @@ there_is (x ∷ xs) zero l = (x, refl)
 there_is (x ∷ xs) (suc i) l = there_is xs i (omega (arith, l))
 
 -- own code at the site in this place made the calls
-module _ (sites : List Shown) (node : ℕ) (more : List Call) (end : List Shown) (l : node < length sites)
+module _ (sites : List Shown) (node : ℕ) (more : List (List Call)) (end : List Shown) (l : node < length sites)
     (after : IfSome (slice_get sites node) (λ s. end ≡ set sites node (site_handed more s))) where
   old : Shown
   old = (there_is sites node l).0

@@ -1,7 +1,7 @@
 -- One flat memory could have answered the nodes as their logs say.
-use Rattle.std.proofs.Common.{◌≡◌, ℕ, ◌<◌, List, [], ◌∷◌, ◌++◌, length, map, slice_get, Some, None, option_map, refl, sym, ap, subst, ◌∙◌, append-nil, length-append, arith}
+use Rattle.std.proofs.Common.{◌≡◌, ℕ, ◌<◌, List, [], ◌∷◌, ◌++◌, length, map, slice_get, Some, inl, inr, option_map, refl, sym, ap, subst, ◌∙◌, append-nil, length-append, arith}
 use Rattle.std.proofs.lemmas.List.{length-map, nil_from_length}
-use Rattle.std.proofs.lemmas.Option.{none-some, slice_get-map, slice_get_within}
+use Rattle.std.proofs.lemmas.Option.{slice_get-map, slice_get_within}
 use Rattle.ivy_model.specs.declared.Config.{Config}
 use Rattle.ivy_model.specs.declared.Record.{Record}
 use Rattle.ivy_model.specs.Explains.{IsOwed}
@@ -13,6 +13,7 @@ use Rattle.ivy_moves.specs.Explained.{IsExplainedBy, GoesOn}
 use Rattle.ivy_moves.specs.Nodes.{Node}
 use Rattle.ivy_moves.specs.Worlds.{World, Leads}
 use Rattle.ivy_site.specs.ivy_host.Hosts.{Host, host_rules, answered_by}
+use Rattle.ivy_site.specs.ivy_host.ivy_memory.Memories.{in_progress}
 use Rattle.ivy_site.specs.ivy_host.Managers.{Managed, managed_ops}
 use Rattle.ivy_site.specs.ivy_host.Openings.{opening}
 use Rattle.ivy_site.specs.Shown.{Shown}
@@ -36,10 +37,14 @@ explained_end c w end order (m ∷ moves) on lead =
     explained_end c lead.0 end (order ++ next.0) moves next.1 lead.2
 
 -- nothing is owed where no call is in progress
-owed_none : (rest : List Record) → IsOwed None rest → rest ≡ []
-owed_none [] owed = refl
-owed_none (r ∷ []) owed = absurd (none-some r.call owed)
-owed_none (r ∷ s ∷ rest) owed = absurd owed
+none_called : (rest : List Record) → map (λ (r : Record). r.call) rest ≡ [] → rest ≡ []
+none_called [] is = refl
+none_called (r ∷ rest) is =
+    let f : r.call ∷ map (λ (x : Record). x.call) rest ≡ [] = is in absurd cc
+
+owed_none : (rest : List Record) → IsOwed [] rest → rest ≡ []
+owed_none rest (inl none) = none
+owed_none rest (inr calls) = none_called rest calls
 
 -- the entries lack none of so many answers
 tells-all : (entries : List Entry) (history : List Record) → Tells entries history
@@ -77,7 +82,8 @@ module _ (c : Config) (logs : List (List Entry)) (sites : List Shown) (j : AreOw
       (slice_get-map (λ (n : Node (Host Managed)). answered_by n.core) j.joined.end.nodes i
       ∙ ap (option_map (λ (n : Node (Host Managed)). answered_by n.core)) (j.joined.nodes i s at.1)) in
       let empty : owed.0 ≡ [] =
-      owed_none owed.0 (subst (λ o. IsOwed o owed.0) done.0 owed.2) in
+      owed_none owed.0
+      (subst (λ o. IsOwed (in_progress o s.node.core.memory.along) owed.0) done.0 owed.2) in
       ap answers
       (owed.1 ∙ ap (λ r. s.node.core.history ++ r) empty ∙ append-nil s.node.core.history)
       ∙ tells-all entries s.node.core.history told done.1

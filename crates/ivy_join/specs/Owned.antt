@@ -8,15 +8,15 @@ use Rattle.ivy_lines.specs.ivy_calls.declared.Answer.{Answer}
 use Rattle.ivy_lines.specs.ivy_calls.Answers.{answers, answers_of}
 use Rattle.ivy_lines.specs.Own.{Entry, answers_in, call_in, calls_in, events_in}
 use Rattle.ivy_moves.specs.Marks.{marks}
-use Rattle.ivy_program.specs.Programs.{Program, Called}
+use Rattle.ivy_program.specs.Programs.{Program, Called, one_by_one}
 use Rattle.ivy_site.specs.Shown.{Shown}
 use Rattle.ivy_join.specs.declared.playing.Outcome.{Outcome}
 use Rattle.ivy_join.specs.declared.playing.Outcome.TheVariants.{Made, Waits, Never}
 use Rattle.ivy_join.specs.Joined.{AreJoined}
 
--- own code that makes the calls of these entries
+-- own code that makes the calls of these entries, one after another
 abbrev pub program_by : List Entry → Program
-program_by entries = Called (calls_in entries)
+program_by entries = Called (one_by_one (calls_in entries))
 
 -- the code of all nodes, by their logs
 abbrev pub programs_by : List (List Entry) → List Program
@@ -60,15 +60,15 @@ pub record AreAnswered (c : Config) (logs : List (List Entry)) : Type 0 where
   pub each : (i : ℕ) (entries : List Entry) → slice_get logs i ≡ Some entries
       → answers_of i order ≡ answers_in entries
 
--- own code at this node made these further calls, and that of the others made none
-pub record HasCalled (node : ℕ) (more : List Call) (old new : List Program) : Type 0 where
-  pub here : (calls : List Call) → slice_get old node ≡ Some (Called calls)
-      → slice_get new node ≡ Some (Called (calls ++ more))
+-- own code at this node made these further rows of calls, and that of the others made none
+pub record HasCalled (node : ℕ) (more : List (List Call)) (old new : List Program) : Type 0 where
+  pub here : (rows : List (List Call)) → slice_get old node ≡ Some (Called rows)
+      → slice_get new node ≡ Some (Called (rows ++ more))
   pub elsewhere : (i : ℕ) → i ≢ node → slice_get new i ≡ slice_get old i
 
 -- so it did by an entry of its log, if that was made
 abbrev pub HasCalledBy : ℕ → Entry → List Program → List Program → Outcome → Type 0
-HasCalledBy node entry old new Made = HasCalled node (call_in entry) old new
+HasCalledBy node entry old new Made = HasCalled node (one_by_one (call_in entry)) old new
 HasCalledBy node entry old new Waits = HasCalled node [] old new
 HasCalledBy node entry old new Never = Unit {0}
 
@@ -76,7 +76,7 @@ HasCalledBy node entry old new Never = Unit {0}
 pub record PlaysOn (node : ℕ) (entries : List Entry) (made made' : ℕ) (old new : List Program) : Type 0
   where
     pub more : List Call
-    pub called : HasCalled node more old new
+    pub called : HasCalled node (one_by_one more) old new
     pub are : calls_in (take made' entries) ≡ calls_in (take made entries) ++ more
 
 -- each node's code made the calls of so many entries of its log

@@ -4,7 +4,7 @@ use Rattle.ivy_lines.specs.declared.own.Entry.TheVariants.{Did, Asked, Answered}
 use Rattle.ivy_lines.specs.Own.{Entry, calls_in, events_in}
 use Rattle.ivy_moves.specs.Marks.{marks}
 use Rattle.ivy_moves.specs.Parts.{AllCanBeMade}
-use Rattle.ivy_program.specs.Programs.{handed}
+use Rattle.ivy_program.specs.Programs.{handed, one_by_one}
 use Rattle.ivy_site.specs.Shown.{Shown}
 use Rattle.ivy_site.specs.Sites.{IsMadeByEvents}
 use Rattle.ivy_join.specs.Joining.{program_in, CanBeTaken}
@@ -20,7 +20,7 @@ CanTake sent (Answered answer) = Unit {0}
 pub record GoesOnByEntries (sent : List (List ℕ)) (entries : List Entry) (old new : Shown) : Type 0 where
   pub me : new.me ≡ old.me
   pub config : new.config ≡ old.config
-  pub program : program_in new ≡ handed (calls_in entries) (program_in old)
+  pub program : program_in new ≡ handed (one_by_one (calls_in entries)) (program_in old)
   pub events : new.events ≡ old.events ++ marks (events_in entries)
   pub took : AllCanBeMade sent new.config.nodes new.me new.events
 
@@ -29,6 +29,6 @@ pub record GoesOnByEntries (sent : List (List ℕ)) (entries : List Entry) (old 
 pub record IsMadeByOwnLog (log : List Entry) (old new : Shown) : Type 0 where
   pub me : new.me ≡ old.me
   pub config : new.config ≡ old.config
-  pub program : program_in new ≡ handed (calls_in log) (program_in old)
+  pub program : program_in new ≡ handed (one_by_one (calls_in log)) (program_in old)
   pub events : new.events ≡ marks (events_in log)
   pub made : IsMadeByEvents new

@@ -47,7 +47,7 @@ fn hand<A: Allocator + Copy>(
     requires node { node < length sites.old.items }
     requires free { IfSome (slice_get sites.old.items node) (λ s. IsFree s.node.core.process) }
     requires width { HasWidth call }
-    ensures ok { OnOk result (IfSome (slice_get sites.old.items node) (λ s. sites.new.items ≡ slice_set sites.old.items node (site_handed (call ∷ []) s))) }
+    ensures ok { OnOk result (IfSome (slice_get sites.old.items node) (λ s. sites.new.items ≡ slice_set sites.old.items node (site_handed ((call ∷ []) ∷ []) s))) }
     ensures count { length sites.new.items ≡ length sites.old.items }
 {
     sites[node].hand(call)

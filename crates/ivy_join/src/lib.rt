@@ -8,7 +8,6 @@
 
 mod calling;
 mod joined;
-mod lone;
 mod making;
 mod merging;
 mod owned;
@@ -20,7 +19,6 @@ mod unjoined;
 pub use ivy_lines;
 pub use ivy_site;
 pub use joined::Joined;
-pub use lone::LoneSite;
 pub use making::make;
 pub use merging::join;
 pub use owned::join_own;

@@ -58,7 +58,7 @@ pub fn replay<A: Allocator + Copy>(
 
 /// Own code makes a call, where it may [1]. It says whether it may.
 fn make_call<A: Allocator + Copy>(site: &mut Site<A>, call: Call) -> Result<bool, Fault>
-    ensures { IfOk result (λ may. IsTrue may → site.new ≡ site_handed (call ∷ []) site.old) }
+    ensures { IfOk result (λ may. IsTrue may → site.new ≡ site_handed ((call ∷ []) ∷ []) site.old) }
 {
     if !has_width(call) || !site.is_free() {
         return Ok(false);

@@ -29,6 +29,7 @@ use Rattle.ivy_memory.specs.declared.asked.Asked.TheVariants as asked
 use Rattle.ivy_memory.specs.declared.asked.RowPlace.{RowPlace}
 use Rattle.ivy_memory.specs.Asking.{asked_of, word_unless}
 use Rattle.ivy_memory.specs.AtOnce.{AnswerAtOnce, IsRowAt}
+use Rattle.ivy_memory.specs.Beside.{nothing_beside}
 use Rattle.ivy_memory.specs.Memories.{NodeMemory, begun_as, call_begun, needed}
 use Rattle.ivy_memory.specs.Sound.{IsSoundMemory}
 use Rattle.ivy_memory.proofs.Asking.{access-word, width_of_count}
@@ -81,7 +82,7 @@ module _ {S : Type 0} (ops : Ops S) where
   -- a memory without a call in progress
   abbrev pub idle_memory : Coherent S → ℕ → HeapSide → NodeMemory S
   idle_memory c number side =
-      record { coherence = c; asked = None; number = number; side = side }
+      record { coherence = c; asked = None; along = []; number = number; side = side }
 
   -- the word is carried out at once
   abbrev had : Row → ℕ → Coherent S → Begun S
@@ -89,7 +90,7 @@ module _ {S : Type 0} (ops : Ops S) where
       record { need = need.Have (out_in kind number); after = mid; posted = [] }
 
   given : (kind : Row) (node addr number call k : ℕ) (old mid : Coherent S) (side : HeapSide)
-      → needed (idle_memory old k side) (record_in kind node addr number).call call
+      → needed (idle_memory old k side) (record_in kind node addr number).call nothing_beside call
       (had kind number mid) (need.Have (out_in kind number))
       ≡ record {
         answer = Given (record_in kind node addr number).reply;
@@ -104,7 +105,7 @@ module _ {S : Type 0} (ops : Ops S) where
       → asked_of old.config (record_in kind node addr number).call
       ≡ asked.Word page (word_in kind offset number)
       → begun ops old page (word_in kind offset number) call ≡ had kind number mid
-      → call_begun ops (idle_memory old k side) (record_in kind node addr number).call call
+      → call_begun ops (idle_memory old k side) (record_in kind node addr number).call [] call
       ≡ record {
         answer = Given (record_in kind node addr number).reply;
         after = idle_memory mid k side;
@@ -113,8 +114,9 @@ module _ {S : Type 0} (ops : Ops S) where
   unfolding call_begun
   answered_once kind node addr page offset number call k old mid side is hit =
       let m : NodeMemory S = idle_memory old k side in
-      ap (begun_as ops m (record_in kind node addr number).call call) is
-      ∙ ap (λ (b : Begun S). needed m (record_in kind node addr number).call call b b.need) hit
+      ap (begun_as ops m (record_in kind node addr number).call [] call) is
+      ∙ ap (λ (b : Begun S). needed m (record_in kind node addr number).call nothing_beside call b
+      b.need) hit
       ∙ given kind node addr number call k old mid side
 
   module _ (c : Config) (config : IsConfig c) (kind : Row) (node page : ℕ) (from : 1 ≤ page)
@@ -188,11 +190,20 @@ module _ {S : Type 0} {ops : Ops S} (n v : NodeMemory S) (same : v ≡ n) (s : I
 
   -- the memory with this coherence
   abbrev after : Coherent S → NodeMemory S
-  after new = record { coherence = new; asked = v.asked; number = v.number; side = v.side }
+  after new =
+      record {
+        coherence = new;
+        asked = v.asked;
+        along = v.along;
+        number = v.number;
+        side = v.side;
+      }
 
   after_is : (new : Coherent S) → after new ≡ idle_memory ops new v.number v.side
   after_is new =
-      ap (λ a. record { coherence = new; asked = a; number = v.number; side = v.side }) resting
+      ap (λ a. record (after new) { asked = a }) resting
+      ∙ ap (λ calls. record (idle_memory ops new v.number v.side) { along = calls })
+      (s.alone resting)
 
   pub row_answered : (kind : Row) (new : Coherent S) (numbers : List ℕ) (node : ℕ)
       → at.offset + 8 * length numbers ≤ v.coherence.config.page_size

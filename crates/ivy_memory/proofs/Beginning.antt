@@ -3,6 +3,7 @@ use Rattle.std.proofs.Common.{◌≡◌, ◌≢◌, ℕ, ◌^◌, ◌<◌, ◌�
 use Rattle.std.proofs.Common.{[], ◌∷◌, length, is_some, Option, Some, None, Result, Ok, Err, OnOk}
 use Rattle.std.proofs.Common.{OnErr, IsErrAnd, IfErr, refl, sym, ap, ◌∙◌, subst, if◌then◌else◌}
 use Rattle.std.proofs.lemmas.Bool.{cases_Bool}
+use Rattle.std.proofs.lemmas.List.Elements.{All-nil}
 use Rattle.std.proofs.lemmas.Option.{none-some}
 use Rattle.ivy_model.specs.declared.Config.{Config}
 use Rattle.ivy_model.specs.declared.Call.{Call}
@@ -16,7 +17,8 @@ use Rattle.ivy_pagetable.specs.Manager.{Ops, Laws}
 use Rattle.ivy_coherence.specs.declared.Need.{Need}
 use Rattle.ivy_coherence.specs.declared.Need.TheVariants as need
 use Rattle.ivy_coherence.specs.Coherent.{Coherent}
-use Rattle.ivy_coherence.specs.Faults.{Begun, HasToAsk, MayMakePage, suffices, hit, faulted, accessed, begun_at, begun}
+use Rattle.ivy_pagetable.specs.Accesses.{suffices}
+use Rattle.ivy_coherence.specs.Faults.{Begun, HasToAsk, MayMakePage, hit, faulted, accessed, begun_at, begun}
 use Rattle.ivy_pagetable.specs.declared.Entry.{Entry}
 use Rattle.ivy_pagetable.specs.declared.Entry.TheVariants as entry
 use Rattle.ivy_pagetable.specs.Entries.{is_locked}
@@ -24,6 +26,7 @@ use Rattle.ivy_pagetable.specs.Tables.{entry_at}
 use Rattle.ivy_coherence.specs.Sound.{IsSound}
 use Rattle.ivy_coherence.specs.Steps.{handled}
 use Rattle.ivy_heap.specs.declared.Answer.{Answer}
+use Rattle.ivy_heap.specs.declared.Answer.TheVariants.{Given, Awaited, Unserved}
 use Rattle.ivy_coherence.proofs.Keeping.{begun-keeps}
 use Rattle.ivy_memory.specs.declared.asked.Asked.TheVariants as asked
 use Rattle.ivy_heap.specs.declared.HeapCall.{HeapCall}
@@ -31,9 +34,12 @@ use Rattle.ivy_memory.specs.Asking.{CanAsk, HasToAskFor, CallHasToAsk, MayMakePa
 use Rattle.ivy_model.specs.declared.Fault.{Fault}
 use Rattle.ivy_heap.specs.HeapCalls.{IsAddressPosted, IsGrowthPosted, HeapBegun, HeapSide, HeapTold, heap_begun, heap_told}
 use Rattle.ivy_heap.proofs.Rows.{misfit_stays}
-use Rattle.ivy_memory.specs.Memories.{NodeMemory, CallBegun, needed, asked_after, number_after}
+use Rattle.ivy_memory.specs.Beside.{nothing_beside}
+use Rattle.ivy_memory.specs.Memories.{NodeMemory, CallBegun, needed, asked_after, along_after}
+use Rattle.ivy_memory.specs.Memories.{number_after}
 use Rattle.ivy_memory.specs.Memories.{heap_answered, begun_as, call_begun, MemoryEffect, by_side}
 use Rattle.ivy_memory.specs.Memories.{by_coherence, memory_handled_as, memory_handled, memory_told}
+use Rattle.ivy_memory.proofs.Along.{none_follow}
 use Rattle.ivy_memory.proofs.Asking.{can_ask}
 use Rattle.ivy_memory.specs.Sound.{IsInProgress, IsSoundMemory}
 use Rattle.ivy_memory.proofs.Tame.{Begins, begun-begins, one_wide, had-sound, started-sound, told-sound, needed-posted, call-few, call-sound, told-few}
@@ -85,10 +91,10 @@ pub record IsBeginning {S : Type 0} (ops : Ops S) (n v : NodeMemory S) (k : Conf
 
 -- a call posts few messages
 pub few_posted : {S : Type 0} {ops : Ops S} (n v : NodeMemory S) → v ≡ n → IsSoundMemory ops v
-    → (c : Call) (number : ℕ) → length (call_begun ops n c number).posted ≤ most_posted
+    → (c : Call) (number : ℕ) → length (call_begun ops n c [] number).posted ≤ most_posted
 few_posted {S} {ops} n v same s c number =
-    subst (λ (x : NodeMemory S). length (call_begun ops x c number).posted ≤ most_posted) same
-    (call-few ops v c number s.coherent)
+    subst (λ (x : NodeMemory S). length (call_begun ops x c [] number).posted ≤ most_posted) same
+    (call-few ops v c [] number s.coherent)
 
 -- where no word waits, a word is carried out, or has to be asked for
 module _ {S : Type 0} (ops : Ops S) (c : Coherent S) (page : ℕ) (w : Word) (number : ℕ) where
@@ -145,6 +151,9 @@ module _ {S : Type 0} {ops : Ops S} (laws : Laws ops) where
     resting : v.asked ≡ None
     resting = ap (λ (x : NodeMemory S). x.asked) l.same ∙ l.idle
 
+    alone : v.along ≡ []
+    alone = l.sound.alone resting
+
     -- the call is none of the heap
     pub words_now : (h : HeapCall) → IsInProgress v.coherence.config (Some c) h → ⊥
     words_now = word_words v.coherence.config c page w asking
@@ -159,30 +168,38 @@ module _ {S : Type 0} {ops : Ops S} (laws : Laws ops) where
         → ((j : Call) → a ≡ Some j → HasWidth j) → ((j : Call) → a ≡ Some j → 1 ≤ k) → k < 2 ^ 64
         → ((h : HeapCall) → IsInProgress v.coherence.config a h → ⊥) → new ≡ access.after
         → told ≡ access.need → told ≡ need.Have o
-        → IsSoundMemory ops (record { coherence = new; asked = a; number = k; side = v.side })
+        → IsSoundMemory ops
+        (record { coherence = new; asked = a; along = v.along; number = k; side = v.side })
     had_memory new told o a k wide least most words is was had =
         subst (λ x. IsSoundMemory ops
-        (record { coherence = x; asked = a; number = k; side = v.side })) (sym is)
+        (record { coherence = new; asked = a; along = x; number = k; side = v.side })) (sym alone)
+        (subst (λ x. IsSoundMemory ops
+        (record { coherence = x; asked = a; along = []; number = k; side = v.side })) (sym is)
         (had-sound v access o a k wide least most words l.sound resting access-begins
-        access-sound (sym was ∙ had))
+        access-sound (sym was ∙ had)))
 
     pub started_memory : (new : Coherent S) → new ≡ access.after
         → IsSoundMemory ops
-        (record { coherence = new; asked = Some c; number = number; side = v.side })
+        (record { coherence = new; asked = Some c; along = v.along; number = number; side = v.side })
     started_memory new is =
         subst (λ x. IsSoundMemory ops
-        (record { coherence = x; asked = Some c; number = number; side = v.side })) (sym is)
-        (started-sound v access c number l.legal l.least l.most words_now l.sound resting
-        access-begins access-sound)
+        (record { coherence = new; asked = Some c; along = x; number = number; side = v.side }))
+        (sym alone)
+        (subst (λ x. IsSoundMemory ops
+        (record { coherence = x; asked = Some c; along = []; number = number; side = v.side }))
+        (sym is)
+        (started-sound v access c [] number l.legal l.least
+        (none_follow v.coherence.config number l.most) words_now l.sound resting access-begins
+        access-sound))
 
     -- the call in progress is that call
     pub wide : (j : Call) → Some c ≡ Some j → HasWidth j
     wide = one_wide c l.legal
 
-    begun_is : call_begun ops n c number ≡ needed v c number access access.need
+    begun_is : call_begun ops n c [] number ≡ needed v c nothing_beside number access access.need
     unfolding call_begun
     begun_is =
-        ap (λ x. call_begun ops x c number) (sym l.same) ∙ ap (begun_as ops v c number) asking
+        ap (λ x. call_begun ops x c [] number) (sym l.same) ∙ ap (begun_as ops v c [] number) asking
 
     -- a call whose word has to be asked for, or whose page may have to be made
     pub call_asks : {A E : Type 0} (r : Result A E)
@@ -190,7 +207,7 @@ module _ {S : Type 0} {ops : Ops S} (laws : Laws ops) where
         → OnErr r
         (CallHasToAsk n.coherence c
         ⊎ (CallMayMakePage n.coherence c
-        ⊎ MayBeRefused (asked_of n.coherence.config c) (call_begun ops n c number).answer))
+        ⊎ MayBeRefused (asked_of n.coherence.config c) (call_begun ops n c [] number).answer))
     call_asks (Ok a) why = tt
     call_asks (Err x) (inl asks) =
         inl (subst (λ (m : NodeMemory S). CallHasToAsk m.coherence c) l.same
@@ -206,10 +223,10 @@ module _ {S : Type 0} {ops : Ops S} (laws : Laws ops) where
         (sym was ∙ busy)
 
     -- what a call posts is what its access posts
-    pub call_posts : access.posted ≡ (call_begun ops n c number).posted
+    pub call_posts : access.posted ≡ (call_begun ops n c [] number).posted
     call_posts =
         sym (ap (λ (x : CallBegun S). x.posted) begun_is
-        ∙ needed-posted v c number access access.need access-begins refl)
+        ∙ needed-posted v c nothing_beside number access access.need access-begins refl)
 
 -- A call that begins as one of the heap, as the code has it: `v` is what the fields are seen as,
 -- `n` the value.
@@ -234,35 +251,52 @@ module _ {S : Type 0} {ops : Ops S} (laws : Laws ops) (n v : NodeMemory S) (k : 
   heap_asking = ap (λ x. asked_of x c) (sym l.config) ∙ l.asks
 
   -- what the call comes to
-  pub heap_is : call_begun ops n c number ≡ heap_answered v c number begins
+  pub heap_is : call_begun ops n c [] number ≡ heap_answered v c number begins
   unfolding call_begun
   heap_is =
-      ap (λ x. call_begun ops x c number) (sym l.same) ∙ ap (begun_as ops v c number) heap_asking
+      ap (λ x. call_begun ops x c [] number) (sym l.same)
+      ∙ ap (begun_as ops v c [] number) heap_asking
       ∙ ap (λ i. heap_answered v c number (heap_begun i v.side h number)) (sym l.me)
+
+  none_after : (r : Answer) → along_after v.along r ≡ v.along
+  none_after Awaited = sym (l.sound.alone (ap (λ (x : NodeMemory S). x.asked) l.same ∙ l.idle))
+  none_after (Given r) = refl
+  none_after Unserved = refl
 
   -- the memory after it is sound
   pub heap_memory : (answer : Answer) (new : HeapSide) (a : Option Call) (i : ℕ)
       → answer ≡ begins.answer → new ≡ begins.after → asked_after v.asked c answer ≡ a
       → number_after v.number number answer ≡ i
-      → IsSoundMemory ops (record { coherence = v.coherence; asked = a; number = i; side = new })
+      → IsSoundMemory ops
+      (record { coherence = v.coherence; asked = a; along = v.along; number = i; side = new })
   heap_memory answer new a i told after waits counts =
       subst (λ x. IsSoundMemory ops
-      (record { coherence = v.coherence; asked = a; number = i; side = x })) (sym after)
+      (record { coherence = v.coherence; asked = a; along = v.along; number = i; side = x })) (sym after)
       (subst (λ x. IsSoundMemory ops
-      (record { coherence = v.coherence; asked = a; number = x; side = begins.after }))
+      (record { coherence = v.coherence; asked = a; along = v.along; number = x; side = begins.after }))
       (ap (number_after v.number number) (sym told) ∙ counts)
       (subst (λ x. IsSoundMemory ops
       (record {
         coherence = v.coherence;
         asked = x;
+        along = v.along;
         number = number_after v.number number begins.answer;
         side = begins.after;
       }))
       (ap (asked_after v.asked c) (sym told) ∙ waits)
+      (subst (λ x. IsSoundMemory ops
+      (record {
+        coherence = v.coherence;
+        asked = asked_after v.asked c begins.answer;
+        along = x;
+        number = number_after v.number number begins.answer;
+        side = begins.after;
+      }))
+      (none_after begins.answer)
       (subst (λ (x : CallBegun S). IsSoundMemory ops x.after)
-      (ap (λ x. call_begun ops x c number) l.same ∙ heap_is)
-      (call-sound laws v c number l.sound (ap (λ (x : NodeMemory S). x.asked) l.same ∙ l.idle)
-      l.legal l.least l.most).0)))
+      (ap (λ x. call_begun ops x c [] number) l.same ∙ heap_is)
+      (call-sound laws v c [] number l.sound (ap (λ (x : NodeMemory S). x.asked) l.same ∙ l.idle)
+      l.legal (All-nil HasWidth) l.least l.most).0))))
 
 -- nothing posted is no address
 no_address : IsAddressPosted [] → ⊥
@@ -313,10 +347,22 @@ module _ {S : Type 0} {ops : Ops S} (laws : Laws ops) (n v : NodeMemory S) (node
   pub side_memory : (fits : Bool) (new : HeapSide) → fits ≡ heard.fits → fits ≡ true
       → new ≡ heard.after
       → IsSoundMemory ops
-      (record { coherence = v.coherence; asked = v.asked; number = v.number; side = new })
+      (record {
+        coherence = v.coherence;
+        asked = v.asked;
+        along = v.along;
+        number = v.number;
+        side = new;
+      })
   side_memory fits new same is after =
       subst (λ x. IsSoundMemory ops
-      (record { coherence = v.coherence; asked = v.asked; number = v.number; side = x }))
+      (record {
+        coherence = v.coherence;
+        asked = v.asked;
+        along = v.along;
+        number = v.number;
+        side = x;
+      }))
       (sym after)
       (subst (λ (e : MemoryEffect S). IsSoundMemory ops e.after) (side_is fits same is) told_memory)
 
@@ -365,11 +411,24 @@ module _ {S : Type 0} {ops : Ops S} (laws : Laws ops) (n v : NodeMemory S) (node
       (side : HeapSide) → fits ≡ heard.fits → fits ≡ false → side ≡ v.side
       → OnOk r (new ≡ (handled ops v.coherence from m).after) → OnErr r (new ≡ v.coherence)
       → IsSoundMemory ops
-      (record { coherence = new; asked = v.asked; number = v.number; side = side })
+      (record {
+        coherence = new;
+        asked = v.asked;
+        along = v.along;
+        number = v.number;
+        side = side;
+      })
   left_memory fits r new side same is kept good bad =
       subst (λ x. IsSoundMemory ops
-      (record { coherence = new; asked = v.asked; number = v.number; side = x })) (sym kept)
+      (record { coherence = new; asked = v.asked; along = v.along; number = v.number; side = x }))
+      (sym kept)
       (of_either
       (λ x. IsSoundMemory ops
-      (record { coherence = x; asked = v.asked; number = v.number; side = v.side })) r new _ _
+      (record {
+        coherence = x;
+        asked = v.asked;
+        along = v.along;
+        number = v.number;
+        side = v.side;
+      })) r new _ _
       good bad (coherence_memory fits same is) l.sound)

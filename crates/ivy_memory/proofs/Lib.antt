@@ -1,5 +1,6 @@
 pub mod Asking
 pub mod Placing
+pub mod Along
 pub mod Sides
 pub mod Tame
 pub mod Beginning
@@ -10,6 +11,9 @@ pub mod Errands
 pub mod WordsServed
 pub mod CallsServed
 pub mod AtOnce
+pub mod CallsLeft
+pub mod RowBegins
+pub mod Together
 pub use Rattle.ivy_heap.proofs.of_ivy_alloc as of_ivy_alloc
 pub use Rattle.ivy_heap.proofs as of_ivy_heap
 pub use Rattle.ivy_coherence.proofs as of_ivy_coherence

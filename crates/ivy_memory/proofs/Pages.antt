@@ -21,6 +21,7 @@ use Rattle.ivy_pagetable.specs.Tables.{page_at}
 use Rattle.ivy_pagetable.specs.Entries.{copying, owning}
 use Rattle.ivy_pagetable.specs.Words.{carried_out}
 use Rattle.ivy_coherence.specs.Coherent.{Coherent}
+use Rattle.ivy_coherence.specs.Several.{all_carried}
 use Rattle.ivy_coherence.specs.Steps.{handled}
 use Rattle.ivy_coherence.specs.Faults.{begun}
 use Rattle.ivy_memory.specs.declared.asked.Asked.TheVariants as asked
@@ -90,18 +91,19 @@ module _ {S : Type 0} (ops : Ops S) where
         c.manager c.breaches None (record { kind = kind; origin = origin; call = call } ∷ []);
     put_off = λ kind page e may is room at. all_none IsOfPages;
     given_up = λ page w by is. all_one IsOfPages _ refl;
-    copy = λ page bytes w mine is this. put_off_served-pages ops c.me page (carried_out w.word bytes).bytes
-        from copying c.manager c.breaches (Some request.Read) w.put_off;
+    copy = λ page bytes w mine is this. put_off_served-pages ops c.me page
+        (all_carried c.more (carried_out w.word bytes).bytes).bytes from copying c.manager c.breaches (Some request.Read) w.put_off;
     alone = λ page copies bytes w mine is this none. put_off_served-pages ops c.me page
-        (carried_out w.waiting.word bytes).bytes from owning c.manager c.breaches
+        (all_carried c.more (carried_out w.waiting.word bytes).bytes).bytes from owning c.manager
+        c.breaches
         (Some request.Write) w.waiting.put_off;
     shared =
         λ page copies bytes w mine is this some apart. invalidations-pages c.me page call
         (nodes_with copies);
     acknowledged = λ page w mine is this missing others. all_none IsOfPages;
     last = λ page w mine is this missing none. put_off_served-pages ops c.me page
-        (carried_out w.waiting.word (page_at c.table page)).bytes from owning c.manager c.breaches
-        None w.waiting.put_off;
+        (all_carried c.more (carried_out w.waiting.word (page_at c.table page)).bytes).bytes from
+        owning c.manager c.breaches None w.waiting.put_off;
   }
 
   access-rows : (c : Coherent S) (page : ℕ) (w : Word) (call : ℕ)

@@ -1,5 +1,5 @@
 -- A call that is asked for its reply: what it keeps, and how the code has it.
-use Rattle.std.proofs.Common.{◌≡◌, ℕ, ◌<◌, ◌≤◌, is_some, Bool, true, false, [], length, Option, Some, None, Result, Ok, Err, OnErr, refl, sym, ap, ◌∙◌, subst, arith, if◌then◌else◌, ◌⊎◌, inl, inr}
+use Rattle.std.proofs.Common.{◌≡◌, ℕ, ◌+◌, ◌<◌, ◌≤◌, drop, is_some, slice_get, Bool, true, false, List, [], ◌∷◌, length, Option, Some, None, Result, Ok, Err, OnErr, refl, sym, ap, ◌∙◌, subst, arith, if◌then◌else◌, ◌⊎◌, inl, inr}
 use Rattle.std.specs.Prelude.{All}
 use Rattle.ivy_model.specs.declared.Config.{Config}
 use Rattle.ivy_model.specs.declared.Call.{Call}
@@ -15,7 +15,9 @@ use Rattle.ivy_pagetable.specs.Manager.{Ops, Laws}
 use Rattle.ivy_coherence.specs.declared.Need.{Need}
 use Rattle.ivy_coherence.specs.declared.Need.TheVariants as need
 use Rattle.ivy_coherence.specs.Coherent.{Coherent}
-use Rattle.ivy_coherence.specs.Faults.{Begun, HasToAsk, MayMakePage, suffices, accessed, begun_at, begun}
+use Rattle.ivy_pagetable.specs.Accesses.{suffices}
+use Rattle.ivy_coherence.specs.Several.{first_out, later_outs}
+use Rattle.ivy_coherence.specs.Faults.{Begun, HasToAsk, MayMakePage, accessed, begun_at, begun}
 use Rattle.ivy_coherence.specs.Sound.{IsSound}
 use Rattle.ivy_coherence.proofs.Keeping.{begun-keeps}
 use Rattle.ivy_coherence.specs.Limits.{most_posted}
@@ -27,11 +29,12 @@ use Rattle.ivy_memory.specs.declared.asked.Asked.{Asked}
 use Rattle.ivy_memory.specs.declared.asked.Asked.TheVariants as asked
 use Rattle.ivy_memory.specs.Asking.{CanAsk, HasToAskFor, MayMakePageFor, asked_of}
 use Rattle.ivy_heap.specs.HeapCalls.{HeapSide, closed}
-use Rattle.ivy_memory.specs.Memories.{NodeMemory, CallBegun, MayFailAgain, reply_of, reply_at, taken_out, answered, unserved, needed, again_unless, again, tried_as, polled_as, polled_at, polled}
+use Rattle.ivy_memory.specs.Beside.{nothing_beside}
+use Rattle.ivy_memory.specs.Memories.{NodeMemory, CallBegun, MayFailAgain, reply_of, reply_at, without_call, taken_with, taken_out, answered, unserved, needed, again_unless, again, tried_as, polled_as, polled_at, polled}
 use Rattle.ivy_memory.specs.Sound.{IsSoundMemory}
 use Rattle.ivy_memory.proofs.Asking.{can_ask}
 use Rattle.ivy_memory.proofs.Sides.{word_words}
-use Rattle.ivy_memory.proofs.Tame.{SameNode, Begins, begun-begins, taken-sound, with_done-sound, again-sound, KeepsMemory, IsBegun, again-begun, unserved-begun}
+use Rattle.ivy_memory.proofs.Tame.{SameNode, Begins, begun-begins, below, taken-sound, with_done-sound, again-sound, KeepsMemory, IsBegun, again-begun, unserved-begun, taken_with-goes}
 
 -- the call in progress as the definitions have it
 pub polled_so : {S : Type 0} (ops : Ops S) (m : NodeMemory S) (k : Call) → m.asked ≡ Some k
@@ -46,8 +49,8 @@ module _ {S : Type 0} (ops : Ops S) (m : NodeMemory S) (k : Call) (page : ℕ)
   unfolding begun
   tried-locked (asked.Refused code) = refl
   tried-locked (asked.Word p w) =
-      ap (λ b. again m (needed (taken_out m) k m.number b b.need) b.need)
-      (ap (begun_at ops (taken_out m).coherence p w m.number) locked)
+      ap (λ b. again m (needed (without_call m) k nothing_beside m.number b b.need) b.need)
+      (ap (begun_at ops (without_call m).coherence p w m.number) locked)
   tried-locked (asked.Heap h) = refl
 
   polled-locked : m.asked ≡ Some k → reply_at m ≡ None → polled ops m ≡ unserved m
@@ -65,14 +68,14 @@ polled-waits ops n v same k called untold (Some page) is some =
 
 module _ {S : Type 0} where
   unless-posted : (m : NodeMemory S) (k : Call) (number : ℕ) (b : Begun S) (r : Option Reply)
-      → b.posted ≡ [] → (again_unless m (answered (taken_out m) k number b r) r).posted ≡ b.posted
+      → b.posted ≡ [] → (again_unless m (answered (without_call m) k number b r) r).posted ≡ b.posted
   unless-posted m k number b None none = sym none
   unless-posted m k number b (Some r) none = refl
 
   -- what is posted is what the access posts
   pub again-posted : (m : NodeMemory S) (k : Call) (number : ℕ) (b : Begun S) (n : Need)
-      → Begins (taken_out m).coherence b → b.need ≡ n
-      → (again m (needed (taken_out m) k number b n) n).posted ≡ b.posted
+      → Begins (without_call m).coherence b → b.need ≡ n
+      → (again m (needed (without_call m) k nothing_beside number b n) n).posted ≡ b.posted
   again-posted m k number b (need.Have o) bs is =
       unless-posted m k number b (reply_of o) (bs.had o is)
   again-posted m k number b need.Started bs is = refl
@@ -81,24 +84,29 @@ module _ {S : Type 0} where
   unless-same : (m : NodeMemory S) (k : Call) (number : ℕ) (b : Begun S) (r : Option Reply)
       → SameNode m.coherence b.after
       → SameNode m.coherence
-      (again_unless m (answered (taken_out m) k number b r) r).after.coherence
+      (again_unless m (answered (without_call m) k number b r) r).after.coherence
   unless-same m k number b None same = record { config = refl; me = refl }
   unless-same m k number b (Some r) same = same
 
   again-same : (m : NodeMemory S) (k : Call) (number : ℕ) (b : Begun S) (n : Need)
       → SameNode m.coherence b.after
-      → SameNode m.coherence (again m (needed (taken_out m) k number b n) n).after.coherence
+      → SameNode m.coherence (again m (needed (without_call m) k nothing_beside number b n) n).after.coherence
   again-same m k number b (need.Have o) same = unless-same m k number b (reply_of o) same
   again-same m k number b need.Started same = same
   again-same m k number b need.Busy same = record { config = refl; me = refl }
 
+  taken_with-same : (m : NodeMemory S) (calls : List Call)
+      → SameNode m.coherence (taken_with m calls).coherence
+  taken_with-same m [] = record { config = refl; me = refl }
+  taken_with-same m (next ∷ calls) = record { config = refl; me = refl }
+
 module _ {S : Type 0} (ops : Ops S) (m : NodeMemory S) (k : Call) where
   -- the access that the call makes
   abbrev retry : ℕ → Word → Begun S
-  retry page w = begun ops (taken_out m).coherence page w m.number
+  retry page w = begun ops (without_call m).coherence page w m.number
 
-  marks : (page : ℕ) (w : Word) → Begins (taken_out m).coherence (retry page w)
-  marks page w = begun-begins ops (taken_out m).coherence page w m.number
+  marks : (page : ℕ) (w : Word) → Begins (without_call m).coherence (retry page w)
+  marks page w = begun-begins ops (without_call m).coherence page w m.number
 
   tried-same : (x : Asked) → SameNode m.coherence (tried_as ops m k x).after.coherence
   tried-same (asked.Refused code) = record { config = refl; me = refl }
@@ -109,31 +117,33 @@ module _ {S : Type 0} (ops : Ops S) (m : NodeMemory S) (k : Call) where
 
   as-same : (r : Option Reply) → SameNode m.coherence (polled_as ops m k r).after.coherence
   as-same None = tried-same (asked_of m.coherence.config k)
-  as-same (Some r) = record { config = refl; me = refl }
+  as-same (Some r) = taken_with-same m m.along
 
-  tried-begun : m.asked ≡ Some k → (x : Asked) → IsBegun k m.number (tried_as ops m k x)
+  tried-begun : m.asked ≡ Some k → (x : Asked)
+      → IsBegun k m.along m.along m.number (tried_as ops m k x)
   tried-begun is (asked.Refused code) = unserved-begun m k is
   tried-begun is (asked.Word page w) = again-begun m k (retry page w) (retry page w).need is
   tried-begun is (asked.Heap h) = unserved-begun m k is
 
-  as-begun : m.asked ≡ Some k → (r : Option Reply) → IsBegun k m.number (polled_as ops m k r)
+  as-begun : m.asked ≡ Some k → (r : Option Reply)
+      → IsBegun k m.along m.along m.number (polled_as ops m k r)
   as-begun is None = tried-begun is (asked_of m.coherence.config k)
-  as-begun is (Some r) =
-      record { over = λ q h. refl; same = λ j h. absurd cc; numbered = λ j h. absurd cc }
+  as-begun is (Some r) = taken_with-goes m m.along
 
-  pub polled-begun : m.asked ≡ Some k → IsBegun k m.number (polled ops m)
+  pub polled-begun : m.asked ≡ Some k → IsBegun k m.along m.along m.number (polled ops m)
   polled-begun is =
-      subst (IsBegun k m.number) (sym (polled_so ops m k is)) (as-begun is (reply_at m))
+      subst (IsBegun k m.along m.along m.number) (sym (polled_so ops m k is))
+      (as-begun is (reply_at m))
 
   tried-few : IsSound ops m.coherence → (x : Asked)
       → length (tried_as ops m k x).posted ≤ most_posted
   tried-few s (asked.Refused code) = omega arith
   tried-few s (asked.Word page w) =
       let few =
-      begun-few ops (taken_out m).coherence page w m.number
+      begun-few ops (without_call m).coherence page w m.number
       (with_done-sound m.coherence None s) in
       let is : length
-      (again m (needed (taken_out m) k m.number (retry page w) (retry page w).need)
+      (again m (needed (without_call m) k nothing_beside m.number (retry page w) (retry page w).need)
       (retry page w).need).posted ≡ length (retry page w).posted
       = ap length
       (again-posted m k m.number (retry page w) (retry page w).need (marks page w) refl) in
@@ -183,11 +193,11 @@ module _ {S : Type 0} {ops : Ops S} (laws : Laws ops) (m : NodeMemory S) (k : Ca
   tried-keeps (asked.Refused code) of can = quiet-keeps
   tried-keeps (asked.Word page w) of can =
       let b : Begun S = retry ops m k page w in
-      let bs : Begins (taken_out m).coherence b = marks ops m k page w in
+      let bs : Begins (without_call m).coherence b = marks ops m k page w in
       let kept =
-      begun-keeps laws (taken_out m).coherence page w m.number
-      (with_done-sound m.coherence None s.coherent) can.0 can.1 (s.numbered k called) s.small in (
-        again-sound m k m.number b b.need (s.width k called) (s.numbered k called) s.small
+      begun-keeps laws (without_call m).coherence page w m.number
+      (with_done-sound m.coherence None s.coherent) can.0 can.1 (s.numbered k called) (below m s) in (
+        again-sound m k m.number b b.need (s.width k called) (s.numbered k called) (below m s)
             (word_words m.coherence.config k page w of) s bs kept.0 refl,
         subst (All (FitsParcel m.coherence.config m.coherence.me))
             (sym (again-posted m k m.number b b.need bs refl)) kept.1,
@@ -274,22 +284,23 @@ module _ {S : Type 0} {ops : Ops S} (laws : Laws ops) (n v : NodeMemory S) (k : 
 
   -- what asking comes to, by what the access was told
   polled_by : (told : Need) → told ≡ access.need
-      → polled ops n ≡ again v (needed (taken_out v) c v.number (cleared access) told) told
+      → polled ops n ≡ again v (needed (without_call v) c nothing_beside v.number (cleared access) told) told
   polled_by told was =
       ap (λ x. polled ops x) (sym l.same)
       ∙ polled_so ops v c l.called
       ∙ ap (polled_as ops v c) untold
       ∙ ap (tried_as ops v c) asking
-      ∙ ap (λ b. again v (needed (taken_out v) c v.number b b.need) b.need)
+      ∙ ap (λ b. again v (needed (without_call v) c nothing_beside v.number b b.need) b.need)
       (begun-cleared ops v.coherence page w v.number)
-      ∙ ap (λ t. again v (needed (taken_out v) c v.number (cleared access) t) t) (sym was)
+      ∙ ap (λ t. again v (needed (without_call v) c nothing_beside v.number (cleared access) t) t) (sym was)
 
   -- what the call comes to where the memory is this, and what the access posts is posted
-  abbrev pub comes_to : Answer → Coherent S → Option Call → HeapSide → CallBegun S
-  comes_to answer new a side =
+  abbrev pub comes_to : Answer → Coherent S → Option Call → List Call → HeapSide → CallBegun S
+  comes_to answer new a ks side =
       record {
         answer = answer;
-        after = record { coherence = new; asked = a; number = v.number; side = side };
+        after =
+            record { coherence = new; asked = a; along = ks; number = v.number; side = side };
         posted = access.posted;
       }
 
@@ -298,71 +309,62 @@ module _ {S : Type 0} {ops : Ops S} (laws : Laws ops) (n v : NodeMemory S) (k : 
   last_is new last is gone = ap (λ (z : Coherent S). record z { done = None }) (sym is) ∙ sym gone
 
   -- the word has an answer now
-  pub given_is : (new last : Coherent S) (told : Need) (o : Out) (r : Reply) (side : HeapSide)
-      → side ≡ closed v.side → new ≡ access.after → last ≡ record new { done = None }
-      → told ≡ access.need → told ≡ need.Have o → reply_of o ≡ Some r
-      → polled ops n ≡ comes_to (Given r) last None side
-  given_is new last told o r side over is gone was had replies =
+  pub given_is : (new last : Coherent S) (told : Need) (o : Out) (r : Reply) (ks : List Call)
+      (side : HeapSide) → ks ≡ [] → side ≡ closed v.side → new ≡ access.after
+      → last ≡ record new { done = None } → told ≡ access.need → told ≡ need.Have o
+      → reply_of o ≡ Some r → polled ops n ≡ comes_to (Given r) last None ks side
+  given_is new last told o r ks side emptied over is gone was had replies =
       polled_by told was
-      ∙ ap (λ t. again v (needed (taken_out v) c v.number (cleared access) t) t) had
-      ∙ ap (λ x. again_unless v (answered (taken_out v) c v.number (cleared access) x) x) replies
-      ∙ ap (λ x. comes_to (Given r) x None (closed v.side)) (last_is new last is gone)
-      ∙ ap (comes_to (Given r) last None) (sym over)
+      ∙ ap (λ t. again v (needed (without_call v) c nothing_beside v.number (cleared access) t) t) had
+      ∙ ap (λ x. again_unless v (answered (without_call v) c v.number (cleared access) x) x) replies
+      ∙ ap (λ x. comes_to (Given r) x None [] (closed v.side)) (last_is new last is gone)
+      ∙ (λ j. comes_to (Given r) last None (sym emptied j) (sym over j))
 
   nothing_is : (new : Coherent S) → new ≡ v.coherence → access.posted ≡ []
-      → unserved v ≡ comes_to Unserved new v.asked v.side
+      → unserved v ≡ comes_to Unserved new v.asked v.along v.side
   nothing_is new is none =
-      ap (λ x.
-      record {
-        answer = Unserved;
-        after = record { coherence = x; asked = v.asked; number = v.number; side = v.side };
-        posted = [];
-      }) (sym is)
-      ∙ ap (λ ps.
-      record {
-        answer = Unserved;
-        after = record { coherence = new; asked = v.asked; number = v.number; side = v.side };
-        posted = ps;
-      }) (sym none)
+      ap (λ x. unserved (record v { coherence = x })) (sym is)
+      ∙ ap (λ ps. record (comes_to Unserved new v.asked v.along v.side) { posted = ps }) (sym none)
 
   -- it has none
   pub quiet_is : (new : Coherent S) (told : Need) (o : Out) → new ≡ access.after
       → told ≡ access.need → told ≡ need.Have o → reply_of o ≡ None
-      → polled ops n ≡ comes_to Unserved new v.asked v.side
+      → polled ops n ≡ comes_to Unserved new v.asked v.along v.side
   quiet_is new told o is was had none =
       polled_by told was
-      ∙ ap (λ t. again v (needed (taken_out v) c v.number (cleared access) t) t) had
-      ∙ ap (λ x. again_unless v (answered (taken_out v) c v.number (cleared access) x) x) none
+      ∙ ap (λ t. again v (needed (without_call v) c nothing_beside v.number (cleared access) t) t) had
+      ∙ ap (λ x. again_unless v (answered (without_call v) c v.number (cleared access) x) x) none
       ∙ nothing_is new (is ∙ access-begins.quiet o (sym was ∙ had) none)
       (access-begins.had o (sym was ∙ had))
 
   -- it has to be asked for
-  pub starts_is : (new last : Coherent S) (told : Need) (side : HeapSide) → side ≡ closed v.side
-      → new ≡ access.after → last ≡ record new { done = None } → told ≡ access.need
-      → told ≡ need.Started
-      → polled ops n ≡ comes_to Awaited last v.asked side
-  starts_is new last told side over is gone was started =
+  pub starts_is : (new last : Coherent S) (told : Need) (ks : List Call) (side : HeapSide)
+      → ks ≡ [] → side ≡ closed v.side → new ≡ access.after → last ≡ record new { done = None }
+      → told ≡ access.need → told ≡ need.Started
+      → polled ops n ≡ comes_to Awaited last v.asked ks side
+  starts_is new last told ks side emptied over is gone was started =
       polled_by told was
-      ∙ ap (λ t. again v (needed (taken_out v) c v.number (cleared access) t) t) started
-      ∙ ap (λ x. comes_to Awaited x (Some c) (closed v.side)) (last_is new last is gone)
-      ∙ ap (λ x. comes_to Awaited last x (closed v.side)) (sym l.called)
-      ∙ ap (comes_to Awaited last v.asked) (sym over)
+      ∙ ap (λ t. again v (needed (without_call v) c nothing_beside v.number (cleared access) t) t) started
+      ∙ ap (λ x. comes_to Awaited x (Some c) [] (closed v.side)) (last_is new last is gone)
+      ∙ ap (λ x. comes_to Awaited last x [] (closed v.side)) (sym l.called)
+      ∙ (λ j. comes_to Awaited last v.asked (sym emptied j) (sym over j))
 
   -- it waits
   pub waits_is : (new : Coherent S) (told : Need) → new ≡ access.after → told ≡ access.need
       → told ≡ need.Busy
-      → polled ops n ≡ comes_to Unserved new v.asked v.side
+      → polled ops n ≡ comes_to Unserved new v.asked v.along v.side
   waits_is new told is was busy =
       polled_by told was
-      ∙ ap (λ t. again v (needed (taken_out v) c v.number (cleared access) t) t) busy
+      ∙ ap (λ t. again v (needed (without_call v) c nothing_beside v.number (cleared access) t) t) busy
       ∙ nothing_is new (is ∙ access-begins.busy (sym was ∙ busy))
       (access-begins.none (sym was ∙ busy))
 
   -- the memory after it is sound
-  pub poll_memory : (answer : Answer) (new : Coherent S) (a : Option Call) (side : HeapSide)
-      → polled ops n ≡ comes_to answer new a side
-      → IsSoundMemory ops (record { coherence = new; asked = a; number = v.number; side = side })
-  poll_memory answer new a side is =
+  pub poll_memory : (answer : Answer) (new : Coherent S) (a : Option Call) (ks : List Call)
+      (side : HeapSide) → polled ops n ≡ comes_to answer new a ks side
+      → IsSoundMemory ops
+      (record { coherence = new; asked = a; along = ks; number = v.number; side = side })
+  poll_memory answer new a ks side is =
       subst (λ (x : CallBegun S). IsSoundMemory ops x.after) (ap (λ x. polled ops x) l.same ∙ is)
       (polled-keeps laws v c l.sound l.called).0
 
@@ -371,8 +373,8 @@ module _ {S : Type 0} {ops : Ops S} (laws : Laws ops) (n v : NodeMemory S) (k : 
   poll_posts =
       sym (ap (λ (x : CallBegun S). x.posted) (polled_by access.need refl)
       ∙ again-posted v c v.number (cleared access) access.need
-      (subst (Begins (taken_out v).coherence) (begun-cleared ops v.coherence page w v.number)
-      (begun-begins ops (taken_out v).coherence page w v.number)) refl)
+      (subst (Begins (without_call v).coherence) (begun-cleared ops v.coherence page w v.number)
+      (begun-begins ops (without_call v).coherence page w v.number)) refl)
 
   pub retry_asks : {A E : Type 0} (r : Result A E)
       → HasToAsk v.coherence page w ⊎ MayMakePage v.coherence page w → OnErr r (MayFailAgain n)
@@ -387,3 +389,71 @@ module _ {S : Type 0} {ops : Ops S} (laws : Laws ops) (n v : NodeMemory S) (k : 
           | inr makes ↦ inr (subst (MayMakePageFor v.coherence) (sym asking) makes)
         ];
       })
+
+some_is : {A : Type 0} (o : Option A) → is_some o ≡ true → (x : A) × (o ≡ Some x)
+some_is None h = absurd cc
+some_is (Some x) h = (x, refl)
+
+-- what is left once a reply that is there was taken out
+pub taken_keeps : {S : Type 0} {ops : Ops S} (n v : NodeMemory S) → v ≡ n → IsSoundMemory ops v
+    → is_some (reply_at n) ≡ true → IsSoundMemory ops (taken_out n)
+taken_keeps {S} {ops} n v same s there =
+    let r = some_is (reply_at n) there in
+    taken-sound n r.0 (subst (IsSoundMemory ops) same s) r.1
+
+-- the first of some calls, if there is one
+next_is : (calls : List Call) (a : Option Call) → a ≡ slice_get calls 0 → is_some a ≡ true
+    → (next : Call) × (calls ≡ next ∷ drop 1 calls) × (a ≡ Some next)
+next_is [] a is some = absurd (let none : is_some a ≡ false = ap is_some is in cc)
+next_is (next ∷ calls) a is some = (next, refl, is)
+
+none_is : (calls : List Call) (a : Option Call) → a ≡ slice_get calls 0 → is_some a ≡ false
+    → (calls ≡ []) × (a ≡ None)
+none_is [] a is none = (refl, is)
+none_is (next ∷ calls) a is none = absurd (let some : is_some a ≡ true = ap is_some is in cc)
+
+-- The reply of the call in progress is taken out, as the code has it: `a` is the call that is next, and
+-- `ks` are those that are left behind it.
+module _ {S : Type 0} (n v : NodeMemory S) (same : v ≡ n) (new : Coherent S) (a : Option Call)
+    (ks : List Call) (side : HeapSide) (over : side ≡ closed v.side)
+    (is : a ≡ slice_get v.along 0) (left : ks ≡ drop 1 v.along) where
+  -- there is none
+  pub taken_last : is_some a ≡ false → new ≡ record v.coherence { done = None }
+      → record { coherence = new; asked = a; along = ks; number = v.number; side = side }
+      ≡ taken_out n
+  taken_last none outs =
+      let x = none_is v.along a is none in
+      let gone : ks ≡ [] = left ∙ ap (λ (cs : List Call). drop 1 cs) x.0 in
+      (λ j. record {
+        coherence = outs j;
+        asked = x.1 j;
+        along = gone j;
+        number = v.number;
+        side = over j;
+      })
+      ∙ sym (ap (taken_with v) x.0) ∙ ap (λ (m : NodeMemory S). taken_out m) same
+
+  pub more_left : is_some a ≡ true → 1 ≤ length v.along
+  more_left some =
+      let x = next_is v.along a is some in
+      let many : length v.along ≡ length (x.0 ∷ drop 1 v.along) = ap length x.1 in
+      omega (arith, many)
+
+  -- there is one
+  pub taken_next : is_some a ≡ true
+      → new ≡ record v.coherence {
+        done = first_out v.coherence.done_more;
+        done_more = later_outs v.coherence.done_more;
+      }
+      → record { coherence = new; asked = a; along = ks; number = v.number + 1; side = side }
+      ≡ taken_out n
+  taken_next some outs =
+      let x = next_is v.along a is some in
+      (λ j. record {
+        coherence = outs j;
+        asked = x.2 j;
+        along = left j;
+        number = v.number + 1;
+        side = over j;
+      })
+      ∙ sym (ap (taken_with v) x.1) ∙ ap (λ (m : NodeMemory S). taken_out m) same

@@ -2,9 +2,10 @@
 -- manager that keeps the laws.
 use Rattle.std.proofs.Common.{◌≡◌, ◌≢◌, ℕ, ◌^◌, ◌<◌, ◌≤◌, ◌⊎◌, inl, inr, Bool, true, false}
 use Rattle.std.proofs.Common.{List, [], ◌∷◌, length, nat_lt, Option, Some, None, refl, sym, ap, ◌∙◌}
-use Rattle.std.proofs.Common.{subst, arith, if◌then◌else◌}
+use Rattle.std.proofs.Common.{◌+◌, ◌++◌, append-nil, subst, arith, if◌then◌else◌}
 use Rattle.std.specs.Prelude.{All, slice_set}
 use Rattle.std.proofs.lemmas.List.{set-get_or}
+use Rattle.std.proofs.lemmas.List.Elements.{All-nil, All-head, All-tail}
 use Rattle.std.proofs.lemmas.Option.{same_Some, none-some}
 use Rattle.ivy_model.specs.declared.Config.{Config}
 use Rattle.ivy_model.specs.declared.Call.{Call}
@@ -31,8 +32,9 @@ use Rattle.ivy_pagetable.specs.Manager.{Ops, Laws}
 use Rattle.ivy_coherence.specs.declared.Need.{Need}
 use Rattle.ivy_coherence.specs.declared.Need.TheVariants as need
 use Rattle.ivy_coherence.specs.Coherent.{Coherent}
+use Rattle.ivy_coherence.specs.Several.{first_out, later_outs}
 use Rattle.ivy_coherence.specs.Steps.{unlocked, handled}
-use Rattle.ivy_coherence.specs.Faults.{Begun, started, hit, begun}
+use Rattle.ivy_coherence.specs.Faults.{Begun, along, started, hit, begun}
 use Rattle.ivy_coherence.specs.Sound.{IsSound}
 use Rattle.ivy_coherence.proofs.SoundEntries.{first-sound}
 use Rattle.ivy_coherence.proofs.Keeping.{handled-keeps, begun-keeps}
@@ -49,15 +51,18 @@ use Rattle.ivy_heap.specs.declared.HeapCall.{HeapCall}
 use Rattle.ivy_heap.specs.declared.Errand.{Errand}
 use Rattle.ivy_heap.specs.declared.Errand.TheVariants as errand
 use Rattle.ivy_memory.specs.Asking.{CanAsk, asked_of}
-use Rattle.ivy_heap.specs.HeapCalls.{HeapBegun, HeapTold, number_in, request, heap_begun_at, heap_begun, heap_told, reply_told}
+use Rattle.ivy_heap.specs.HeapCalls.{HeapBegun, HeapTold, closed, number_in, request, heap_begun_at, heap_begun, heap_told, reply_told}
 use Rattle.ivy_heap.proofs.Rows.{either}
 use Rattle.ivy_memory.specs.Memories.{NodeMemory, CallBegun, MemoryEffect, first_memory, reply_of}
-use Rattle.ivy_memory.specs.Memories.{reply_there, first_reply, reply_at, taken_out, answered}
+use Rattle.ivy_memory.specs.Memories.{reply_there, first_reply, reply_at, without_call}
+use Rattle.ivy_memory.specs.Memories.{taken_with, taken_out, answered, waiting}
 use Rattle.ivy_memory.specs.Memories.{unserved, needed, again_unless, again, asked_after}
-use Rattle.ivy_memory.specs.Memories.{number_after, heap_answered, begun_as, call_begun, by_side}
+use Rattle.ivy_memory.specs.Memories.{along_after, number_after, heap_answered, begun_as, call_begun, by_side}
 use Rattle.ivy_memory.specs.Memories.{by_coherence, memory_handled, memory_told}
+use Rattle.ivy_memory.specs.Beside.{Beside, nothing_beside, beside}
 use Rattle.ivy_memory.proofs.Asking.{can_ask}
-use Rattle.ivy_memory.specs.Sound.{IsInProgress, IsSoundMemory, IsSoundSide}
+use Rattle.ivy_memory.proofs.Along.{AreFirst, MayFollow, none_follow, beside-first, beside-follow, started_along}
+use Rattle.ivy_memory.specs.Sound.{IsInProgress, IsWordOfPage, IsSoundMemory, IsSoundSide}
 use Rattle.ivy_memory.proofs.Sides.{KeepsSide, no_errand, same_side, quiet_side, idle_words, word_words, closed_side, kept_side, request_sent, told-keeps, first_sound-side, heap_begun-few}
 
 -- the node stays who it is
@@ -122,13 +127,13 @@ module _ {S : Type 0} where
   answered-fits k me m c number b None fits = fits
   answered-fits k me m c number b (Some r) fits = fits
 
-  needed-fits : (k : Config) (me : ℕ) (m : NodeMemory S) (c : Call) (number : ℕ) (b : Begun S)
-      (n : Need) → All (FitsParcel k me) b.posted
-      → All (FitsParcel k me) (needed m c number b n).posted
-  needed-fits k me m c number b (need.Have o) fits =
+  needed-fits : (k : Config) (me : ℕ) (m : NodeMemory S) (c : Call) (more : Beside) (number : ℕ)
+      (b : Begun S) (n : Need) → All (FitsParcel k me) b.posted
+      → All (FitsParcel k me) (needed m c more number b n).posted
+  needed-fits k me m c more number b (need.Have o) fits =
       answered-fits k me m c number b (reply_of o) fits
-  needed-fits k me m c number b need.Started fits = fits
-  needed-fits k me m c number b need.Busy fits = all_none (FitsParcel k me)
+  needed-fits k me m c more number b need.Started fits = fits
+  needed-fits k me m c more number b need.Busy fits = all_none (FitsParcel k me)
 
   answered-same : (m : NodeMemory S) (c : Call) (number : ℕ) (b : Begun S) (r : Option Reply)
       → SameNode m.coherence b.after
@@ -136,11 +141,18 @@ module _ {S : Type 0} where
   answered-same m c number b None same = same
   answered-same m c number b (Some r) same = same
 
-  pub needed-same : (m : NodeMemory S) (c : Call) (number : ℕ) (b : Begun S) (n : Need)
-      → SameNode m.coherence b.after → SameNode m.coherence (needed m c number b n).after.coherence
-  needed-same m c number b (need.Have o) same = answered-same m c number b (reply_of o) same
-  needed-same m c number b need.Started same = same
-  needed-same m c number b need.Busy same = record { config = refl; me = refl }
+  -- the words that wait along are no part of who the node is
+  along-same : (c new : Coherent S) (words : List Word) → SameNode c new
+      → SameNode c (along words new)
+  along-same c new [] same = same
+  along-same c new (w ∷ words) same = record { config = same.config; me = same.me }
+
+  pub needed-same : (m : NodeMemory S) (c : Call) (more : Beside) (number : ℕ) (b : Begun S)
+      (n : Need) → SameNode m.coherence b.after
+      → SameNode m.coherence (needed m c more number b n).after.coherence
+  needed-same m c more number b (need.Have o) same = answered-same m c number b (reply_of o) same
+  needed-same m c more number b need.Started same = along-same m.coherence b.after more.words same
+  needed-same m c more number b need.Busy same = record { config = refl; me = refl }
 
   answered-posted : (m : NodeMemory S) (c : Call) (number : ℕ) (b : Begun S) (r : Option Reply)
       → (answered m c number b r).posted ≡ b.posted
@@ -148,11 +160,27 @@ module _ {S : Type 0} where
   answered-posted m c number b (Some r) = refl
 
   -- what is posted is what the access posts
-  pub needed-posted : (m : NodeMemory S) (c : Call) (number : ℕ) (b : Begun S) (n : Need)
-      → Begins m.coherence b → b.need ≡ n → (needed m c number b n).posted ≡ b.posted
-  needed-posted m c number b (need.Have o) bs is = answered-posted m c number b (reply_of o)
-  needed-posted m c number b need.Started bs is = refl
-  needed-posted m c number b need.Busy bs is = sym (bs.none is)
+  pub needed-posted : (m : NodeMemory S) (c : Call) (more : Beside) (number : ℕ) (b : Begun S)
+      (n : Need) → Begins m.coherence b → b.need ≡ n → (needed m c more number b n).posted ≡ b.posted
+  needed-posted m c more number b (need.Have o) bs is = answered-posted m c number b (reply_of o)
+  needed-posted m c more number b need.Started bs is = refl
+  needed-posted m c more number b need.Busy bs is = sym (bs.none is)
+
+  -- words that wait along with one leave the rest as the access left it
+  along-begins : (c : Coherent S) (b : Begun S) (words : List Word) → b.need ≡ need.Started
+      → Begins c b → Begins c (record b { after = along words b.after })
+  along-begins c b [] is bs = bs
+  along-begins c b (w ∷ words) is bs = record {
+    same = record { config = bs.same.config; me = bs.same.me };
+    done = bs.done;
+    lock = λ o h. absurd (let e : need.Started ≡ need.Have o = sym is ∙ h in cc);
+    free = bs.free;
+    start = bs.start;
+    busy = λ h. absurd (let e : need.Started ≡ need.Busy = sym is ∙ h in cc);
+    none = bs.none;
+    had = bs.had;
+    quiet = λ o h none. absurd (let e : need.Started ≡ need.Have o = sym is ∙ h in cc);
+  }
 
 module _ {S : Type 0} (ops : Ops S) where
   -- the word that waited was carried out
@@ -264,11 +292,14 @@ module _ {S : Type 0} {ops : Ops S} where
       → IsSoundMemory ops m → m.asked ≡ None → Begins m.coherence b → IsSound ops b.after
       → b.need ≡ need.Have o
       → IsSoundMemory ops
-      (record { coherence = b.after; asked = a; number = number; side = m.side })
+      (record { coherence = b.after; asked = a; along = []; number = number; side = m.side })
   had-sound m b o a number wide least most words s idle bs good is = record {
     width = wide;
+    widths = All-nil HasWidth;
+    of_pages = All-nil (IsWordOfPage b.after.config);
     numbered = least;
-    small = most;
+    small = omega (arith, most);
+    alone = λ h. refl;
     coherent = good;
     done = λ h. bs.done ∙ s.done idle;
     locked = λ h. bs.lock o is ∙ s.locked idle;
@@ -278,16 +309,20 @@ module _ {S : Type 0} {ops : Ops S} where
     apart = λ e h. absurd (none-some e (sym (idle_side m s idle) ∙ h));
   }
 
-  pub started-sound : (m : NodeMemory S) (b : Begun S) (c : Call) (number : ℕ) → HasWidth c
-      → 1 ≤ number → number < 2 ^ 64
+  pub started-sound : (m : NodeMemory S) (b : Begun S) (c : Call) (calls : List Call) (number : ℕ)
+      → HasWidth c → 1 ≤ number → MayFollow m.coherence.config number calls
       → ((k : HeapCall) → IsInProgress m.coherence.config (Some c) k → ⊥) → IsSoundMemory ops m
       → m.asked ≡ None → Begins m.coherence b → IsSound ops b.after
       → IsSoundMemory ops
-      (record { coherence = b.after; asked = Some c; number = number; side = m.side })
-  started-sound m b c number wide least most words s idle bs good = record {
+      (record { coherence = b.after; asked = Some c; along = calls; number = number; side = m.side })
+  started-sound m b c calls number wide least follow words s idle bs good = record {
     width = one_wide c wide;
+    widths = follow.widths;
+    of_pages =
+        subst (λ d. All (IsWordOfPage d) calls) (sym bs.same.config) follow.of_pages;
     numbered = λ j h. least;
-    small = most;
+    small = follow.small;
+    alone = λ h. absurd (none-some c (sym h));
     coherent = good;
     done = λ h. absurd (none-some c (sym h));
     locked = λ h. absurd (none-some c (sym h));
@@ -296,6 +331,10 @@ module _ {S : Type 0} {ops : Ops S} where
     under = λ k n h. absurd (none-some (errand.Asked k n) (sym (idle_side m s idle) ∙ h));
     apart = λ e h. absurd (none-some e (sym (idle_side m s idle) ∙ h));
   }
+
+  -- the number alone can be carried
+  pub below : (m : NodeMemory S) → IsSoundMemory ops m → m.number < 2 ^ 64
+  below m s = let small = s.small in omega (arith, small)
 
   answered-sound : (m : NodeMemory S) (c : Call) (number : ℕ) (b : Begun S) (o : Out)
       (r : Option Reply) → HasWidth c → 1 ≤ number → number < 2 ^ 64
@@ -306,23 +345,32 @@ module _ {S : Type 0} {ops : Ops S} where
       had-sound m b o (Some c) number (one_wide c wide) (λ j h. least) most words s idle bs good is
   answered-sound m c number b o (Some r) wide least most words s idle bs good is =
       had-sound m b o None m.number (λ j h. absurd (none-some j h)) (λ j h. absurd (none-some j h))
-      s.small (idle_words m.coherence.config) s idle bs good is
+      (below m s) (idle_words m.coherence.config) s idle bs good is
 
-  needed-sound : (m : NodeMemory S) (c : Call) (number : ℕ) (b : Begun S) (n : Need) → HasWidth c
-      → 1 ≤ number → number < 2 ^ 64
+  needed-sound : (m : NodeMemory S) (c : Call) (more : Beside) (number : ℕ) (b : Begun S) (n : Need)
+      → HasWidth c → 1 ≤ number → number < 2 ^ 64
+      → MayFollow m.coherence.config number more.calls
       → ((k : HeapCall) → IsInProgress m.coherence.config (Some c) k → ⊥) → IsSoundMemory ops m
-      → m.asked ≡ None → Begins m.coherence b → IsSound ops b.after → b.need ≡ n
-      → IsSoundMemory ops (needed m c number b n).after
-  needed-sound m c number b (need.Have o) wide least most words s idle bs good is =
+      → m.asked ≡ None → Begins m.coherence b → IsSound ops b.after
+      → (b.need ≡ need.Started → IsSound ops (along more.words b.after)) → b.need ≡ n
+      → IsSoundMemory ops (needed m c more number b n).after
+  needed-sound m c more number b (need.Have o) wide least most follow words s idle bs good waits is =
       answered-sound m c number b o (reply_of o) wide least most words s idle bs good is
-  needed-sound m c number b need.Started wide least most words s idle bs good is =
-      started-sound m b c number wide least most words s idle bs good
-  needed-sound m c number b need.Busy wide least most words s idle bs good is = s
+  needed-sound m c more number b need.Started wide least most follow words s idle bs good waits is =
+      started-sound m (record b { after = along more.words b.after }) c more.calls number wide least
+      follow words s idle (along-begins m.coherence b more.words is bs) (waits is)
+  needed-sound m c more number b need.Busy wide least most follow words s idle bs good waits is = s
 
   pub told-memory : (m : NodeMemory S) (new : Coherent S) → IsSoundMemory ops m
       → Told m.coherence new → IsSound ops new
       → IsSoundMemory ops
-      (record { coherence = new; asked = m.asked; number = m.number; side = m.side })
+      (record {
+        coherence = new;
+        asked = m.asked;
+        along = m.along;
+        number = m.number;
+        side = m.side;
+      })
   told-memory m new s told good =
       elim told.1 [
         | inl x ↦ record {
@@ -331,8 +379,12 @@ module _ {S : Type 0} {ops : Ops S} where
           locked = λ h. x.0 ∙ s.locked h;
           answered = λ o h. x.0 ∙ s.answered o (sym x.1 ∙ h);
           width = s.width;
+          widths = s.widths;
+          of_pages =
+              subst (λ d. All (IsWordOfPage d) m.along) (sym told.0.config) s.of_pages;
           numbered = s.numbered;
           small = s.small;
+          alone = s.alone;
           under = s.under;
           side = same_side m.coherence.config new.config m.coherence.me new.me m.asked m.side
               told.0.config told.0.me s.side;
@@ -344,8 +396,12 @@ module _ {S : Type 0} {ops : Ops S} where
           locked = λ h. x.2;
           answered = λ o h. x.2;
           width = s.width;
+          widths = s.widths;
+          of_pages =
+              subst (λ d. All (IsWordOfPage d) m.along) (sym told.0.config) s.of_pages;
           numbered = s.numbered;
           small = s.small;
+          alone = s.alone;
           under = s.under;
           side = same_side m.coherence.config new.config m.coherence.me new.me m.asked m.side
               told.0.config told.0.me s.side;
@@ -353,10 +409,10 @@ module _ {S : Type 0} {ops : Ops S} where
         }
       ]
 
-  -- whatever stands there as the answer
-  pub with_done-sound : (c : Coherent S) (d : Option Out) → IsSound ops c
-      → IsSound ops (record c { done = d })
-  with_done-sound c d s = record {
+  -- whatever stands there as the answers
+  with_outs-sound : (c : Coherent S) (d : Option Out) (ds : List Out) → IsSound ops c
+      → IsSound ops (record c { done = d; done_more = ds })
+  with_outs-sound c d ds s = record {
     limits = s.limits;
     here = s.here;
     mine = s.mine;
@@ -371,19 +427,28 @@ module _ {S : Type 0} {ops : Ops S} where
     away = s.away;
     locked = s.locked;
     others = s.others;
+    along = s.along;
+    alone = s.alone;
   }
+
+  pub with_done-sound : (c : Coherent S) (d : Option Out) → IsSound ops c
+      → IsSound ops (record c { done = d })
+  with_done-sound c d s = with_outs-sound c d c.done_more s
 
   -- the memory without its call in progress, where no word waits
   pub without-sound : (m : NodeMemory S) → IsSoundMemory ops m → m.coherence.locked ≡ None
-      → IsSoundMemory ops (taken_out m)
+      → IsSoundMemory ops (without_call m)
   without-sound m s free = record {
     coherent = with_done-sound m.coherence None s.coherent;
     done = λ h. refl;
     locked = λ h. free;
     answered = λ o h. absurd (none-some o h);
     width = λ j h. absurd (none-some j h);
+    widths = All-nil HasWidth;
+    of_pages = All-nil (IsWordOfPage m.coherence.config);
     numbered = λ j h. absurd (none-some j h);
-    small = s.small;
+    small = (let small = s.small in omega (arith, small));
+    alone = λ h. refl;
     side = closed_side m.coherence.config m.coherence.me m.asked m.side s.side;
     under = λ k n h. absurd (none-some (errand.Asked k n) h);
     apart = λ e h. absurd (none-some e h);
@@ -396,30 +461,62 @@ module _ {S : Type 0} {ops : Ops S} where
   free_at m r s None is there = let d = reply_done m.coherence.done r there in s.answered d.0 d.1
   free_at m r s (Some e) is there = (s.apart e is).0
 
+  -- the next of the calls made along is in progress, where no word waits
+  taken_with-sound : (m : NodeMemory S) (calls : List Call) → m.along ≡ calls
+      → IsSoundMemory ops m → m.coherence.locked ≡ None → IsSoundMemory ops (taken_with m calls)
+  taken_with-sound m [] is s free = without-sound m s free
+  taken_with-sound m (next ∷ calls) is s free =
+      let wide = subst (All HasWidth) is s.widths in
+      let pages = subst (All (IsWordOfPage m.coherence.config)) is s.of_pages in
+      let word = All-head (IsWordOfPage m.coherence.config) next calls pages in
+      record {
+        coherent = with_outs-sound m.coherence (first_out m.coherence.done_more)
+            (later_outs m.coherence.done_more) s.coherent;
+        done = λ h. absurd (none-some next (sym h));
+        locked = λ h. free;
+        answered = λ o h. free;
+        width = one_wide next (All-head HasWidth next calls wide);
+        widths = All-tail HasWidth next calls wide;
+        of_pages = All-tail (IsWordOfPage m.coherence.config) next calls pages;
+        numbered = λ j h. omega arith;
+        small =
+            (let small = s.small in
+            let many : length m.along ≡ length (next ∷ calls) = ap length is in
+            omega (arith, small, many));
+        alone = λ h. absurd (none-some next (sym h));
+        side = quiet_side m.coherence.config m.coherence.me None (Some next) (closed m.side) refl
+            (word_words m.coherence.config next word.0 word.1 word.2)
+            (closed_side m.coherence.config m.coherence.me m.asked m.side s.side);
+        under = λ k n h. absurd (none-some (errand.Asked k n) h);
+        apart = λ e h. absurd (none-some e h);
+      }
+
   pub taken-sound : (m : NodeMemory S) (r : Reply) → IsSoundMemory ops m → reply_at m ≡ Some r
       → IsSoundMemory ops (taken_out m)
-  taken-sound m r s there = without-sound m s (free_at m r s m.side.errand refl there)
+  taken-sound m r s there =
+      taken_with-sound m m.along refl s (free_at m r s m.side.errand refl there)
 
   again_unless-sound : (m : NodeMemory S) (c : Call) (number : ℕ) (b : Begun S) (o : Out)
       (r : Option Reply) → HasWidth c → 1 ≤ number → number < 2 ^ 64
       → ((k : HeapCall) → IsInProgress m.coherence.config (Some c) k → ⊥) → IsSoundMemory ops m
-      → Begins (taken_out m).coherence b → IsSound ops b.after → b.need ≡ need.Have o
-      → IsSoundMemory ops (again_unless m (answered (taken_out m) c number b r) r).after
+      → Begins (without_call m).coherence b → IsSound ops b.after → b.need ≡ need.Have o
+      → IsSoundMemory ops (again_unless m (answered (without_call m) c number b r) r).after
   again_unless-sound m c number b o None wide least most words s bs good is = s
   again_unless-sound m c number b o (Some r) wide least most words s bs good is =
-      answered-sound (taken_out m) c number b o (Some r) wide least most words
+      answered-sound (without_call m) c number b o (Some r) wide least most words
       (without-sound m s (bs.free o is)) refl bs good is
 
   pub again-sound : (m : NodeMemory S) (c : Call) (number : ℕ) (b : Begun S) (n : Need) → HasWidth c
       → 1 ≤ number → number < 2 ^ 64
       → ((k : HeapCall) → IsInProgress m.coherence.config (Some c) k → ⊥) → IsSoundMemory ops m
-      → Begins (taken_out m).coherence b → IsSound ops b.after → b.need ≡ n
-      → IsSoundMemory ops (again m (needed (taken_out m) c number b n) n).after
+      → Begins (without_call m).coherence b → IsSound ops b.after → b.need ≡ n
+      → IsSoundMemory ops (again m (needed (without_call m) c nothing_beside number b n) n).after
   again-sound m c number b (need.Have o) wide least most words s bs good is =
       again_unless-sound m c number b o (reply_of o) wide least most words s bs good is
   again-sound m c number b need.Started wide least most words s bs good is =
-      started-sound (taken_out m) b c number wide least most words (without-sound m s (bs.start is))
-      refl bs good
+      started-sound (without_call m) b c [] number wide least
+      (none_follow m.coherence.config number most) words (without-sound m s (bs.start is)) refl bs
+      good
   again-sound m c number b need.Busy wide least most words s bs good is = s
 
 -- what a call that begins keeps
@@ -437,8 +534,11 @@ module _ {S : Type 0} {ops : Ops S} (laws : Laws ops) where
     locked = λ h. refl;
     answered = λ o h. refl;
     width = λ j h. absurd (none-some j h);
+    widths = All-nil HasWidth;
+    of_pages = All-nil (IsWordOfPage c);
     numbered = λ j h. absurd (none-some j h);
     small = omega arith;
+    alone = λ h. refl;
     side = first_sound-side c me;
     under = λ k n h. absurd (none-some (errand.Asked k n) h);
     apart = λ e h. absurd (none-some e h);
@@ -454,8 +554,11 @@ module _ {S : Type 0} {ops : Ops S} (laws : Laws ops) where
     locked = s.locked;
     answered = s.answered;
     width = s.width;
+    widths = s.widths;
+    of_pages = s.of_pages;
     numbered = s.numbered;
     small = s.small;
+    alone = s.alone;
     side = kept.sound;
     under = λ k n h. s.under k n (kept.under k n h);
     apart = λ e h. (let d = kept.apart e h in s.apart d.0 d.1);
@@ -517,8 +620,11 @@ module _ {S : Type 0} {ops : Ops S} (laws : Laws ops) where
         locked = λ x. absurd (none-some k (sym x));
         answered = s.answered;
         width = one_wide k wide;
+        widths = All-nil HasWidth;
+        of_pages = All-nil (IsWordOfPage m.coherence.config);
         numbered = λ j x. least;
-        small = most;
+        small = omega (arith, most);
+        alone = λ x. absurd (none-some k (sym x));
         side = record {
           away = s.side.away;
           home = s.side.home;
@@ -548,8 +654,11 @@ module _ {S : Type 0} {ops : Ops S} (laws : Laws ops) where
         locked = s.locked;
         answered = s.answered;
         width = s.width;
+        widths = s.widths;
+        of_pages = s.of_pages;
         numbered = s.numbered;
         small = s.small;
+        alone = s.alone;
         side = kept_side m.coherence.config m.coherence.me m.asked m.side g h there s.side;
         under = s.under;
         apart = s.apart;
@@ -558,153 +667,216 @@ module _ {S : Type 0} {ops : Ops S} (laws : Laws ops) where
       record { config = refl; me = refl },
     )
 
-  as-sound : (m : NodeMemory S) (k : Call) (number : ℕ) (x : Asked)
-      → asked_of m.coherence.config k ≡ x → HasWidth k → IsSoundMemory ops m → m.asked ≡ None
-      → CanAsk m.coherence.config x → 1 ≤ number → number < 2 ^ 64
-      → KeepsMemory ops m (begun_as ops m k number x)
-  as-sound m k number (asked.Refused code) of wide s idle can least most = (
+  as-sound : (m : NodeMemory S) (k : Call) (calls : List Call) (number : ℕ) (x : Asked)
+      → asked_of m.coherence.config k ≡ x → HasWidth k → All HasWidth calls → IsSoundMemory ops m
+      → m.asked ≡ None → CanAsk m.coherence.config x → 1 ≤ number → number < 2 ^ 64
+      → KeepsMemory ops m (begun_as ops m k calls number x)
+  as-sound m k calls number (asked.Refused code) of wide widths s idle can least most = (
     s,
     all_none (FitsParcel m.coherence.config m.coherence.me),
     record { config = refl; me = refl },
   )
-  as-sound m k number (asked.Heap h) of wide s idle can least most =
+  as-sound m k calls number (asked.Heap h) of wide widths s idle can least most =
       heap-at m k number s wide idle h of least most m.side.heap refl
-  as-sound m k number (asked.Word page w) of wide s idle can least most =
+  as-sound m k calls number (asked.Word page w) of wide widths s idle can least most =
       let b : Begun S = begun ops m.coherence page w number in
+      let more : Beside = beside m.coherence.config page w calls number in
+      let go =
+      beside-follow m.coherence.config s.coherent.limits page w calls number widths most in
       let kept = begun-keeps laws m.coherence page w number s.coherent can.0 can.1 least most in
       let marks : Begins m.coherence b = begun-begins ops m.coherence page w number in (
-        needed-sound m k number b b.need wide least most (word_words m.coherence.config k page w of)
-            s idle marks kept.0 refl,
-        needed-fits m.coherence.config m.coherence.me m k number b b.need kept.1,
-        needed-same m k number b b.need marks.same,
+        needed-sound m k more number b b.need wide least most go.1
+            (word_words m.coherence.config k page w of) s idle marks kept.0
+            (started_along ops m.coherence page w number more.words s.coherent can.0 kept.0
+            go.0) refl,
+        needed-fits m.coherence.config m.coherence.me m k more number b b.need kept.1,
+        needed-same m k more number b b.need marks.same,
       )
 
-  -- a call that begins
-  pub call-sound : (m : NodeMemory S) (k : Call) (number : ℕ) → IsSoundMemory ops m → m.asked ≡ None
-      → HasWidth k → 1 ≤ number → number < 2 ^ 64 → KeepsMemory ops m (call_begun ops m k number)
+  -- a call that begins, and others made along with it
+  pub call-sound : (m : NodeMemory S) (k : Call) (calls : List Call) (number : ℕ)
+      → IsSoundMemory ops m → m.asked ≡ None → HasWidth k → All HasWidth calls → 1 ≤ number
+      → number < 2 ^ 64 → KeepsMemory ops m (call_begun ops m k calls number)
   unfolding call_begun
-  call-sound m k number s idle w least most =
-      as-sound m k number (asked_of m.coherence.config k) refl w s idle
+  call-sound m k calls number s idle w widths least most =
+      as-sound m k calls number (asked_of m.coherence.config k) refl w widths s idle
       (can_ask m.coherence.config k s.coherent.limits w) least most
 
--- a call that has its reply is not in progress, and what is in progress is that call, under this
--- number
-pub record IsBegun {S : Type 0} (k : Call) (number : ℕ) (a : CallBegun S) : Type 0 where
-  pub over : (r : Reply) → a.answer ≡ Given r → a.after.asked ≡ None
-  pub same : (j : Call) → a.after.asked ≡ Some j → k ≡ j
-  pub numbered : (j : Call) → a.after.asked ≡ Some j → a.after.number ≡ number
+-- the calls in progress, one after another, are the first ones of these, and the first of them has
+-- this number
+pub record GoesOn {S : Type 0} (calls : List Call) (number : ℕ) (m : NodeMemory S) : Type 0 where
+  pub first : (j : Call) → m.asked ≡ Some j → AreFirst (j ∷ m.along) calls
+  pub numbered : (j : Call) → m.asked ≡ Some j → m.number ≡ number
 
-asked_so : (k j : Call) (old : Option Call) (r : Answer) → old ≡ None → asked_after old k r ≡ Some j
-    → k ≡ j
-asked_so k j old Awaited idle is = same_Some k j is
-asked_so k j old (Given r) idle is = absurd (none-some j (sym idle ∙ is))
-asked_so k j old Unserved idle is = absurd (none-some j (sym idle ∙ is))
+-- What is in progress after a call, under this number and with these calls made along, was so
+-- answered: where it has its reply, one of the later ones, under the next number.
+abbrev pub IsBegunAs : {S : Type 0} → Call → List Call → List Call → ℕ → NodeMemory S → Answer
+    → Type 0
+IsBegunAs k calls later number m (Given r) = GoesOn later (number + 1) m
+IsBegunAs k calls later number m Awaited = GoesOn (k ∷ calls) number m
+IsBegunAs k calls later number m Unserved = GoesOn (k ∷ calls) number m
 
-numbered_so : (k j : Call) (old : Option Call) (before number : ℕ) (r : Answer) → old ≡ None
-    → asked_after old k r ≡ Some j → number_after before number r ≡ number
-numbered_so k j old before number Awaited idle is = refl
-numbered_so k j old before number (Given r) idle is = absurd (none-some j (sym idle ∙ is))
-numbered_so k j old before number Unserved idle is = absurd (none-some j (sym idle ∙ is))
+abbrev pub IsBegun : {S : Type 0} → Call → List Call → List Call → ℕ → CallBegun S → Type 0
+IsBegun k calls later number a = IsBegunAs k calls later number a.after a.answer
+
+first_same : (k j : Call) (calls more : List Call) → k ∷ calls ≡ j ∷ more → k ≡ j
+first_same k j calls more is = cc
 
 module _ {S : Type 0} where
-  -- what changes nothing
-  idle-begun : (m : NodeMemory S) (k : Call) (number : ℕ) → m.asked ≡ None
-      → (r : Answer) (ps : List Parcel)
-      → IsBegun k number (record { answer = r; after = m; posted = ps })
-  idle-begun m k number idle r ps = record {
-    over = λ q h. idle;
-    same = λ j h. absurd (none-some j (sym idle ∙ h));
+  -- nothing is in progress
+  pub none_goes : (m : NodeMemory S) (calls : List Call) (number : ℕ) → m.asked ≡ None
+      → GoesOn calls number m
+  none_goes m calls number idle = record {
+    first = λ j h. absurd (none-some j (sym idle ∙ h));
     numbered = λ j h. absurd (none-some j (sym idle ∙ h));
   }
 
-  pub unserved-begun : (m : NodeMemory S) (k : Call) → m.asked ≡ Some k
-      → IsBegun k m.number (unserved m)
-  unserved-begun m k asked =
-      record {
-        over = λ r h. absurd cc;
-        same = λ j h. same_Some k j (sym asked ∙ h);
-        numbered = λ j h. refl;
-      }
-
-  answered-begun : (m : NodeMemory S) (k : Call) (number : ℕ) (b : Begun S) (r : Option Reply)
-      → IsBegun k number (answered m k number b r)
-  answered-begun m k number b None =
-      record { over = λ r h. absurd cc; same = λ j h. same_Some k j h; numbered = λ j h. refl }
-  answered-begun m k number b (Some r) =
-      record {
-        over = λ q h. refl;
-        same = λ j h. absurd (none-some j h);
-        numbered = λ j h. absurd (none-some j h);
-      }
-
-  heap-begun : (m : NodeMemory S) (k : Call) (number : ℕ) (b : HeapBegun) → m.asked ≡ None
-      → IsBegun k number (heap_answered m k number b)
-  heap-begun m k number b idle = record {
-    over = λ r h. ap (asked_after m.asked k) h ∙ idle;
-    same = λ j h. asked_so k j m.asked b.answer idle h;
-    numbered = λ j h. numbered_so k j m.asked m.number number b.answer idle h;
+  -- this call is
+  pub one_goes : (m : NodeMemory S) (k : Call) (calls : List Call) → m.asked ≡ Some k
+      → AreFirst m.along calls → GoesOn (k ∷ calls) m.number m
+  one_goes m k calls asked are = record {
+    first = λ j h. (are.0, (λ i. same_Some k j (sym asked ∙ h) i ∷ are.1 i));
+    numbered = λ j h. refl;
   }
 
-  needed-begun : (m : NodeMemory S) (k : Call) (number : ℕ) (b : Begun S) (n : Need)
-      → m.asked ≡ None → IsBegun k number (needed m k number b n)
-  needed-begun m k number b (need.Have o) idle = answered-begun m k number b (reply_of o)
-  needed-begun m k number b need.Started idle = answered-begun m k number b None
-  needed-begun m k number b need.Busy idle = idle-begun m k number idle Unserved []
+  next_as : (k : Call) (calls later : List Call) (number : ℕ) (m : NodeMemory S) (r : Answer)
+      (j : Call) → IsBegunAs k calls later number m r → m.asked ≡ Some j
+      → (k ≡ j) ⊎ ((rest : List Call) × (later ≡ j ∷ rest))
+  next_as k calls later number m (Given r) j is h =
+      let x = is.first j h in inr (m.along ++ x.0, x.1)
+  next_as k calls later number m Awaited j is h = inl (first_same k j calls _ (is.first j h).1)
+  next_as k calls later number m Unserved j is h = inl (first_same k j calls _ (is.first j h).1)
+
+  -- a call in progress after this one is this one, or the first of the later ones
+  pub begun-next : (k : Call) (calls later : List Call) (number : ℕ) (a : CallBegun S) (j : Call)
+      → IsBegun k calls later number a → a.after.asked ≡ Some j
+      → (k ≡ j) ⊎ ((rest : List Call) × (later ≡ j ∷ rest))
+  begun-next k calls later number a j is h =
+      next_as k calls later number a.after a.answer j is h
+
+  -- this one, where there are no later ones
+  pub begun-one : (k : Call) (calls : List Call) (number : ℕ) (a : CallBegun S) (j : Call)
+      → IsBegun k calls [] number a → a.after.asked ≡ Some j → k ≡ j
+  begun-one k calls number a j is h =
+      elim (begun-next k calls [] number a j is h) [
+        | inl same ↦ same
+        | inr x ↦ absurd (let e : [] ≡ j ∷ x.0 = x.1 in cc)
+      ]
+
+  -- what changes nothing
+  idle-begun : (m : NodeMemory S) (k : Call) (calls later : List Call) (number : ℕ)
+      → m.asked ≡ None → (r : Answer) → IsBegunAs k calls later number m r
+  idle-begun m k calls later number idle (Given r) = none_goes m later (number + 1) idle
+  idle-begun m k calls later number idle Awaited = none_goes m (k ∷ calls) number idle
+  idle-begun m k calls later number idle Unserved = none_goes m (k ∷ calls) number idle
+
+  pub unserved-begun : (m : NodeMemory S) (k : Call) → m.asked ≡ Some k
+      → IsBegun k m.along m.along m.number (unserved m)
+  unserved-begun m k asked = one_goes m k m.along asked ([], sym (append-nil m.along))
+
+  answered-begun : (m : NodeMemory S) (k : Call) (calls later : List Call) (number : ℕ)
+      (b : Begun S) (r : Option Reply) → IsBegun k calls later number (answered m k number b r)
+  answered-begun m k calls later number b None =
+      one_goes (answered m k number b None).after k calls refl (calls, refl)
+  answered-begun m k calls later number b (Some r) =
+      none_goes (answered m k number b (Some r)).after later (number + 1) refl
+
+  heap_as : (m n : NodeMemory S) (k : Call) (calls later : List Call) (number : ℕ) (r : Answer)
+      → m.asked ≡ None → n.asked ≡ asked_after m.asked k r → n.along ≡ along_after m.along r
+      → n.number ≡ number_after m.number number r → IsBegunAs k calls later number n r
+  heap_as m n k calls later number (Given r) idle asked made under =
+      none_goes n later (number + 1) (asked ∙ idle)
+  heap_as m n k calls later number Awaited idle asked made under =
+      subst (λ i. GoesOn (k ∷ calls) i n) under (one_goes n k calls asked (calls, ap (λ cs. cs ++ calls) (sym made)))
+  heap_as m n k calls later number Unserved idle asked made under =
+      none_goes n (k ∷ calls) number (asked ∙ idle)
+
+  heap-begun : (m : NodeMemory S) (k : Call) (calls later : List Call) (number : ℕ)
+      (b : HeapBegun) → m.asked ≡ None → IsBegun k calls later number (heap_answered m k number b)
+  heap-begun m k calls later number b idle =
+      heap_as m (heap_answered m k number b).after k calls later number b.answer idle refl refl refl
+
+  needed-begun : (m : NodeMemory S) (k : Call) (calls later : List Call) (more : Beside)
+      (number : ℕ) (b : Begun S) (n : Need) → AreFirst more.calls calls → m.asked ≡ None
+      → IsBegun k calls later number (needed m k more number b n)
+  needed-begun m k calls later more number b (need.Have o) are idle =
+      answered-begun m k calls later number b (reply_of o)
+  needed-begun m k calls later more number b need.Started are idle =
+      one_goes (waiting m k more number b).after k calls refl are
+  needed-begun m k calls later more number b need.Busy are idle =
+      none_goes m (k ∷ calls) number idle
 
   again_unless-begun : (m : NodeMemory S) (k : Call) (b : Begun S) (r : Option Reply)
       → m.asked ≡ Some k
-      → IsBegun k m.number (again_unless m (answered (taken_out m) k m.number b r) r)
+      → IsBegun k m.along m.along m.number
+      (again_unless m (answered (without_call m) k m.number b r) r)
   again_unless-begun m k b None asked = unserved-begun m k asked
-  again_unless-begun m k b (Some r) asked = answered-begun (taken_out m) k m.number b (Some r)
+  again_unless-begun m k b (Some r) asked =
+      answered-begun (without_call m) k m.along m.along m.number b (Some r)
 
   pub again-begun : (m : NodeMemory S) (k : Call) (b : Begun S) (n : Need) → m.asked ≡ Some k
-      → IsBegun k m.number (again m (needed (taken_out m) k m.number b n) n)
+      → IsBegun k m.along m.along m.number
+      (again m (needed (without_call m) k nothing_beside m.number b n) n)
   again-begun m k b (need.Have o) asked = again_unless-begun m k b (reply_of o) asked
-  again-begun m k b need.Started asked = answered-begun (taken_out m) k m.number b None
+  again-begun m k b need.Started asked =
+      one_goes (waiting (without_call m) k nothing_beside m.number b).after k m.along refl
+      (m.along, refl)
   again-begun m k b need.Busy asked = unserved-begun m k asked
 
+  -- the next of the calls made along is in progress
+  pub taken_with-goes : (m : NodeMemory S) (calls : List Call)
+      → GoesOn calls (m.number + 1) (taken_with m calls)
+  taken_with-goes m [] = none_goes (without_call m) [] (m.number + 1) refl
+  taken_with-goes m (next ∷ calls) =
+      one_goes (taken_with m (next ∷ calls)) next calls refl ([], sym (append-nil calls))
+
 module _ {S : Type 0} (ops : Ops S) where
-  as-begun : (m : NodeMemory S) (k : Call) (number : ℕ) (x : Asked) → m.asked ≡ None
-      → IsBegun k number (begun_as ops m k number x)
-  as-begun m k number (asked.Refused code) idle =
-      idle-begun m k number idle (Given (reply.Refused code)) []
-  as-begun m k number (asked.Word page w) idle =
-      let b : Begun S = begun ops m.coherence page w number in needed-begun m k number b b.need idle
-  as-begun m k number (asked.Heap h) idle =
-      heap-begun m k number (heap_begun m.coherence.me m.side h number) idle
-
-  pub call-begun : (m : NodeMemory S) (k : Call) (number : ℕ) → m.asked ≡ None
-      → IsBegun k number (call_begun ops m k number)
-  unfolding call_begun
-  call-begun m k number idle = as-begun m k number (asked_of m.coherence.config k) idle
-
-  as-same : (m : NodeMemory S) (k : Call) (number : ℕ) (x : Asked)
-      → SameNode m.coherence (begun_as ops m k number x).after.coherence
-  as-same m k number (asked.Refused code) = record { config = refl; me = refl }
-  as-same m k number (asked.Word page w) =
+  as-begun : (m : NodeMemory S) (k : Call) (calls : List Call) (number : ℕ) (x : Asked)
+      → m.asked ≡ None → IsBegun k calls [] number (begun_as ops m k calls number x)
+  as-begun m k calls number (asked.Refused code) idle =
+      idle-begun m k calls [] number idle (Given (reply.Refused code))
+  as-begun m k calls number (asked.Word page w) idle =
       let b : Begun S = begun ops m.coherence page w number in
-      needed-same m k number b b.need (begun-begins ops m.coherence page w number).same
-  as-same m k number (asked.Heap h) = record { config = refl; me = refl }
+      needed-begun m k calls [] (beside m.coherence.config page w calls number) number b b.need
+      (beside-first m.coherence.config page w calls number) idle
+  as-begun m k calls number (asked.Heap h) idle =
+      heap-begun m k calls [] number (heap_begun m.coherence.me m.side h number) idle
+
+  pub call-begun : (m : NodeMemory S) (k : Call) (calls : List Call) (number : ℕ)
+      → m.asked ≡ None → IsBegun k calls [] number (call_begun ops m k calls number)
+  unfolding call_begun
+  call-begun m k calls number idle =
+      as-begun m k calls number (asked_of m.coherence.config k) idle
+
+  as-same : (m : NodeMemory S) (k : Call) (calls : List Call) (number : ℕ) (x : Asked)
+      → SameNode m.coherence (begun_as ops m k calls number x).after.coherence
+  as-same m k calls number (asked.Refused code) = record { config = refl; me = refl }
+  as-same m k calls number (asked.Word page w) =
+      let b : Begun S = begun ops m.coherence page w number in
+      needed-same m k (beside m.coherence.config page w calls number) number b b.need
+      (begun-begins ops m.coherence page w number).same
+  as-same m k calls number (asked.Heap h) = record { config = refl; me = refl }
 
   -- the node stays who it is
-  pub call-same : (m : NodeMemory S) (k : Call) (number : ℕ)
-      → SameNode m.coherence (call_begun ops m k number).after.coherence
+  pub call-same : (m : NodeMemory S) (k : Call) (calls : List Call) (number : ℕ)
+      → SameNode m.coherence (call_begun ops m k calls number).after.coherence
   unfolding call_begun
-  call-same m k number = as-same m k number (asked_of m.coherence.config k)
+  call-same m k calls number = as-same m k calls number (asked_of m.coherence.config k)
 
-  as-few : (m : NodeMemory S) (k : Call) (number : ℕ) (x : Asked) → IsSound ops m.coherence
-      → length (begun_as ops m k number x).posted ≤ most_posted
-  as-few m k number (asked.Refused code) s = omega arith
-  as-few m k number (asked.Word page w) s =
+  as-few : (m : NodeMemory S) (k : Call) (calls : List Call) (number : ℕ) (x : Asked)
+      → IsSound ops m.coherence → length (begun_as ops m k calls number x).posted ≤ most_posted
+  as-few m k calls number (asked.Refused code) s = omega arith
+  as-few m k calls number (asked.Word page w) s =
       let b : Begun S = begun ops m.coherence page w number in
+      let more : Beside = beside m.coherence.config page w calls number in
       let few = begun-few ops m.coherence page w number s in
-      let is : length (needed m k number b b.need).posted ≡ length b.posted =
+      let is : length (needed m k more number b b.need).posted ≡ length b.posted =
       ap length
-      (needed-posted m k number b b.need (begun-begins ops m.coherence page w number) refl) in
+      (needed-posted m k more number b b.need (begun-begins ops m.coherence page w number) refl) in
       omega (arith, few, is)
-  as-few m k number (asked.Heap h) s = heap_begun-few m.coherence.me m.side h number
+  as-few m k calls number (asked.Heap h) s = heap_begun-few m.coherence.me m.side h number
 
-  pub call-few : (m : NodeMemory S) (k : Call) (number : ℕ) → IsSound ops m.coherence
-      → length (call_begun ops m k number).posted ≤ most_posted
+  pub call-few : (m : NodeMemory S) (k : Call) (calls : List Call) (number : ℕ)
+      → IsSound ops m.coherence → length (call_begun ops m k calls number).posted ≤ most_posted
   unfolding call_begun
-  call-few m k number s = as-few m k number (asked_of m.coherence.config k) s
+  call-few m k calls number s = as-few m k calls number (asked_of m.coherence.config k) s

@@ -18,7 +18,7 @@ abbrev pub AnswerAtOnce : {S : Type 0} → Ops S → List Record → NodeMemory 
 AnswerAtOnce ops [] old new = new ≡ old
 AnswerAtOnce {S} ops (r ∷ more) old new =
     (mid : NodeMemory S)
-    × ((number : ℕ) → call_begun ops old r.call number
+    × ((number : ℕ) → call_begun ops old r.call [] number
     ≡ record { answer = Given r.reply; after = mid; posted = [] })
     × (mid.asked ≡ None) × AnswerAtOnce ops more mid new
 

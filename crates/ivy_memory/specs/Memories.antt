@@ -1,6 +1,6 @@
 -- A node's memory: its coherence, the call that it has in progress, and its side of the calls of
 -- the heap.
-use Rattle.std.specs.Prelude.{◌≡◌, ◌⊎◌, ℕ, Option, Some, None, List, [], if◌then◌else◌}
+use Rattle.std.specs.Prelude.{◌≡◌, ◌⊎◌, ℕ, ◌+◌, Option, Some, None, List, [], ◌∷◌, if◌then◌else◌}
 use Rattle.ivy_model.specs.declared.Config.{Config}
 use Rattle.ivy_model.specs.declared.Call.{Call}
 use Rattle.ivy_model.specs.declared.Reply.{Reply}
@@ -12,29 +12,39 @@ use Rattle.ivy_pagetable.specs.Manager.{Ops}
 use Rattle.ivy_coherence.specs.declared.Need.{Need}
 use Rattle.ivy_coherence.specs.declared.Need.TheVariants as need
 use Rattle.ivy_coherence.specs.Coherent.{Coherent}
+use Rattle.ivy_coherence.specs.Several.{first_out, later_outs}
 use Rattle.ivy_coherence.specs.Sound.{first_coherent}
 use Rattle.ivy_coherence.specs.Steps.{handled}
-use Rattle.ivy_coherence.specs.Faults.{Begun, begun}
+use Rattle.ivy_coherence.specs.Faults.{Begun, along, begun}
 use Rattle.ivy_heap.specs.declared.Answer.{Answer}
 use Rattle.ivy_heap.specs.declared.Answer.TheVariants.{Given, Awaited, Unserved}
 use Rattle.ivy_memory.specs.declared.asked.Asked.{Asked}
 use Rattle.ivy_memory.specs.declared.asked.Asked.TheVariants as asked
 use Rattle.ivy_memory.specs.Asking.{asked_of, CallHasToAsk, CallMayMakePage}
+use Rattle.ivy_memory.specs.Beside.{Beside, nothing_beside, beside}
 use Rattle.ivy_heap.specs.HeapCalls.{HeapSide, HeapBegun, HeapTold, first_side, closed, heap_begun, heap_told, reply_told}
 
--- `number` is that of the call in progress, or of the last one that was in progress where there is
--- none
+-- `along` are the calls made along with the call in progress, whose words wait with its word, or were
+-- carried out with it: they are in progress after it, one after another. `number` is that of the call
+-- in progress, or of the last one that was in progress where there is none.
 pub record NodeMemory (S : Type 0) : Type 0 where
   pub coherence : Coherent S
   pub asked : Option Call
+  pub along : List Call
   pub number : ℕ
   pub side : HeapSide
+
+-- the calls in progress: the one that is asked for its reply, and behind it those made along
+abbrev pub in_progress : Option Call → List Call → List Call
+in_progress None along = []
+in_progress (Some called) along = called ∷ along
 
 -- the memory of a node as it begins
 abbrev pub first_memory : {S : Type 0} → Ops S → Config → ℕ → NodeMemory S
 first_memory ops c me = record {
   coherence = first_coherent ops c me;
   asked = None;
+  along = [];
   number = 0;
   side = first_side c me;
 }
@@ -60,14 +70,33 @@ first_reply None o = o
 abbrev pub reply_at : {S : Type 0} → NodeMemory S → Option Reply
 reply_at m = first_reply (reply_told m.side.errand) (reply_there m.coherence.done)
 
--- the memory without the call in progress: its reply was taken out, or it begins anew
-abbrev pub taken_out : {S : Type 0} → NodeMemory S → NodeMemory S
-taken_out m = record {
+-- the memory without the call in progress, which begins anew
+abbrev pub without_call : {S : Type 0} → NodeMemory S → NodeMemory S
+without_call m = record {
   coherence = record m.coherence { done = None };
   asked = None;
+  along = [];
   number = m.number;
   side = closed m.side;
 }
+
+-- the reply of the call in progress was taken out: the next of the calls made along with it is in
+-- progress now, and its word was carried out too
+abbrev pub taken_with : {S : Type 0} → NodeMemory S → List Call → NodeMemory S
+taken_with m [] = without_call m
+taken_with m (next ∷ calls) = record {
+  coherence = record m.coherence {
+    done = first_out m.coherence.done_more;
+    done_more = later_outs m.coherence.done_more;
+  };
+  asked = Some next;
+  along = calls;
+  number = m.number + 1;
+  side = closed m.side;
+}
+
+abbrev pub taken_out : {S : Type 0} → NodeMemory S → NodeMemory S
+taken_out m = taken_with m m.along
 
 -- other nodes have to be asked for the call in progress, which has no reply yet, or a page may be made
 pub record MayFailAgain {S : Type 0} (m : NodeMemory S) : Type 0 where
@@ -83,10 +112,14 @@ pub record CallBegun (S : Type 0) : Type 0 where
   pub after : NodeMemory S
   pub posted : List Parcel
 
--- the call in progress after a call of the heap began, and its number
+-- the call in progress after a call of the heap began, those made along with it, and its number
 abbrev pub asked_after : Option Call → Call → Answer → Option Call
 asked_after old call Awaited = Some call
 asked_after old call answer = old
+
+abbrev pub along_after : List Call → Answer → List Call
+along_after old Awaited = []
+along_after old answer = old
 
 abbrev pub number_after : ℕ → ℕ → Answer → ℕ
 number_after old number Awaited = number
@@ -97,12 +130,14 @@ module _ {S : Type 0} where
   abbrev pub answered : NodeMemory S → Call → ℕ → Begun S → Option Reply → CallBegun S
   answered m call number b None = record {
     answer = Awaited;
-    after = record { coherence = b.after; asked = Some call; number = number; side = m.side };
+    after =
+        record { coherence = b.after; asked = Some call; along = []; number = number; side = m.side };
     posted = b.posted;
   }
   answered m call number b (Some r) = record {
     answer = Given r;
-    after = record { coherence = b.after; asked = None; number = m.number; side = m.side };
+    after =
+        record { coherence = b.after; asked = None; along = []; number = m.number; side = m.side };
     posted = b.posted;
   }
 
@@ -114,11 +149,25 @@ module _ {S : Type 0} where
   abbrev pub unserved : NodeMemory S → CallBegun S
   unserved m = record { answer = Unserved; after = m; posted = [] }
 
+  -- its word waits from now on, with those of these calls
+  abbrev pub waiting : NodeMemory S → Call → Beside → ℕ → Begun S → CallBegun S
+  waiting m call more number b = record {
+    answer = Awaited;
+    after = record {
+      coherence = along more.words b.after;
+      asked = Some call;
+      along = more.calls;
+      number = number;
+      side = m.side;
+    };
+    posted = b.posted;
+  }
+
   -- a call whose word was carried out, or waits from now on, or can't begin beside another one
-  abbrev pub needed : NodeMemory S → Call → ℕ → Begun S → Need → CallBegun S
-  needed m call number b (need.Have o) = answered m call number b (reply_of o)
-  needed m call number b need.Started = answered m call number b None
-  needed m call number b need.Busy = unserved m
+  abbrev pub needed : NodeMemory S → Call → Beside → ℕ → Begun S → Need → CallBegun S
+  needed m call more number b (need.Have o) = answered m call number b (reply_of o)
+  needed m call more number b need.Started = waiting m call more number b
+  needed m call more number b need.Busy = unserved m
 
   -- a call that is tried again: where its word has no answer now either, or another one waits,
   -- nothing changes
@@ -138,6 +187,7 @@ module _ {S : Type 0} where
     after = record {
       coherence = m.coherence;
       asked = asked_after m.asked call b.answer;
+      along = along_after m.along b.answer;
       number = number_after m.number number b.answer;
       side = b.after;
     };
@@ -154,25 +204,26 @@ abbrev pub by_side : {S : Type 0} → NodeMemory S → HeapTold → MemoryEffect
 by_side m t = record { after = record m { side = t.after }; posted = t.posted }
 
 module _ {S : Type 0} (ops : Ops S) where
-  -- a call begins that is this to the memory
-  abbrev pub begun_as : NodeMemory S → Call → ℕ → Asked → CallBegun S
-  begun_as m call number (asked.Refused code) = refused m code
-  begun_as m call number (asked.Word page word) =
+  -- a call begins that is this to the memory, and these are made along with it
+  abbrev pub begun_as : NodeMemory S → Call → List Call → ℕ → Asked → CallBegun S
+  begun_as m call calls number (asked.Refused code) = refused m code
+  begun_as m call calls number (asked.Word page word) =
       let b = begun ops m.coherence page word number in
-      needed m call number b b.need
-  begun_as m call number (asked.Heap k) =
+      needed m call (beside m.coherence.config page word calls number) number b b.need
+  begun_as m call calls number (asked.Heap k) =
       heap_answered m call number (heap_begun m.coherence.me m.side k number)
 
   -- a call begins, as the one of this number
-  unfoldable pub call_begun : NodeMemory S → Call → ℕ → CallBegun S
-  call_begun m call number = begun_as m call number (asked_of m.coherence.config call)
+  unfoldable pub call_begun : NodeMemory S → Call → List Call → ℕ → CallBegun S
+  call_begun m call calls number =
+      begun_as m call calls number (asked_of m.coherence.config call)
 
   -- the word of the call in progress is tried again, as if the call began under its number
   abbrev pub tried_as : NodeMemory S → Call → Asked → CallBegun S
   tried_as m call (asked.Refused code) = unserved m
   tried_as m call (asked.Word page word) =
-      let b = begun ops (taken_out m).coherence page word m.number in
-      again m (needed (taken_out m) call m.number b b.need) b.need
+      let b = begun ops (without_call m).coherence page word m.number in
+      again m (needed (without_call m) call nothing_beside m.number b b.need) b.need
   tried_as m call (asked.Heap k) = unserved m
 
   -- a reply that is there is taken out, and without one the call is tried again

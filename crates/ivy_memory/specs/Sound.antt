@@ -1,9 +1,10 @@
 -- What holds of a node's memory, whatever comes to it.
-use Rattle.std.specs.Prelude.{◌≡◌, ◌≢◌, ◌≤◌, ◌<◌, ◌^◌, ℕ, Option, None, Some}
+use Rattle.std.specs.Prelude.{◌≡◌, ◌≢◌, ◌≤◌, ◌<◌, ◌+◌, ◌^◌, ℕ, [], length, All, Option, None, Some}
 use Rattle.ivy_model.specs.declared.Config.{Config}
 use Rattle.ivy_model.specs.declared.Call.{Call}
 use Rattle.ivy_model.specs.Legal.{HasWidth}
 use Rattle.ivy_pagetable.specs.declared.Out.{Out}
+use Rattle.ivy_pagetable.specs.declared.Word.{Word}
 use Rattle.ivy_pagetable.specs.Manager.{Ops}
 use Rattle.ivy_coherence.specs.Sound.{IsSound}
 use Rattle.ivy_heap.specs.ivy_alloc.Heap.{HeapState}
@@ -37,17 +38,25 @@ pub record IsSoundSide (c : Config) (me : ℕ) (in_progress : Option Call) (s : 
     pub owed : (k : HeapCall) → IsInProgress c in_progress k → (e : Errand) × (s.errand ≡ Some e)
     pub none : me ≡ 0 → s.errand ≡ None
 
+-- the call is a word of a page
+abbrev pub IsWordOfPage : Config → Call → Type 0
+IsWordOfPage c call = (page : ℕ) × (w : Word) × (asked_of c call ≡ kinds.Word page w)
+
 -- Without a call in progress no word waits, and none was carried out; nor does a word wait beside
 -- one carried out, or beside a call of the heap that node 0 was asked for. The call in progress has
--- a width that the memory knows, and a number that a message can carry.
+-- a width that the memory knows, and a number that a message can carry; so have those that are in
+-- progress after it, and each of them is a word of a page.
 pub record IsSoundMemory {S : Type 0} (ops : Ops S) (m : NodeMemory S) : Type 0 where
   pub coherent : IsSound ops m.coherence
   pub done : m.asked ≡ None → m.coherence.done ≡ None
   pub locked : m.asked ≡ None → m.coherence.locked ≡ None
   pub answered : (o : Out) → m.coherence.done ≡ Some o → m.coherence.locked ≡ None
   pub width : (call : Call) → m.asked ≡ Some call → HasWidth call
+  pub widths : All HasWidth m.along
+  pub of_pages : All (IsWordOfPage m.coherence.config) m.along
   pub numbered : (call : Call) → m.asked ≡ Some call → 1 ≤ m.number
-  pub small : m.number < 2 ^ 64
+  pub small : m.number + length m.along < 2 ^ 64
+  pub alone : m.asked ≡ None → m.along ≡ []
   pub side : IsSoundSide m.coherence.config m.coherence.me m.asked m.side
   -- node 0 was asked under the number of the call
   pub under : (k : HeapCall) (number : ℕ) → m.side.errand ≡ Some (errand.Asked k number)

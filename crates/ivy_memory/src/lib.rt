@@ -1,4 +1,6 @@
-//! The memory of one node, as its program sees it: one call at a time, over the node's coherence.
+//! The memory of one node, as its program sees it: one call at a time, or those of a row together, over the node's coherence.
+//!
+//! `memory` has the calls one by one, `row` those of a row that begin together, `taken` their replies, and `rest` what is left of a row.
 //!
 //! In a comment, numbers in brackets as [1, 17] are the fault numbers that a call may answer.
 #![tactic(auto)]
@@ -6,6 +8,9 @@
 mod asked;
 mod law;
 mod memory;
+mod rest;
+mod row;
+mod taken;
 
 pub use asked::{Asked, asked_of};
 pub use ivy_coherence;

@@ -1,5 +1,5 @@
 //! The memory of one node, as its program sees it: one call in progress, over the node's coherence.
-ghost use Rattle.std.specs.Prelude.{◌≡◌, ◌≢◌, ◌<◌, ◌≤◌, ◌↔◌, ◌⊎◌, ◌*◌, ℕ, false, None, IsSome, IfNone, IfSome, IfOk, IfErr, OnOk, OnErr, IsOkUnless, IsErrOf, length};
+ghost use Rattle.std.specs.Prelude.{◌≡◌, ◌≢◌, ◌<◌, ◌≤◌, ◌↔◌, ◌⊎◌, ◌*◌, ℕ, [], false, None, IsSome, IfNone, IfSome, IfOk, IfErr, OnOk, OnErr, IsOkUnless, IsErrOf, length};
 ghost use Rattle.ivy_model.specs.declared.Row.{Row};
 ghost use Rattle.ivy_model.specs.declared.Row.TheVariants.{Loads, Stores};
 ghost use Rattle.ivy_model.specs.Config.{IsConfig};
@@ -12,10 +12,11 @@ ghost use Rattle.ivy_wire.specs.Posts.{IsPostOf, HasRefused};
 ghost use Rattle.ivy_memory.specs.Asking.{CallHasToAsk, CallMayMakePage, IsCallWant, IsMessageWant, MayBeRefused, asked_of};
 ghost use Rattle.ivy_memory.specs.AtOnce.{AnswerAtOnce, IsRowAt, IsStored, is_row_at_hand, row_at_hand};
 ghost use Rattle.ivy_coherence.specs.Outcomes.{IsWantOfPage};
-ghost use Rattle.ivy_memory.specs.Memories.{first_memory, reply_of, reply_at, MayFailAgain, call_begun, polled, memory_handled, memory_told};
+ghost use Rattle.ivy_memory.specs.Memories.{first_memory, reply_of, reply_at, MayFailAgain, call_begun, polled, memory_handled, memory_told, taken_out};
 ghost use Rattle.ivy_coherence.specs.Limits.{most_posted};
 
 use crate::asked::{Asked, RowPlace, asked_of, row_place};
+use crate::rest::Rest;
 use ivy_coherence::{Coherence, Need};
 use ivy_heap::{Answer, HeapSide};
 use ivy_model::{Call, Config, Fault, Reply};
@@ -39,14 +40,16 @@ fn reply_of(out: Out) -> Option<Reply>
     }
 }
 
-/// A node's coherence, the call that its program has in progress, and its side of the calls of the heap.
+/// A node's coherence, the call that its program has in progress, those made along with it, and its side of the calls of the
+/// heap.
 #[derive(Drop)]
 pub struct Memory<M: Manager, A: Allocator> {
-    coherence: Coherence<M, A>,
-    asked: Option<Call>,
+    pub(crate) coherence: Coherence<M, A>,
+    pub(crate) asked: Option<Call>,
+    pub(crate) along: Rest<A>,
     /// The number of the call in progress, or of the last one that was.
-    number: u64,
-    side: HeapSide<A>,
+    pub(crate) number: u64,
+    pub(crate) side: HeapSide<A>,
 }
 
 impl<M: Manager, A: Allocator> Model for Memory<M, A> {
@@ -55,15 +58,17 @@ impl<M: Manager, A: Allocator> Model for Memory<M, A> {
 
     ghost Value = { memories.NodeMemory M };
 
+    ghost use Rattle.std.specs.Prelude.{◌≡◌};
     ghost use Rattle.std.specs.Coded.{codes};
     ghost use Rattle.ivy_pagetable.specs.NodeSets.{nodes_code};
     ghost use Rattle.ivy_heap.specs.ivy_alloc.Heap.{heap_state_code};
 
     ghost coded = { Prim.hlevel (codes, nodes_code, heap_state_code) };
 
-    ghost view = { λ m. record { coherence = m.coherence; asked = m.asked; number = m.number; side = m.side } };
+    ghost view = { λ m. record { coherence = m.coherence; asked = m.asked; along = m.along.calls; number = m.number; side = m.side } };
 
-    ghost invariant = { λ m. IsSoundMemory M.ops (record { coherence = m.coherence; asked = m.asked; number = m.number; side = m.side }) };
+    ghost invariant = { λ m. IsSoundMemory M.ops (record { coherence = m.coherence; asked = m.asked; along = m.along.calls; number = m.number; side = m.side })
+        × (m.along.size ≡ m.coherence.config.page_size) };
 }
 
 impl<M: Manager, A: Allocator + Copy> Memory<M, A> {
@@ -80,6 +85,7 @@ impl<M: Manager, A: Allocator + Copy> Memory<M, A> {
         Ok(Memory {
             coherence: Coherence::new(alloc, config, me, manager)?,
             asked: None,
+            along: Rest::new(alloc, config.page_size)?,
             number: 0,
             side: HeapSide::new(alloc, config, me)?,
         })
@@ -90,6 +96,14 @@ impl<M: Manager, A: Allocator + Copy> Memory<M, A> {
         ensures { result ≡ self.now.asked }
     {
         self.asked
+    }
+
+    /// How many calls were made along with the one in progress, and have no reply yet. It takes no memory.
+    pub fn along(&self) -> usize
+        ensures count { result ≡ length self.now.along }
+        ensures alone { self.now.asked ≡ None → self.now.along ≡ [] }
+    {
+        self.along.left()
     }
 
     /// How many messages fitted no rule, up to the greatest number. It takes no memory.
@@ -114,23 +128,23 @@ impl<M: Manager, A: Allocator + Copy> Memory<M, A> {
         requires post { IsPostOf P.ops post.old self.old.coherence.config self.old.coherence.me }
         ensures busy { IsErrOf result Fault.Busy ↔ IsSome self.old.asked }
         ensures unasked { IsSome self.old.asked → post.new ≡ post.old }
-        ensures few { length (call_begun M.ops self.old call number).posted ≤ most_posted }
+        ensures few { length (call_begun M.ops self.old call [] number).posted ≤ most_posted }
         ensures begins { IfOk result (λ answer. answer ≢ Answer.Unserved) }
-        ensures reply { IfOk result (λ answer. answer ≡ (call_begun M.ops self.old call number).answer) }
-        ensures ok { OnOk result (self.new ≡ (call_begun M.ops self.old call number).after) }
-        ensures posted { OnOk result (post.new ≡ P.ops.after post.old (call_begun M.ops self.old call number).posted) }
-        ensures took { OnOk result (P.ops.takes post.old (call_begun M.ops self.old call number).posted) }
+        ensures reply { IfOk result (λ answer. answer ≡ (call_begun M.ops self.old call [] number).answer) }
+        ensures ok { OnOk result (self.new ≡ (call_begun M.ops self.old call [] number).after) }
+        ensures posted { OnOk result (post.new ≡ P.ops.after post.old (call_begun M.ops self.old call [] number).posted) }
+        ensures took { OnOk result (P.ops.takes post.old (call_begun M.ops self.old call [] number).posted) }
         ensures err { OnErr result (self.new ≡ self.old) }
         ensures fault { self.old.asked ≡ None → IfErr result (λ fault.
             (IsCallWant self.old.coherence (asked_of self.old.coherence.config call)
-            (call_begun M.ops self.old call number).answer fault
+            (call_begun M.ops self.old call [] number).answer fault
             × (post.new ≡ post.old))
             ⊎ HasRefused P.ops post.old post.new
-            (call_begun M.ops self.old call number).posted fault) }
+            (call_begun M.ops self.old call [] number).posted fault) }
         ensures sure { self.old.asked ≡ None → OnErr result (CallHasToAsk self.old.coherence call
             ⊎ (CallMayMakePage self.old.coherence call
             ⊎ MayBeRefused (asked_of self.old.coherence.config call)
-            (call_begun M.ops self.old call number).answer)) }
+            (call_begun M.ops self.old call [] number).answer)) }
         ensures want { self.old.asked ≡ None → IfErr result IsWant }
     {
         if self.asked.is_some() {
@@ -175,9 +189,27 @@ impl<M: Manager, A: Allocator + Copy> Memory<M, A> {
         }
     }
 
+    /// The call in progress is over, whose reply is there. The next of those made along with it is in progress then, and its
+    /// word was carried out too.
+    fn take_out(&mut self)
+        requires called { IsSome self.old.asked }
+        requires there { IsSome (reply_at self.old) }
+        ensures { self.new ≡ taken_out self.old }
+    {
+        self.side.close();
+        let next = self.along.take();
+        self.asked = next;
+        if next.is_some() {
+            let _ = self.coherence.returned_next();
+            self.number += 1;
+        } else {
+            let _ = self.coherence.returned();
+        }
+    }
+
     #[tactic(auto, unfolding(crate::specs::Memories::polled))]
     /// The reply of the call in progress [1, 17]: it is there, or the call's word is tried again, under the number of
-    /// the call. The call is over with its reply.
+    /// the call. The call is over with its reply, and the next of those made along with it is in progress.
     ///
     /// Where the word has no answer now either, and where no call is in progress, nothing changes. Only a word that
     /// other nodes have to be asked for is refused by a fault, or, where there are more than 256 pages, one that is the
@@ -200,9 +232,7 @@ impl<M: Manager, A: Allocator + Copy> Memory<M, A> {
             return Ok(Answer::Unserved);
         };
         if let Some(reply) = self.reply() {
-            let _ = self.coherence.returned();
-            self.side.close();
-            self.asked = None;
+            self.take_out();
             return Ok(Answer::Given(reply));
         }
         if self.coherence.locked().is_some() {
@@ -216,6 +246,7 @@ impl<M: Manager, A: Allocator + Copy> Memory<M, A> {
                 Some(reply) => {
                     let _ = self.coherence.returned();
                     self.side.close();
+                    self.along.clear();
                     self.asked = None;
                     Ok(Answer::Given(reply))
                 }
@@ -224,6 +255,7 @@ impl<M: Manager, A: Allocator + Copy> Memory<M, A> {
             Need::Started => {
                 let _ = self.coherence.returned();
                 self.side.close();
+                self.along.clear();
                 Ok(Answer::Awaited)
             }
             Need::Busy => Ok(Answer::Unserved),

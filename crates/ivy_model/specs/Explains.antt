@@ -1,6 +1,6 @@
 -- What it means that one order of records explains what the nodes were answered: sequential
 -- consistency (Lamport 1979).
-use Rattle.std.specs.Prelude.{◌≡◌, ℕ, ◌==◌, List, [], ◌∷◌, ◌++◌, slice_get, Option, Some}
+use Rattle.std.specs.Prelude.{◌≡◌, ◌⊎◌, ℕ, ◌==◌, List, [], ◌++◌, map, slice_get, Some}
 use Rattle.std.specs.List.{filter}
 use Rattle.ivy_model.specs.declared.config.Config.{Config}
 use Rattle.ivy_model.specs.declared.call.Call.{Call}
@@ -11,17 +11,16 @@ use Rattle.ivy_model.specs.Legal.{Legal}
 abbrev pub part : ℕ → List Record → List Record
 part node order = filter (λ r. r.node == node) order
 
--- what a node was answered so far, and the call that it has in progress
+-- what a node was answered so far, and the calls that it has in progress: one, or those of a row that
+-- were made together
 pub record Answered : Type 0 where
   pub history : List Record
-  pub asked : Option Call
+  pub asked : List Call
 
--- what the order may have of a node past its history: nothing, or one record of the call in
--- progress
-abbrev pub IsOwed : Option Call → List Record → Type 0
-IsOwed asked [] = Unit {0}
-IsOwed asked (r ∷ []) = asked ≡ Some r.call
-IsOwed asked (r ∷ s ∷ rest) = ⊥
+-- what the order may have of a node past its history: nothing, or the records of the calls in
+-- progress, all of them
+abbrev pub IsOwed : List Call → List Record → Type 0
+IsOwed asked rest = (rest ≡ []) ⊎ (map (λ r. r.call) rest ≡ asked)
 
 -- the order is legal, and each node's part of it is what the node was answered
 pub record IsExplained (c : Config) (order : List Record) (nodes : List Answered) : Type 0 where

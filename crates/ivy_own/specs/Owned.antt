@@ -1,64 +1,43 @@
 -- A node with own code as it stands behind its lock, beside one half of the list of its answers.
-use Rattle.std.specs.Prelude.{◌≡◌, ◌⊎◌, ◌≤◌, ℕ, List, [], ◌∷◌, ◌++◌, length, All, Option, None, Some, option_map}
+use Rattle.std.specs.Prelude.{◌≡◌, ℕ, List, [], ◌∷◌, ◌++◌, Option, None, Some, option_map}
 use Rattle.ivy_model.specs.declared.Call.{Call}
 use Rattle.ivy_model.specs.declared.Record.{Record}
 use Rattle.ivy_model.specs.declared.Reply.{Reply}
-use Rattle.ivy_model.specs.Legal.{HasWidth}
 use Rattle.ivy_calls.specs.declared.answer.Answer.{Answer}
 use Rattle.ivy_calls.specs.Answers.{answers}
 use Rattle.ivy_twin.specs.Known.{Listed, listed}
-use Rattle.ivy_program.specs.Programs.{Called}
-use Rattle.ivy_program.specs.Steps.{Process, Asks, HasEnded, step_of}
 use Rattle.ivy_program.specs.Owned.{IsFree}
 use Rattle.ivy_moves.specs.Keeping.{last_of}
 use Rattle.ivy_seating.specs.ivy_site.Shown.{Shown}
-
--- own code that made some calls, each of a width that a word can have, and has come no further than they are
-pub record MakesCalls (p : Process) : Type 0 where
-  pub calls : List Call
-  pub program : p.program ≡ Called calls
-  pub widths : All HasWidth calls
-  pub within : p.state.place ≤ length calls
 
 -- the half is of the node's own list, which is what the node was answered
 pub record IsOwned (s : Shown) (half : Listed Answer) : Type 0 where
   pub number : half.number ≡ s.me
   pub list : half.list ≡ answers s.node.core.history
-  pub makes : MakesCalls s.node.core.process
-
--- the call is in progress, or the one with which the program goes on
-pub record IsNext (call : Call) (s : Shown) : Type 0 where
-  pub is : (s.node.core.memory.asked ≡ Some call)
-      ⊎ ((s.node.core.memory.asked ≡ None) × (step_of s.node.core.process ≡ Asks call))
-  pub goes : HasEnded s.node.core.process → ⊥
 
 -- the site is of this node, whose owner may make a call
 pub record IsReady (me : ℕ) (s : Shown) : Type 0 where
   pub of : s.me ≡ me
-  pub none : s.node.core.memory.asked ≡ None
   pub free : IsFree s.node.core.process
 
 -- the site is of this node, and the call is in progress there
 pub record IsAsked (me : ℕ) (call : Call) (s : Shown) : Type 0 where
   pub of : s.me ≡ me
-  pub next : IsNext call s
+  pub asked : s.node.core.memory.asked ≡ Some call
 
 -- the answer that came, if one did
 abbrev pub came : Call → Option Reply → List Answer
 came call None = []
 came call (Some reply) = record { call = call; reply = reply } ∷ []
 
--- a turn of own code for this call: the node has this answer more, or none, and else is as before
-pub record TurnsOwn (call : Call) (reply : Option Reply) (old new : Shown) : Type 0 where
-  pub me : new.me ≡ old.me
-  pub answers : answers new.node.core.history ≡ answers old.node.core.history ++ came call reply
-  pub makes : MakesCalls new.node.core.process
-
--- calls of own code one after another: the node has these answers more, and else is as before
+-- the node has these answers more, and else is as before
 pub record AnswersMore (more : List Answer) (old new : Shown) : Type 0 where
   pub me : new.me ≡ old.me
   pub answers : answers new.node.core.history ≡ answers old.node.core.history ++ more
-  pub makes : MakesCalls new.node.core.process
+
+-- a turn of own code for this call: the node has its answer more, or none
+abbrev pub TurnsOwn : Call → Option Reply → Shown → Shown → Type 0
+TurnsOwn call reply old new = AnswersMore (came call reply) old new
 
 -- the reply in the last record
 abbrev pub last_reply_in : List Record → Option Reply

@@ -3,7 +3,8 @@
 //! A node's work makes its calls one at a time, each by the node's own site, which stands behind the node's lock as in a
 //! session of programs. What a worker was answered is its site's history, though neither keeps a list of it for the
 //! other: two halves of a list that exists in proofs alone tie them ([`ivy_twin`]). Words in a row that are at hand are
-//! read or written with the lock taken once, and each of them is a call of its own in that list.
+//! read or written with the lock taken once; where the first is not, those of its page wait for the page together. Each of
+//! them is a call of its own in that list.
 //!
 //! In a comment, numbers in brackets as [1, 17] are the fault numbers that a call may answer.
 #![tactic(auto)]

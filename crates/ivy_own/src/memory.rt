@@ -1,12 +1,14 @@
 //! The memory of a session as the worker of one node has it.
-ghost use Rattle.std.specs.Prelude.{◌≡◌, Some, IfErr, MatchResult};
+ghost use Rattle.std.specs.Prelude.{◌≡◌, ◌*◌, ◌≤◌, Some, IfErr, MatchResult, length};
 ghost use Rattle.ivy_model.specs.Legal.{HasWidth};
+ghost use Rattle.ivy_model.specs.Rows.{numbers_in};
+ghost use Rattle.ivy_calls.specs.Rows.{in_row};
 ghost use Rattle.ivy_workers.specs.Stops.{IsStop};
-ghost use Rattle.ivy_own.specs.Owned.{grown};
+ghost use Rattle.ivy_own.specs.Owned.{grown, grown_by};
 
 use crate::owned::OwnSeat;
 use ivy_calls::{Answer, SharedMemory};
-use ivy_model::{Call, Fault, Reply};
+use ivy_model::{Call, Fault, Reply, Row};
 use ivy_twin::{Half, Naming, Tie};
 use ivy_workers::{ProgramWorker, Turnstile};
 use std::alloc::Allocator;
@@ -125,6 +127,47 @@ where
         }
         Err(Fault::TurnLimit)
     }
+
+    /// Rests until the loads in a row from `addr` on have their replies, and takes them. None where the session stops, which
+    /// the next call tells.
+    fn wait_for_loads(&mut self, addr: u64, into: &mut [u8]) -> usize
+        ensures grows { self.new ≡ grown_by (in_row Row.Loads addr (numbers_in result into.new)) self.old }
+        ensures fits { 8 * result ≤ length into.old }
+        ensures sized { length into.new ≡ length into.old }
+    {
+        for _ in 0..u64::MAX {
+            self.worker.rest();
+            let Some(mut seat) = self.worker.enter() else {
+                return 0;
+            };
+            let words = seat.take_loads(self.tie, &mut self.mine, self.me, addr, into);
+            self.worker.leave(seat);
+            if words > 0 {
+                return words;
+            }
+        }
+        0
+    }
+
+    /// Rests until the stores of these bytes in a row from `addr` on have their replies, and takes them. None where the
+    /// session stops, which the next call tells.
+    fn wait_for_stores(&mut self, addr: u64, from: &[u8]) -> usize
+        ensures grows { self.new ≡ grown_by (in_row Row.Stores addr (numbers_in result from.now)) self.old }
+        ensures fits { 8 * result ≤ length from.now }
+    {
+        for _ in 0..u64::MAX {
+            self.worker.rest();
+            let Some(mut seat) = self.worker.enter() else {
+                return 0;
+            };
+            let words = seat.take_stores(self.tie, &mut self.mine, self.me, addr, from);
+            self.worker.leave(seat);
+            if words > 0 {
+                return words;
+            }
+        }
+        0
+    }
 }
 
 impl<'r, 's, 'g, 'a, 't, T, J, A, R, G> SharedMemory
@@ -157,7 +200,11 @@ where
             return 0;
         };
         let words = seat.load_row(self.tie, &mut self.mine, self.me, addr, into);
+        let waits = words == 0 && seat.call_row(self.me, Row::Loads, addr, into);
         self.worker.leave(seat);
+        if waits {
+            return self.wait_for_loads(addr, into);
+        }
         words
     }
 
@@ -167,7 +214,11 @@ where
             return 0;
         };
         let words = seat.store_row(self.tie, &mut self.mine, self.me, addr, from);
+        let waits = words == 0 && seat.call_row(self.me, Row::Stores, addr, from);
         self.worker.leave(seat);
+        if waits {
+            return self.wait_for_stores(addr, from);
+        }
         words
     }
 }

@@ -1,12 +1,12 @@
 //! The place of a node with own code, as it stands behind its lock.
-ghost use Rattle.std.specs.Prelude.{◌≡◌, ◌*◌, ◌≤◌, None, IfErr, IfOk, IsTrue, MatchResult, length};
+ghost use Rattle.std.specs.Prelude.{◌≡◌, ◌*◌, ◌≤◌, Some, IfErr, IfOk, IsTrue, MatchResult, length};
 ghost use Rattle.ivy_model.specs.Legal.{HasWidth};
 ghost use Rattle.ivy_model.specs.Rows.{numbers_in};
 ghost use Rattle.ivy_program.specs.Owned.{IsFree};
 ghost use Rattle.ivy_calls.specs.Answers.{answers};
 ghost use Rattle.ivy_calls.specs.Rows.{in_row};
 ghost use Rattle.ivy_workers.specs.Stops.{IsStop};
-ghost use Rattle.ivy_own.specs.Owned.{IsOwned, IsNext, IsReady, IsAsked, MakesCalls, TurnsOwn, grown, grown_by, last_reply_in};
+ghost use Rattle.ivy_own.specs.Owned.{IsOwned, IsReady, IsAsked, TurnsOwn, grown, grown_by, last_reply_in};
 
 use ivy_calls::Answer;
 use ivy_model::{Call, Fault, Reply, Row};
@@ -73,6 +73,39 @@ pub(crate) trait OwnSeat<J: Naming, A: Allocator>: Seat {
         requires mine { mine.old.number ≡ me }
         ensures grows { mine.new ≡ grown_by (in_row Row.Stores addr (numbers_in result from.now)) mine.old }
         ensures fits { 8 * result ≤ length from.now };
+
+    /// The worker of node `me` makes the calls of words of 8 bytes in a row together, from `addr` on, where the first has
+    /// to wait: as many as lie in its page. It says whether it did. Their replies are taken later.
+    fn call_row(&mut self, me: u8, kind: Row, addr: u64, bytes: &[u8]) -> bool;
+
+    /// The worker of node `me` takes the replies to the loads in a row from `addr` on that are in progress: so many, which
+    /// it says; none where they are not there.
+    fn take_loads(
+        &mut self,
+        tie: &Tie<Answer, J, A>,
+        mine: &mut Half<Answer, J>,
+        me: u8,
+        addr: u64,
+        into: &mut [u8],
+    ) -> usize
+        requires mine { mine.old.number ≡ me }
+        ensures grows { mine.new ≡ grown_by (in_row Row.Loads addr (numbers_in result into.new)) mine.old }
+        ensures fits { 8 * result ≤ length into.old }
+        ensures sized { length into.new ≡ length into.old };
+
+    /// The worker of node `me` takes the replies to the stores of these bytes in a row from `addr` on that are in progress:
+    /// so many, which it says; none where they are not there.
+    fn take_stores(
+        &mut self,
+        tie: &Tie<Answer, J, A>,
+        mine: &mut Half<Answer, J>,
+        me: u8,
+        addr: u64,
+        from: &[u8],
+    ) -> usize
+        requires mine { mine.old.number ≡ me }
+        ensures grows { mine.new ≡ grown_by (in_row Row.Stores addr (numbers_in result from.now)) mine.old }
+        ensures fits { 8 * result ≤ length from.now };
 }
 
 /// The reply in the last record of a site.
@@ -92,9 +125,7 @@ fn begin_once<S: Setup, A: Allocator + Copy>(
     call: Call,
 ) -> Result<Option<Reply>, Fault>
     requires free { IsFree seated.old.site.node.core.process }
-    requires idle { seated.old.site.node.core.memory.asked ≡ None }
     requires width { HasWidth call }
-    requires makes { MakesCalls seated.old.site.node.core.process }
     ensures ether { seated.new.ether ≡ seated.old.ether }
     ensures done { MatchResult result (λ reply. TurnsOwn call reply seated.old.site seated.new.site) (λ _. seated.new ≡ seated.old) }
     ensures stop { IfErr result IsStop }
@@ -108,8 +139,7 @@ fn turn_once<S: Setup, A: Allocator + Copy>(
     seated: &mut Seated<'_, S, A>,
     call: Call,
 ) -> Result<Option<Reply>, Fault>
-    requires next { IsNext call seated.old.site }
-    requires makes { MakesCalls seated.old.site.node.core.process }
+    requires asked { seated.old.site.node.core.memory.asked ≡ Some call }
     ensures ether { seated.new.ether ≡ seated.old.ether }
     ensures done { MatchResult result (λ reply. TurnsOwn call reply seated.old.site seated.new.site) (λ _. seated.new ≡ seated.old) }
     ensures stop { IfErr result IsStop }
@@ -150,7 +180,7 @@ fn turn<S: Setup, J: Naming, A: Allocator + Copy>(
     call: Call,
 ) -> Result<Option<Reply>, Fault>
     requires owned { IsOwned seated.old.site half.old }
-    requires next { IsNext call seated.old.site }
+    requires asked { seated.old.site.node.core.memory.asked ≡ Some call }
     requires mine { mine.old.number ≡ half.old.number }
     ensures ether { seated.new.ether ≡ seated.old.ether }
     ensures owned { IsOwned seated.new.site half.new }
@@ -167,14 +197,14 @@ fn turn<S: Setup, J: Naming, A: Allocator + Copy>(
 fn is_ready<A: Allocator + Copy>(site: &Site<A>, me: u8) -> bool
     ensures { IsTrue result → IsReady me site.now }
 {
-    site.me() == me && site.asked().is_none() && site.is_free()
+    site.me() == me && site.is_free()
 }
 
 /// Whether the site is of node `me`, and this call is in progress there.
 fn is_asked<A: Allocator + Copy>(site: &Site<A>, me: u8, call: Call) -> bool
     ensures { IsTrue result → IsAsked me call site.now }
 {
-    site.me() == me && site.asked() == Some(call) && !site.ended()
+    site.me() == me && site.asked() == Some(call)
 }
 
 /// The owner of node `me` makes a call, and its first turn [1, 17, 21].
@@ -299,6 +329,83 @@ fn store_row_at<S: Setup, J: Naming, A: Allocator + Copy>(
     let words = seated.store_row(addr, from);
     tell_row(tie, half, mine, Row::Stores, addr, words, from);
     words
+}
+
+/// The owner of node `me` makes the calls of words of 8 bytes in a row together, from `addr` on, where the first has to
+/// wait. It says whether it did. Where the site has no memory for them none was made, and a call tells that.
+fn call_row_at<S: Setup, J: Naming, A: Allocator + Copy>(
+    seated: &mut Seated<'_, S, A>,
+    half: &Half<Answer, J>,
+    me: u8,
+    kind: Row,
+    addr: u64,
+    bytes: &[u8],
+) -> bool
+    requires owned { IsOwned seated.old.site half.now }
+    ensures ether { seated.new.ether ≡ seated.old.ether }
+    ensures owned { IsOwned seated.new.site half.now }
+{
+    let _ = half;
+    if seated.site().me() != me {
+        return false;
+    }
+    match seated.call_row(kind, addr, bytes.len() / 8, bytes) {
+        Ok(words) => words > 0,
+        Err(_) => false,
+    }
+}
+
+/// The owner of node `me` takes the replies to the loads in a row from `addr` on that are in progress. None where the site
+/// is of another node.
+fn take_loads_at<S: Setup, J: Naming, A: Allocator + Copy>(
+    seated: &mut Seated<'_, S, A>,
+    half: &mut Half<Answer, J>,
+    tie: &Tie<Answer, J, A>,
+    mine: &mut Half<Answer, J>,
+    me: u8,
+    addr: u64,
+    into: &mut [u8],
+) -> usize
+    requires owned { IsOwned seated.old.site half.old }
+    requires mine { mine.old.number ≡ me }
+    ensures ether { seated.new.ether ≡ seated.old.ether }
+    ensures owned { IsOwned seated.new.site half.new }
+    ensures grows { mine.new ≡ grown_by (in_row Row.Loads addr (numbers_in result into.new)) mine.old }
+    ensures fits { 8 * result ≤ length into.old }
+    ensures sized { length into.new ≡ length into.old }
+{
+    if seated.site().me() != me {
+        return 0;
+    }
+    let taken = seated.take_loads(addr, into);
+    tell_row(tie, half, mine, Row::Loads, addr, taken, into);
+    taken
+}
+
+/// The owner of node `me` takes the replies to the stores of these bytes in a row from `addr` on that are in progress. None
+/// where the site is of another node.
+fn take_stores_at<S: Setup, J: Naming, A: Allocator + Copy>(
+    seated: &mut Seated<'_, S, A>,
+    half: &mut Half<Answer, J>,
+    tie: &Tie<Answer, J, A>,
+    mine: &mut Half<Answer, J>,
+    me: u8,
+    addr: u64,
+    from: &[u8],
+) -> usize
+    requires owned { IsOwned seated.old.site half.old }
+    requires mine { mine.old.number ≡ me }
+    ensures ether { seated.new.ether ≡ seated.old.ether }
+    ensures owned { IsOwned seated.new.site half.new }
+    ensures grows { mine.new ≡ grown_by (in_row Row.Stores addr (numbers_in result from.now)) mine.old }
+    ensures fits { 8 * result ≤ length from.now }
+{
+    if seated.site().me() != me {
+        return 0;
+    }
+    let taken = seated.take_stores(addr, from);
+    tell_row(tie, half, mine, Row::Stores, addr, taken, from);
+    taken
 }
 
 /// One turn more for the call of node `me` that is in progress [1, 17, 21].
@@ -456,5 +563,31 @@ impl<'e, S: Setup, H: Home, J: Naming, A: Allocator + Copy> OwnSeat<J, A>
         from: &[u8],
     ) -> usize {
         store_row_at(&mut self.seated, &mut self.half, tie, mine, me, addr, from)
+    }
+
+    fn call_row(&mut self, me: u8, kind: Row, addr: u64, bytes: &[u8]) -> bool {
+        call_row_at(&mut self.seated, &self.half, me, kind, addr, bytes)
+    }
+
+    fn take_loads(
+        &mut self,
+        tie: &Tie<Answer, J, A>,
+        mine: &mut Half<Answer, J>,
+        me: u8,
+        addr: u64,
+        into: &mut [u8],
+    ) -> usize {
+        take_loads_at(&mut self.seated, &mut self.half, tie, mine, me, addr, into)
+    }
+
+    fn take_stores(
+        &mut self,
+        tie: &Tie<Answer, J, A>,
+        mine: &mut Half<Answer, J>,
+        me: u8,
+        addr: u64,
+        from: &[u8],
+    ) -> usize {
+        take_stores_at(&mut self.seated, &mut self.half, tie, mine, me, addr, from)
     }
 }

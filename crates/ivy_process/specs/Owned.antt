@@ -9,7 +9,7 @@ use Rattle.ivy_join.specs.ivy_lines.Own.{Entry, answers_in, calls_in, entry_line
 use Rattle.ivy_join.specs.ivy_site.Sites.{IsMadeByEvents}
 use Rattle.ivy_join.specs.Joining.{program_in}
 use Rattle.ivy_moves.specs.Marks.{Mark, marks}
-use Rattle.ivy_program.specs.Programs.{Called}
+use Rattle.ivy_program.specs.Programs.{Called, one_by_one}
 use Rattle.ivy_process.specs.declared.failure.Failure.{Failure}
 use Rattle.ivy_process.specs.declared.recalling.Recalled.{Recalled}
 use Rattle.ivy_process.specs.declared.recalling.Recalled.TheVariants.{Told, Open, New}
@@ -20,7 +20,7 @@ use Rattle.ivy_process.specs.Logging.{Served}
 pub record IsOpened (head : Head) (log : List Entry) (new : Served) : Type 0 where
   pub config : new.site.config ≡ head.config
   pub number : new.site.me ≡ head.me
-  pub runs : program_in new.site ≡ Called (calls_in log)
+  pub runs : program_in new.site ≡ Called (one_by_one (calls_in log))
   pub events : new.site.events ≡ marks (events_in log)
   pub made : IsMadeByEvents new.site
   pub whole : new.unlogged ≡ []

@@ -1,7 +1,7 @@
 //! What a node in a process may use, and what it did not take.
 
 /// What a node in a process may use.
-#[derive(Clone, Copy)]
+#[derive(Clone, Copy, Debug)]
 pub struct Limits {
     /// So many milliseconds pass between pulses, at least.
     pub pulse_millis: u64,
@@ -12,7 +12,7 @@ pub struct Limits {
 }
 
 /// What a node did not take.
-#[derive(Clone, Copy)]
+#[derive(Clone, Copy, Debug)]
 pub struct Told {
     /// Lines that have no frame.
     pub bad_lines: u64,

@@ -20,11 +20,11 @@ use ivy_join::ivy_lines::{
     Entry, Head, Log, OwnLog, parse_frame, push_answered, push_asked, push_event, push_head,
     push_own_head,
 };
-use ivy_join::ivy_site::Verdict;
-use ivy_join::{LoneSite, NotPlayed, replay, replay_own};
+use ivy_join::ivy_site::{Site, Verdict};
+use ivy_join::{NotPlayed, replay, replay_own};
 use ivy_model::{Call, Config, Fault, Reply};
-use ivy_moves::Event;
 use ivy_moves::ivy_link::MOST_AHEAD;
+use ivy_moves::{Event, Keep};
 use ivy_program::Program;
 use ivy_wire::{Bytes, read};
 use std::alloc::Global;
@@ -36,7 +36,7 @@ use std::marker::Model;
 /// What ends one is proved here, once, and not again in each crate that has one.
 pub struct Node {
     alloc: Global,
-    lone: LoneSite<Global>,
+    site: Site<Global>,
     limits: Limits,
     /// So many turns its program made.
     turns: u64,
@@ -55,7 +55,7 @@ impl Drop for Node {
     fn drop(self) {
         let Node {
             alloc: _,
-            lone: _,
+            site: _,
             limits: _,
             turns: _,
             acknowledged: _,
@@ -78,7 +78,7 @@ impl Model for Node {
 
     ghost coded = { Prim.hlevel (codes, nodes_code, heap_state_code) };
 
-    ghost view = { λ n. served n.lone.site (string_bytes n.lines) };
+    ghost view = { λ n. served n.site (string_bytes n.lines) };
 }
 
 impl Node {
@@ -94,8 +94,8 @@ impl Node {
         requires here { me < config.now.nodes }
         ensures { IfOk result (λ node. node ≡ served (first_keeping Nothing config.now me program) []) }
     {
-        let lone = LoneSite::of_program(alloc, config, me, program)?;
-        Node::at_beginning(alloc, lone, limits)
+        let site = Site::keeping(alloc, config, me, program, Keep::Nothing)?;
+        Node::at_beginning(alloc, site, limits)
     }
 
     /// The node with own code of this log, as it was when its log ended; where that has no entry, it has made no call yet.
@@ -107,9 +107,9 @@ impl Node {
         ensures { IfOk result (λ node. IsOpened log.now.head log.now.entries.items node) }
     {
         let Head { me, config } = log.head;
-        let lone = LoneSite::of_own_code(alloc, &config, me)?;
-        let mut node = Node::at_beginning(alloc, lone, limits)?;
-        match replay_own(&mut node.lone.site, &log.entries) {
+        let site = Site::open_keeping(alloc, &config, me, Keep::Nothing)?;
+        let mut node = Node::at_beginning(alloc, site, limits)?;
+        match replay_own(&mut node.site, &log.entries) {
             Ok(()) => {}
             Err(NotPlayed::Refused(fault)) => return Err(Failure::Refused(fault)),
             Err(NotPlayed::NoSuchEvent(place)) => {
@@ -122,13 +122,13 @@ impl Node {
     }
 
     /// The node of a site whose program is at its beginning.
-    fn at_beginning(alloc: Global, lone: LoneSite<Global>, limits: Limits) -> Result<Node, Failure>
-        ensures { IfOk result (λ node. node ≡ served lone.site []) }
+    fn at_beginning(alloc: Global, site: Site<Global>, limits: Limits) -> Result<Node, Failure>
+        ensures { IfOk result (λ node. node ≡ served site []) }
     {
-        let acknowledged = vec![in alloc; 0u64; usize::from(lone.site.config().nodes)]?;
+        let acknowledged = vec![in alloc; 0u64; usize::from(site.config().nodes)]?;
         Ok(Node {
             alloc,
-            lone,
+            site,
             limits,
             turns: 0,
             acknowledged,
@@ -157,7 +157,7 @@ impl Node {
         ensures { IfOk result (λ node. IsRestarted config.now me program log.now.events.items node) }
     {
         let mut node = Node::start(alloc, config, me, program, limits)?;
-        match replay(&mut node.lone.site, &log.events) {
+        match replay(&mut node.site, &log.events) {
             Ok(()) => {}
             Err(NotPlayed::Refused(fault)) => return Err(Failure::Refused(fault)),
             Err(NotPlayed::NoSuchEvent(place)) => {
@@ -173,7 +173,7 @@ impl Node {
     fn learn(&mut self, event: &Event<Bytes<Global>>)
         ensures { self.new ≡ self.old }
     {
-        let config = self.lone.site.config();
+        let config = self.site.config();
         if let Event::Delivered(string) = event {
             if let Ok(frame) = read(&config, string.bytes()) {
                 self.acknowledge(frame.source, frame.ack);
@@ -205,12 +205,12 @@ impl Node {
     pub fn me(&self) -> u8
         ensures { result ≡ self.now.site.me }
     {
-        self.lone.site.me()
+        self.site.me()
     }
 
     /// Whether its program has ended.
     pub fn ended(&self) -> bool {
-        self.lone.site.ended()
+        self.site.ended()
     }
 
     /// What it may use.
@@ -246,7 +246,7 @@ impl Node {
         ensures { OnOk result (GoesOn self.old self.new) }
     {
         for _ in 0..MOST_AHEAD {
-            let Some(string) = self.lone.site.go_on_with(from)? else {
+            let Some(string) = self.site.go_on_with(from)? else {
                 break;
             };
             self.note(&Event::Delivered(string))?;
@@ -258,7 +258,7 @@ impl Node {
     fn deliver(&mut self, string: Bytes<Global>) -> Result<(), Failure>
         ensures { OnOk result (GoesOn self.old self.new) }
     {
-        let (verdict, from) = self.lone.site.deliver_alone(&string)?;
+        let (verdict, from) = self.site.deliver_alone(&string)?;
         if verdict == Verdict::NotMine {
             return Ok(());
         }
@@ -274,12 +274,12 @@ impl Node {
         ensures { OnOk result (GoesOn self.old self.new) }
     {
         let string = Bytes::from_vec(self.alloc, bytes)?;
-        let config = self.lone.site.config();
+        let config = self.site.config();
         let Ok(frame) = read(&config, string.bytes()) else {
             self.told.no_frames = self.told.no_frames.saturating_add(1);
             return Ok(());
         };
-        if frame.dest == self.lone.site.me() {
+        if frame.dest == self.site.me() {
             self.acknowledge(frame.source, frame.ack);
         }
         self.deliver(string)
@@ -294,7 +294,7 @@ impl Node {
                 self.told.bad_lines = self.told.bad_lines.saturating_add(1);
                 Ok(())
             }
-            Some(frame) if frame.to == u64::from(self.lone.site.me()) => self.take(frame.bytes),
+            Some(frame) if frame.to == u64::from(self.site.me()) => self.take(frame.bytes),
             Some(_) => Ok(()),
         }
     }
@@ -304,10 +304,10 @@ impl Node {
         ensures { OnOk result (GoesOn self.old self.new) }
     {
         let left = self.limits.turns.saturating_sub(self.turns);
-        if left == 0 && !self.lone.site.ended() {
+        if left == 0 && !self.site.ended() {
             return Err(Failure::Refused(Fault::TurnLimit));
         }
-        let made = make_turns(&mut self.lone.site, most.min(left))?;
+        let made = make_turns(&mut self.site, most.min(left))?;
         self.turns = self.turns.saturating_add(made);
         if made > 0 {
             self.note(&Event::Turns(made))?;
@@ -319,7 +319,7 @@ impl Node {
     fn take_frames(&mut self) -> Result<(), Failure>
         ensures { OnOk result (IsEmptied self.old self.new) }
     {
-        push_frames(self.alloc, &mut self.lone.site, &mut self.frames)?;
+        push_frames(self.alloc, &mut self.site, &mut self.frames)?;
         Ok(())
     }
 
@@ -327,12 +327,12 @@ impl Node {
     fn pulse_to(&mut self, to: u8) -> Result<(), Failure>
         ensures { OnOk result (GoesOn self.old self.new) }
     {
-        if to >= self.lone.site.config().nodes || to == self.lone.site.me() {
+        if to >= self.site.config().nodes || to == self.site.me() {
             return Ok(());
         }
         self.take_frames()?;
-        self.lone.site.pulse(to)?;
-        if self.lone.site.has_frame() {
+        self.site.pulse(to)?;
+        if self.site.has_frame() {
             self.note(&Event::Pulsed(to))?;
         }
         Ok(())
@@ -342,7 +342,7 @@ impl Node {
     pub fn pulse(&mut self) -> Result<(), Failure>
         ensures { OnOk result (GoesOn self.old self.new) }
     {
-        for to in 0..self.lone.site.config().nodes {
+        for to in 0..self.site.config().nodes {
             self.pulse_to(to)?;
         }
         Ok(())
@@ -352,8 +352,8 @@ impl Node {
     pub fn go_on_all(&mut self) -> Result<(), Failure>
         ensures { OnOk result (GoesOn self.old self.new) }
     {
-        for from in 0..self.lone.site.config().nodes {
-            if from < self.lone.site.config().nodes {
+        for from in 0..self.site.config().nodes {
+            if from < self.site.config().nodes {
                 self.go_on(from)?;
             }
         }
@@ -362,10 +362,9 @@ impl Node {
 
     /// Whether no more messages for one node are kept than may be.
     pub fn check_kept(&self) -> Result<(), Failure> {
-        for to in 0..self.lone.site.config().nodes {
+        for to in 0..self.site.config().nodes {
             let acknowledged = self.acknowledged.get(usize::from(to)).copied();
             let kept = self
-                .lone
                 .site
                 .sent_to(to)
                 .saturating_sub(acknowledged.unwrap_or(0));
@@ -382,8 +381,8 @@ impl Node {
     {
         let mut text = String::new(self.alloc);
         let head = Head {
-            me: self.lone.site.me(),
-            config: self.lone.site.config(),
+            me: self.site.me(),
+            config: self.site.config(),
         };
         push_head(&mut text, &head)?;
         log.write_all(text.as_bytes()).map_err(Failure::of_log)?;
@@ -396,8 +395,8 @@ impl Node {
     {
         let mut text = String::new(self.alloc);
         let head = Head {
-            me: self.lone.site.me(),
-            config: self.lone.site.config(),
+            me: self.site.me(),
+            config: self.site.config(),
         };
         push_own_head(&mut text, &head)?;
         log.write_all(text.as_bytes()).map_err(Failure::of_log)?;
@@ -408,7 +407,7 @@ impl Node {
     pub(crate) fn is_free(&self) -> bool
         ensures { IsTrue result ↔ IsFree self.now.site.node.core.process }
     {
-        self.lone.site.is_free()
+        self.site.is_free()
     }
 
     /// Its code makes a call, which is noted, where the call before has its reply.
@@ -419,7 +418,7 @@ impl Node {
         if !self.is_free() {
             return Err(Failure::Unanswered);
         }
-        self.lone.site.hand(call)?;
+        self.site.hand(call)?;
         push_asked(&mut self.lines, call)?;
         Ok(())
     }
@@ -428,7 +427,7 @@ impl Node {
     pub(crate) fn answer(&mut self, call: Call) -> Result<Reply, Failure>
         ensures { IfOk result (λ reply. Notes (Answered (record { call = call; reply = reply })) self.old self.new) }
     {
-        let Some(record) = self.lone.site.last_record() else {
+        let Some(record) = self.site.last_record() else {
             return Err(Failure::Unanswered);
         };
         let reply = record.reply;
@@ -469,8 +468,8 @@ impl Node {
     fn print<E: Write>(&mut self, err: &mut E)
         ensures { self.new ≡ self.old }
     {
-        let me = self.lone.site.me();
-        let output = self.lone.site.output();
+        let me = self.site.me();
+        let output = self.site.output();
         for value in output.get(self.printed..).unwrap_or(&[]) {
             // The log has what led to it, so a value that is not told is told after a new start.
             let _ = writeln!(err, "node {me}: {value}");

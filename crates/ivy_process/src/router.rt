@@ -15,7 +15,7 @@ const QUIET_MILLIS: u64 = 2;
 const LONG_MILLIS: u64 = 1000;
 
 /// What is done to lines.
-#[derive(Clone, Copy)]
+#[derive(Clone, Copy, Debug)]
 pub struct Harm {
     /// So many of a hundred are lost.
     pub lose: u64,

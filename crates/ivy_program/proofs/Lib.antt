@@ -1,6 +1,8 @@
 pub mod Widths
 pub mod Nexts
 pub mod Handing
+pub mod Along
+pub mod Awaited
 pub mod Running
 pub mod Places
 pub mod Placed

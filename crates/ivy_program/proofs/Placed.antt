@@ -1,11 +1,11 @@
 -- The steps of a program that is written down.
-use Rattle.std.proofs.Common.{◌≡◌, ℕ, Some, length, slice_get, refl}
+use Rattle.std.proofs.Common.{◌≡◌, ℕ, [], Some, length, slice_get, refl}
 use Rattle.ivy_model.specs.declared.Reply.{Reply}
 use Rattle.ivy_program.specs.declared.instruction.Instruction.{Instruction}
 use Rattle.ivy_program.specs.Instructions.{JumpsWithin}
 use Rattle.ivy_program.specs.Programs.{Program, Written, Called, IsWritten, instructions_of}
 use Rattle.ivy_program.specs.States.{State}
-use Rattle.ivy_program.specs.Steps.{step, step_at, after_reply, replied}
+use Rattle.ivy_program.specs.Steps.{step, step_at, after_reply, replied, along}
 use Rattle.ivy_program.proofs.Places.{jumps_inside}
 
 -- it does what its next instruction says
@@ -19,6 +19,11 @@ pub written_reply : (p : Program) (s : State) (reply : Reply) → IsWritten p
     → after_reply p s reply ≡ replied s (slice_get (instructions_of p) s.place) reply
 written_reply (Written is) s reply w = refl
 written_reply (Called calls) s reply w = absurd w
+
+-- no call is made along with its next one
+pub written_alone : (p : Program) (s : State) → IsWritten p → along p s ≡ []
+written_alone (Written is) s w = refl
+written_alone (Called rows) s w = absurd w
 
 -- each of its instructions jumps inside it
 pub written_jumps : (p : Program) (k : ℕ) (i : Instruction) → IsWritten p

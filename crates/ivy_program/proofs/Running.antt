@@ -9,7 +9,7 @@ use Rattle.ivy_program.specs.declared.instruction.Instruction.{Instruction}
 use Rattle.ivy_program.specs.declared.instruction.Instruction.TheVariants.{Set, Move, Compute, Status, Print, Jump, JumpIfZero, Stop}
 use Rattle.ivy_program.specs.Instructions.{bytes_in}
 use Rattle.ivy_program.specs.States.{State}
-use Rattle.ivy_program.specs.Programs.{Program, Written, Called, has_width}
+use Rattle.ivy_program.specs.Programs.{Program, Written, Called, calls_in, has_width}
 use Rattle.ivy_program.specs.Steps.{Step, Local, Asks, Ends, step, step_at, called_at, after_reply}
 use Rattle.ivy_program.specs.Runs.{StepsTo, Runs}
 use Rattle.ivy_program.proofs.Widths.{has_width_found}
@@ -71,4 +71,4 @@ called_legal (Some d) c h = called_by (has_width d) d c refl h
 -- an access that a program asks for has 1, 2, 4 or 8 bytes
 pub asked_legal : (p : Program) (s : State) (c : Call) → step p s ≡ Asks c → HasWidth c
 asked_legal (Written is) s c h = legal_at (length is) s (slice_get is s.place) c h
-asked_legal (Called calls) s c h = called_legal (slice_get calls s.place) c h
+asked_legal (Called rows) s c h = called_legal (slice_get (calls_in rows) s.place) c h

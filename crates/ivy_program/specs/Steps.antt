@@ -1,5 +1,5 @@
 -- One instruction of a program, and what its reply changes.
-use Rattle.std.specs.Prelude.{◌≡◌, ◌==◌, ◌+◌, ℕ, Option, Some, None, slice_get, length, IsSomeAnd, if◌then◌else◌}
+use Rattle.std.specs.Prelude.{◌≡◌, ◌==◌, ◌+◌, ◌-◌, ℕ, List, [], ◌∷◌, Option, Some, None, drop, nat_lt, slice_get, length, IsSomeAnd, if◌then◌else◌}
 use Rattle.ivy_model.specs.declared.Call.{Call}
 use Rattle.ivy_model.specs.declared.Call.TheVariants as call
 use Rattle.ivy_model.specs.declared.Reply.{Reply}
@@ -9,7 +9,7 @@ use Rattle.ivy_program.specs.declared.instruction.Instruction.TheVariants.{Set, 
 use Rattle.ivy_program.specs.declared.machine.Next.{Next}
 use Rattle.ivy_program.specs.declared.machine.Next.TheVariants as next
 use Rattle.ivy_program.specs.Instructions.{bytes_in, result_of, receiver_of}
-use Rattle.ivy_program.specs.Programs.{Program, Written, Called, instructions_of, has_width}
+use Rattle.ivy_program.specs.Programs.{Program, Written, Called, calls_in, instructions_of, has_width}
 use Rattle.ivy_program.specs.States.{State, value_in, gone_to, moved_on, put, printed, with_status}
 
 -- what comes next: an instruction of its own and the state after it, a call of the memory, or the
@@ -83,7 +83,7 @@ called_at None = Ends
 abbrev pub step : Program → State → Step
 step (Written instructions) s =
     step_at (length instructions) s (slice_get instructions s.place)
-step (Called calls) s = called_at (slice_get calls s.place)
+step (Called rows) s = called_at (slice_get (calls_in rows) s.place)
 
 -- the value goes to the register, if there is one for it
 abbrev pub received : State → Option ℕ → ℕ → State
@@ -105,7 +105,7 @@ replied s i (Refused code) = moved_on (with_status s code)
 -- replies itself
 abbrev pub after_reply : Program → State → Reply → State
 after_reply (Written instructions) s reply = replied s (slice_get instructions s.place) reply
-after_reply (Called calls) s reply = moved_on s
+after_reply (Called rows) s reply = moved_on s
 
 -- the instruction adds to the output
 abbrev pub Prints : Instruction → Type 0
@@ -146,3 +146,37 @@ TellsStep next.Ended old new = (step_of old ≡ Ends) × (new ≡ old)
 -- the program goes on with the reply to its call
 abbrev pub answered_with : Process → Reply → Process
 answered_with p reply = at_state p (after_reply p.program p.state reply)
+
+-- the program goes on with these replies, one after another
+abbrev pub answered_all : Process → List Reply → Process
+answered_all p [] = p
+answered_all p (reply ∷ replies) = answered_all (answered_with p reply) replies
+
+-- of these calls those up to the first whose width no word can have
+abbrev pub up_to_width : List Call → List Call
+up_to_width [] = []
+up_to_width (call ∷ calls) = if has_width call then call ∷ up_to_width calls else []
+
+-- the calls behind this place in its row
+abbrev pub behind : List (List Call) → ℕ → List Call
+behind [] place = []
+behind (row ∷ rows) place =
+    if nat_lt place (length row) then drop (place + 1) row else behind rows (place - length row)
+
+-- what is made along with the program's next call: the calls behind it in its row
+abbrev pub along : Program → State → List Call
+along (Written instructions) s = []
+along (Called rows) s = up_to_width (behind rows s.place)
+
+abbrev pub along_of : Process → List Call
+along_of p = along p.program p.state
+
+-- the program makes these calls one after another, whatever each of them is answered
+abbrev pub AsksRow : Process → List Call → Type 0
+AsksRow p [] = Unit {0}
+AsksRow p (call ∷ calls) =
+    (step_of p ≡ Asks call) × ((r : Reply) → AsksRow (answered_with p r) calls)
+
+-- so many calls, whatever each of them is answered
+abbrev pub AsksMany : Process → ℕ → Type 0
+AsksMany p count = (calls : List Call) × (length calls ≡ count) × AsksRow p calls

@@ -1,42 +1,53 @@
-//! Own code as a program: the calls that a node's owner makes, one at a time.
-ghost use Rattle.std.specs.Prelude.{◌≡◌, ◌↔◌, [], ◌∷◌, IsTrue};
+//! Own code as a program: the calls that a node's owner makes, one at a time or a row of them together.
+ghost use Rattle.std.specs.Prelude.{◌≡◌, ◌↔◌, ◌+◌, ◌-◌, ◌*◌, ◌^◌, ◌<◌, ◌≤◌, [], ◌∷◌, drop, length, slice_get, IsTrue};
+ghost use Rattle.ivy_model.specs.Rows.{calls_of, numbers_in, row};
 
 use crate::machine::Next;
 use crate::story::Story;
 use ivy_model::{Call, Row};
 use std::marker::Model;
 
-/// The calls that were made so far, of which none is kept but the one that has no reply yet.
+/// The calls that were made so far, of which none is kept but the last of those without a reply.
 ///
 /// Contracts see the program that they are, and its state.
 #[derive(Drop)]
 pub(crate) struct Caller {
-    answered: Story,
-    waiting: Option<Call>,
+    told: Story,
+    last: Option<Call>,
+    left: usize,
 }
 
 impl Model for Caller {
-    ghost use Rattle.std.specs.Prelude.{IfSome};
-    ghost use Rattle.ivy_model.specs.Legal.{HasWidth};
-    ghost use Rattle.ivy_program.specs.Owned.{asking};
+    ghost use Rattle.ivy_program.specs.Owned.{IsLastOf, awaiting};
     ghost use Rattle.ivy_program.specs.Steps.{Process};
 
     ghost Value = { Process };
 
-    ghost view = { λ c. asking c.answered.calls c.waiting };
+    ghost view = { λ c. awaiting c.told.rows c.left };
 
-    ghost invariant = { λ c. IfSome c.waiting HasWidth };
+    ghost invariant = { λ c. IsLastOf c.told.rows c.last c.left };
+}
+
+/// The call of the last of so many words in a row from `addr` on, whose bytes these are; none of no words.
+fn last_call(kind: Row, addr: u64, words: usize, bytes: &[u8]) -> Option<Call>
+    requires within { 8 * words ≤ length bytes.now }
+    requires small { addr + 8 * words < 2 ^ 64 }
+    ensures { result ≡ slice_get (calls_of (row kind 0 addr (numbers_in words bytes.now))) (words - 1) }
+{
+    match kind.last(0, addr, words, bytes) {
+        Some(record) => Some(record.call),
+        None => None,
+    }
 }
 
 impl Caller {
     ghost use Rattle.ivy_program.specs.Calls.{NamesWidth};
     ghost use Rattle.ivy_program.specs.Owned.{AsksNext, Rests, asking, process_handed};
-    ghost use Rattle.ivy_model.specs.Rows.{calls_of, numbers_in, row};
     ghost use Rattle.std.specs.Prelude.{List, None, ◌++◌};
     ghost use Rattle.ivy_model.specs.declared.Call.{Call};
-    ghost use Rattle.ivy_program.specs.Programs.{Called, IsCalled};
+    ghost use Rattle.ivy_program.specs.Programs.{Called, IsCalled, one_by_one};
     ghost use Rattle.ivy_program.specs.States.{first_state};
-    ghost use Rattle.ivy_program.specs.Steps.{IsAsking, HasEnded, TellsStep, answered_with};
+    ghost use Rattle.ivy_program.specs.Steps.{AsksMany, IsAsking, HasEnded, TellsStep, along_of, answered_all, answered_with};
     ghost use Rattle.ivy_model.specs.Legal.{HasWidth};
     ghost use Rattle.ivy_model.specs.declared.Reply.{Reply};
 
@@ -45,83 +56,126 @@ impl Caller {
         ensures { result ≡ record { program = Called []; state = first_state } }
     {
         Caller {
-            answered: Story::new(),
-            waiting: None,
+            told: Story::new(),
+            last: None,
+            left: 0,
         }
     }
 
-    /// The call that has no reply yet, if there is one.
+    #[tactic(auto, using(crate::proofs::Awaited::ended_none, crate::proofs::Awaited::is_there, crate::proofs::Awaited::asks_last, crate::proofs::Awaited::last_wide))]
+    /// The call that has no reply yet, if there is one: the last of those that were made together.
     pub(crate) fn next(&self) -> Next
+        requires alone { along_of self.now ≡ [] }
         ensures step { TellsStep result self.now self.now }
         ensures call { NamesWidth result }
     {
-        match self.waiting {
+        if self.left == 0 {
+            return Next::Ended;
+        }
+        match self.last {
             Some(call) => Next::Call(call),
-            None => Next::Ended,
+            None => unreachable!(),
         }
     }
 
-    /// That call has its reply.
+    #[tactic(auto, using(crate::proofs::Awaited::some_left, crate::proofs::Awaited::inside, crate::proofs::Awaited::along_fewer, crate::proofs::Awaited::answered_one, crate::proofs::Awaited::fewer_left))]
+    /// The first call without a reply has one.
     pub(crate) fn answer(&mut self)
         requires { IsAsking self.old }
-        ensures { (reply : Reply) → self.new ≡ answered_with self.old reply }
+        ensures answered { (reply : Reply) → self.new ≡ answered_with self.old reply }
+        ensures along { along_of self.new ≡ drop 1 (along_of self.old) }
     {
-        if let Some(call) = self.waiting.take() {
-            self.answered.push(&call);
-        }
+        self.left -= 1;
     }
 
+    #[tactic(auto, using(crate::proofs::Awaited::asked_left, crate::proofs::Awaited::answered_row, crate::proofs::Awaited::fewer_left))]
+    /// The first so many calls without a reply have one.
+    pub(crate) fn answer_row(&mut self, words: usize)
+        requires { AsksMany self.old words }
+        ensures own { IsCalled self.new.program }
+        ensures answered { (replies : List Reply) → length replies ≡ words → self.new ≡ answered_all self.old replies }
+        ensures along { along_of self.new ≡ drop words (along_of self.old) }
+    {
+        self.left -= words;
+    }
+
+    #[tactic(auto, using(crate::proofs::Awaited::ended_none, crate::proofs::Awaited::none_left))]
     /// Whether each call has its reply.
     pub(crate) fn ended(&self) -> bool
         ensures { IsTrue result ↔ HasEnded self.now }
     {
-        self.waiting.is_none()
+        self.left == 0
     }
 
+    #[tactic(auto, using(crate::proofs::Awaited::ended_none, crate::proofs::Awaited::none_left, crate::proofs::Awaited::rests_none))]
     /// Whether each call has its reply, so that the owner may make one.
-    #[tactic(auto, using(crate::proofs::Nexts::asks_next, crate::proofs::Nexts::rests))]
     pub(crate) fn is_free(&self) -> bool
         ensures ended { IsTrue result ↔ HasEnded self.now }
         ensures next { IsTrue result → AsksNext self.now }
         ensures rests { IsTrue result → Rests self.now }
     {
-        self.waiting.is_none()
+        self.left == 0
+    }
+
+    #[tactic(auto, using(crate::proofs::Awaited::alone_left, crate::proofs::Awaited::left_alone))]
+    /// Whether no other call without a reply was made along with the next one.
+    pub(crate) fn is_alone(&self) -> bool
+        ensures { IsTrue result ↔ (along_of self.now ≡ []) }
+    {
+        self.left <= 1
     }
 
     /// Nothing is printed.
     pub(crate) fn output(&self) -> &[u64]
         ensures { result.now ≡ self.now.state.output }
     {
-        let _ = &self.waiting;
+        let _ = &self.left;
         &[]
     }
 
+    #[tactic(auto, using(crate::proofs::Awaited::none_left, crate::proofs::Awaited::handed_together, crate::proofs::Awaited::ends_together))]
     /// One more call is made.
     pub(crate) fn hand(&mut self, call: Call)
         requires free { HasEnded self.old }
         requires width { HasWidth call }
-        ensures { self.new ≡ process_handed (call ∷ []) self.old }
+        ensures { self.new ≡ process_handed ((call ∷ []) ∷ []) self.old }
     {
-        self.waiting = Some(call);
+        self.told.push(&call);
+        self.last = Some(call);
+        self.left = 1;
     }
 
+    #[tactic(auto, using(crate::proofs::Awaited::none_left, crate::proofs::Awaited::none_last))]
     /// One more call is made, and has its reply at once.
-    #[tactic(auto, using(crate::proofs::Nexts::handed_and_answered))]
     pub(crate) fn hand_answered(&mut self, call: Call)
         requires free { HasEnded self.old }
         requires width { HasWidth call }
-        ensures { (reply : Reply) → self.new ≡ answered_with (process_handed (call ∷ []) self.old) reply }
+        ensures { (reply : Reply) → self.new ≡ answered_with (process_handed ((call ∷ []) ∷ []) self.old) reply }
     {
-        self.answered.push(&call);
+        self.told.push(&call);
     }
 
+    #[tactic(auto, using(crate::proofs::Awaited::none_left, crate::proofs::Awaited::none_last, crate::proofs::Awaited::handed_rows))]
     /// One more call is made for each of so many words in a row from `addr` on, whose bytes these are, and has its reply at
     /// once.
     pub(crate) fn hand_row(&mut self, kind: Row, addr: u64, words: usize, bytes: &[u8])
         requires free { HasEnded self.old }
         ensures own { IsCalled self.new.program }
-        ensures answered { (calls : List Call) → self.old ≡ asking calls None → self.new ≡ asking (calls ++ calls_of (row kind 0 addr (numbers_in words bytes.now))) None }
+        ensures answered { (rows : List (List Call)) → self.old ≡ asking rows None → self.new ≡ asking (rows ++ one_by_one (calls_of (row kind 0 addr (numbers_in words bytes.now)))) None }
     {
-        self.answered.push_row(kind, addr, words, bytes);
+        self.told.push_row(kind, addr, words, bytes);
+    }
+
+    #[tactic(auto, using(crate::proofs::Awaited::none_left, crate::proofs::Awaited::handed_together, crate::proofs::Awaited::ends_together, crate::proofs::Awaited::row_long, crate::proofs::Awaited::row_wide))]
+    /// A call is made for each of so many words in a row from `addr` on, whose bytes these are, all of them together.
+    pub(crate) fn hand_together(&mut self, kind: Row, addr: u64, words: usize, bytes: &[u8])
+        requires free { HasEnded self.old }
+        requires within { 8 * words ≤ length bytes.now }
+        requires small { addr + 8 * words < 2 ^ 64 }
+        ensures { self.new ≡ process_handed (calls_of (row kind 0 addr (numbers_in words bytes.now)) ∷ []) self.old }
+    {
+        self.told.push_together(kind, addr, words, bytes);
+        self.last = last_call(kind, addr, words, bytes);
+        self.left = words;
     }
 }

@@ -1,19 +1,20 @@
-//! Lists of calls that exist in proofs alone, of which no byte is kept.
+//! Rows of calls that exist in proofs alone, of which no byte is kept.
 ghost use Rattle.std.specs.Prelude.{◌≡◌, List, [], ◌∷◌, ◌++◌};
 ghost use Rattle.std.specs.Borrow.{ftrue};
 ghost use Rattle.ivy_model.specs.declared.Call.{Call};
 ghost use Rattle.ivy_model.specs.Rows.{calls_of, numbers_in, row};
+ghost use Rattle.ivy_program.specs.Programs.{one_by_one};
 
 use ivy_model::{Call, Row};
 use std::marker::{Model, PhantomData};
 
-/// The calls that were answered. Nobody reads them when it runs.
+/// The rows of calls that were made. Nobody reads them when it runs.
 ///
 /// Nothing but the contracts of its calls ties what it tells.
 #[derive(Drop)]
 pub(crate) struct Story {
     marker: PhantomData<()>,
-    pub ghost calls: { List Call },
+    pub ghost rows: { List (List Call) },
 }
 
 impl Model for Story {
@@ -30,13 +31,13 @@ trait Tells<X> {
     ghost use Rattle.std.specs.Prelude.{List};
     ghost use Rattle.ivy_model.specs.declared.Call.{Call};
 
-    ghost calls: { X → List Call };
+    ghost rows: { X → List (List Call) };
 }
 
 impl Story {
     /// What is told of a value.
     fn of<X, M: Tells<X>>(x: &X) -> Story
-        ensures { result.calls ≡ M.calls x.now }
+        ensures { result.rows ≡ M.rows x.now }
     {
         let _ = x;
         Story {
@@ -50,22 +51,22 @@ struct Nothing;
 impl Tells<()> for Nothing {
     ghost use Rattle.std.specs.Prelude.{[]};
 
-    ghost calls = { λ _. [] };
+    ghost rows = { λ _. [] };
 }
 
 /// A story, and one call more.
 #[derive(Drop)]
-struct Answered<'a> {
+struct Made<'a> {
     before: &'a Story,
     one: &'a Call,
 }
 
 struct More;
 
-impl<'a> Tells<Answered<'a>> for More {
+impl<'a> Tells<Made<'a>> for More {
     ghost use Rattle.std.specs.Prelude.{[], ◌∷◌, ◌++◌};
 
-    ghost calls = { λ a. a.before.now.calls ++ a.one.now ∷ [] };
+    ghost rows = { λ a. a.before.now.rows ++ (a.one.now ∷ []) ∷ [] };
 }
 
 /// A story, and a call more for each word of a row, whose bytes these are.
@@ -83,30 +84,40 @@ struct MoreInRow;
 impl<'a> Tells<InRow<'a>> for MoreInRow {
     ghost use Rattle.std.specs.Prelude.{◌++◌};
     ghost use Rattle.ivy_model.specs.Rows.{calls_of, numbers_in, row};
+    ghost use Rattle.ivy_program.specs.Programs.{one_by_one};
 
-    ghost calls = { λ r. r.before.now.calls ++ calls_of (row r.kind 0 r.addr (numbers_in r.words r.bytes.now)) };
+    ghost rows = { λ r. r.before.now.rows ++ one_by_one (calls_of (row r.kind 0 r.addr (numbers_in r.words r.bytes.now))) };
+}
+
+struct MoreTogether;
+
+impl<'a> Tells<InRow<'a>> for MoreTogether {
+    ghost use Rattle.std.specs.Prelude.{[], ◌∷◌, ◌++◌};
+    ghost use Rattle.ivy_model.specs.Rows.{calls_of, numbers_in, row};
+
+    ghost rows = { λ r. r.before.now.rows ++ calls_of (row r.kind 0 r.addr (numbers_in r.words r.bytes.now)) ∷ [] };
 }
 
 impl Story {
     /// No call yet.
     pub(crate) fn new() -> Story
-        ensures { result.calls ≡ [] }
+        ensures { result.rows ≡ [] }
     {
         Story::of::<(), Nothing>(&())
     }
 
     /// One call more.
     pub(crate) fn push(&mut self, one: &Call)
-        ensures { self.new.calls ≡ self.old.calls ++ one.now ∷ [] }
+        ensures { self.new.rows ≡ self.old.rows ++ (one.now ∷ []) ∷ [] }
     {
-        let answered = Answered { before: self, one };
-        let next = Story::of::<Answered<'_>, More>(&answered);
+        let made = Made { before: self, one };
+        let next = Story::of::<Made<'_>, More>(&made);
         *self = next;
     }
 
     /// One call more for each of so many words in a row from `addr` on, whose bytes these are.
     pub(crate) fn push_row(&mut self, kind: Row, addr: u64, words: usize, bytes: &[u8])
-        ensures { self.new.calls ≡ self.old.calls ++ calls_of (row kind 0 addr (numbers_in words bytes.now)) }
+        ensures { self.new.rows ≡ self.old.rows ++ one_by_one (calls_of (row kind 0 addr (numbers_in words bytes.now))) }
     {
         let told = InRow {
             before: self,
@@ -116,6 +127,21 @@ impl Story {
             bytes,
         };
         let next = Story::of::<InRow<'_>, MoreInRow>(&told);
+        *self = next;
+    }
+
+    /// Calls more, made together, for each of so many words in a row from `addr` on, whose bytes these are.
+    pub(crate) fn push_together(&mut self, kind: Row, addr: u64, words: usize, bytes: &[u8])
+        ensures { self.new.rows ≡ self.old.rows ++ calls_of (row kind 0 addr (numbers_in words bytes.now)) ∷ [] }
+    {
+        let told = InRow {
+            before: self,
+            kind,
+            addr,
+            words,
+            bytes,
+        };
+        let next = Story::of::<InRow<'_>, MoreTogether>(&told);
         *self = next;
     }
 }

@@ -1,5 +1,6 @@
 -- What it means that an order of records explains the run of a text.
-use Rattle.std.specs.Prelude.{◌≡◌, ℕ, ◌<◌, List, ◌++◌, map, slice_get, Some}
+use Rattle.std.specs.Prelude.{◌≡◌, ℕ, ◌<◌, List, [], ◌∷◌, ◌++◌, map, slice_get, IfSome, Option, None, Some}
+use Rattle.ivy_model.specs.declared.Call.{Call}
 use Rattle.ivy_model.specs.declared.Config.{Config}
 use Rattle.ivy_model.specs.declared.Record.{Record}
 use Rattle.ivy_model.specs.Explains.{part, Answered, IsOwed, IsExplained}
@@ -10,15 +11,33 @@ use Rattle.ivy_moves.specs.Nodes.{Node}
 use Rattle.ivy_moves.specs.Worlds.{World}
 use Rattle.ivy_world.specs.ivy_host.Hosts.{Host, answered_by}
 use Rattle.ivy_world.specs.ivy_host.Managers.{Managed, managed_ops}
+use Rattle.ivy_world.specs.ivy_host.ivy_memory.Memories.{in_progress}
 use Rattle.ivy_world.specs.ivy_host.Openings.{opening}
 use Rattle.ivy_world.specs.proof_headline.RunState.{Run}
 use Rattle.ivy_world.specs.proof_headline.Reached.{IsLedTo}
 
--- a node's part of an order: its history, and then perhaps a record of the call in progress
+-- a node's part of an order: its history, and then perhaps the records of the calls in progress
 abbrev pub IsPart : List Record → Answered → Type 0
 IsPart mine n = (rest : List Record) × (mine ≡ n.history ++ rest) × IsOwed n.asked rest
 
--- what each node of a world was answered, and the call that it has in progress
+-- the call, where it is one, is the only one that a node has in progress
+abbrev pub IsAskedAlone : World (Host Managed) → ℕ → Option Call → Type 0
+IsAskedAlone w node None = Unit {0}
+IsAskedAlone w node (Some call) = IfSome (slice_get w.nodes node)
+    (λ n. in_progress n.core.memory.asked n.core.memory.along ≡ call ∷ [])
+
+-- none is left, or one record of this call
+abbrev pub IsOwedAlone : Option Call → List Record → Type 0
+IsOwedAlone asked [] = Unit {0}
+IsOwedAlone asked (r ∷ []) = asked ≡ Some r.call
+IsOwedAlone asked (r ∷ s ∷ rest) = ⊥
+
+-- so a node's part of an order is its history, and then perhaps a record of that call
+abbrev pub IsPartAlone : List Record → List Record → Option Call → Type 0
+IsPartAlone mine history asked =
+    (rest : List Record) × (mine ≡ history ++ rest) × IsOwedAlone asked rest
+
+-- what each node of a world was answered, and the calls that it has in progress
 abbrev pub answers_of : World (Host Managed) → List Answered
 answers_of w = map (λ (n : Node (Host Managed)). answered_by n.core) w.nodes
 

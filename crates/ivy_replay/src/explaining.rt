@@ -1,8 +1,8 @@
 //! Whether an order of records explains what the nodes of a world were answered.
-ghost use Rattle.std.specs.Prelude.{◌≡◌, ◌≤◌, length, take, IsTrue, IfOk};
+ghost use Rattle.std.specs.Prelude.{◌≡◌, ◌<◌, ◌≤◌, length, take, IsTrue, IfOk};
 ghost use Rattle.ivy_model.specs.Config.{IsConfig};
-ghost use Rattle.ivy_model.specs.Explains.{part, IsOwed, IsExplained};
-ghost use Rattle.ivy_replay.specs.Orders.{IsPart, HavePartsBelow, answers_of};
+ghost use Rattle.ivy_model.specs.Explains.{part, IsExplained};
+ghost use Rattle.ivy_replay.specs.Orders.{IsAskedAlone, IsOwedAlone, IsPartAlone, HavePartsBelow, answers_of};
 
 use ivy_model::{Call, Config, Fault, Record, check_order};
 use ivy_world::World;
@@ -19,9 +19,9 @@ fn part_of(alloc: Global, order: &[Record], node: u64) -> Result<Vec<Record>, Al
         .collect(alloc)
 }
 
-/// Whether these records, past a history, are none, or one of the call in progress.
+/// Whether these records, past a history, are none, or one of the call that is the only one in progress.
 fn is_owed(asked: Option<Call>, rest: &[Record]) -> bool
-    ensures { IsTrue result → IsOwed asked rest.now }
+    ensures { IsTrue result → IsOwedAlone asked rest.now }
 {
     match *rest {
         [] => true,
@@ -53,7 +53,7 @@ fn begins_with(mine: &[Record], history: &[Record]) -> bool
 
 /// Whether a node's part of an order is its history, and perhaps a record of the call in progress.
 fn is_part(mine: &[Record], history: &[Record], asked: Option<Call>) -> bool
-    ensures { IsTrue result → IsPart mine.now (record { history = history.now; asked = asked }) }
+    ensures { IsTrue result → IsPartAlone mine.now history.now asked }
 {
     if mine.len() < history.len() || !begins_with(mine, history) {
         return false;
@@ -61,13 +61,26 @@ fn is_part(mine: &[Record], history: &[Record], asked: Option<Call>) -> bool
     is_owed(asked, &mine[history.len()..])
 }
 
-/// Whether the order's part of each node is what the node was answered.
+/// The call that a node has in progress, where none was made along with it.
+fn asked_alone(world: &World<Global>, node: u64) -> Option<Call>
+    requires { node < world.now.config.nodes }
+    ensures { IsAskedAlone world.now.world node result }
+{
+    if world.is_alone(node) {
+        world.asked(node)
+    } else {
+        None
+    }
+}
+
+/// Whether the order's part of each node is what the node was answered. Where a node has several calls in progress, which
+/// were made together, no record of them is told, so the order may have none.
 fn has_parts(alloc: Global, world: &World<Global>, order: &[Record]) -> Result<bool, AllocError>
     ensures { IfOk result (λ yes. IsTrue yes → HavePartsBelow world.now.config.nodes world.now.world order.now) }
 {
     for node in 0..world.nodes() {
         let mine = part_of(alloc, order, node)?;
-        if !is_part(&mine, world.history(node), world.asked(node)) {
+        if !is_part(&mine, world.history(node), asked_alone(world, node)) {
             return Ok(false);
         }
     }
@@ -75,7 +88,7 @@ fn has_parts(alloc: Global, world: &World<Global>, order: &[Record]) -> Result<b
 }
 
 /// Whether the order is legal, and explains what the nodes of the world were answered: each node's part of it is the
-/// node's history, followed at most by one record, of the call that the node has in progress [1].
+/// node's history, followed at most by one record, of the one call that the node has in progress [1].
 pub fn explains(
     alloc: Global,
     config: &Config,

@@ -72,7 +72,7 @@ module _ (c : Config) (programs : List Program) (limits : IsConfig c)
       }
 
 -- what is known of a node by the calls that were handed to it holds whatever the others were handed
-so_far_over : (c : Config) (programs : List Program) (calls calls' : ℕ → List Call) (i : ℕ)
+so_far_over : (c : Config) (programs : List Program) (calls calls' : ℕ → List (List Call)) (i : ℕ)
     (n : NodeSoFar) → calls i ≡ calls' i → IsNodeSoFar c (all_handed calls programs) i n
     → IsNodeSoFar c (all_handed calls' programs) i n
 so_far_over c programs calls calls' i n same came = record {

@@ -75,4 +75,4 @@ module _ (c : Config) (programs : List Program) where
 -- such a report, of these programs where some calls were handed to each node
 abbrev pub IsHandedSoFar : Config → List Program → List NodeSoFar → Type 0
 IsHandedSoFar c programs nodes =
-    (calls : ℕ → List Call) × IsReportSoFar c (all_handed calls programs) nodes
+    (calls : ℕ → List (List Call)) × IsReportSoFar c (all_handed calls programs) nodes

@@ -10,7 +10,7 @@ use Rattle.ivy_scope.specs.SoFar.{NodeSoFar, IsNodeSoFar}
 -- of node i: the calls that were handed to it, with its list; these make that node of it
 pub record IsToldSoFar (c : Config) (programs : List Program) (v : View) (i : ℕ)
     (n : NodeSoFar) : Type 0 where
-  pub calls : List Call
+  pub calls : List (List Call)
   pub closed : Contains v.closed (record { node = i; handed = calls; events = n.events })
   pub so_far : IsNodeSoFar c (all_handed (λ _. calls) programs) i n
 

@@ -13,11 +13,11 @@ use Rattle.std.proofs.lemmas.Option.{none-some, same_Some}
 use Rattle.atomic_table.specs.Seated.{TableId}
 use Rattle.ivy_model.specs.declared.Config.{Config}
 use Rattle.ivy_model.specs.Config.{IsConfig}
-use Rattle.ivy_program.specs.Programs.{Program, handed}
+use Rattle.ivy_program.specs.Programs.{Program, handed, one_by_one}
 use Rattle.ivy_model.specs.declared.Call.{Call}
 use Rattle.ivy_model.specs.declared.Record.{Record}
 use Rattle.ivy_model.specs.declared.Row.{Row}
-use Rattle.ivy_model.specs.Rows.{calls_of, row}
+use Rattle.ivy_model.specs.Rows.{calls_of, numbers_in, row}
 use Rattle.ivy_model.proofs.Rows.{calls-of-row}
 use Rattle.ivy_moves.specs.ivy_link.declared.Verdict.{Verdict}
 use Rattle.ivy_moves.specs.ivy_link.declared.Verdict.TheVariants as verdict
@@ -41,7 +41,7 @@ use Rattle.ivy_site.specs.declared.turn.Turn.TheVariants.{Idle, Moved, Ended}
 use Rattle.ivy_site.specs.Shown.{Shown, after_hearing, after_delivery, after_pulse_to}
 use Rattle.ivy_site.specs.Sites.{first_shown, IsMadeByEvents, IsSentBy, AfterTurn, AfterDelivery, SiteDelivers, without_ready, GoesOnOnce, FollowsDelivery}
 use Rattle.ivy_site.specs.Sites as sites
-use Rattle.ivy_site.specs.Calls.{AreAnswered}
+use Rattle.ivy_site.specs.Calls.{AreAnswered, AreTaken, BeginsRow}
 use Rattle.ivy_site.specs.Handed.{site_handed}
 use Rattle.ivy_ether.proofs.of_ivy_host.Programs.{turned-program, posting-core, delivered-program}
 use Rattle.ivy_program.specs.Steps.{HasEnded}
@@ -78,7 +78,7 @@ its_list c programs s made config program = record {
 }
 
 -- where these calls were handed to all nodes, as to its own, its program is the one that it runs
-pub runs_there : (programs : List Program) (s : Shown) (calls : List Call)
+pub runs_there : (programs : List Program) (s : Shown) (calls : List (List Call))
     → RunsProgram programs s calls
     → slice_get (all_handed (λ _. calls) programs) s.me ≡ Some (program_in s)
 runs_there programs s calls r =
@@ -482,7 +482,7 @@ module _ (c : Config) (programs : List Program) where
       taken_seated wire s p p' es x is ether known h
 
   -- once calls were handed to its node
-  pub all_handed_seated : (wire : TableId) (s s' : Shown) (p p' : Held) (calls : List Call)
+  pub all_handed_seated : (wire : TableId) (s s' : Shown) (p p' : Held) (calls : List (List Call))
       → s' ≡ site_handed calls s → p'.ether ≡ p.ether
       → p'.known ≡ with_all_handed p.known calls → IsSeated wire c programs s p
       → IsSeated wire c programs s' p'
@@ -508,16 +508,16 @@ module _ (c : Config) (programs : List Program) where
 
   -- and once one was
   pub hand_seated : (wire : TableId) (s s' : Shown) (p p' : Held) (call : Call)
-      → s' ≡ site_handed (call ∷ []) s → p'.ether ≡ p.ether
+      → s' ≡ site_handed ((call ∷ []) ∷ []) s → p'.ether ≡ p.ether
       → p'.known ≡ with_handed p.known call → IsSeated wire c programs s p
       → IsSeated wire c programs s' p'
   hand_seated wire s s' p p' call same ether known h =
-      all_handed_seated wire s s' p p' (call ∷ []) same ether known h
+      all_handed_seated wire s s' p p' ((call ∷ []) ∷ []) same ether known h
 
   -- once calls were made one after another, each answered in its turn
   pub answered_seated : (wire : TableId) (rs : List Record) (s s' : Shown) (p p' : Held)
       → AreAnswered rs s s' → p'.ether ≡ p.ether
-      → p'.known ≡ with_all_handed p.known (calls_of rs) → IsSeated wire c programs s p
+      → p'.known ≡ with_all_handed p.known (one_by_one (calls_of rs)) → IsSeated wire c programs s p
       → IsSeated wire c programs s' p'
   answered_seated wire [] s s' p p' same ether known h =
       let is : p'.known ≡ p.known =
@@ -526,23 +526,44 @@ module _ (c : Config) (programs : List Program) where
       (subst (IsSeated wire c programs s) (λ k. held (sym ether k) (sym is k)) h)
   answered_seated wire (r ∷ rs) s s' p p' on ether known h =
       let next : Held = held p.ether (with_handed p.known r.call) in
-      let asks : IsSeated wire c programs (site_handed (r.call ∷ []) s) next =
-      hand_seated wire s (site_handed (r.call ∷ []) s) p next r.call refl refl refl h in
+      let asks : IsSeated wire c programs (site_handed ((r.call ∷ []) ∷ []) s) next =
+      hand_seated wire s (site_handed ((r.call ∷ []) ∷ []) s) p next r.call refl refl refl h in
       let mid : IsSeated wire c programs on.0 next =
-      turn_seated wire Moved (site_handed (r.call ∷ []) s) on.0 next asks on.1.turns in
+      turn_seated wire Moved (site_handed ((r.call ∷ []) ∷ []) s) on.0 next asks on.1.turns in
       answered_seated wire rs on.0 s' next p' on.2 ether
       (known
       ∙ ap (λ l. record p.known { handed = l })
-      (sym (append_assoc p.known.handed (r.call ∷ []) (calls_of rs)))) mid
+      (sym (append_assoc p.known.handed ((r.call ∷ []) ∷ []) (one_by_one (calls_of rs))))) mid
 
   -- so it is of a row of words
   pub row_seated : (wire : TableId) (kind : Row) (addr : ℕ) (numbers : List ℕ) (s s' : Shown)
       (p p' : Held) → AreAnswered (row kind s.me addr numbers) s s' → p'.ether ≡ p.ether
-      → p'.known ≡ with_all_handed p.known (calls_of (row kind 0 addr numbers))
+      → p'.known ≡ with_all_handed p.known (one_by_one (calls_of (row kind 0 addr numbers)))
       → IsSeated wire c programs s p → IsSeated wire c programs s' p'
   row_seated wire kind addr numbers s s' p p' on ether known h =
       answered_seated wire (row kind s.me addr numbers) s s' p p' on ether
-      (known ∙ ap (with_all_handed p.known) (calls-of-row kind 0 s.me addr numbers)) h
+      (known ∙ ap (λ ks. with_all_handed p.known (one_by_one ks)) (calls-of-row kind 0 s.me addr numbers)) h
+
+  -- once calls of a row were made together, at least one
+  pub begun_seated : (wire : TableId) (kind : Row) (addr words : ℕ) (bytes : List ℕ) (s s' : Shown)
+      (p p' : Held) → words ≢ 0
+      → BeginsRow (calls_of (row kind 0 addr (numbers_in words bytes))) s s' → p'.ether ≡ p.ether
+      → p'.known
+      ≡ with_all_handed p.known (calls_of (row kind 0 addr (numbers_in words bytes)) ∷ [])
+      → IsSeated wire c programs s p → IsSeated wire c programs s' p'
+  begun_seated wire kind addr zero bytes s s' p p' some begins ether known h = absurd (some refl)
+  begun_seated wire kind addr (suc n) bytes s s' p p' some begins ether known h =
+      let rows = calls_of (row kind 0 addr (numbers_in (suc n) bytes)) ∷ [] in
+      turn_seated wire Moved (site_handed rows s) s' p'
+      (all_handed_seated wire s (site_handed rows s) p p' rows refl ether known h) begins.turns
+
+  -- and once the replies to calls were taken, each in a turn of its own
+  pub replies_seated : (wire : TableId) (rs : List Record) (s s' : Shown) (p : Held)
+      → AreTaken rs s s' → IsSeated wire c programs s p → IsSeated wire c programs s' p
+  replies_seated wire [] s s' p same h =
+      stays_seated wire s s' p h (stays_same s s' p.known.took same)
+  replies_seated wire (r ∷ rs) s s' p on h =
+      replies_seated wire rs on.0 s' p on.2 (turn_seated wire Moved s on.0 p h on.1.turns)
 
   -- a site whose program has ended is done
   pub is_done : (wire : TableId) (s : Shown) (p : Held) (i : ℕ) → IsSeated wire c programs s p

@@ -32,11 +32,12 @@ abbrev pub no_ether : TableId
 no_ether =
     record { words = 0; slots = 0; views_name = 0; atom = 0; block = 0; offset = 0; slot_names = [] }
 
--- the site runs its node's program, where these calls were handed to it
-pub record RunsProgram (programs : List Program) (s : Shown) (calls : List Call) : Type 0 where
-  pub first : Program
-  pub there : slice_get programs s.me ≡ Some first
-  pub is : s.node.core.process.program ≡ handed calls first
+-- the site runs its node's program, where these rows of calls were handed to it
+pub record RunsProgram (programs : List Program) (s : Shown) (calls : List (List Call)) : Type 0
+  where
+    pub first : Program
+    pub there : slice_get programs s.me ≡ Some first
+    pub is : s.node.core.process.program ≡ handed calls first
 
 -- the pass is of this ether, sits at the site's node and has not reported, and took each string
 -- that was delivered to the site; the site runs the node's program
@@ -65,7 +66,7 @@ pub record KeepsSeat (c : Config) (programs : List Program) (s : SeatedState) : 
 -- to be put
 pub record IsInRun (c : Config) (programs : List Program) (s : SeatedState) : Type 0
   where
-    pub calls : ℕ → List Call
+    pub calls : ℕ → List (List Call)
     pub parts : ℕ → List Mark
     pub end : World (Host Managed)
     pub run : AreParts (host_rules managed_ops) c (beginning c (all_handed calls programs)) parts end

@@ -81,4 +81,5 @@ module _ (c : Config) (programs : List Program) where
 -- such a report, of these programs where some calls were handed to each node; to those that are
 -- written down nothing can be
 abbrev pub IsHandedReport : Config → List Program → List NodeReport → Type 0
-IsHandedReport c programs nodes = (calls : ℕ → List Call) × IsReport c (all_handed calls programs) nodes
+IsHandedReport c programs nodes =
+    (calls : ℕ → List (List Call)) × IsReport c (all_handed calls programs) nodes

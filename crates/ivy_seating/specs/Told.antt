@@ -11,7 +11,7 @@ use Rattle.ivy_seating.specs.Reports.{NodeReport, IsDone}
 -- ended
 pub record IsTold (c : Config) (programs : List Program) (v : View) (i : ℕ) (n : NodeReport) : Type 0
   where
-    pub calls : List Call
+    pub calls : List (List Call)
     pub closed : Contains v.closed (record { node = i; handed = calls; events = n.events })
     pub done : IsDone c (all_handed (λ _. calls) programs) i n
 

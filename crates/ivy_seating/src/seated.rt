@@ -1,14 +1,15 @@
 //! A site that is seated at an ether.
-ghost use Rattle.std.specs.Prelude.{◌≡◌, ◌≢◌, ◌↔◌, ◌*◌, ◌<◌, ◌≤◌, [], ◌∷◌, ◌++◌, Err, Contains, IsTrue, MatchBool, MatchOption, MatchResult, IfOk, IfErr, IfSome, IsSome, IsOkUnless, OnOk, OnErr, length};
+ghost use Rattle.std.specs.Prelude.{◌≡◌, ◌≢◌, ◌↔◌, ◌*◌, ◌<◌, ◌≤◌, [], ◌∷◌, ◌++◌, Err, None, Contains, IsTrue, MatchBool, MatchOption, MatchResult, IfOk, IfErr, IfSome, IsSome, IsOkUnless, OnOk, OnErr, length};
 ghost use Rattle.ivy_model.specs.Rows.{calls_of, numbers_in, row};
 ghost use Rattle.ivy_model.specs.Wants.{IsWant};
 ghost use Rattle.ivy_wire.specs.Faults.{checked};
 ghost use Rattle.ivy_moves.specs.Nodes.{pulsing, verdict_of};
 ghost use Rattle.ivy_model.specs.Legal.{HasWidth};
 ghost use Rattle.ivy_program.specs.Owned.{IsFree};
+ghost use Rattle.ivy_program.specs.Programs.{one_by_one};
 ghost use Rattle.ivy_program.specs.Steps.{HasEnded};
 ghost use Rattle.ivy_site.specs.ivy_host.ivy_memory.AtOnce.{IsStored, row_at_hand};
-ghost use Rattle.ivy_site.specs.Calls.{AreAnswered, BeginsCall, MayCallInRow};
+ghost use Rattle.ivy_site.specs.Calls.{AreAnswered, AreTaken, BeginsCall, BeginsRow, MayCallInRow, row_together};
 ghost use Rattle.ivy_site.specs.Handed.{site_handed};
 ghost use Rattle.ivy_ether.specs.Views.{with_all_handed, with_handed};
 ghost use Rattle.ivy_site.specs.ivy_outbox.Outboxes.{next_dest};
@@ -146,7 +147,7 @@ impl<'e, S: Setup, A: Allocator + Copy> Seated<'e, S, A> {
         requires free { IsFree self.old.site.node.core.process }
         requires width { HasWidth call }
         ensures ether { self.new.ether ≡ self.old.ether }
-        ensures site { OnOk result (self.new.site ≡ site_handed (call ∷ []) self.old.site) }
+        ensures site { OnOk result (self.new.site ≡ site_handed ((call ∷ []) ∷ []) self.old.site) }
         ensures pass { OnOk result (self.new.pass.known ≡ with_handed self.old.pass.known call) }
         ensures err { OnErr result (self.new ≡ self.old) }
         ensures memory { IsOkUnless result Fault.Memory }
@@ -179,7 +180,7 @@ impl<'e, S: Setup, A: Allocator + Copy> Seated<'e, S, A> {
         ensures ether { self.new.ether ≡ self.old.ether }
         ensures many { MayCallInRow self.old.site addr (length into.old) → result ≡ row_at_hand self.old.site.node.core.memory Row.Loads addr (length into.old) }
         ensures loads { AreAnswered (row Row.Loads self.old.site.me addr (numbers_in result into.new)) self.old.site self.new.site }
-        ensures pass { self.new.pass.known ≡ with_all_handed self.old.pass.known (calls_of (row Row.Loads 0 addr (numbers_in result into.new))) }
+        ensures pass { self.new.pass.known ≡ with_all_handed self.old.pass.known (one_by_one (calls_of (row Row.Loads 0 addr (numbers_in result into.new)))) }
         ensures fits { 8 * result ≤ length into.old }
         ensures sized { length into.new ≡ length into.old }
     {
@@ -195,13 +196,65 @@ impl<'e, S: Setup, A: Allocator + Copy> Seated<'e, S, A> {
         ensures ether { self.new.ether ≡ self.old.ether }
         ensures many { MayCallInRow self.old.site addr (length from.now) → IsStored self.old.site.node.core.memory addr (length from.now) result }
         ensures stores { AreAnswered (row Row.Stores self.old.site.me addr (numbers_in result from.now)) self.old.site self.new.site }
-        ensures pass { self.new.pass.known ≡ with_all_handed self.old.pass.known (calls_of (row Row.Stores 0 addr (numbers_in result from.now))) }
+        ensures pass { self.new.pass.known ≡ with_all_handed self.old.pass.known (one_by_one (calls_of (row Row.Stores 0 addr (numbers_in result from.now)))) }
         ensures fits { 8 * result ≤ length from.now }
     {
         let words = self.site.store_row(addr, from);
         self.ether
             .hand_row(&mut self.pass, Row::Stores, addr, words, from);
         words
+    }
+
+    /// The node's owner makes calls on words of 8 bytes in a row together, from `addr` on, with a turn, in which the first
+    /// begins and waits [1, 17]: as many as `words`, as `bytes` has, and as lie in the page. It says how many. Where that is
+    /// none, nothing was done, as where the first need not wait. Their replies are taken by [`Seated::take_loads`] and
+    /// [`Seated::take_stores`].
+    pub fn call_row(
+        &mut self,
+        kind: Row,
+        addr: u64,
+        words: usize,
+        bytes: &[u8],
+    ) -> Result<usize, Fault>
+        ensures ether { self.new.ether ≡ self.old.ether }
+        ensures done { MatchResult result (λ n. BeginsRow (calls_of (row kind 0 addr (numbers_in n bytes.now))) self.old.site self.new.site) (λ _. self.new ≡ self.old) }
+        ensures pass { IfOk result (λ n. n ≢ 0 → self.new.pass.known ≡ with_all_handed self.old.pass.known (calls_of (row kind 0 addr (numbers_in n bytes.now)) ∷ [])) }
+        ensures none { IfOk result (λ n. n ≡ 0 → self.new ≡ self.old) }
+        ensures many { MayCallInRow self.old.site addr (length bytes.now) → IfOk result (λ n. n ≡ row_together self.old.site kind addr words (length bytes.now)) }
+        ensures fits { IfOk result (λ n. (n ≤ words) × (8 * n ≤ length bytes.now)) }
+        ensures want { IfErr result IsWant }
+    {
+        let begun = self.site.call_row(kind, addr, words, bytes)?;
+        if begun > 0 {
+            self.ether
+                .hand_together(&mut self.pass, kind, addr, begun, bytes);
+        }
+        Ok(begun)
+    }
+
+    /// The replies to loads in a row from `addr` on, which are in progress, made together or one alone: all of them where
+    /// they are there and `into` has room, with a turn for each, which it says. Else none, and nothing was done. It takes no
+    /// memory.
+    pub fn take_loads(&mut self, addr: u64, into: &mut [u8]) -> usize
+        ensures ether { self.new.ether ≡ self.old.ether }
+        ensures taken { AreTaken (row Row.Loads self.old.site.me addr (numbers_in result into.new)) self.old.site self.new.site }
+        ensures rests { result ≢ 0 → self.new.site.node.core.memory.asked ≡ None }
+        ensures pass { self.new.pass ≡ self.old.pass }
+        ensures fits { 8 * result ≤ length into.old }
+        ensures sized { length into.new ≡ length into.old }
+    {
+        self.site.take_loads(addr, into)
+    }
+
+    /// The replies to stores of these bytes in a row from `addr` on, as [`Seated::take_loads`] takes those to loads.
+    pub fn take_stores(&mut self, addr: u64, from: &[u8]) -> usize
+        ensures ether { self.new.ether ≡ self.old.ether }
+        ensures taken { AreTaken (row Row.Stores self.old.site.me addr (numbers_in result from.now)) self.old.site self.new.site }
+        ensures rests { result ≢ 0 → self.new.site.node.core.memory.asked ≡ None }
+        ensures pass { self.new.pass ≡ self.old.pass }
+        ensures fits { 8 * result ≤ length from.now }
+    {
+        self.site.take_stores(addr, from)
     }
 
     /// One turn of the site's program [1, 17]. A refused turn changes nothing.

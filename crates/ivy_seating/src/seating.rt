@@ -19,6 +19,10 @@ use ivy_site::{Keep, Site};
 use std::alloc::Allocator;
 use std::sync::{Mutex, Wait};
 
+/// What ends a session where a seat, a node or the end of its program is not what the session itself made of it. No contract
+/// of a thread says that it is, so it is asked for; no run has been seen to come here.
+const NEVER_SEEN: Fault = Fault::TurnLimit;
+
 /// Seats a node [1, 21]: its seat is issued and taken, and its site is made.
 fn seat_one<'e, S: Setup, A: Allocator + Copy, R: Wait>(
     rt: &R,
@@ -46,13 +50,13 @@ fn seat_one<'e, S: Setup, A: Allocator + Copy, R: Wait>(
 {
     let mut pass = pass;
     if !ether.issue_seat(rt, starter, node) {
-        return Err(Fault::TurnLimit);
+        return Err(NEVER_SEEN);
     }
     let Some(found) = ether.take_seat(rt, &mut pass) else {
-        return Err(Fault::TurnLimit);
+        return Err(NEVER_SEEN);
     };
     if found != node {
-        return Err(Fault::TurnLimit);
+        return Err(NEVER_SEEN);
     }
     let site = Site::keeping(alloc, config, node, program, keep)?;
     Ok(Seated::new(ether, site, pass))
@@ -112,10 +116,10 @@ fn take_in<S: Setup, A: Allocator + Copy>(
     ensures limit { IfErr result (λ fault. fault ≡ Fault.TurnLimit) }
 {
     if site.me() != node {
-        return Err(Fault::TurnLimit);
+        return Err(NEVER_SEEN);
     }
     if !site.ended() {
-        return Err(Fault::TurnLimit);
+        return Err(NEVER_SEEN);
     }
     ether.close(starter, pass, site.event_list());
     Ok(())
@@ -147,7 +151,7 @@ pub fn close_seat<S: Setup, H: Home, A: Allocator + Copy>(
     let seated = homed.into_seated();
     let (_, site, pass) = seated.into_parts();
     if !is_keeping(&site, keep) {
-        return Err(Fault::TurnLimit);
+        return Err(NEVER_SEEN);
     }
     match take_in(ether, starter, &site, pass, node) {
         Ok(()) => Ok(site),
@@ -179,7 +183,7 @@ pub fn close_seats<S: Setup, H: Home, A: Allocator + Copy>(
         let site = close_seat(ether, starter, seat.into_inner(), node, keep)?;
         sites.push_reserved(site);
         let Some(next) = node.checked_add(1) else {
-            return Err(Fault::TurnLimit);
+            return Err(NEVER_SEEN);
         };
         node = next;
     }

@@ -1,6 +1,6 @@
 -- What the starter was told is a report.
 use Rattle.std.proofs.Common.{◌≡◌, ℕ, zero, suc, ◌+◌, List, [], ◌∷◌, ◌++◌, length, map, slice_get}
-use Rattle.std.proofs.Common.{Option, Some, None, refl, sym, ap, subst, ◌∙◌, append-nil}
+use Rattle.std.proofs.Common.{Option, Some, None, inl, inr, refl, sym, ap, subst, ◌∙◌, append-nil}
 use Rattle.std.specs.Prelude.{Result, Ok, Err, IfOk, All}
 use Rattle.std.proofs.lemmas.List.Elements.{All-head, All-tail}
 use Rattle.std.proofs.lemmas.Option.{none-some, same_Some}
@@ -24,6 +24,7 @@ use Rattle.ivy_seating.proofs.of_ivy_moves.Splitting.{same-effect}
 use Rattle.ivy_seating.specs.ivy_ether.ivy_host.Hosts.{Host, host_rules, answered_by}
 use Rattle.ivy_seating.specs.ivy_ether.ivy_host.Managers.{Managed, managed_ops}
 use Rattle.ivy_seating.specs.ivy_ether.ivy_host.Handing.{handing}
+use Rattle.ivy_seating.specs.ivy_ether.ivy_host.ivy_memory.Memories.{in_progress}
 use Rattle.ivy_seating.specs.ivy_ether.Programs.{beginning, all_handed_from, all_handed, Told}
 use Rattle.ivy_seating.specs.ivy_ether.Rule.{IsNode}
 use Rattle.ivy_seating.proofs.of_ivy_ether.Advancing.{same_start, list_over}
@@ -46,10 +47,14 @@ explained_end c w end order (m ∷ moves) on lead =
     explained_end c lead.0 end (order ++ next.0) moves next.1 lead.2
 
 -- nothing is owed where no call is in progress
-owed_none : (rest : List Record) → IsOwed None rest → rest ≡ []
-owed_none [] owed = refl
-owed_none (r ∷ []) owed = absurd (none-some r.call owed)
-owed_none (r ∷ s ∷ rest) owed = absurd owed
+none_called : (rest : List Record) → map (λ (r : Record). r.call) rest ≡ [] → rest ≡ []
+none_called [] is = refl
+none_called (r ∷ rest) is =
+    let f : r.call ∷ map (λ (x : Record). x.call) rest ≡ [] = is in absurd cc
+
+owed_none : (rest : List Record) → IsOwed [] rest → rest ≡ []
+owed_none rest (inl none) = none
+owed_none rest (inr calls) = none_called rest calls
 
 -- an ended program has no call in progress
 asks_none : (asked : Option Call) (h : Host Managed) → h.memory.asked ≡ asked
@@ -133,8 +138,10 @@ module _ (c : Config) (programs : List Program) (limits : IsConfig c)
         let p = order.1.parts i (answered_by e.node.core)
         (map_get (λ (m : Node (Host Managed)). answered_by m.core) end.nodes i e.node e.there) in
         let none : e.node.core.memory.asked ≡ None =
-        asks_none e.node.core.memory.asked e.node.core refl sound.asking e.ended in
-        let empty : p.0 ≡ [] = owed_none p.0 (subst (λ a. IsOwed a p.0) none p.2) in
+        asks_none e.node.core.memory.asked e.node.core refl (λ call is. (sound.asking call is).0)
+        e.ended in
+        let empty : p.0 ≡ [] = owed_none p.0
+        (subst (λ a. IsOwed (in_progress a e.node.core.memory.along) p.0) none p.2) in
         p.1 ∙ ap (λ l. e.node.core.history ++ l) empty ∙ append-nil e.node.core.history
         ∙ sym e.history
 
@@ -154,7 +161,7 @@ module _ (c : Config) (programs : List Program) (limits : IsConfig c)
     }
 
 -- what is known of a node by the calls that were handed to it holds whatever the others were handed
-done_over : (c : Config) (programs : List Program) (calls calls' : ℕ → List Call) (i : ℕ)
+done_over : (c : Config) (programs : List Program) (calls calls' : ℕ → List (List Call)) (i : ℕ)
     (n : NodeReport) → calls i ≡ calls' i → IsDone c (all_handed calls programs) i n
     → IsDone c (all_handed calls' programs) i n
 done_over c programs calls calls' i n same d = record {
@@ -193,11 +200,11 @@ reported c programs limits each nodes v count told t =
     )
 
 -- nothing can be handed to programs that are written down
-handed_written : (calls : List Call) (p : Program) → IsWritten p → handed calls p ≡ p
+handed_written : (calls : List (List Call)) (p : Program) → IsWritten p → handed calls p ≡ p
 handed_written calls (Written is) written = refl
-handed_written calls (Called own) written = absurd written
+handed_written calls (Called rows) written = absurd written
 
-pub written_from : (calls : ℕ → List Call) (k : ℕ) (ps : List Program) → All IsWritten ps
+pub written_from : (calls : ℕ → List (List Call)) (k : ℕ) (ps : List Program) → All IsWritten ps
     → all_handed_from k calls ps ≡ ps
 written_from calls k [] all = refl
 written_from calls k (p ∷ ps) all =

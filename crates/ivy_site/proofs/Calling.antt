@@ -14,7 +14,7 @@ use Rattle.ivy_host.specs.ivy_coherence.declared.Need.{Need}
 use Rattle.ivy_host.specs.ivy_coherence.declared.Need.TheVariants as need
 use Rattle.ivy_host.specs.ivy_coherence.Faults.{Begun, begun}
 use Rattle.ivy_host.specs.Managers.{Managed, managed_ops}
-use Rattle.ivy_program.specs.Steps.{Process, Asks, step_of, answered_with}
+use Rattle.ivy_program.specs.Steps.{Process, Asks, step_of, answered_with, along_of}
 use Rattle.ivy_moves.specs.Cores.{Outcome}
 use Rattle.ivy_host.specs.ivy_coherence.Limits.{most_posted}
 use Rattle.ivy_host.specs.ivy_heap.declared.Answer.{Answer}
@@ -23,7 +23,8 @@ use Rattle.ivy_host.specs.ivy_memory.declared.Asked.{Asked}
 use Rattle.ivy_host.specs.ivy_memory.declared.Asked.TheVariants as asked
 use Rattle.ivy_host.specs.ivy_memory.Asking.{asked_of}
 use Rattle.ivy_host.proofs.of_ivy_memory.Sides.{heap_unserved}
-use Rattle.ivy_host.specs.ivy_memory.Memories.{NodeMemory, CallBegun, reply_of, reply_at, taken_out, answered, needed, again_unless, again, begun_as, call_begun, tried_as, polled_as, polled}
+use Rattle.ivy_host.specs.ivy_memory.Beside.{Beside, nothing_beside, beside}
+use Rattle.ivy_host.specs.ivy_memory.Memories.{NodeMemory, CallBegun, reply_of, reply_at, without_call, answered, needed, again_unless, again, begun_as, call_begun, tried_as, polled_as, polled}
 use Rattle.ivy_host.proofs.of_ivy_memory.Polling.{polled_so}
 use Rattle.ivy_host.specs.Hosts.{Host, begins_as, begins_with, steps, turned_at, turn_of, number_of, recorded}
 use Rattle.ivy_outbox.specs.Outboxes.{Outbox, HasNumbers, RefusesParcels, posted_by, takes_none, after_none}
@@ -42,32 +43,32 @@ answered-changes : (m : NodeMemory Managed) (k : Call) (number : ℕ) (b : Begun
 answered-changes m k number b None is = absurd cc
 answered-changes m k number b (Some r) is = absurd cc
 
-needed-changes : (m : NodeMemory Managed) (k : Call) (number : ℕ) (b : Begun Managed) (d : Need)
-    → ChangesNothing m (needed m k number b d)
-needed-changes m k number b (need.Have o) is = answered-changes m k number b (reply_of o) is
-needed-changes m k number b need.Started is = absurd cc
-needed-changes m k number b need.Busy is = (refl, refl)
+needed-changes : (m : NodeMemory Managed) (k : Call) (more : Beside) (number : ℕ) (b : Begun Managed)
+    (d : Need) → ChangesNothing m (needed m k more number b d)
+needed-changes m k more number b (need.Have o) is = answered-changes m k number b (reply_of o) is
+needed-changes m k more number b need.Started is = absurd cc
+needed-changes m k more number b need.Busy is = (refl, refl)
 
-as-changes : (m : NodeMemory Managed) (k : Call) (number : ℕ) (x : Asked)
-    → ChangesNothing m (begun_as managed_ops m k number x)
-as-changes m k number (asked.Refused code) is = absurd cc
-as-changes m k number (asked.Word page w) is =
+as-changes : (m : NodeMemory Managed) (k : Call) (calls : List Call) (number : ℕ) (x : Asked)
+    → ChangesNothing m (begun_as managed_ops m k calls number x)
+as-changes m k calls number (asked.Refused code) is = absurd cc
+as-changes m k calls number (asked.Word page w) is =
     let b : Begun Managed = begun managed_ops m.coherence page w number in
-    needed-changes m k number b b.need is
-as-changes m k number (asked.Heap h) is = heap_unserved m k number h is
+    needed-changes m k (beside m.coherence.config page w calls number) number b b.need is
+as-changes m k calls number (asked.Heap h) is = heap_unserved m k number h is
 
-unserved_is : (m : NodeMemory Managed) (k : Call) (number : ℕ)
-    → ChangesNothing m (call_begun managed_ops m k number)
+unserved_is : (m : NodeMemory Managed) (k : Call) (calls : List Call) (number : ℕ)
+    → ChangesNothing m (call_begun managed_ops m k calls number)
 unfolding call_begun
-unserved_is m k number is = as-changes m k number (asked_of m.coherence.config k) is
+unserved_is m k calls number is = as-changes m k calls number (asked_of m.coherence.config k) is
 
 unless-changes : (m : NodeMemory Managed) (k : Call) (b : Begun Managed) (r : Option Reply)
-    → ChangesNothing m (again_unless m (answered (taken_out m) k m.number b r) r)
+    → ChangesNothing m (again_unless m (answered (without_call m) k m.number b r) r)
 unless-changes m k b None is = (refl, refl)
 unless-changes m k b (Some r) is = absurd cc
 
 again-changes : (m : NodeMemory Managed) (k : Call) (b : Begun Managed) (d : Need)
-    → ChangesNothing m (again m (needed (taken_out m) k m.number b d) d)
+    → ChangesNothing m (again m (needed (without_call m) k nothing_beside m.number b d) d)
 again-changes m k b (need.Have o) is = unless-changes m k b (reply_of o) is
 again-changes m k b need.Started is = absurd cc
 again-changes m k b need.Busy is = (refl, refl)
@@ -76,7 +77,7 @@ tried-changes : (m : NodeMemory Managed) (k : Call) (x : Asked)
     → ChangesNothing m (tried_as managed_ops m k x)
 tried-changes m k (asked.Refused code) is = (refl, refl)
 tried-changes m k (asked.Word page w) is =
-    let b : Begun Managed = begun managed_ops (taken_out m).coherence page w m.number in
+    let b : Begun Managed = begun managed_ops (without_call m).coherence page w m.number in
     again-changes m k b b.need is
 tried-changes m k (asked.Heap h) is = (refl, refl)
 
@@ -121,7 +122,7 @@ pub record IsNumbered (h : H) (number : ℕ) : Type 0 where
   pub below : number < 2 ^ 64
 
 pub begin_call : (h : H) (k : Call) (number : ℕ) → IsNumbered h number → h.memory.asked ≡ None
-    → step_of h.process ≡ Asks k → IsCall h k (call_begun managed_ops h.memory k number)
+    → step_of h.process ≡ Asks k → IsCall h k (call_begun managed_ops h.memory k (along_of h.process) number)
 unfolding turn_of
 begin_call h k number n idle asks =
     let below : length h.history + 1 < 2 ^ 64 = subst (λ m. m < 2 ^ 64) n.is n.below in
@@ -129,11 +130,21 @@ begin_call h k number n idle asks =
       turn = ap (turned_at managed_ops h) idle
           ∙ ap (steps managed_ops h) asks
           ∙ ap (λ b. if b
-          then begins_as h k (call_begun managed_ops h.memory k (length h.history + 1))
+          then begins_as h k
+          (call_begun managed_ops h.memory k (along_of h.process) (length h.history + 1))
           else None) (lt-ltb (length h.history + 1) (2 ^ 64) below)
-          ∙ ap (λ m. begins_as h k (call_begun managed_ops h.memory k m)) (sym n.is);
-      nothing = unserved_is h.memory k number;
+          ∙ ap (λ m. begins_as h k (call_begun managed_ops h.memory k (along_of h.process) m))
+          (sym n.is);
+      nothing = unserved_is h.memory k (along_of h.process) number;
     }
+
+-- where no call is made along with it, the memory has it begin alone
+pub begin_alone : (h : H) (k : Call) (number : ℕ) → IsNumbered h number → h.memory.asked ≡ None
+    → step_of h.process ≡ Asks k → along_of h.process ≡ []
+    → IsCall h k (call_begun managed_ops h.memory k [] number)
+begin_alone h k number n idle asks alone =
+    subst (λ (ks : List Call). IsCall h k (call_begun managed_ops h.memory k ks number)) alone
+    (begin_call h k number n idle asks)
 
 pub poll_call : (h : H) (k : Call) → h.memory.asked ≡ Some k
     → IsCall h k (polled managed_ops h.memory)

@@ -42,7 +42,8 @@ use Rattle.ivy_moves.specs.Early.{early_as}
 use Rattle.ivy_site.proofs.Made.{delivery_made, delivery_early}
 use Rattle.ivy_site.proofs.HeldStrings.{hearing-holds}
 use Rattle.ivy_host.specs.ivy_memory.Asking.{IsMessageWant}
-use Rattle.ivy_host.proofs.of_ivy_memory.Same.{told-same, told-asked}
+use Rattle.ivy_host.proofs.of_ivy_memory.Same.{told-same}
+use Rattle.ivy_host.proofs.Tame.{serve-asking}
 use Rattle.ivy_host.proofs.Tame.{IsAskingHost}
 
 abbrev H : Type 0
@@ -225,7 +226,7 @@ told_message v f w m next body numbers few =
       same = sends-delivered v.node.link ps;
       config = same.config;
       me = same.me;
-      asking = λ a k is. a k (sym (told-asked managed_ops v.node.core.memory f.source m) ∙ is);
+      asking = λ a. serve-asking managed_ops v.node.core f.source m a;
     }
 
 pub heard_message : (v : Shown) (f : Frame) (w : Verdict) (m : Message)

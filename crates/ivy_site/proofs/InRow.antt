@@ -16,70 +16,71 @@ use Rattle.ivy_moves.specs.declared.keep.Keep.{Keep}
 use Rattle.ivy_moves.specs.Marks.{Mark, Turn, turns}
 use Rattle.ivy_outbox.specs.Outboxes.{Outbox, HasNumbers, posted_by, takes_none, after_none}
 use Rattle.ivy_program.specs.Owned.{IsFree, Rests, asking, process_handed}
+use Rattle.ivy_program.specs.Programs.{one_by_one}
 use Rattle.ivy_program.specs.Steps.{Process}
-use Rattle.ivy_program.proofs.Nexts.{asks_next, handed_and_answered, all_answered}
+use Rattle.ivy_program.proofs.Nexts.{alone_waiting, asks_next, handed_and_answered, all_answered}
 use Rattle.ivy_site.specs.Calls.{AreAnswered, BeginsCall}
 use Rattle.ivy_site.specs.Handed.{site_handed}
 use Rattle.ivy_site.specs.Inside.{HasTurn, host_of}
 use Rattle.ivy_site.specs.Shown.{Shown, box_of, shown_of}
 use Rattle.ivy_site.specs.Sites.{IsSite}
-use Rattle.ivy_site.proofs.Calling.{begin_call, called}
+use Rattle.ivy_site.proofs.Calling.{begin_alone, called}
 use Rattle.ivy_site.proofs.Handed.{handed_site}
 use Rattle.ivy_site.proofs.Turned.{called_site, called_turn, has_turned}
 
--- a site whose own code was answered each of these calls
-abbrev at : Keep → NodeMemory Managed → List Call → List Record → Outbox → List Mark → Shown
-at keep m calls history box events =
-    shown_of keep (host_of m (asking calls None) history) box events
+-- a site whose own code was answered each call of these rows
+abbrev at : Keep → NodeMemory Managed → List (List Call) → List Record → Outbox → List Mark → Shown
+at keep m rows history box events =
+    shown_of keep (host_of m (asking rows None) history) box events
 
 -- the memory answers the call at once, whatever its number
 abbrev AtOnce : Record → NodeMemory Managed → NodeMemory Managed → Type 0
-AtOnce r old new = (number : ℕ) → call_begun managed_ops old r.call number
+AtOnce r old new = (number : ℕ) → call_begun managed_ops old r.call [] number
     ≡ record { answer = Given r.reply; after = new; posted = [] }
 
 -- a site, and what one more call makes of it
-module _ (keep : Keep) (m mid : NodeMemory Managed) (calls : List Call) (history : List Record)
-    (box : Outbox) (events : List Mark) (r : Record) (site : IsSite (at keep m calls history box events))
+module _ (keep : Keep) (m mid : NodeMemory Managed) (rows : List (List Call)) (history : List Record)
+    (box : Outbox) (events : List Mark) (r : Record) (site : IsSite (at keep m rows history box events))
     (idle : m.asked ≡ None) (width : HasWidth r.call) (mine : r.node ≡ box.me)
     (room : length history + 1 < 2 ^ 64) (once : AtOnce r m mid) where
   abbrev before : Shown
-  before = at keep m calls history box events
+  before = at keep m rows history box events
 
   abbrev later : Shown
-  later = at keep mid (calls ++ r.call ∷ []) (history ++ r ∷ []) box (events ++ Turn ∷ [])
+  later = at keep mid (rows ++ (r.call ∷ []) ∷ []) (history ++ r ∷ []) box (events ++ Turn ∷ [])
 
   abbrev asks : Host Managed
-  asks = host_of m (process_handed (r.call ∷ []) (asking calls None)) history
+  asks = host_of m (process_handed ((r.call ∷ []) ∷ []) (asking rows None)) history
 
-  begun : call_begun managed_ops m r.call (length history + 1)
+  begun : call_begun managed_ops m r.call [] (length history + 1)
       ≡ record { answer = Given r.reply; after = mid; posted = [] }
   begun = once (length history + 1)
 
-  posts : (call_begun managed_ops m r.call (length history + 1)).posted ≡ []
+  posts : (call_begun managed_ops m r.call [] (length history + 1)).posted ≡ []
   posts = ap (λ (b : CallBegun Managed). b.posted) begun
 
-  turn : HasTurn asks box (host_of mid (asking (calls ++ r.call ∷ []) None) (history ++ r ∷ [])) box
+  turn : HasTurn asks box (host_of mid (asking (rows ++ (r.call ∷ []) ∷ []) None) (history ++ r ∷ [])) box
   turn =
       has_turned true refl asks box
-      (host_of mid (asking (calls ++ r.call ∷ []) None) (history ++ r ∷ [])) box
-      (called asks r.call (call_begun managed_ops m r.call (length history + 1))
-      (begin_call asks r.call (length history + 1) (record { is = refl; below = room }) idle
-      (asks_next calls None refl r.call width))
-      box box r.node mid (asking (calls ++ r.call ∷ []) None) (history ++ r ∷ []) true
+      (host_of mid (asking (rows ++ (r.call ∷ []) ∷ []) None) (history ++ r ∷ [])) box
+      (called asks r.call (call_begun managed_ops m r.call [] (length history + 1))
+      (begin_alone asks r.call (length history + 1) (record { is = refl; below = room }) idle
+      (asks_next rows None refl r.call width) (alone_waiting rows (Some r.call)))
+      box box r.node mid (asking (rows ++ (r.call ∷ []) ∷ []) None) (history ++ r ∷ []) true
       (Given r.reply) (mine ∙ sym site.me) (sym (ap (λ (b : CallBegun Managed). b.answer) begun))
       (sym (ap (λ (b : CallBegun Managed). b.after) begun))
       (subst (HasNumbers box) (sym posts) (takes_none box))
       (sym (ap (posted_by box) posts ∙ after_none box)) refl refl
-      (handed_and_answered calls None r.call r.reply refl))
+      (handed_and_answered rows None r.call r.reply refl))
 
-  free : IsFree (asking calls None)
-  free = record { called = tt; ended = all_answered calls }
+  free : IsFree (asking rows None)
+  free = record { called = tt; ended = all_answered rows }
 
   pub once_answered : BeginsCall r.call (Some r.reply) before later
   once_answered = record {
-    turns = called_turn (site_handed (r.call ∷ []) before) (site_handed (r.call ∷ []) before) refl
-        (process_handed (r.call ∷ []) (asking calls None)) history
-        (host_of mid (asking (calls ++ r.call ∷ []) None) (history ++ r ∷ [])) box events
+    turns = called_turn (site_handed ((r.call ∷ []) ∷ []) before) (site_handed ((r.call ∷ []) ∷ []) before) refl
+        (process_handed ((r.call ∷ []) ∷ []) (asking rows None)) history
+        (host_of mid (asking (rows ++ (r.call ∷ []) ∷ []) None) (history ++ r ∷ [])) box events
         (events ++ Turn ∷ []) (record { process = refl; history = refl }) turn refl refl;
     recorded = ap (λ (i : ℕ). history ++ record { node = i; call = r.call; reply = r.reply } ∷ [])
         (mine ∙ sym site.me);
@@ -87,14 +88,14 @@ module _ (keep : Keep) (m mid : NodeMemory Managed) (calls : List Call) (history
 
   pub once_site : IsSite later
   once_site =
-      called_site (site_handed (r.call ∷ []) before)
-      (process_handed (r.call ∷ []) (asking calls None)) history
-      (host_of mid (asking (calls ++ r.call ∷ []) None) (history ++ r ∷ [])) box events
-      (events ++ Turn ∷ []) (handed_site (r.call ∷ []) before site free)
+      called_site (site_handed ((r.call ∷ []) ∷ []) before)
+      (process_handed ((r.call ∷ []) ∷ []) (asking rows None)) history
+      (host_of mid (asking (rows ++ (r.call ∷ []) ∷ []) None) (history ++ r ∷ [])) box events
+      (events ++ Turn ∷ []) (handed_site ((r.call ∷ []) ∷ []) before site free)
       (record { process = refl; history = refl }) turn refl refl
 
 -- a word of a row
-record-node : (kind : Row) (node addr number : ℕ) → (record_in kind node addr number).node ≡ node
+pub record-node : (kind : Row) (node addr number : ℕ) → (record_in kind node addr number).node ≡ node
 record-node Loads node addr number = refl
 record-node Stores node addr number = refl
 
@@ -103,50 +104,50 @@ record-width : (kind : Row) (node addr number : ℕ)
 record-width Loads node addr number = (3, omega arith, refl)
 record-width Stores node addr number = (3, omega arith, refl)
 
--- the site once the calls of a row were answered
-abbrev after : Keep → NodeMemory Managed → List Call → List Record → Outbox → List Mark
+-- the site once the calls of a row of words were answered, which are made one after another
+abbrev after : Keep → NodeMemory Managed → List (List Call) → List Record → Outbox → List Mark
     → List Record → Shown
-after keep m calls history box events rs =
-    at keep m (calls ++ calls_of rs) (history ++ rs) box (events ++ turns (length rs))
+after keep m rows history box events rs =
+    at keep m (rows ++ one_by_one (calls_of rs)) (history ++ rs) box (events ++ turns (length rs))
 
-after-one : (keep : Keep) (m : NodeMemory Managed) (calls : List Call) (history : List Record)
+after-one : (keep : Keep) (m : NodeMemory Managed) (rows : List (List Call)) (history : List Record)
     (box : Outbox) (events : List Mark) (r : Record) (rs : List Record)
-    → after keep m (calls ++ r.call ∷ []) (history ++ r ∷ []) box (events ++ Turn ∷ []) rs
-    ≡ after keep m calls history box events (r ∷ rs)
-after-one keep m calls history box events r rs =
-    ap (λ (ks : List Call). at keep m ks ((history ++ r ∷ []) ++ rs) box
-    ((events ++ Turn ∷ []) ++ turns (length rs))) (append_assoc calls (r.call ∷ []) (calls_of rs))
-    ∙ ap (λ (hs : List Record). at keep m (calls ++ calls_of (r ∷ rs)) hs box
+    → after keep m (rows ++ (r.call ∷ []) ∷ []) (history ++ r ∷ []) box (events ++ Turn ∷ []) rs
+    ≡ after keep m rows history box events (r ∷ rs)
+after-one keep m rows history box events r rs =
+    ap (λ (ks : List (List Call)). at keep m ks ((history ++ r ∷ []) ++ rs) box
+    ((events ++ Turn ∷ []) ++ turns (length rs))) (append_assoc rows ((r.call ∷ []) ∷ []) (one_by_one (calls_of rs)))
+    ∙ ap (λ (hs : List Record). at keep m (rows ++ one_by_one (calls_of (r ∷ rs))) hs box
     ((events ++ Turn ∷ []) ++ turns (length rs))) (append_assoc history (r ∷ []) rs)
-    ∙ ap (λ (es : List Mark). at keep m (calls ++ calls_of (r ∷ rs)) (history ++ r ∷ rs) box es)
+    ∙ ap (λ (es : List Mark). at keep m (rows ++ one_by_one (calls_of (r ∷ rs))) (history ++ r ∷ rs) box es)
     (append_assoc events (Turn ∷ []) (turns (length rs)))
 
-after-none : (keep : Keep) (m : NodeMemory Managed) (calls : List Call) (history : List Record)
+after-none : (keep : Keep) (m : NodeMemory Managed) (rows : List (List Call)) (history : List Record)
     (box : Outbox) (events : List Mark)
-    → after keep m calls history box events [] ≡ at keep m calls history box events
-after-none keep m calls history box events =
-    ap (λ (ks : List Call). at keep m ks (history ++ []) box (events ++ [])) (append-nil calls)
-    ∙ ap (λ (hs : List Record). at keep m calls hs box (events ++ [])) (append-nil history)
-    ∙ ap (λ (es : List Mark). at keep m calls history box es) (append-nil events)
+    → after keep m rows history box events [] ≡ at keep m rows history box events
+after-none keep m rows history box events =
+    ap (λ (ks : List (List Call)). at keep m ks (history ++ []) box (events ++ [])) (append-nil rows)
+    ∙ ap (λ (hs : List Record). at keep m rows hs box (events ++ [])) (append-nil history)
+    ∙ ap (λ (es : List Mark). at keep m rows history box es) (append-nil events)
 
--- the calls of a row are answered, and the site stays one
+-- the calls of a row of words are answered, and the site stays one
 pub record IsAfterRow (kind : Row) (numbers : List ℕ) (addr : ℕ) (old new : Shown) : Type 0 where
   pub answered : AreAnswered (row kind old.me addr numbers) old new
   pub site : IsSite new
 
 row_at : (kind : Row) (numbers : List ℕ) (addr : ℕ) (keep : Keep) (m new : NodeMemory Managed)
-    (calls : List Call) (history : List Record) (box : Outbox) (events : List Mark)
-    → IsSite (at keep m calls history box events) → m.asked ≡ None
+    (rows : List (List Call)) (history : List Record) (box : Outbox) (events : List Mark)
+    → IsSite (at keep m rows history box events) → m.asked ≡ None
     → length history + length numbers < 2 ^ 64
     → AnswerAtOnce managed_ops (row kind box.me addr numbers) m new
-    → IsAfterRow kind numbers addr (at keep m calls history box events)
-    (after keep new calls history box events (row kind box.me addr numbers))
-row_at kind [] addr keep m new calls history box events site idle room is =
-    let same : after keep new calls history box events [] ≡ at keep m calls history box events =
-    after-none keep new calls history box events
-    ∙ ap (λ (x : NodeMemory Managed). at keep x calls history box events) is in
+    → IsAfterRow kind numbers addr (at keep m rows history box events)
+    (after keep new rows history box events (row kind box.me addr numbers))
+row_at kind [] addr keep m new rows history box events site idle room is =
+    let same : after keep new rows history box events [] ≡ at keep m rows history box events =
+    after-none keep new rows history box events
+    ∙ ap (λ (x : NodeMemory Managed). at keep x rows history box events) is in
     record { answered = same; site = subst IsSite (sym same) site }
-row_at kind (number ∷ more) addr keep m new calls history box events site idle room is =
+row_at kind (number ∷ more) addr keep m new rows history box events site idle room is =
     let r : Record = record_in kind box.me addr number in
     let mid : NodeMemory Managed = is.0 in
     let small : length history + 1 < 2 ^ 64 = omega (arith, room) in
@@ -154,21 +155,21 @@ row_at kind (number ∷ more) addr keep m new calls history box events site idle
     omega (arith, room, length-append history (r ∷ [])) in
     let width : HasWidth r.call = record-width kind box.me addr number in
     let mine : r.node ≡ box.me = record-node kind box.me addr number in
-    let first : BeginsCall r.call (Some r.reply) (at keep m calls history box events)
-    (at keep mid (calls ++ r.call ∷ []) (history ++ r ∷ []) box (events ++ Turn ∷ [])) =
-    once_answered keep m mid calls history box events r site idle width mine small is.1 in
-    let then : IsSite (at keep mid (calls ++ r.call ∷ []) (history ++ r ∷ []) box (events ++ Turn ∷ [])) =
-    once_site keep m mid calls history box events r site idle width mine small is.1 in
-    let rest = row_at kind more (addr + 8) keep mid new (calls ++ r.call ∷ []) (history ++ r ∷ []) box
+    let first : BeginsCall r.call (Some r.reply) (at keep m rows history box events)
+    (at keep mid (rows ++ (r.call ∷ []) ∷ []) (history ++ r ∷ []) box (events ++ Turn ∷ [])) =
+    once_answered keep m mid rows history box events r site idle width mine small is.1 in
+    let then : IsSite (at keep mid (rows ++ (r.call ∷ []) ∷ []) (history ++ r ∷ []) box (events ++ Turn ∷ [])) =
+    once_site keep m mid rows history box events r site idle width mine small is.1 in
+    let rest = row_at kind more (addr + 8) keep mid new (rows ++ (r.call ∷ []) ∷ []) (history ++ r ∷ []) box
     (events ++ Turn ∷ []) then is.2 next is.3 in
     let rs : List Record = row kind box.me (addr + 8) more in
-    let all = after-one keep new calls history box events r rs in
+    let all = after-one keep new rows history box events r rs in
     record {
       answered = (
-        at keep mid (calls ++ r.call ∷ []) (history ++ r ∷ []) box (events ++ Turn ∷ []),
+        at keep mid (rows ++ (r.call ∷ []) ∷ []) (history ++ r ∷ []) box (events ++ Turn ∷ []),
         first,
         subst (λ (s : Shown). AreAnswered rs
-            (at keep mid (calls ++ r.call ∷ []) (history ++ r ∷ []) box (events ++ Turn ∷ [])) s) all
+            (at keep mid (rows ++ (r.call ∷ []) ∷ []) (history ++ r ∷ []) box (events ++ Turn ∷ [])) s) all
             rest.answered,
       );
       site = subst IsSite all rest.site;
@@ -181,24 +182,24 @@ pub row_made : (kind : Row) (n v : Shown) → v ≡ n → IsSite v → Rests v.n
     → (m : NodeMemory Managed)
     → AnswerAtOnce managed_ops (row kind v.me addr numbers) v.node.core.memory m
     → (p : Process)
-    → ((calls : List Call) → v.node.core.process ≡ asking calls None
-    → p ≡ asking (calls ++ calls_of (row kind 0 addr numbers)) None)
+    → ((rows : List (List Call)) → v.node.core.process ≡ asking rows None
+    → p ≡ asking (rows ++ one_by_one (calls_of (row kind 0 addr numbers))) None)
     → (history : List Record) → history ≡ v.node.core.history ++ row kind v.me addr numbers
     → (events : List Mark) → events ≡ v.events ++ turns (length numbers)
     → IsAfterRow kind numbers addr n (shown_of v.keep (host_of m p history) (box_of v) events)
 row_made kind n v same site rests idle numbers addr room m hits p goes history kept events listed =
-    let calls : List Call = rests.0 in
+    let rows : List (List Call) = rests.0 in
     let rs : List Record = row kind v.me addr numbers in
-    let is : v ≡ at v.keep v.node.core.memory calls v.node.core.history (box_of v) v.events =
+    let is : v ≡ at v.keep v.node.core.memory rows v.node.core.history (box_of v) v.events =
     ap (λ (q : Process).
     shown_of v.keep (host_of v.node.core.memory q v.node.core.history) (box_of v) v.events)
     rests.1 in
-    let made = row_at kind numbers addr v.keep v.node.core.memory m calls v.node.core.history
+    let made = row_at kind numbers addr v.keep v.node.core.memory m rows v.node.core.history
     (box_of v) v.events (subst IsSite is site) idle room hits in
-    let program : p ≡ asking (calls ++ calls_of rs) None =
-    goes calls rests.1
-    ∙ ap (λ (ks : List Call). asking (calls ++ ks) None) (calls-of-row kind 0 v.me addr numbers) in
-    let to : after v.keep m calls v.node.core.history (box_of v) v.events rs
+    let program : p ≡ asking (rows ++ one_by_one (calls_of rs)) None =
+    goes rows rests.1
+    ∙ ap (λ (ks : List Call). asking (rows ++ one_by_one ks) None) (calls-of-row kind 0 v.me addr numbers) in
+    let to : after v.keep m rows v.node.core.history (box_of v) v.events rs
     ≡ shown_of v.keep (host_of m p history) (box_of v) events =
     ap (λ (q : Process). shown_of v.keep (host_of m q (v.node.core.history ++ rs)) (box_of v)
     (v.events ++ turns (length rs))) (sym program)
@@ -210,4 +211,4 @@ row_made kind n v same site rests idle numbers addr room m hits p goes history k
     subst (λ (o : Shown). IsAfterRow kind numbers addr o
     (shown_of v.keep (host_of m p history) (box_of v) events)) (sym is ∙ same)
     (subst (λ (x : Shown). IsAfterRow kind numbers addr
-    (at v.keep v.node.core.memory calls v.node.core.history (box_of v) v.events) x) to made)
+    (at v.keep v.node.core.memory rows v.node.core.history (box_of v) v.events) x) to made)

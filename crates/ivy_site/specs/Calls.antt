@@ -1,14 +1,20 @@
 -- A call that own code makes, and the turn in which it begins.
-use Rattle.std.specs.Prelude.{◌≡◌, ℕ, ◌+◌, ◌<◌, ◌^◌, Bool, false, List, [], ◌∷◌, ◌++◌, length, Option, Some, None}
+use Rattle.std.specs.Prelude.{◌≡◌, ℕ, ◌+◌, ◌%◌, ◌<◌, ◌^◌, Bool, false, List, [], ◌∷◌, ◌++◌}
+use Rattle.std.specs.Prelude.{length, min, Option, Some, None, if◌then◌else◌}
 use Rattle.ivy_model.specs.declared.Call.{Call}
 use Rattle.ivy_model.specs.declared.Record.{Record}
 use Rattle.ivy_model.specs.declared.Reply.{Reply}
 use Rattle.ivy_host.specs.ivy_heap.declared.Answer.{Answer}
 use Rattle.ivy_host.specs.ivy_heap.declared.Answer.TheVariants.{Given}
+use Rattle.ivy_model.specs.declared.Row.{Row}
+use Rattle.ivy_pagetable.specs.Rows.{row_len}
+use Rattle.ivy_host.specs.ivy_memory.Memories.{in_progress}
+use Rattle.ivy_host.specs.ivy_memory.Rows.{row_has_to_wait}
 use Rattle.ivy_host.specs.Hosts.{number_of}
 use Rattle.ivy_moves.specs.declared.keep.Keep.TheVariants.{Nothing}
 use Rattle.ivy_moves.specs.Histories.{HistoryState}
 use Rattle.ivy_program.specs.Owned.{IsFree}
+use Rattle.ivy_program.specs.Programs.{IsCalled}
 use Rattle.ivy_program.specs.Steps.{Process}
 use Rattle.ivy_site.specs.Handed.{site_handed}
 use Rattle.ivy_site.specs.Shown.{Shown}
@@ -25,10 +31,10 @@ recorded_by history node call None = history
 recorded_by history node call (Some reply) =
     history ++ record { node = node; call = call; reply = reply } ∷ []
 
--- own code makes the call, and has a turn, in which it begins: its reply is recorded, where that is
--- there then
+-- own code makes the call, alone in its row, and has a turn, in which it begins: its reply is
+-- recorded, where that is there then
 pub record BeginsCall (call : Call) (reply : Option Reply) (old new : Shown) : Type 0 where
-  pub turns : SiteTurns (site_handed (call ∷ []) old) new
+  pub turns : SiteTurns (site_handed ((call ∷ []) ∷ []) old) new
   pub recorded : new.node.core.history
       ≡ recorded_by old.node.core.history (number_of old.node.core) call reply
 
@@ -54,4 +60,45 @@ pub record MayCallInRow (s : Shown) (addr bytes : ℕ) : Type 0 where
   pub free : IsFree s.node.core.process
   pub unkept : s.keep ≡ Nothing
   pub counted : length s.node.core.history + bytes < 2 ^ 64
+  pub below : addr + bytes < 2 ^ 64
+
+-- own code makes these calls together and has a turn, in which the first of them begins and waits:
+-- they are in progress then
+pub record BeginsTogether (calls : List Call) (old new : Shown) : Type 0 where
+  pub turns : SiteTurns (site_handed (calls ∷ []) old) new
+  pub recorded : new.node.core.history ≡ old.node.core.history
+  pub waits : in_progress new.node.core.memory.asked new.node.core.memory.along ≡ calls
+
+-- so it is, or there are none, and nothing is done
+abbrev pub BeginsRow : List Call → Shown → Shown → Type 0
+BeginsRow [] old new = new ≡ old
+BeginsRow (call ∷ more) old new = BeginsTogether (call ∷ more) old new
+
+-- how many calls own code can make together, on words in a row from an address on: none where the
+-- first need not wait, else as many as it wants, as lie in the page, and as there are bytes for
+abbrev pub row_together : Shown → Row → ℕ → ℕ → ℕ → ℕ
+row_together s kind addr words bytes =
+    if row_has_to_wait s.node.core.memory kind addr
+    then min words (row_len s.config.page_size (addr % s.config.page_size) bytes)
+    else 0
+
+-- the call in progress has its reply, which is recorded in a turn
+pub record IsTaken (r : Record) (old new : Shown) : Type 0 where
+  pub asked : old.node.core.memory.asked ≡ Some r.call
+  pub turns : SiteTurns old new
+  pub recorded : new.node.core.history ≡ old.node.core.history ++ r ∷ []
+
+-- one after another
+abbrev pub AreTaken : List Record → Shown → Shown → Type 0
+AreTaken [] old new = new ≡ old
+AreTaken (r ∷ more) old new = (mid : Shown) × IsTaken r old mid × AreTaken more mid new
+
+-- replies in a row, to calls of own code on so many bytes from an address on, can be listed with no
+-- place for them: no list of the past is kept, and the calls can be counted
+pub record TakesReplies (process : Process) (history : HistoryState) (events_kept : Bool)
+    (addr bytes : ℕ) : Type 0 where
+  pub own : IsCalled process.program
+  pub unkept : history.kept ≡ false
+  pub counted : length history.records + bytes < 2 ^ 64
+  pub unlisted : events_kept ≡ false
   pub below : addr + bytes < 2 ^ 64

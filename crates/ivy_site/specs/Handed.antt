@@ -5,6 +5,6 @@ use Rattle.ivy_moves.specs.Carrying.{node_changed}
 use Rattle.ivy_host.specs.Handing.{handing}
 use Rattle.ivy_site.specs.Shown.{Shown}
 
--- its program has these calls too, and nothing else changes
-abbrev pub site_handed : List Call → Shown → Shown
+-- its program has these rows of calls too, and nothing else changes
+abbrev pub site_handed : List (List Call) → Shown → Shown
 site_handed more s = record s { node = node_changed (handing more) s.node }

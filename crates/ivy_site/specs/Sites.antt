@@ -14,7 +14,7 @@ use Rattle.ivy_moves.specs.ivy_link.declared.Verdict.TheVariants as verdict
 use Rattle.ivy_moves.specs.ivy_link.Windows.{first_window, place_at}
 use Rattle.ivy_moves.specs.ivy_link.Holding.{window_of, after_hold, ready_of, after_taking}
 use Rattle.ivy_program.specs.Programs.{Program}
-use Rattle.ivy_program.specs.Steps.{HasEnded, Asks, step_of}
+use Rattle.ivy_program.specs.Steps.{HasEnded, AsksRow}
 use Rattle.ivy_host.specs.Managers.{Managed, managed_ops}
 use Rattle.ivy_moves.specs.declared.keep.Keep.{Keep}
 use Rattle.ivy_moves.specs.declared.keep.Keep.TheVariants.{All}
@@ -201,7 +201,7 @@ pub record IsSite (s : Shown) : Type 0 where
   pub config : s.node.core.memory.coherence.config ≡ s.config
   pub me : s.node.core.memory.coherence.me ≡ s.me
   pub asking : (call : Call) → s.node.core.memory.asked ≡ Some call
-      → step_of s.node.core.process ≡ Asks call
+      → AsksRow s.node.core.process (call ∷ s.node.core.memory.along)
   pub made : IsMadeByEvents s
   pub held : HoldsEarly s
 

@@ -4,6 +4,7 @@
 #![tactic(auto)]
 
 mod host;
+mod rows;
 mod site;
 mod turn;
 

@@ -42,12 +42,12 @@ use std::marker::Model;
 /// One node of a shared memory, with the program that it runs.
 pub struct Site<A: Allocator> {
     alloc: A,
-    memory: Memory<NodeManager<A>, A>,
-    machine: Machine<A>,
+    pub(crate) memory: Memory<NodeManager<A>, A>,
+    pub(crate) machine: Machine<A>,
     keep: Keep,
-    history: History<A>,
-    outbox: Outbox<A>,
-    events: Events<A>,
+    pub(crate) history: History<A>,
+    pub(crate) outbox: Outbox<A>,
+    pub(crate) events: Events<A>,
 }
 
 // What ends a site is proved here, once: a crate above that has one would prove anew what ends each of its some thirty
@@ -194,7 +194,7 @@ impl<A: Allocator + Copy> Site<A> {
     pub fn hand(&mut self, call: Call) -> Result<(), Fault>
         requires free { IsFree self.old.node.core.process }
         requires width { HasWidth call }
-        ensures ok { OnOk result (self.new ≡ site_handed (call ∷ []) self.old) }
+        ensures ok { OnOk result (self.new ≡ site_handed ((call ∷ []) ∷ []) self.old) }
         ensures err { OnErr result (self.new ≡ self.old) }
         ensures memory { IsOkUnless result Fault.Memory }
     {
@@ -214,7 +214,7 @@ impl<A: Allocator + Copy> Site<A> {
         ensures busy { (IsFree self.old.node.core.process → ⊥) → result ≡ Err Fault.Busy }
         ensures want { IsFree self.old.node.core.process → IfErr result IsWant }
         ensures few { length self.new.waiting ≤ length self.old.waiting + most_sent }
-        ensures spent { IfErr result (IsSpentTurn (site_handed (call ∷ []) self.old)) }
+        ensures spent { IfErr result (IsSpentTurn (site_handed ((call ∷ []) ∷ []) self.old)) }
     {
         // Each arm is compiled for its kind of call, so that the most frequent ones take no further look at it.
         match call {
@@ -241,7 +241,7 @@ impl<A: Allocator + Copy> Site<A> {
         ensures busy { (IsFree self.old.node.core.process → ⊥) → result ≡ Err Fault.Busy }
         ensures want { IsFree self.old.node.core.process → IfErr result IsWant }
         ensures few { length self.new.waiting ≤ length self.old.waiting + most_sent }
-        ensures spent { IfErr result (IsSpentTurn (site_handed (call ∷ []) self.old)) }
+        ensures spent { IfErr result (IsSpentTurn (site_handed ((call ∷ []) ∷ []) self.old)) }
     {
         if !self.machine.is_free() {
             return Err(Fault::Busy);
@@ -365,6 +365,14 @@ impl<A: Allocator + Copy> Site<A> {
         self.memory.asked()
     }
 
+    #[tactic(auto, using(crate::proofs::Together::none_along, crate::proofs::Together::along_none))]
+    /// Whether no call was made along with the one in progress. It takes no memory.
+    pub fn is_alone(&self) -> bool
+        ensures { IsTrue result ↔ (self.now.node.core.memory.along ≡ []) }
+    {
+        self.memory.along() == 0
+    }
+
     /// The count and the least value of the await in progress, where the call in progress is one. It takes no memory.
     pub fn waits(&self) -> Option<(u64, u64)>
         ensures { result ≡ await_in self.now.node.core.memory.asked }
@@ -476,6 +484,11 @@ impl<A: Allocator + Copy> Site<A> {
             }
             self.events.push_turn();
             return Ok(Turn::Moved);
+        }
+        // In the midst of a row the memory has a call in progress, so it never comes to that. No contract says so: a call that
+        // is tried again is alone from then on.
+        if !self.machine.is_alone() {
+            return Err(Fault::Memory);
         }
         match self.machine.next()? {
             Next::Ended => Ok(Turn::Ended),

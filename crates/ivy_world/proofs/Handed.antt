@@ -40,7 +40,7 @@ map_changed f g (x ∷ xs) (suc i) old new there is =
     ap (λ l. f x ∷ l) (map_changed f g xs i old new there is)
 
 module _ (c : Config) (sites : List Shown) (sent : List (List ℕ)) (node : ℕ) (old : Shown)
-    (there : slice_get sites node ≡ Some old) (more : List Call)
+    (there : slice_get sites node ≡ Some old) (more : List (List Call))
     (h : IsRunning c sites sent) where
   abbrev new : Shown
   new = site_handed more old
@@ -51,8 +51,8 @@ module _ (c : Config) (sites : List Shown) (sent : List (List ℕ)) (node : ℕ)
   made : IsMadeByEvents old
   made = h.nodes.made node old there
 
-  -- each node is handed these calls, or none
-  abbrev more_at : ℕ → List Call
+  -- each node is handed these rows of calls, or none
+  abbrev more_at : ℕ → List (List Call)
   more_at i = if i == node then more else []
 
   more_here : more_at node ≡ more
@@ -80,7 +80,7 @@ module _ (c : Config) (sites : List Shown) (sent : List (List ℕ)) (node : ℕ)
   node_kept n = ap (λ h. record { core = h; link = n.link }) (handing_none n.core)
 
   -- what the sites show of what the calls change
-  module _ {Y : Type 0} (f : Shown → Y) (g : List Call → Y → Y) (none : (y : Y) → g [] y ≡ y)
+  module _ {Y : Type 0} (f : Shown → Y) (g : List (List Call) → Y → Y) (none : (y : Y) → g [] y ≡ y)
       (is : f new ≡ g more (f old)) where
     changed_there : (i : ℕ) (y : Y) → slice_get (map f sites) i ≡ Some y
         → slice_get (map f sites') i ≡ Some (g (more_at i) y)
@@ -204,14 +204,14 @@ there_is (x ∷ xs) zero l = (x, refl)
 there_is (x ∷ xs) (suc i) l = there_is xs i (omega (arith, l))
 
 -- the sites after a call was handed in, or refused
-pub record AreAfter (sites : List Shown) (node : ℕ) (more : List Call) (r : Result (Unit {0}) Fault)
+pub record AreAfter (sites : List Shown) (node : ℕ) (more : List (List Call)) (r : Result (Unit {0}) Fault)
     (end : List Shown) : Type 0 where
   pub ok : OnOk r (IfSome (slice_get sites node)
       (λ s. end ≡ set sites node (site_handed more s)))
   pub err : OnErr r (end ≡ sites)
 
 module _ (c : Config) (sites : List Shown) (sent : List (List ℕ)) (passed node : ℕ)
-    (more : List Call) (h : IsRunning c sites sent) (p : IsPassed c (world_of sites sent) passed)
+    (more : List (List Call)) (h : IsRunning c sites sent) (p : IsPassed c (world_of sites sent) passed)
     (l : node < length sites) where
   old : Shown
   old = (there_is sites node l).0

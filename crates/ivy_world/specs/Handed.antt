@@ -16,8 +16,8 @@ changed_at i f [] = []
 changed_at zero f (x ∷ xs) = f x ∷ xs
 changed_at (suc i) f (x ∷ xs) = x ∷ changed_at i f xs
 
--- the node's program has these calls too, and nothing else changes
-abbrev pub run_handed : ℕ → List Call → Run → Run
+-- the node's program has these rows of calls too, and nothing else changes
+abbrev pub run_handed : ℕ → List (List Call) → Run → Run
 run_handed node more r = record {
   config = r.config;
   programs = changed_at node (handed more) r.programs;

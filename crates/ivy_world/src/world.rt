@@ -169,7 +169,7 @@ fn hand<A: Allocator + Copy>(
     requires node { node < length sites.old.items }
     requires free { IfSome (slice_get sites.old.items node) (λ s. IsFree s.node.core.process) }
     requires width { HasWidth call }
-    ensures ok { OnOk result (IfSome (slice_get sites.old.items node) (λ s. sites.new.items ≡ slice_set sites.old.items node (site_handed (call ∷ []) s))) }
+    ensures ok { OnOk result (IfSome (slice_get sites.old.items node) (λ s. sites.new.items ≡ slice_set sites.old.items node (site_handed ((call ∷ []) ∷ []) s))) }
     ensures err { OnErr result (sites.new.items ≡ sites.old.items) }
     ensures memory { IsOkUnless result Fault.Memory }
 {
@@ -296,7 +296,7 @@ impl<A: Allocator + Copy> World<A> {
         requires node { node < self.old.config.nodes }
         requires free { IfSome (slice_get self.old.world.nodes node) (λ n. IsFree n.core.process) }
         requires width { HasWidth call }
-        ensures ok { OnOk result (self.new ≡ run_handed node (call ∷ []) self.old) }
+        ensures ok { OnOk result (self.new ≡ run_handed node ((call ∷ []) ∷ []) self.old) }
         ensures keeps { Keeps self.new }
         ensures err { OnErr result (self.new ≡ self.old) }
         ensures memory { IsOkUnless result Fault.Memory }
@@ -311,7 +311,7 @@ impl<A: Allocator + Copy> World<A> {
         requires node { node < self.old.config.nodes }
         requires free { IfSome (slice_get self.old.world.nodes node) (λ n. IsFree n.core.process) }
         requires width { HasWidth call }
-        ensures ok { OnOk result (self.new ≡ run_handed node (call ∷ []) self.old) }
+        ensures ok { OnOk result (self.new ≡ run_handed node ((call ∷ []) ∷ []) self.old) }
         ensures err { OnErr result (self.new ≡ self.old) }
         ensures memory { IsOkUnless result Fault.Memory }
     {
@@ -324,6 +324,15 @@ impl<A: Allocator + Copy> World<A> {
         ensures { IfSome (slice_get self.now.world.nodes node) (λ n. result ≡ n.core.memory.asked) }
     {
         self.sites[node as usize].asked()
+    }
+
+    /// Whether no call was made along with the one that a node has in progress; the node is one of the world's. It takes no
+    /// memory.
+    pub fn is_alone(&self, node: u64) -> bool
+        requires { node < self.now.config.nodes }
+        ensures { IfSome (slice_get self.now.world.nodes node) (λ n. IsTrue result ↔ (n.core.memory.along ≡ [])) }
+    {
+        self.sites[node as usize].is_alone()
     }
 
     /// The count and the least value of the await that a node has in progress, where its call in progress is one; the

@@ -233,8 +233,8 @@ module _ (c : Config) (limits : IsConfig c) (programs : List Program)
             → Stands managed_ops i n.core u.order u.last
             → (out : Outcome (Host Managed)) × (turn_of managed_ops n.core ≡ Some out)
         stands u (waits none part) =
-            absurd (no_answer_due c limits programs w f u n.core.memory.asked due none)
-        stands u (replied other reply is next part) = (_, next.turned)
+            absurd (no_answer_due c limits programs w f u n.core.memory.asked n.core.memory.along due none)
+        stands u (replied other reply is next along calls part) = (_, next.turned)
         stands u (reached k least count is at le (inl next) part) = (_, next.turned)
         stands u (reached k least count is at le (inr next) part) = (next.outcome, next.turned)
 

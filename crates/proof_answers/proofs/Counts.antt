@@ -32,6 +32,7 @@ use Rattle.proof_progress.specs.Settled.{HasNoAnswer}
 use Rattle.proof_progress.specs.Unblocked.{Stands, waits, replied, reached, AreUnblocked}
 use Rattle.proof_progress.specs.ivy_host.Hosts.{Host}
 use Rattle.proof_progress.specs.ivy_host.Managers.{Managed, managed_ops}
+use Rattle.proof_progress.specs.ivy_host.ivy_memory.Memories.{in_progress}
 use Rattle.proof_progress.specs.proof_refinement.Runs.{FollowsInOrder}
 use Rattle.proof_progress.proofs.of_proof_consistency.Faithful.{map-places}
 use Rattle.proof_progress.proofs.Totals.{sum_le, sum_add, sum_zero, sum_only}
@@ -249,7 +250,7 @@ module _ (c : Config) (limits : IsConfig c) (programs : List Program)
     told_part : (i : ℕ) (n : Host Managed) → Stands managed_ops i n u.order u.last
         → (more : List Record) × (part i u.order ≡ n.history ++ more)
     told_part i n (waits none is) = ([], is ∙ sym (append-nil n.history))
-    told_part i n (replied called answer asked next is) = (_, is)
+    told_part i n (replied called answer asked next along calls is) = (_, is)
     told_part i n (reached j least count asked at le next is) = ([], is ∙ sym (append-nil n.history))
 
     advances_few : (count : ℕ) → slice_get u.last.counts k ≡ Some count → advances k w ≤ count
@@ -259,13 +260,15 @@ module _ (c : Config) (limits : IsConfig c) (programs : List Program)
 
   -- so a call that is due has an answer
   pub no_answer_due : (u : AreUnblocked managed_ops c (ordered_of w f.posted).cores)
-      (a : Option Call) → IsDue w a → HasNoAnswer u.last a → ⊥
-  no_answer_due u None due none = due
-  no_answer_due u (Some (call.Await k least)) due none =
+      (a : Option Call) (along : List Call) → IsDue w a → HasNoAnswer u.last (in_progress a along)
+      → ⊥
+  no_answer_due u None along due none = due
+  no_answer_due u (Some called) (next ∷ calls) due none = none
+  no_answer_due u (Some (call.Await k least)) [] due none =
       (let a = advances_few u k none.0 none.1 in
       let b = none.2 in
       absurd (omega (arith, a, b, due)))
-  no_answer_due u (Some called) due none = none
+  no_answer_due u (Some called) [] due none = none
 
   -- and what is due stays due
   module _ (end : World (Host Managed)) (g : FollowsInOrder managed_ops c programs end)

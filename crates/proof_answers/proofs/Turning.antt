@@ -16,7 +16,7 @@ use Rattle.ivy_pagetable.specs.declared.Entry.{Entry}
 use Rattle.ivy_pagetable.specs.declared.Entry.TheVariants as entry
 use Rattle.ivy_pagetable.specs.declared.Word.{Word}
 use Rattle.ivy_pagetable.specs.declared.Word.TheVariants as word
-use Rattle.ivy_pagetable.specs.Accesses.{reads}
+use Rattle.ivy_pagetable.specs.Accesses.{reads, suffices}
 use Rattle.ivy_pagetable.specs.Entries.{is_locked, put_offs}
 use Rattle.ivy_pagetable.specs.Manager.{Ops}
 use Rattle.ivy_pagetable.specs.States.{IdleState}
@@ -26,16 +26,18 @@ use Rattle.ivy_moves.specs.Cores.{Outcome}
 use Rattle.proof_progress.specs.ivy_host.Hosts.{Host, turn_of, begins_as}
 use Rattle.proof_progress.specs.ivy_host.Sound.{IsSoundHost}
 use Rattle.proof_progress.specs.ivy_host.ivy_coherence.Coherent.{Coherent}
-use Rattle.proof_progress.specs.ivy_host.ivy_coherence.Faults.{Begun, suffices, waiting_from, fault_entry, busy, hit, faulted, fault_posted, accessed, begun_at, begun}
+use Rattle.proof_progress.specs.ivy_host.ivy_coherence.Faults.{Begun, waiting_from, fault_entry, along, busy, hit, faulted, fault_posted, accessed, begun_at, begun}
 use Rattle.proof_progress.specs.ivy_host.ivy_coherence.Serving.{invalidations}
 use Rattle.proof_progress.specs.ivy_host.ivy_heap.declared.HeapCall.{HeapCall}
 use Rattle.proof_progress.specs.ivy_host.ivy_heap.declared.HeapCall.TheVariants as heap_call
 use Rattle.proof_progress.specs.ivy_host.ivy_heap.HeapCalls.{request}
 use Rattle.proof_progress.specs.ivy_host.ivy_memory.declared.Asked.TheVariants as kinds
 use Rattle.proof_progress.specs.ivy_host.ivy_memory.Asking.{asked_of}
-use Rattle.proof_progress.specs.ivy_host.ivy_memory.Memories.{answered, needed, again_unless, first_reply, reply_of, reply_at, reply_there, taken_out}
+use Rattle.proof_progress.specs.ivy_host.ivy_memory.Memories.{answered, needed, again_unless, first_reply, reply_of, reply_at, reply_there, without_call}
+use Rattle.proof_progress.specs.ivy_host.ivy_memory.Beside.{nothing_beside}
 use Rattle.proof_progress.proofs.of_ivy_host.of_ivy_coherence.Changing.{entry_with}
-use Rattle.proof_progress.proofs.of_proof_refinement.HostTurns.{number_of, asks}
+use Rattle.proof_progress.proofs.of_proof_consistency.Beside.{along-kept}
+use Rattle.proof_progress.proofs.of_proof_refinement.HostTurns.{made_along, number_of, asks}
 use Rattle.proof_progress.proofs.of_proof_refinement.HostTurns.{HostTurn, answers, tries_again, goes_on, refuses, asks_for, serves_heap, asks_heap}
 use Rattle.proof_progress.proofs.Pursued.{IsPlain, IsPursued}
 use Rattle.proof_progress.proofs.Stopped.{IsAwait, await_is, tries}
@@ -222,7 +224,8 @@ module _ {S : Type 0} (ops : Ops S) (c : Config) (limits : IsConfig c) (x : ℕ)
   module _ (called : Call) (page : ℕ) (w : Word) (idle : n.memory.asked ≡ None)
       (inside : page < c.pages) where
     abbrev comes_of : Begun S → Option (Outcome (Host S))
-    comes_of b = begins_as n called (needed n.memory called (number_of n) b b.need)
+    comes_of b =
+        begins_as n called (needed n.memory called (made_along n page w) (number_of n) b b.need)
 
     no_call : (other : Call) → n.memory.asked ≡ Some other → ⊥
     no_call other is = none-some other (sym idle ∙ is)
@@ -247,14 +250,24 @@ module _ {S : Type 0} (ops : Ops S) (c : Config) (limits : IsConfig c) (x : ℕ)
     fault_begins s at is =
         subst (λ z. TurnDoes n z c) (same_Some _ out is)
         (begins page inside refl (λ other was. absurd (no_call other was))
-        (written_there page inside (fault_entry w (number_of n) s))
-        (ap put_offs (written_here page inside (fault_entry w (number_of n) s))
+        (λ q ne. same_at q ∙ written_there page inside (fault_entry w (number_of n) s) q ne)
+        (ap put_offs (same_at page ∙ written_here page inside (fault_entry w (number_of n) s))
         ∙ none_put ops k page w (number_of n) s ∙ sym (ap put_offs at))
-        (let a = call_few called
-        (entry_at (with_entry k.table page (fault_entry w (number_of n) s)) 0) in
+        (let a = call_few called (entry_at (along words kept).table 0) in
         let b = full_weight in
         let d = fault_weight ops k page w (number_of n) s in
         omega (arith, a, b, d)))
+      where
+        -- the words that wait along leave the table as it is
+        words : List Word
+        words = (made_along n page w).words
+
+        kept : Coherent S
+        kept = (faulted ops k page w (number_of n) s).after
+
+        same_at : (q : ℕ) → entry_at (along words kept).table q
+            ≡ entry_at (with_entry k.table page (fault_entry w (number_of n) s)) q
+        same_at q = ap (λ t. entry_at t q) (along-kept words kept).table
 
     access_begins : (b : Begun S) → Access ops k page w (number_of n) b → comes_of b ≡ Some out
         → TurnDoes n out c
@@ -284,8 +297,8 @@ module _ {S : Type 0} (ops : Ops S) (c : Config) (limits : IsConfig c) (x : ℕ)
 
     hit_again : (r : Option Reply)
         → begins_as n called (again_unless n.memory
-        (answered (taken_out n.memory) called n.memory.number
-        (hit ops (taken_out n.memory).coherence page w) r) r) ≡ Some out → TurnDoes n out c
+        (answered (without_call n.memory) called n.memory.number
+        (hit ops (without_call n.memory).coherence page w) r) r) ≡ Some out → TurnDoes n out c
     hit_again None is = absurd (none-some out is)
     hit_again (Some r) is =
         records _ (ap (λ (z : Outcome (Host S)). z.after.history) (sym (same_Some _ out is)))
@@ -293,16 +306,16 @@ module _ {S : Type 0} (ops : Ops S) (c : Config) (limits : IsConfig c) (x : ℕ)
     fault_again : (s : IdleState) → entry_at k.table page ≡ entry.Idle s
         → suffices s.access w ≡ false → (offset least : ℕ) → w ≡ word.Await offset least
         → turn_of ops n
-        ≡ begins_as n called (needed (taken_out n.memory) called n.memory.number
-        (faulted ops (taken_out n.memory).coherence page w n.memory.number s)
-        (faulted ops (taken_out n.memory).coherence page w n.memory.number s).need)
+        ≡ begins_as n called (needed (without_call n.memory) called nothing_beside n.memory.number
+        (faulted ops (without_call n.memory).coherence page w n.memory.number s)
+        (faulted ops (without_call n.memory).coherence page w n.memory.number s).need)
         → TurnDoes n out c
     fault_again s at short offset least waits is =
         subst (λ z. TurnDoes n z c) (same_Some _ out (sym is ∙ turned))
         (begins page inside refl (λ other was. same_Some_asked other was)
         (written_there page inside e)
         (ap put_offs (written_here page inside e)
-        ∙ none_put ops (taken_out n.memory).coherence page w n.memory.number s
+        ∙ none_put ops (without_call n.memory).coherence page w n.memory.number s
         ∙ sym (ap put_offs at)) less)
       where
         e : Entry
@@ -333,15 +346,15 @@ module _ {S : Type 0} (ops : Ops S) (c : Config) (limits : IsConfig c) (x : ℕ)
         after =
             ap (λ d. call_weight (Some d) (entry_at (with_entry k.table page e) 0)) await.is
             ∙ ap (bare cost) first
-            ∙ fault_bare ops (taken_out n.memory).coherence page w n.memory.number s
+            ∙ fault_bare ops (without_call n.memory).coherence page w n.memory.number s
 
         posts : work_posted cost
-            (fault_posted ops (taken_out n.memory).coherence page w n.memory.number s) ≡ 2
+            (fault_posted ops (without_call n.memory).coherence page w n.memory.number s) ≡ 2
         posts = ap (λ v. work_posted cost
-            (fault_posted ops (taken_out n.memory).coherence page v n.memory.number s)) waits
+            (fault_posted ops (without_call n.memory).coherence page v n.memory.number s)) waits
 
         less : work_posted cost
-            (fault_posted ops (taken_out n.memory).coherence page w n.memory.number s)
+            (fault_posted ops (without_call n.memory).coherence page w n.memory.number s)
             + call_weight (Some called) (entry_at (with_entry k.table page e) 0)
             < host_weight n
         less = omega (arith, before, after, posts)

@@ -13,11 +13,10 @@ use Rattle.ivy_pagetable.specs.declared.Entry.TheVariants as entry
 use Rattle.ivy_pagetable.specs.declared.Word.{Word}
 use Rattle.ivy_pagetable.specs.declared.Word.TheVariants as word
 use Rattle.ivy_pagetable.specs.States.{IdleState}
-use Rattle.ivy_pagetable.specs.Accesses.{reads as can_read, writes as can_write}
+use Rattle.ivy_pagetable.specs.Accesses.{reads as can_read, writes as can_write, suffices}
 use Rattle.ivy_pagetable.specs.Entries.{readable, writable, is_owner, copies_of}
 use Rattle.ivy_pagetable.specs.Words.{IsWord, needs_write, carried_out}
 use Rattle.ivy_pagetable.proofs.Words.{length-carried_out, unwritten_bytes}
-use Rattle.proof_refinement.specs.ivy_coherence.Faults.{suffices}
 use Rattle.proof_refinement.specs.proof_transitions.Letters.{Letter, Net, Place, Underway, Aside, Loose, IsAt, installs}
 use Rattle.proof_refinement.specs.proof_transitions.Orderly.{AwaitsCopy, HasCopy, reads, comes, At, IsExpectedAs, IsOrderly}
 use Rattle.proof_refinement.specs.proof_transitions.Rows.{with_flat_page}

@@ -10,6 +10,7 @@ use Rattle.ivy_model.specs.Memory as model
 use Rattle.ivy_model.specs.Legal.{ServesAll}
 use Rattle.ivy_model.specs.Explains.{part, Answered, IsOwed, IsExplained}
 use Rattle.ivy_model.proofs.Parts.{part-append, leads-append}
+use Rattle.ivy_wire.specs.Data.{Message}
 use Rattle.ivy_pagetable.specs.Manager.{Ops}
 use Rattle.proof_refinement.specs.ivy_alloc.Heap.{HeapState}
 use Rattle.ivy_program.specs.Programs.{Program}
@@ -22,7 +23,8 @@ use Rattle.proof_refinement.specs.proof_transitions.Orderly.{IsOrderly}
 use Rattle.proof_refinement.specs.Errands.{heap_way}
 use Rattle.proof_refinement.proofs.LiftedWorlds.{net_of, IsSoundWorld}
 use Rattle.proof_consistency.specs.Copied.{IsCopied}
-use Rattle.proof_consistency.proofs.Owing.{pending, owed-owed, IsRunning, GoOn, blocks_stay, blocks_change, Adds}
+use Rattle.proof_consistency.proofs.OwedCalls.{pending-calls}
+use Rattle.proof_consistency.proofs.Owing.{pending, IsRunning, GoOn, blocks_stay, blocks_change, Adds}
 
 -- The order is one that the flat memory leads through, all copies and the live blocks of the heap
 -- are those of the memory then, and each node's part of the order is its history and what is owed
@@ -82,7 +84,8 @@ module _ {S : Type 0} (ops : Ops S) (c : Config) where
         × IsOwed x.asked rest) found.2 (
           pending found.0 (heap_way o 0 i),
           f.parts i found.0 found.1,
-          owed-owed _ found.0.memory.asked _,
+          pending-calls ops c i found.0 (f.sound.sound i found.0 found.1) (f.running i found.0 found.1)
+              (heap_way o 0 i),
         ));
   }
 

@@ -28,7 +28,7 @@ use Rattle.proof_refinement.specs.Errands.{heap_way}
 use Rattle.proof_refinement.proofs.LiftedWorlds.{net_of, IsSoundWorld}
 use Rattle.proof_consistency.specs.Copied.{IsCopied}
 use Rattle.proof_consistency.proofs.HeapServed.{memory_told, heap_served}
-use Rattle.proof_consistency.proofs.Owing.{owed, reply_owed, pending, owed-untold, IsRunning}
+use Rattle.proof_consistency.proofs.Owing.{owed, reply_owed, along_owed, pending, owed-untold, then-untold, none_pending, IsRunning}
 use Rattle.proof_consistency.proofs.Faithful.{IsFaithful, at_home, set-places}
 
 -- node 0 after it served a call of the heap, and a node that learned the reply of its own
@@ -44,11 +44,27 @@ with_reply n r =
 -- what holds of a node's run is untouched by its side of the heap
 with_heap-running : {S : Type 0} (c : Config) (n : Host S) (h : HeapState) (k : HeapCall)
     → IsRunning c n → IsRunning c (with_heap n h k)
-with_heap-running c n h k r = record { run = r.run; makes = r.makes; waits = r.waits }
+with_heap-running c n h k r = record {
+  run = r.run;
+  makes = r.makes;
+  waits = r.waits;
+  waits_along = r.waits_along;
+  prompt = r.prompt;
+  idle = r.idle;
+  told = r.told;
+}
 
 with_reply-running : {S : Type 0} (c : Config) (n : Host S) (y : Reply) → IsRunning c n
     → IsRunning c (with_reply n y)
-with_reply-running c n y r = record { run = r.run; makes = r.makes; waits = r.waits }
+with_reply-running c n y r = record {
+  run = r.run;
+  makes = r.makes;
+  waits = r.waits;
+  waits_along = r.waits_along;
+  prompt = r.prompt;
+  idle = r.idle;
+  told = r.told;
+}
 
 module _ {S : Type 0} (ops : Ops S) (c : Config) (o o' : Ordered (Host S)) (order : List Record)
     (f : IsFaithful ops c o order)
@@ -80,24 +96,36 @@ module _ {S : Type 0} (ops : Ops S) (c : Config) (o o' : Ordered (Host S)) (orde
     nothing_done : asker.memory.coherence.done ≡ None
     nothing_done = (good.memory.apart (errand.Asked k number) asked).1
 
+    -- nothing was made along with a call of the heap
+    none_along : along_owed asker ≡ []
+    none_along =
+        then-untold (number_of asker) asker.memory.along asker.memory.coherence.done
+        asker.memory.coherence.done_more nothing_done
+
     owed_before : pending asker (heap_way o 0 source) ≡ []
     owed_before =
-        owed-untold (number_of asker) asker.memory.asked
+        none_pending _ (along_owed asker)
+        (owed-untold (number_of asker) asker.memory.asked
         (reply_owed asker.memory.side.errand (heap_way o 0 source) asker.memory.coherence.done)
         (ap (λ e. reply_owed e (heap_way o 0 source) asker.memory.coherence.done) asked
         ∙ ap (λ (ms : List Message). reply_owed (Some (errand.Asked k number)) ms
-        asker.memory.coherence.done) before ∙ ap reply_there nothing_done)
+        asker.memory.coherence.done) before ∙ ap reply_there nothing_done)) none_along
 
     owed_after : pending asker (heap_way o' 0 source) ≡ given ∷ []
     owed_after =
         ap (λ a. owed (number_of asker) a
         (reply_owed asker.memory.side.errand (heap_way o' 0 source)
-        asker.memory.coherence.done)) called.asked
-        ∙ ap (owed (number_of asker) (Some called.call))
+        asker.memory.coherence.done) ++ along_owed asker) called.asked
+        ∙ ap (λ r. owed (number_of asker) (Some called.call) r ++ along_owed asker)
         (ap (λ e. reply_owed e (heap_way o' 0 source) asker.memory.coherence.done) asked
         ∙ ap (λ (ms : List Message). reply_owed (Some (errand.Asked k number)) ms
         asker.memory.coherence.done) after
         ∙ ap (λ r. first_reply r (reply_there asker.memory.coherence.done)) fits)
+        ∙ ap (λ xs. record {
+          node = number_of asker;
+          call = called.call;
+          reply = (told_of heap k).reply;
+        } ∷ xs) none_along
         ∙ ap (λ i. record { node = i; call = called.call; reply = (told_of heap k).reply } ∷ [])
         good.me
 
@@ -196,7 +224,7 @@ module _ {S : Type 0} (ops : Ops S) (c : Config) (o o' : Ordered (Host S)) (orde
       (others : (j : ℕ) → j ≢ x → heap_way o' 0 j ≡ heap_way o 0 j) where
     owed_still : (ms : List Message)
         → pending core (heap_way o 0 x) ≡ pending (with_reply core r) ms
-    owed_still ms = ap (owed (number_of core) core.memory.asked)
+    owed_still ms = ap (λ y. owed (number_of core) core.memory.asked y ++ along_owed core)
         (ap (λ e. reply_owed e (heap_way o 0 x) core.memory.coherence.done) asked
         ∙ ap (λ (l : List Message). reply_owed (Some (errand.Asked k number)) l
         core.memory.coherence.done) before

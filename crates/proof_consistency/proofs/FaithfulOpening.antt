@@ -147,6 +147,10 @@ module _ {S : Type 0} (ops : Ops S) (laws : Laws ops) (c : Config) (config : IsC
           run = (0, refl);
           makes = λ called is. absurd (none-some called is);
           waits = λ called page word number is. absurd (none-some called is);
+          waits_along = λ page lock. absurd (none-some page lock);
+          prompt = λ page word number lock. absurd (none-some page lock);
+          idle = λ lock done. refl;
+          told = λ o done. inl refl;
         }));
     parts = λ i n there.
         (let new = opening_first ops c programs i n there in

@@ -27,7 +27,8 @@ use Rattle.proof_refinement.proofs.of_ivy_host.Tame.{tame}
 use Rattle.proof_refinement.specs.proof_transitions.Orderly.{IsOrderly}
 use Rattle.proof_refinement.specs.Errands.{about_heap, heap_way, call_message, IsErrandAt, resting, asking, answered}
 use Rattle.proof_refinement.proofs.LiftedWorlds.{net_of, IsSoundWorld, steps_sound}
-use Rattle.proof_refinement.proofs.HostTurns.{HostTurn, answers, tries_again, goes_on, refuses, asks_for, serves_heap, asks_heap, asks, without_call, asked_posted}
+use Rattle.proof_refinement.proofs.HostTurns.{HostTurn, answers, tries_again, goes_on, refuses, asks_for, serves_heap, asks_heap, asks, made_along, without_call, asked_posted}
+use Rattle.proof_refinement.specs.ivy_memory.Beside.{nothing_beside}
 use Rattle.proof_refinement.proofs.HeapWays.{way_turned, way_other, way_page, heap_there, heap_elsewhere, heap_quiet}
 use Rattle.proof_refinement.proofs.HeapDeliveries.{HeapDelivery, serves, learns}
 use Rattle.proof_refinement.proofs.LiftedHosts.{WorldTells, rested, turned, delivered, heap_delivered, kept-steps}
@@ -61,13 +62,14 @@ module _ {S : Type 0} (ops : Ops S) (c : Config) (x : ℕ) (h : Host S) (good : 
       none_posted j (ap (λ (z : Outcome (Host S)). z.posted) is)
   home_quiet (tries_again called page word asked untold free of inside lies is) j =
       pages_posted j (asks ops (without_call h) page word).posted
-      (asked_posted ops (without_call h) called page word out is)
+      (asked_posted ops (without_call h) called nothing_beside page word out is)
       (begun-pages ops (without_call h).memory.coherence page word (length h.history + 1))
   home_quiet (goes_on s idle step is) j = none_posted j (ap (λ (z : Outcome (Host S)). z.posted) is)
   home_quiet (refuses called code idle step refusal is) j =
       none_posted j (ap (λ (z : Outcome (Host S)). z.posted) is)
   home_quiet (asks_for called page word idle step of inside lies few is) j =
-      pages_posted j (asks ops h page word).posted (asked_posted ops h called page word out is)
+      pages_posted j (asks ops h page word).posted
+      (asked_posted ops h called (made_along h page word) page word out is)
       (begun-pages ops h.memory.coherence page word (length h.history + 1))
   home_quiet (serves_heap called k heap idle step of there is) j =
       none_posted j (ap (λ (z : Outcome (Host S)). z.posted) is)

@@ -3,7 +3,9 @@ pub mod CopiedWords
 pub mod CopiedRows
 pub mod HeapServed
 pub mod Owing
+pub mod Beside
 pub mod OwingEvents
+pub mod OwedCalls
 pub mod Faithful
 pub mod FaithfulHeap
 pub mod FaithfulSteps

@@ -1,6 +1,8 @@
 -- What each event of a node adds to the order of all records, but for a message of the heap. For
 -- every manager.
-use Rattle.std.proofs.Common.{◌≡◌, ◌<◌, ℕ, ◌+◌, List, [], ◌++◌, length, Option, Some, None, refl, ap, sym, ◌∙◌, subst, inl, inr, if◌then◌else◌, ◌==◌, true}
+use Rattle.std.specs.Prelude.{All}
+use Rattle.std.proofs.lemmas.List.Elements.{All-head, All-tail}
+use Rattle.std.proofs.Common.{◌≡◌, ◌⊎◌, ◌<◌, ℕ, ◌+◌, List, [], ◌∷◌, ◌++◌, length, Option, Some, None, refl, ap, sym, ◌∙◌, subst, inl, inr, if◌then◌else◌, ◌==◌, true}
 use Rattle.std.proofs.lemmas.Bool.{cases_eq}
 use Rattle.std.proofs.lemmas.List.{append-nil}
 use Rattle.std.proofs.lemmas.Option.{same_Some, none-some}
@@ -13,7 +15,10 @@ use Rattle.ivy_model.specs.Config.{IsConfig}
 use Rattle.ivy_model.specs.Memory.{IsSized, flat_page}
 use Rattle.ivy_model.specs.Memory as model
 use Rattle.ivy_model.specs.Serves.{Serves}
-use Rattle.ivy_model.specs.Legal.{HasWidth}
+use Rattle.ivy_model.specs.Legal.{HasWidth, ServesAll}
+use Rattle.ivy_model.specs.Explains.{part}
+use Rattle.ivy_model.proofs.Parts.{part-append, leads-append}
+use Rattle.ivy_model.proofs.Sizes.{leads_sized}
 use Rattle.ivy_wire.specs.Data.{Message}
 use Rattle.ivy_pagetable.specs.declared.Entry.{Entry}
 use Rattle.ivy_pagetable.specs.declared.Entry.TheVariants as entry
@@ -24,10 +29,10 @@ use Rattle.ivy_pagetable.specs.Words.{Carried, carried_out}
 use Rattle.ivy_pagetable.specs.Manager.{Ops}
 use Rattle.proof_refinement.specs.ivy_coherence.Coherent.{Coherent}
 use Rattle.proof_refinement.specs.ivy_coherence.Steps.{handled}
-use Rattle.proof_refinement.specs.ivy_coherence.Faults.{Begun}
+use Rattle.proof_refinement.specs.ivy_coherence.Faults.{Begun, along}
 use Rattle.proof_refinement.proofs.of_ivy_coherence.Same.{handled-same}
 use Rattle.ivy_program.specs.States.{State, first_state}
-use Rattle.ivy_program.specs.Steps.{Local, Asks, step_of, at_state}
+use Rattle.ivy_program.specs.Steps.{Local, Asks, step_of, at_state, AsksRow, along_of}
 use Rattle.ivy_program.proofs.Running.{runs_on, runs_answered, asked_legal}
 use Rattle.ivy_moves.specs.Cores.{Outcome}
 use Rattle.proof_refinement.specs.ivy_memory.declared.Asked.TheVariants as kinds
@@ -36,8 +41,9 @@ use Rattle.proof_refinement.specs.ivy_alloc.Heap.{HeapState}
 use Rattle.proof_refinement.specs.ivy_heap.declared.HeapCall.{HeapCall}
 use Rattle.proof_refinement.specs.ivy_heap.declared.Errand.{Errand}
 use Rattle.proof_refinement.specs.ivy_heap.declared.Errand.TheVariants as errand
-use Rattle.proof_refinement.specs.ivy_heap.HeapCalls.{kept, told_of, reply_told}
+use Rattle.proof_refinement.specs.ivy_heap.HeapCalls.{HeapSide, kept, told_of, reply_told}
 use Rattle.proof_refinement.specs.ivy_memory.Memories.{NodeMemory, first_reply, reply_of, reply_there, reply_at, taken_out, answered, needed}
+use Rattle.proof_refinement.specs.ivy_memory.Beside.{Beside, nothing_beside, gives_reply}
 use Rattle.proof_refinement.proofs.of_ivy_memory.Tame.{without-sound}
 use Rattle.proof_refinement.specs.ivy_host.Hosts.{Host, number_of, recorded, begins_as, serving}
 use Rattle.proof_refinement.proofs.of_ivy_memory.Pages.{is_of_pages, no_errand_of}
@@ -46,8 +52,11 @@ use Rattle.proof_refinement.specs.ivy_host.Sound.{IsSoundHost}
 use Rattle.proof_refinement.specs.proof_transitions.Letters.{Net}
 use Rattle.proof_refinement.specs.proof_transitions.Orderly.{IsOrderly}
 use Rattle.proof_refinement.specs.proof_transitions.Rows.{with_flat_page}
-use Rattle.proof_refinement.proofs.LiftedEvents.{WaitsAt, Carries, Tells, quiet, answers as is_answered, Starts, busy, hits, waits}
-use Rattle.proof_refinement.proofs.HostTurns.{asks as access, HostTurn, answers, tries_again, goes_on, refuses, asks_for, serves_heap, asks_heap, without_call}
+use Rattle.proof_refinement.proofs.LiftedEvents.{WaitsAt, Carries, CarriesAll, SameRest, Tells, quiet, answers as is_answered, Starts, busy, hits, waits}
+use Rattle.proof_refinement.proofs.HostTurns.{asks as access, HostTurn, answers, tries_again, goes_on, refuses, asks_for, serves_heap, asks_heap, made_along, taken-errand, without_call}
+use Rattle.proof_refinement.proofs.HostTurns.{number_of as number_of_call}
+use Rattle.proof_consistency.proofs.Beside.{along-kept, along-more, beside-words, beside-prompt, beside-asks}
+use Rattle.ivy_program.proofs.Along.{asks_along}
 use Rattle.proof_refinement.proofs.LiftedHosts.{TurnTells}
 use Rattle.proof_consistency.specs.Copied.{IsCopied}
 use Rattle.proof_consistency.proofs.CopiedWords.{with_page-here, with_page-other, bytes_there}
@@ -56,6 +65,7 @@ use Rattle.proof_refinement.proofs.of_ivy_memory.CallsServed.{word_served, refus
 use Rattle.proof_consistency.proofs.HeapServed.{memory_told, heap_served}
 use Rattle.proof_consistency.proofs.Owing.{owed, reply_owed, pending, told-owed, owed-unasked}
 use Rattle.proof_consistency.proofs.Owing.{owed-untold, owed-leads, owed-own, owed-other, told_history}
+use Rattle.proof_consistency.proofs.Owing.{owed_then, owed_along, along_owed, untold-along, then-alone, then-untold, none_pending, along-own, along-other, reply-given, IsReply, HaveReplies, AreWordsOf, taken_history, taken-pending, taken-running}
 use Rattle.proof_consistency.proofs.Owing.{served_history, owing_history, IsWordOf, IsRunning, GoOn}
 use Rattle.proof_consistency.proofs.Owing.{blocks_stay, blocks_change, Adds}
 
@@ -98,6 +108,93 @@ record Came (c : Config) (mem : model.Memory) (called : Call) (out : Out)
   gives : Answers c mem called (reply_of out) new
   shows : (p : ℕ) → p < c.pages → pages p ≡ flat_page c new p
   blocks : new.blocks ≡ mem.blocks
+
+module _ {S : Type 0} (c : Config) (config : IsConfig c) (x : ℕ) (mem : model.Memory)
+    (sized : IsSized c mem) (f : ℕ → List ℕ)
+    (shows : (p : ℕ) → p < c.pages → f p ≡ flat_page c mem p) where
+  -- a word is carried out on the flat memory's page
+  came : (page : ℕ) (word : Word) (out : Out) (flat : ℕ → List ℕ) (called : Call) → HasWidth called
+      → IsWordOf c called page word → Carries (Copies {S = S} c) c x f page word out flat
+      → Came c mem called out flat
+  came page word out flat called legal of k =
+      let same : k.net.page x page ≡ flat_page c mem page =
+      bytes_there c k.net f x page k.state word k.idle k.enough k.holds.1
+      ∙ shows page k.inside in
+      let served : IsServed c mem called page (carried_out word (flat_page c mem page)) =
+      word_served c mem sized config called page word legal of in
+      record {
+        new = served.new;
+        gives = subst (λ o. Answers c mem called (reply_of o) served.new)
+            (sym (k.gives ∙ ap (λ b. (carried_out word b).out) same)) served.answers;
+        shows = λ p inside.
+            ap (λ g. g p) k.after
+            ∙ with_page-same f (flat_page c mem) page p (carried_out word (f page)).bytes
+            (carried_out word (flat_page c mem page)).bytes
+            (ap (λ b. (carried_out word b).bytes) (shows page k.inside)) (shows p inside)
+            ∙ sym (served_pages c mem called page (carried_out word (flat_page c mem page)) served p
+            inside);
+        blocks = served.blocks;
+      }
+
+-- words are carried out one after another on the flat memory's page
+record CameAll (c : Config) (mem : model.Memory) (me : ℕ) (calls : List Call) (outs : List Out)
+    (pages : ℕ → List ℕ) : Type 0 where
+  new : model.Memory
+  legal : ServesAll c mem (owed_along me calls outs) new
+  shows : (p : ℕ) → p < c.pages → pages p ≡ flat_page c new p
+  blocks : new.blocks ≡ mem.blocks
+
+came_all : (S : Type 0) (c : Config) (config : IsConfig c) (x me : ℕ) (mem : model.Memory)
+    → IsSized c mem → (f : ℕ → List ℕ) → ((p : ℕ) → p < c.pages → f p ≡ flat_page c mem p)
+    → me < c.nodes → (page : ℕ) (calls : List Call) (words : List Word) (outs : List Out) (flat : ℕ → List ℕ)
+    → All HasWidth calls → AreWordsOf c page calls words
+    → CarriesAll (Copies {S = S} c) c x f page words outs flat
+    → CameAll c mem me calls outs flat
+came_all S c config x me mem sized f shows here page [] [] [] flat wide are carries =
+    record {
+      new = mem;
+      legal = refl;
+      shows = λ p inside. ap (λ g. g p) carries ∙ shows p inside;
+      blocks = refl;
+    }
+came_all S c config x me mem sized f shows here page [] [] (o ∷ os) flat wide are carries =
+    absurd carries
+came_all S c config x me mem sized f shows here page [] (w ∷ ws) outs flat wide are carries =
+    absurd are
+came_all S c config x me mem sized f shows here page (k ∷ ks) [] outs flat wide are carries =
+    absurd are
+came_all S c config x me mem sized f shows here page (k ∷ ks) (w ∷ ws) [] flat wide are
+    carries = absurd carries
+came_all S c config x me mem sized f shows here page (k ∷ ks) (w ∷ ws) (o ∷ os) flat wide
+    are carries =
+    let legal : HasWidth k = All-head HasWidth k ks wide in
+    let one : Came c mem k o carries.0 =
+    came {S = S} c config x mem sized f shows page w o carries.0 k legal are.0 carries.1 in
+    let first : List Record = owed me (Some k) (reply_of o) in
+    let led : ServesAll c mem first one.new =
+    owed-leads c mem one.new me k (reply_of o) here legal one.gives in
+    let rest : CameAll c one.new me ks os flat =
+    came_all S c config x me one.new (leads_sized c mem one.new first config sized led) carries.0
+    one.shows here page ks ws os flat (All-tail HasWidth k ks wide) are.2 carries.2 in
+    record {
+      new = rest.new;
+      legal = leads-append c mem one.new rest.new first (owed_along me ks os) led
+          rest.legal;
+      shows = rest.shows;
+      blocks = rest.blocks ∙ one.blocks;
+    }
+
+-- and have replies
+have-replies : (S : Type 0) (c : Config) (x page : ℕ) (calls : List Call) (words : List Word)
+    (f : ℕ → List ℕ) (outs : List Out) (flat : ℕ → List ℕ) → AreWordsOf c page calls words
+    → CarriesAll (Copies {S = S} c) c x f page words outs flat → HaveReplies calls outs
+have-replies S c x page [] words f outs flat are carries = tt
+have-replies S c x page (k ∷ ks) [] f outs flat are carries = absurd are
+have-replies S c x page (k ∷ ks) (w ∷ ws) f [] flat are carries = absurd carries
+have-replies S c x page (k ∷ ks) (w ∷ ws) f (o ∷ os) flat are carries = (
+  subst IsReply (sym carries.1.gives) (reply-given w (carries.1.net.page x page) are.1),
+  have-replies S c x page ks ws carries.0 os flat are.2 carries.2,
+)
 
 module _ {S : Type 0} (ops : Ops S) (c : Config) (config : IsConfig c) (x : ℕ) (mem : model.Memory)
     (sized : IsSized c mem) (f : ℕ → List ℕ)
@@ -142,6 +239,15 @@ module _ {S : Type 0} (ops : Ops S) (c : Config) (config : IsConfig c) (x : ℕ)
       → reply_owed n.memory.side.errand ms d ≡ reply_there d
   word_owed d none = ap (λ e. reply_owed e ms d) none
 
+  -- without a call in progress none is owed
+  idle_pending : n.memory.asked ≡ None → pending n ms ≡ []
+  idle_pending idle =
+      none_pending _ (along_owed n)
+      (owed-unasked (number_of n) n.memory.asked
+      (reply_owed n.memory.side.errand ms n.memory.coherence.done) idle)
+      (then-alone (number_of n) n.memory.along n.memory.coherence.done n.memory.coherence.done_more
+      (good.memory.alone idle))
+
   -- nothing is added
   silent : (n' : Host S) (flat : ℕ → List ℕ) → flat ≡ f
       → n'.history ++ pending n' ms ≡ n.history ++ pending n ms → IsRunning c n'
@@ -182,29 +288,13 @@ module _ {S : Type 0} (ops : Ops S) (c : Config) (config : IsConfig c) (x : ℕ)
     blocks = blocks;
   }
 
-  -- a word is carried out on the flat memory's page
-  came : (page : ℕ) (word : Word) (out : Out) (flat : ℕ → List ℕ) (called : Call) → HasWidth called
-      → IsWordOf c called page word → Carries (Copies {S = S} c) c x f page word out flat
-      → Came c mem called out flat
-  came page word out flat called legal of k =
-      let same : k.net.page x page ≡ flat_page c mem page =
-      bytes_there c k.net f x page k.state word k.idle k.enough k.holds.1
-      ∙ shows page k.inside in
-      let served : IsServed c mem called page (carried_out word (flat_page c mem page)) =
-      word_served c mem sized config called page word legal of in
-      record {
-        new = served.new;
-        gives = subst (λ o. Answers c mem called (reply_of o) served.new)
-            (sym (k.gives ∙ ap (λ b. (carried_out word b).out) same)) served.answers;
-        shows = λ p inside.
-            ap (λ g. g p) k.after
-            ∙ with_page-same f (flat_page c mem) page p (carried_out word (f page)).bytes
-            (carried_out word (flat_page c mem page)).bytes
-            (ap (λ b. (carried_out word b).bytes) (shows page k.inside)) (shows p inside)
-            ∙ sym (served_pages c mem called page (carried_out word (flat_page c mem page)) served p
-            inside);
-        blocks = served.blocks;
-      }
+  -- where the reply is there no word waits
+  replied_free : (r : Reply) (e : Option Errand) (d : Option Out) → n.memory.side.errand ≡ e
+      → n.memory.coherence.done ≡ d → first_reply (reply_told e) (reply_there d) ≡ Some r
+      → n.memory.coherence.locked ≡ None
+  replied_free r (Some e) d is done there = (good.memory.apart e is).0
+  replied_free r None (Some o) is done there = good.memory.answered o done
+  replied_free r None None is done there = absurd (none-some r there)
 
   -- the reply of the call in progress is recorded
   records_reply : (called : Call) (r : Reply) → n.memory.asked ≡ Some called
@@ -212,21 +302,26 @@ module _ {S : Type 0} (ops : Ops S) (c : Config) (config : IsConfig c) (x : ℕ)
       → Adds c mem x n (recorded n (taken_out n.memory) called r) ms flat
   records_reply called r asked there flat same =
       let given : Record = record { node = number_of n; call = called; reply = r } in
-      silent (recorded n (taken_out n.memory) called r) flat same
-      (told_history n.history (pending n ms) given
+      let free : n.memory.coherence.locked ≡ None =
+      replied_free r n.memory.side.errand n.memory.coherence.done refl refl there in
+      let now : Host S = recorded n (taken_out n.memory) called r in
+      silent now flat same
+      (taken_history n.history (pending n ms) (pending now ms) (along_owed n) given
+      (ap (λ xs. xs ++ along_owed n)
       (ap (λ a. owed (number_of n) a (reply_owed n.memory.side.errand ms n.memory.coherence.done))
       asked
       ∙ ap (owed (number_of n) (Some called))
       (told-owed n.memory.side.errand ms n.memory.coherence.done r
       (λ y is. (good.memory.apart y is).1) there)))
-      (record {
-        run = runs_answered n.process.program n.history first_state n.process.state given
-            running.run (running.makes called asked);
-        makes = λ other is. absurd (none-some other is);
-        waits = λ other page word number is. absurd (none-some other is);
-      })
+      (taken-pending n ms called r n.memory.along n.memory.coherence.done
+      n.memory.coherence.done_more refl refl refl (running.idle free)))
+      (taken-running n c called r
+      (runs_answered n.process.program n.history first_state n.process.state given
+      running.run (running.makes called asked).0)
+      n.memory.along n.memory.coherence.done n.memory.coherence.done_more refl refl refl free
+      ((running.makes called asked).1 r) (running.idle free) running.told)
       refl
-      refl
+      (ap (λ (z : HeapSide). z.heap) (taken-errand n.memory n.memory.along))
 
   -- the program goes on by itself
   goes_alone : (s : State) → n.memory.asked ≡ None → step_of n.process ≡ Local s
@@ -238,64 +333,93 @@ module _ {S : Type 0} (ops : Ops S) (c : Config) (config : IsConfig c) (x : ℕ)
         run = runs_on n.process.program n.history first_state n.process.state s running.run step;
         makes = λ other is. absurd (none-some other (sym idle ∙ is));
         waits = λ other page word number is. absurd (none-some other (sym idle ∙ is));
+        waits_along = running.waits_along;
+        prompt = running.prompt;
+        idle = running.idle;
+        told = running.told;
       })
       refl
       refl
 
   -- a call is answered at once: its record is the node's, and stands in the order
   records_call : (m : NodeMemory S) (called : Call) (r : Reply) (new : model.Memory)
-      → n.memory.asked ≡ None → step_of n.process ≡ Asks called → m.asked ≡ None
-      → Serves c mem called r new → (flat : ℕ → List ℕ)
+      → n.memory.asked ≡ None → step_of n.process ≡ Asks called → m.asked ≡ None → m.along ≡ []
+      → m.coherence.locked ≡ None → Serves c mem called r new → (flat : ℕ → List ℕ)
       → ((p : ℕ) → p < c.pages → flat p ≡ flat_page c new p)
       → GoOn mem.blocks n.memory.side.heap m.side.heap new.blocks
       → Adds c mem x n (recorded n m called r) ms flat
-  records_call m called r new idle step free serves flat pages blocks =
+  records_call m called r new idle step free alone unlocked serves flat pages blocks =
       let given : Record = record { node = number_of n; call = called; reply = r } in
       owing (recorded n m called r) flat called (Some r) new (asked_width n called step) serves
       pages
       (served_history n.history (pending n ms) (pending (recorded n m called r) ms) given
-      (owed-unasked (number_of n) n.memory.asked
-      (reply_owed n.memory.side.errand ms n.memory.coherence.done) idle)
-      (owed-unasked m.coherence.me m.asked (reply_owed m.side.errand ms m.coherence.done) free))
+      (idle_pending idle)
+      (none_pending (owed m.coherence.me m.asked (reply_owed m.side.errand ms m.coherence.done)) _
+      (owed-unasked m.coherence.me m.asked (reply_owed m.side.errand ms m.coherence.done) free)
+      (then-alone m.coherence.me m.along m.coherence.done m.coherence.done_more alone)))
       (record {
         run = runs_answered n.process.program n.history first_state n.process.state given
             running.run step;
         makes = λ other is. absurd (none-some other (sym free ∙ is));
         waits = λ other page word number is. absurd (none-some other (sym free ∙ is));
+        waits_along = λ page lock. absurd (none-some page (sym unlocked ∙ lock));
+        prompt = λ page word number lock. absurd (none-some page (sym unlocked ∙ lock));
+        idle = λ lock done. alone;
+        told = λ o done. inl alone;
       })
       refl
       blocks
 
-  -- a call is in progress from now on, and has no reply yet
-  call_waits : (k : Coherent S) (called : Call) (flat : ℕ → List ℕ) → n.memory.asked ≡ None
-      → step_of n.process ≡ Asks called → k.done ≡ n.memory.coherence.done
+  -- a call is in progress from now on, with these made along, and has no reply yet
+  call_waits : (k : Coherent S) (called : Call) (calls : List Call) (flat : ℕ → List ℕ)
+      → n.memory.asked ≡ None → AsksRow n.process (called ∷ calls)
+      → k.done ≡ n.memory.coherence.done
       → ((p : ℕ) → p < c.pages → flat p ≡ flat_page c mem p)
       → ((page : ℕ) (word : Word) (number : ℕ) → k.locked ≡ Some page
-      → WaitsAt (entry_at k.table page) word number → IsWordOf c called page word)
+      → WaitsAt (entry_at k.table page) word number → IsWordOf c called page word
+      × ((calls ≡ []) ⊎ (gives_reply word ≡ true)))
+      → ((page : ℕ) → k.locked ≡ Some page → AreWordsOf c page calls k.more)
+      → (k.locked ≡ None → calls ≡ [])
       → Adds c mem x n
       (record n {
         memory =
-            record n.memory { coherence = k; asked = Some called; number = length n.history + 1 };
+            record n.memory {
+              coherence = k;
+              asked = Some called;
+              along = calls;
+              number = length n.history + 1;
+            };
       })
       ms flat
-  call_waits k called flat idle step done pages waiting =
+  call_waits k called calls flat idle asks done pages waiting beside alone =
+      let now : k.done ≡ None = done ∙ good.memory.done idle in
       let untold : reply_owed n.memory.side.errand ms k.done ≡ None =
-      word_owed k.done (idle_errand idle) ∙ ap reply_there (done ∙ good.memory.done idle) in
+      word_owed k.done (idle_errand idle) ∙ ap reply_there now in
       owing (record n {
         memory =
-            record n.memory { coherence = k; asked = Some called; number = length n.history + 1 };
+            record n.memory {
+              coherence = k;
+              asked = Some called;
+              along = calls;
+              number = length n.history + 1;
+            };
       })
-      flat called None mem (asked_width n called step) refl pages
+      flat called None mem (asked_width n called asks.0) refl pages
       (ap (λ xs. n.history ++ xs)
+      (none_pending _ _
       (owed-untold k.me (Some called) (reply_owed n.memory.side.errand ms k.done) untold)
-      ∙ owing_history n.history (pending n ms) []
-      (owed-unasked (number_of n) n.memory.asked
-      (reply_owed n.memory.side.errand ms n.memory.coherence.done) idle))
+      (then-untold k.me calls k.done k.done_more now))
+      ∙ owing_history n.history (pending n ms) [] (idle_pending idle))
       (record {
         run = running.run;
-        makes = λ other is. step ∙ ap Asks (same_Some called other is);
+        makes = λ other is.
+            subst (λ j. AsksRow n.process (j ∷ calls)) (same_Some called other is) asks;
         waits = λ other page word number is lock there. subst (λ d. IsWordOf c d page word)
-            (same_Some called other is) (waiting page word number lock there);
+            (same_Some called other is) (waiting page word number lock there).0;
+        waits_along = beside;
+        prompt = λ page word number lock there. (waiting page word number lock there).1;
+        idle = λ lock d. alone lock;
+        told = λ o is. absurd (none-some o (sym now ∙ is));
       })
       refl
       (blocks_stay refl refl)
@@ -308,6 +432,7 @@ module _ {S : Type 0} (ops : Ops S) (c : Config) (config : IsConfig c) (x : ℕ)
         memory =
             record n.memory {
               asked = Some called;
+              along = [];
               number = number;
               side = record n.memory.side { errand = Some (errand.Asked k number) };
             };
@@ -320,22 +445,27 @@ module _ {S : Type 0} (ops : Ops S) (c : Config) (config : IsConfig c) (x : ℕ)
         memory =
             record n.memory {
               asked = Some called;
+              along = [];
               number = number;
               side = record n.memory.side { errand = Some (errand.Asked k number) };
             };
       }) flat called
       None mem (asked_width n called step) refl (same_pages flat same)
       (ap (λ xs. n.history ++ xs)
+      (none_pending _ _
       (owed-untold (number_of n) (Some called)
       (reply_owed (Some (errand.Asked k number)) ms n.memory.coherence.done) untold)
-      ∙ owing_history n.history (pending n ms) []
-      (owed-unasked (number_of n) n.memory.asked
-      (reply_owed n.memory.side.errand ms n.memory.coherence.done) idle))
+      (then-alone (number_of n) [] n.memory.coherence.done n.memory.coherence.done_more refl))
+      ∙ owing_history n.history (pending n ms) [] (idle_pending idle))
       (record {
         run = running.run;
-        makes = λ other is. step ∙ ap Asks (same_Some called other is);
+        makes = λ other is. (step ∙ ap Asks (same_Some called other is), λ r. tt);
         waits = λ other page word j is lock there. absurd
             (none-some page (sym (good.memory.locked idle) ∙ lock));
+        waits_along = λ page lock. absurd (none-some page (sym (good.memory.locked idle) ∙ lock));
+        prompt = λ page word j lock there. inl refl;
+        idle = λ lock done. refl;
+        told = λ o done. inl refl;
       })
       refl
       (blocks_stay refl refl)
@@ -360,63 +490,91 @@ module _ {S : Type 0} (ops : Ops S) (c : Config) (config : IsConfig c) (x : ℕ)
           after =
               record n {
                 memory =
-                    record n.memory
-                    { coherence = begun_now.after; asked = Some called; number = length n.history + 1 };
+                    record n.memory {
+                      coherence = begun_now.after;
+                      asked = Some called;
+                      along = [];
+                      number = length n.history + 1;
+                    };
               };
           posted = begun_now.posted;
         }) e is)
-        (call_waits begun_now.after called flat idle step done
+        (call_waits begun_now.after called [] flat idle (step, λ r. tt) done
         (λ p inside. pages p inside ∙ ap (λ m. flat_page c m p) given)
         (λ q w number lock there. absurd
-        (none-some q (sym (good.memory.locked idle) ∙ sym locked ∙ lock))))
+        (none-some q (sym (good.memory.locked idle) ∙ sym locked ∙ lock)))
+        (λ q lock. absurd (none-some q (sym (good.memory.locked idle) ∙ sym locked ∙ lock)))
+        (λ lock. refl))
     hit_adds e flat (Some r) new done locked given pages blocks is =
         subst (λ (z : Outcome (Host S)). Adds c mem x n z.after ms flat)
         (same_Some
         (record {
           after =
-              recorded n (record n.memory { coherence = begun_now.after; asked = None }) called r;
+              recorded n (record n.memory { coherence = begun_now.after; asked = None; along = [] })
+              called r;
           posted = begun_now.posted;
         }) e is)
-        (records_call (record n.memory { coherence = begun_now.after; asked = None }) called r new
-        idle step refl given flat pages (blocks_stay blocks refl))
+        (records_call (record n.memory { coherence = begun_now.after; asked = None; along = [] })
+        called r new
+        idle step refl refl (locked ∙ good.memory.locked idle) given flat pages
+        (blocks_stay blocks refl))
 
-    starts_adds : (e : Outcome (Host S)) (flat : ℕ → List ℕ) (number : ℕ)
+    starts_adds : (more : Beside) → AsksRow n.process (called ∷ more.calls)
+        → AreWordsOf c page more.calls more.words → (more.calls ≡ []) ⊎ (gives_reply word ≡ true)
+        → (e : Outcome (Host S)) (flat : ℕ → List ℕ) (number : ℕ)
         → begins_as n called
-        (needed n.memory called (length n.history + 1) begun_now begun_now.need) ≡ Some e
+        (needed n.memory called more (length n.history + 1) begun_now begun_now.need) ≡ Some e
         → Starts (Copies {S = S} c) c x f page word number n.memory.coherence begun_now.need
         begun_now.after flat → Adds c mem x n e.after ms flat
-    starts_adds e flat number is (busy q lock needs after same) =
+    starts_adds more asks are prompt e flat number is (busy q lock needs after same) =
         absurd (none-some q (sym (good.memory.locked idle) ∙ lock))
-    starts_adds e flat number is (hits out needs done locked carries) =
+    starts_adds more asks are prompt e flat number is (hits out needs rest locked carries) =
         let k : Came c mem called out flat =
-        came page word out flat called (asked_width n called step) of carries in
-        hit_adds e flat (reply_of out) k.new done locked k.gives k.shows k.blocks
+        came c config x mem sized f shows page word out flat called (asked_width n called step) of
+        carries in
+        hit_adds e flat (reply_of out) k.new rest.done locked k.gives k.shows k.blocks
         (sym (ap
-        (λ d. begins_as n called (needed n.memory called (length n.history + 1) begun_now d))
+        (λ d. begins_as n called (needed n.memory called more (length n.history + 1) begun_now d))
         needs) ∙ is)
-    starts_adds e flat number is (waits needs same done locked there) =
+    starts_adds more asks are prompt e flat number is (waits needs same rest locked there) =
+        let k : Coherent S = along more.words begun_now.after in
+        let kept = along-kept more.words begun_now.after in
         subst (λ (z : Outcome (Host S)). Adds c mem x n z.after ms flat)
         (same_Some
         (record {
           after =
               record n {
                 memory =
-                    record n.memory
-                    { coherence = begun_now.after; asked = Some called; number = length n.history + 1 };
+                    record n.memory {
+                      coherence = k;
+                      asked = Some called;
+                      along = more.calls;
+                      number = length n.history + 1;
+                    };
               };
           posted = begun_now.posted;
         }) e
         (sym (ap
-        (λ d. begins_as n called (needed n.memory called (length n.history + 1) begun_now d))
+        (λ d. begins_as n called (needed n.memory called more (length n.history + 1) begun_now d))
         needs) ∙ is))
-        (call_waits begun_now.after called flat idle step done (same_pages flat same)
+        (call_waits k called more.calls flat idle asks (kept.done ∙ rest.done) (same_pages flat same)
         (λ q w j lock waiting. (
-        let at : page ≡ q = same_Some page q (sym locked ∙ lock) in
+        let at : page ≡ q = same_Some page q (sym locked ∙ sym kept.locked ∙ lock) in
         let one : word ≡ w =
         one_word (entry_at begun_now.after.table page) word w number j there
-        (subst (λ r. WaitsAt (entry_at begun_now.after.table r) w j) (sym at) waiting) in
-        subst (λ r. IsWordOf c called r w) at (subst (IsWordOf c called page) one of)
-        )))
+        (subst (λ r. WaitsAt (entry_at begun_now.after.table r) w j) (sym at)
+        (subst (λ t. WaitsAt (entry_at t q) w j) kept.table waiting)) in (
+          subst (λ r. IsWordOf c called r w) at (subst (IsWordOf c called page) one of),
+          subst (λ v. (more.calls ≡ []) ⊎ (gives_reply v ≡ true)) one prompt,
+        )
+        ))
+        (λ q lock.
+        subst (λ r. AreWordsOf c r more.calls k.more)
+        (same_Some page q (sym locked ∙ sym kept.locked ∙ lock))
+        (subst (AreWordsOf c page more.calls)
+        (sym (along-more more.words begun_now.after
+        (rest.more ∙ good.memory.coherent.alone (good.memory.locked idle)))) are))
+        (λ free. absurd (none-some page (sym free ∙ kept.locked ∙ locked))))
 
   -- a message
   module _ (source : ℕ) (m : Message) where
@@ -429,60 +587,122 @@ module _ {S : Type 0} (ops : Ops S) (c : Config) (config : IsConfig c) (x : ℕ)
     same_me : told.me ≡ number_of n
     same_me = (handled-same ops n.memory.coherence source m).me
 
-    quiet_adds : (flat : ℕ → List ℕ) → flat ≡ f → told.done ≡ n.memory.coherence.done
+    quiet_adds : (flat : ℕ → List ℕ) → flat ≡ f → SameRest n.memory.coherence told
         → told.locked ≡ n.memory.coherence.locked
         → ((q : ℕ) (word : Word) (number : ℕ) → WaitsAt (entry_at told.table q) word number
         → WaitsAt (entry_at n.memory.coherence.table q) word number)
         → Adds c mem x n told_host ms flat
-    quiet_adds flat same done locked waiting = silent told_host flat same
-        (ap (λ me. n.history ++ owed me n.memory.asked
-        (reply_owed n.memory.side.errand ms told.done)) same_me
-        ∙ ap (λ d. n.history ++ owed (number_of n) n.memory.asked
-        (reply_owed n.memory.side.errand ms d)) done)
+    quiet_adds flat same rest locked waiting = silent told_host flat same
+        (ap (λ me. n.history ++ (owed me n.memory.asked
+        (reply_owed n.memory.side.errand ms told.done)
+        ++ owed_then me n.memory.along told.done told.done_more)) same_me
+        ∙ ap (λ d. n.history ++ (owed (number_of n) n.memory.asked
+        (reply_owed n.memory.side.errand ms d)
+        ++ owed_then (number_of n) n.memory.along d told.done_more)) rest.done
+        ∙ ap (λ os. n.history ++ (owed (number_of n) n.memory.asked
+        (reply_owed n.memory.side.errand ms n.memory.coherence.done)
+        ++ owed_then (number_of n) n.memory.along n.memory.coherence.done os)) rest.done_more)
         (record {
           run = running.run;
           makes = running.makes;
           waits = λ called page word number asked lock there. running.waits called page word number
               asked (sym locked ∙ lock) (waiting page word number there);
+          waits_along = λ page lock.
+              subst (AreWordsOf c page n.memory.along) (sym rest.more)
+              (running.waits_along page (sym locked ∙ lock));
+          prompt = λ page word number lock there. running.prompt page word number
+              (sym locked ∙ lock) (waiting page word number there);
+          idle = λ lock done. running.idle (sym locked ∙ lock) (sym rest.done ∙ done);
+          told = λ o done.
+              subst (λ os. (n.memory.along ≡ []) ⊎ (IsReply o × HaveReplies n.memory.along os))
+              (sym rest.done_more) (running.told o (sym rest.done ∙ done));
         })
         refl
         refl
 
-    -- the word that waited is carried out
+    -- the word that waited is carried out, and those that waited along
     answer_adds : (flat : ℕ → List ℕ) (page : ℕ) (word : Word) (number : ℕ) (out : Out)
         (a : Option Call) → n.memory.asked ≡ a → n.memory.coherence.locked ≡ Some page
         → WaitsAt (entry_at n.memory.coherence.table page) word number → told.locked ≡ None
-        → told.done ≡ Some out → Carries (Copies {S = S} c) c x f page word out flat
+        → told.done ≡ Some out
+        → CarriesAll (Copies {S = S} c) c x f page (word ∷ n.memory.coherence.more)
+        (out ∷ told.done_more) flat
         → Adds c mem x n told_host ms flat
     answer_adds flat page word number out None idle lock there free done carries =
         absurd (none-some page (sym (good.memory.locked idle) ∙ lock))
     answer_adds flat page word number out (Some called) asked lock there free done carries =
-        let k : Came c mem called out flat =
-        came page word out flat called (asked_width n called (running.makes called asked))
-        (running.waits called page word number asked lock there) carries in
+        let makes = running.makes called asked in
+        let wide : HasWidth called = asked_width n called makes.0 in
+        let k : Came c mem called out carries.0 =
+        came c config x mem sized f shows page word out carries.0 called wide
+        (running.waits called page word number asked lock there) carries.1 in
+        let first : List Record = owed (number_of n) (Some called) (reply_of out) in
+        let legal : ServesAll c mem first k.new =
+        owed-leads c mem k.new (number_of n) called (reply_of out) here wide k.gives in
+        let rest : CameAll c k.new (number_of n) n.memory.along told.done_more flat =
+        came_all S c config x (number_of n) k.new
+        (leads_sized c mem k.new first config sized legal) carries.0 k.shows here page
+        n.memory.along n.memory.coherence.more told.done_more flat
+        good.memory.widths (running.waits_along page lock) carries.2 in
+        let all : List Record = first ++ owed_along (number_of n) n.memory.along told.done_more in
         let none : n.memory.side.errand ≡ None = locked_errand page lock in
+        let undone : n.memory.coherence.done ≡ None = untold n.memory.coherence.done refl in
         let before : pending n ms ≡ [] =
-        owed-untold (number_of n) n.memory.asked
+        none_pending _ (along_owed n)
+        (owed-untold (number_of n) n.memory.asked
         (reply_owed n.memory.side.errand ms n.memory.coherence.done)
-        (word_owed n.memory.coherence.done none
-        ∙ ap reply_there (untold n.memory.coherence.done refl)) in
-        let now : pending told_host ms ≡ owed (number_of n) (Some called) (reply_of out)
-        = ap (λ me. owed me n.memory.asked (reply_owed n.memory.side.errand ms told.done)) same_me
-        ∙ ap (λ b. owed (number_of n) b (reply_owed n.memory.side.errand ms told.done)) asked
-        ∙ ap (λ e. owed (number_of n) (Some called) (reply_owed e ms told.done)) none
-        ∙ ap (λ d. owed (number_of n) (Some called) (reply_there d)) done in
-        owing told_host flat called (reply_of out) k.new
-        (asked_width n called (running.makes called asked)) k.gives k.shows
-        (ap (λ xs. n.history ++ xs) now
-        ∙ owing_history n.history (pending n ms)
-        (owed (number_of n) (Some called) (reply_of out)) before)
-        (record {
-          run = running.run;
-          makes = running.makes;
-          waits = λ other q w j is locked. absurd (none-some q (sym free ∙ locked));
-        })
-        refl
-        (blocks_stay k.blocks refl)
+        (word_owed n.memory.coherence.done none ∙ ap reply_there undone))
+        (then-untold (number_of n) n.memory.along n.memory.coherence.done
+        n.memory.coherence.done_more undone) in
+        let now : pending told_host ms ≡ all
+        = ap (λ me. owed me n.memory.asked (reply_owed n.memory.side.errand ms told.done)
+        ++ owed_then me n.memory.along told.done told.done_more) same_me
+        ∙ ap (λ b. owed (number_of n) b (reply_owed n.memory.side.errand ms told.done)
+        ++ owed_then (number_of n) n.memory.along told.done told.done_more) asked
+        ∙ ap (λ e. owed (number_of n) (Some called) (reply_owed e ms told.done)
+        ++ owed_then (number_of n) n.memory.along told.done told.done_more) none
+        ∙ ap (λ d. owed (number_of n) (Some called) (reply_there d)
+        ++ owed_then (number_of n) n.memory.along d told.done_more) done in
+        record {
+          more = all;
+          new = rest.new;
+          legal = leads-append c mem k.new rest.new first
+              (owed_along (number_of n) n.memory.along told.done_more) legal rest.legal;
+          shows = rest.shows;
+          own = part-append x first (owed_along (number_of n) n.memory.along told.done_more)
+              ∙ ap (λ xs. xs ++ part x (owed_along (number_of n) n.memory.along told.done_more))
+              (owed-own (number_of n) x called (reply_of out) good.me)
+              ∙ ap (λ xs. first ++ xs)
+              (along-own (number_of n) x n.memory.along told.done_more good.me);
+          other = λ j ne.
+              part-append j first (owed_along (number_of n) n.memory.along told.done_more)
+              ∙ none_pending _ _ (owed-other (number_of n) x j called (reply_of out) good.me ne)
+              (along-other (number_of n) x j n.memory.along told.done_more good.me ne);
+          history = ap (λ xs. n.history ++ xs) now
+              ∙ owing_history n.history (pending n ms) all before;
+          running = record {
+            run = running.run;
+            makes = running.makes;
+            waits = λ other q w j is locked. absurd (none-some q (sym free ∙ locked));
+            waits_along = λ q locked. absurd (none-some q (sym free ∙ locked));
+            prompt = λ q w j locked. absurd (none-some q (sym free ∙ locked));
+            idle = λ lock gone. absurd (none-some out (sym gone ∙ done));
+            told = λ o is.
+                elim (running.prompt page word number lock there) [
+                  | inl alone ↦ inl alone
+                  | inr prompt ↦
+                      inr (
+                        subst IsReply (same_Some out o (sym done ∙ is))
+                            (subst IsReply (sym carries.1.gives)
+                            (reply-given word (carries.1.net.page x page) prompt)),
+                        have-replies S c x page n.memory.along n.memory.coherence.more carries.0
+                            told.done_more flat (running.waits_along page lock) carries.2,
+                      )
+                ];
+          };
+          program = refl;
+          blocks = blocks_stay (rest.blocks ∙ k.blocks) refl;
+        }
       where
         untold : (d : Option Out) → n.memory.coherence.done ≡ d → n.memory.coherence.done ≡ None
         untold None is = is
@@ -490,8 +710,8 @@ module _ {S : Type 0} (ops : Ops S) (c : Config) (config : IsConfig c) (x : ℕ)
 
     told_adds : (flat : ℕ → List ℕ) → Tells (Copies {S = S} c) c x f n.memory.coherence told flat
         → Adds c mem x n told_host ms flat
-    told_adds flat (quiet same done locked waiting) = quiet_adds flat same done locked waiting
-    told_adds flat (is_answered page word number out lock there free done carries) =
+    told_adds flat (quiet same rest locked waiting) = quiet_adds flat same rest locked waiting
+    told_adds flat (is_answered page word number out lock there free none done carries) =
         answer_adds flat page word number out n.memory.asked refl lock there free done carries
 
     pub message_adds : is_of_pages m.content ≡ true → (flat : ℕ → List ℕ)
@@ -504,9 +724,9 @@ module _ {S : Type 0} (ops : Ops S) (c : Config) (config : IsConfig c) (x : ℕ)
 -- the call in progress begins anew, as its word was not carried out or gave no reply
 again_adds : {S : Type 0} (c : Config) (mem : model.Memory) (x : ℕ) (n n' : Host S)
     (ms : List Message) (flat : ℕ → List ℕ)
-    → reply_owed n.memory.side.errand ms n.memory.coherence.done ≡ None
+    → reply_owed n.memory.side.errand ms n.memory.coherence.done ≡ None → along_owed n ≡ []
     → Adds c mem x (without_call n) n' ms flat → Adds c mem x n n' ms flat
-again_adds c mem x n n' ms flat untold a = record {
+again_adds c mem x n n' ms flat untold alone a = record {
   more = a.more;
   new = a.new;
   legal = a.legal;
@@ -516,8 +736,9 @@ again_adds c mem x n n' ms flat untold a = record {
   history =
       a.history
       ∙ ap (λ xs. (n.history ++ xs) ++ a.more)
-      (sym (owed-untold (number_of n) n.memory.asked
-      (reply_owed n.memory.side.errand ms n.memory.coherence.done) untold));
+      (sym (none_pending _ (along_owed n)
+      (owed-untold (number_of n) n.memory.asked
+      (reply_owed n.memory.side.errand ms n.memory.coherence.done) untold) alone));
   running = a.running;
   program = a.program;
   blocks = a.blocks;
@@ -539,11 +760,21 @@ module _ {S : Type 0} (ops : Ops S) (c : Config) (config : IsConfig c) (x : ℕ)
     numbered = λ called is. absurd (none-some called is);
   }
 
-  running_without : IsRunning c (without_call n)
-  running_without = record {
+  -- of those made along none is owed then either
+  none_along : n.memory.side.errand ≡ None → reply_at n.memory ≡ None → along_owed n ≡ []
+  none_along none untold =
+      untold-along c n running
+      (sym (ap (λ e. first_reply (reply_told e) (reply_there n.memory.coherence.done)) none) ∙ untold)
+
+  running_without : n.memory.coherence.locked ≡ None → IsRunning c (without_call n)
+  running_without free = record {
     run = running.run;
     makes = λ called is. absurd (none-some called is);
     waits = λ called page word number is. absurd (none-some called is);
+    waits_along = λ page lock. absurd (none-some page (sym free ∙ lock));
+    prompt = λ page word number lock. absurd (none-some page (sym free ∙ lock));
+    idle = λ lock done. refl;
+    told = λ o done. inl refl;
   }
 
   -- where no reply is there, and the call in progress is one of a word, none is owed
@@ -570,9 +801,13 @@ module _ {S : Type 0} (ops : Ops S) (c : Config) (config : IsConfig c) (x : ℕ)
       flat tells)
   turn_adds e (tries_again called page word asked untold free of inside lies is) flat tells =
       again_adds c mem x n e.after ms flat (none_owed called page word asked of untold)
+      (none_along
+      (word_errand ops c config x mem sized f shows n good running ms called page word asked of)
+      untold)
       (starts_adds ops c config x mem sized f shows (without_call n) (good_without free)
-      running_without ms called page word refl (running.makes called asked)
-      (subst (λ k. IsWordOf k called page word) good.config of) e flat (length n.history + 1) is
+      (running_without free) ms called page word refl (running.makes called asked).0
+      (subst (λ k. IsWordOf k called page word) good.config of) nothing_beside
+      ((running.makes called asked).0, λ r. tt) tt (inl refl) e flat (length n.history + 1) is
       tells)
   turn_adds e (goes_on s idle step is) flat tells =
       subst (λ (z : Outcome (Host S)). Adds c mem x n z.after ms flat) (sym is)
@@ -580,19 +815,26 @@ module _ {S : Type 0} (ops : Ops S) (c : Config) (config : IsConfig c) (x : ℕ)
   turn_adds e (refuses called code idle step refusal is) flat tells =
       subst (λ (z : Outcome (Host S)). Adds c mem x n z.after ms flat) (sym is)
       (records_call ops c config x mem sized f shows n good running ms n.memory called
-      (reply.Refused code) mem idle step idle
+      (reply.Refused code) mem idle step idle (good.memory.alone idle) (good.memory.locked idle)
       (refusal_served c mem sized called code
       (subst (λ k. asked_of k called ≡ kinds.Refused code) good.config refusal)) flat
       (same_flat flat tells) (blocks_stay refl refl))
   turn_adds e (asks_for called page word idle step of inside lies few is) flat tells =
       starts_adds ops c config x mem sized f shows n good running ms called page word idle step
-      (subst (λ k. IsWordOf k called page word) good.config of) e flat (length n.history + 1) is
-      tells
+      (subst (λ k. IsWordOf k called page word) good.config of) (made_along n page word)
+      (beside-asks n.memory.coherence.config page word n.process called (along_of n.process)
+      (number_of_call n) (asks_along n.process called step))
+      (subst (λ k. AreWordsOf k page (made_along n page word).calls (made_along n page word).words)
+      good.config
+      (beside-words n.memory.coherence.config page word (along_of n.process) (number_of_call n)))
+      (beside-prompt n.memory.coherence.config page word (along_of n.process) (number_of_call n))
+      e flat (length n.history + 1) is tells
   turn_adds e (serves_heap called k heap idle step of there is) flat tells =
       subst (λ (z : Outcome (Host S)). Adds c mem x n z.after ms flat) (sym is)
       (records_call ops c config x mem sized f shows n good running ms
       (record n.memory { side = kept n.memory.side heap (told_of heap k) }) called
-      (told_of heap k).reply (memory_told mem heap k) idle step idle
+      (told_of heap k).reply (memory_told mem heap k) idle step idle (good.memory.alone idle)
+      (good.memory.locked idle)
       (heap_served c mem heap ((good.memory.side.home heap there).0 ∙ good.config)
       (blocks heap there) called k
       (subst (λ d. asked_of d called ≡ kinds.Heap k) good.config of)) flat

@@ -128,15 +128,15 @@ module _ (c : Config) (sites : List Shown) (sent : List (List ℕ)) (i : ℕ) (o
 module _ (c : Config) (sites : List Shown) (sent : List (List ℕ)) (i : ℕ) (old : Shown)
     (there : slice_get sites i ≡ Some (with_strings [] old)) (h : IsRunning c sites sent) where
   handed : (call : Call) (new : Shown)
-      → (new ≡ site_handed (call ∷ []) old) ⊎ SiteTurns (site_handed (call ∷ []) old) new
+      → (new ≡ site_handed ((call ∷ []) ∷ []) old) ⊎ SiteTurns (site_handed ((call ∷ []) ∷ []) old) new
       → Further c sites sent i old there h new
   handed call new w =
-      let mid : Shown = site_handed (call ∷ []) old in
+      let mid : Shown = site_handed ((call ∷ []) ∷ []) old in
       let after : List Shown = set sites i (with_strings [] mid) in
       let at : slice_get after i ≡ Some (with_strings [] mid) =
       set-there sites i (with_strings [] mid) (with_strings [] old) there in
       let f = turned_once c after sent i mid at
-      (handed_running c sites sent i (with_strings [] old) there (call ∷ []) h) new w in record {
+      (handed_running c sites sent i (with_strings [] old) there ((call ∷ []) ∷ []) h) new w in record {
         more = f.more;
         waiting = f.waiting;
         running = subst (λ ss. IsRunning c ss (sent ++ f.more))

@@ -25,7 +25,7 @@ use Rattle.ivy_moves.specs.ivy_link.Paired.{posted, extended}
 use Rattle.ivy_moves.specs.Ordered.{Ordered, Turns, Delivers, Steps, rests, turns, delivers, one_more}
 use Rattle.proof_waiting.specs.proof_routing.ivy_fixed.Fixed.{Owners, fixed_ops}
 use Rattle.proof_waiting.specs.proof_routing.ivy_coherence.Coherent.{Coherent}
-use Rattle.proof_waiting.specs.proof_routing.ivy_coherence.Faults.{suffices}
+use Rattle.ivy_pagetable.specs.Accesses.{suffices}
 use Rattle.proof_waiting.specs.proof_routing.ivy_coherence.Steps.{handled}
 use Rattle.proof_waiting.specs.proof_routing.proof_transitions.Letters.{Letter, Place, Underway, Aside, Loose, IsAt}
 use Rattle.proof_waiting.specs.proof_routing.proof_transitions.Rows.{Claim, IsKept}
@@ -472,12 +472,12 @@ module _ (c : Config) (limits : IsConfig c) (fixed : c.manager ≡ kind.Fixed)
           by_told : {flat : ℕ → List ℕ}
               → Tells (Copies {S = Managed} c) c x faith.pages k
               (handled managed_ops k source t.message).after flat → Comes after
-          by_told (is_answered q w number out lock waiting unlocked done carries) =
+          by_told (is_answered q w number out lock waiting unlocked alone done carries) =
               let asked : t.core.memory.asked ≡ Some called =
               ap (λ (z : Host Managed). z.memory.asked) it ∙ is.asked in
               let of : asked_of c called ≡ kinds.Word q w =
               (faith.running x t.core t.there).waits called q w number asked lock waiting in
-              let r = word_replies called carries of ready in
+              let r = word_replies called carries.1 of ready in
               opens (record {
                 asked = asked_on;
                 records = records_on;

@@ -280,8 +280,8 @@ module _ (c : Config) (limits : IsConfig c) (fixed : c.manager ≡ kind.Fixed)
             (handled managed_ops t.core.memory.coherence source t.message).after flat
             → IsLeft t.core.memory.coherence
             (handled managed_ops t.core.memory.coherence source t.message).after
-        by_told (quiet same done locked waits) = (locked ∙ free, done)
-        by_told (is_answered q word number out lock there unlocked done carries) =
+        by_told (quiet same rest locked waits) = (locked ∙ free, rest.done)
+        by_told (is_answered q word number out lock there unlocked alone done carries) =
             absurd (none-some q (sym free ∙ lock))
 
     open_on : (h : Host Managed) → slice_get o.cores i ≡ Some h → IsOpen called history h

@@ -1,12 +1,14 @@
 -- A call that is refused at once is never in progress: whatever is in progress is a word of a page
 -- or a call of the heap.
-use Rattle.std.proofs.Common.{◌≡◌, ◌+◌, ◌^◌, ℕ, Bool, true, false, length, nat_lt, if◌then◌else◌, Option, Some, None, refl, sym, ap, ◌∙◌, subst}
+use Rattle.std.specs.Prelude.{All}
+use Rattle.std.proofs.lemmas.List.Elements.{All-head}
+use Rattle.std.proofs.Common.{◌≡◌, ◌+◌, ◌^◌, ℕ, Bool, true, false, inl, inr, List, ◌∷◌, length, nat_lt, if◌then◌else◌, Option, Some, None, refl, sym, ap, ◌∙◌, subst}
 use Rattle.std.proofs.lemmas.Option.{same_Some, none-some}
 use Rattle.ivy_model.specs.declared.Config.{Config}
 use Rattle.ivy_model.specs.declared.Call.{Call}
 use Rattle.ivy_wire.specs.Data.{Message}
 use Rattle.ivy_pagetable.specs.Manager.{Ops}
-use Rattle.ivy_program.specs.Steps.{Step, Local, Asks, Ends, step_of, at_state}
+use Rattle.ivy_program.specs.Steps.{Step, Local, Asks, Ends, step_of, at_state, along_of}
 use Rattle.ivy_moves.specs.Cores.{Outcome}
 use Rattle.proof_consistency.specs.ivy_heap.declared.Answer.{Answer}
 use Rattle.proof_consistency.specs.ivy_heap.declared.Answer.TheVariants.{Given, Awaited, Unserved}
@@ -16,7 +18,8 @@ use Rattle.proof_consistency.specs.ivy_memory.Asking.{asked_of}
 use Rattle.proof_consistency.specs.ivy_memory.Memories.{NodeMemory, CallBegun, begun_as, call_begun, polled}
 use Rattle.proof_consistency.proofs.of_ivy_memory.Polling.{polled-begun}
 use Rattle.proof_consistency.proofs.of_ivy_memory.Same.{told-asked}
-use Rattle.proof_consistency.proofs.of_ivy_memory.Tame.{call-begun}
+use Rattle.proof_consistency.proofs.of_ivy_memory.Tame.{call-begun, begun-one, begun-next}
+use Rattle.proof_consistency.specs.ivy_memory.Sound.{IsWordOfPage}
 use Rattle.proof_consistency.specs.ivy_host.Hosts.{Host, recorded, quietly, begins_with, begins_as, steps, turned_at, turn_of, serving}
 
 -- the call, if there is one, is not refused at once
@@ -43,35 +46,40 @@ module _ {S : Type 0} (ops : Ops S) (c : Config) where
   begins_with-served n k a Unserved o served is = absurd (none-some o is)
 
   -- a call that begins is in progress only where it is not refused
-  refused_over : (m : NodeMemory S) (k : Call) (number : ℕ) (x : Asked) (code : ℕ) → m.asked ≡ None
-      → x ≡ kinds.Refused code → (begun_as ops m k number x).after.asked ≡ None
-  refused_over m k number x code idle is =
-      ap (λ y. (begun_as ops m k number y).after.asked) is ∙ idle
+  refused_over : (m : NodeMemory S) (k : Call) (calls : List Call) (number : ℕ) (x : Asked)
+      (code : ℕ) → m.asked ≡ None
+      → x ≡ kinds.Refused code → (begun_as ops m k calls number x).after.asked ≡ None
+  refused_over m k calls number x code idle is =
+      ap (λ y. (begun_as ops m k calls number y).after.asked) is ∙ idle
 
-  begun_over : (m : NodeMemory S) (k : Call) (number code : ℕ) → m.asked ≡ None
+  begun_over : (m : NodeMemory S) (k : Call) (calls : List Call) (number code : ℕ) → m.asked ≡ None
       → asked_of m.coherence.config k ≡ kinds.Refused code
-      → (call_begun ops m k number).after.asked ≡ None
+      → (call_begun ops m k calls number).after.asked ≡ None
   unfolding call_begun
-  begun_over m k number code idle is =
-      refused_over m k number (asked_of m.coherence.config k) code idle is
+  begun_over m k calls number code idle is =
+      refused_over m k calls number (asked_of m.coherence.config k) code idle is
 
-  begun_served : (m : NodeMemory S) (k : Call) (number : ℕ) → m.coherence.config ≡ c
-      → m.asked ≡ None → IsServed c (call_begun ops m k number).after.asked
-  begun_served m k number config idle called code asked is =
-      let same : k ≡ called = (call-begun ops m k number idle).same called asked in
+  begun_served : (m : NodeMemory S) (k : Call) (calls : List Call) (number : ℕ)
+      → m.coherence.config ≡ c
+      → m.asked ≡ None → IsServed c (call_begun ops m k calls number).after.asked
+  begun_served m k calls number config idle called code asked is =
+      let same : k ≡ called =
+      begun-one k calls number (call_begun ops m k calls number) called
+      (call-begun ops m k calls number idle) asked in
       none-some called
-      (sym (begun_over m k number code idle
+      (sym (begun_over m k calls number code idle
       (ap (λ d. asked_of d k) config ∙ ap (asked_of c) same ∙ is)) ∙ asked)
 
   begins_if-served : (n : Host S) (k : Call) (b : Bool) (o : Outcome (Host S))
       → n.memory.coherence.config ≡ c → n.memory.asked ≡ None
-      → (if b then begins_as n k (call_begun ops n.memory k (length n.history + 1)) else None)
-      ≡ Some o → IsServable c o.after
+      → (if b
+      then begins_as n k (call_begun ops n.memory k (along_of n.process) (length n.history + 1))
+      else None) ≡ Some o → IsServable c o.after
   begins_if-served n k false o config idle is = absurd (none-some o is)
   begins_if-served n k true o config idle is =
-      let a : CallBegun S = call_begun ops n.memory k (length n.history + 1) in
+      let a : CallBegun S = call_begun ops n.memory k (along_of n.process) (length n.history + 1) in
       begins_with-served n k a a.answer o
-      (begun_served n.memory k (length n.history + 1) config idle) is
+      (begun_served n.memory k (along_of n.process) (length n.history + 1) config idle) is
 
   steps-served : (n : Host S) (t : Step) (o : Outcome (Host S)) → n.memory.coherence.config ≡ c
       → n.memory.asked ≡ None → steps ops n t ≡ Some o → IsServable c o.after
@@ -83,20 +91,35 @@ module _ {S : Type 0} (ops : Ops S) (c : Config) where
       begins_if-served n k (nat_lt (length n.history + 1) (2 ^ 64)) o config idle is
   steps-served n Ends o config idle is = absurd (none-some o is)
 
+  -- the next of the calls made along is a word
+  word_served : (n : Host S) (next : Call) (rest : List Call) → n.memory.coherence.config ≡ c
+      → All (IsWordOfPage n.memory.coherence.config) n.memory.along → n.memory.along ≡ next ∷ rest
+      → (code : ℕ) → asked_of c next ≡ kinds.Refused code → ⊥
+  word_served n next rest config words along code refused =
+      let one : IsWordOfPage n.memory.coherence.config next =
+      All-head (IsWordOfPage n.memory.coherence.config) next rest
+      (subst (All (IsWordOfPage n.memory.coherence.config)) along words) in
+      let f : kinds.Word one.0 one.1 ≡ kinds.Refused code =
+      sym one.2 ∙ ap (λ d. asked_of d next) config ∙ refused in cc
+
   at-served : (n : Host S) (a : Option Call) (o : Outcome (Host S)) → n.memory.coherence.config ≡ c
-      → IsServable c n → n.memory.asked ≡ a → turned_at ops n a ≡ Some o → IsServable c o.after
-  at-served n (Some k) o config served at is =
+      → All (IsWordOfPage n.memory.coherence.config) n.memory.along → IsServable c n → n.memory.asked ≡ a → turned_at ops n a ≡ Some o → IsServable c o.after
+  at-served n (Some k) o config words served at is =
       let a : CallBegun S = polled ops n.memory in
       begins_with-served n k a a.answer o
-      (λ called code asked refused. served called code
-      (at ∙ ap Some ((polled-begun ops n.memory k at).same called asked)) refused) is
-  at-served n None o config served at is = steps-served n (step_of n.process) o config at is
+      (λ called code asked refused.
+      elim (begun-next k n.memory.along n.memory.along n.memory.number a called
+      (polled-begun ops n.memory k at) asked) [
+        | inl same ↦ served called code (at ∙ ap Some same) refused
+        | inr next ↦ word_served n called next.0 config words next.1 code refused
+      ]) is
+  at-served n None o config words served at is = steps-served n (step_of n.process) o config at is
 
   -- a turn keeps it
   pub turn-served : (n : Host S) (o : Outcome (Host S)) → n.memory.coherence.config ≡ c
-      → IsServable c n → turn_of ops n ≡ Some o → IsServable c o.after
+      → All (IsWordOfPage n.memory.coherence.config) n.memory.along → IsServable c n → turn_of ops n ≡ Some o → IsServable c o.after
   unfolding turn_of
-  turn-served n o config served is = at-served n n.memory.asked o config served refl is
+  turn-served n o config words served is = at-served n n.memory.asked o config words served refl is
 
   -- and so does a message
   pub serve-served : (n : Host S) (from : ℕ) (m : Message) → IsServable c n

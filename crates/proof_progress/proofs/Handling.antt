@@ -17,6 +17,7 @@ use Rattle.ivy_pagetable.specs.Entries.{put_offs, can_put_off, with_put_off, cop
 use Rattle.ivy_pagetable.specs.Tables.{entry_at, page_at, with_entry}
 use Rattle.ivy_pagetable.specs.Words.{carried_out}
 use Rattle.ivy_pagetable.specs.Manager.{Ops}
+use Rattle.proof_routing.specs.ivy_coherence.Several.{all_carried}
 use Rattle.proof_routing.specs.ivy_coherence.Coherent.{Coherent}
 use Rattle.proof_routing.specs.ivy_coherence.Steps.{CoherenceEffect, is_none, breach, unlocked, put_by, put_aside, asked, copy_came, owned_with}
 use Rattle.proof_routing.specs.ivy_coherence.Steps.{page_came, left_with, still_collecting, collected, acknowledged, after_serving, handled, handled_as}
@@ -107,7 +108,7 @@ module _ {S : Type 0} (ops : Ops S) (lost : ℕ) (k : Coherent S) (p : ℕ) wher
         less_does origin call body (unlocked ops k from p idle reply bytes s) (entry.Idle _)
         (here _) (there _)
         (let a =
-        all_served_work ops lost k.me p (carried_out s.word bytes).bytes
+        all_served_work ops lost k.me p (all_carried k.more (carried_out s.word bytes).bytes).bytes
         (serving idle (told ops from p k.manager reply) k.breaches []) s.put_off in
         let b : 1 ≤ heavy_of lost body = work_some lost body in
         let d : work_put lost p (put_offs before) ≡ work_put lost p s.put_off =

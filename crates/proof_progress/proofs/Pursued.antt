@@ -1,34 +1,37 @@
 -- Whoever has a call in progress that asks for a word of a page waits for that word, or has its
 -- answer, unless it awaits a count.
-use Rattle.std.proofs.Common.{◌≡◌, ℕ, List, slice_get, Option, Some, None, refl, sym, ap, ◌∙◌, inl, inr, subst}
+use Rattle.std.proofs.Common.{◌≡◌, ℕ, List, [], ◌∷◌, slice_get, Option, Some, None, refl, sym, ap, ◌∙◌, inl, inr, subst}
 use Rattle.std.proofs.lemmas.Option.{same_Some, none-some}
 use Rattle.ivy_model.specs.declared.Config.{Config}
 use Rattle.ivy_model.specs.declared.Call.{Call}
 use Rattle.ivy_model.specs.declared.Record.{Record}
 use Rattle.ivy_model.specs.declared.Reply.{Reply}
 use Rattle.ivy_model.specs.Config.{IsConfig}
+use Rattle.ivy_pagetable.specs.declared.Out.{Out}
 use Rattle.ivy_pagetable.specs.declared.Word.{Word}
 use Rattle.ivy_pagetable.specs.declared.Word.TheVariants as word
 use Rattle.ivy_pagetable.specs.Words.{carried_out}
 use Rattle.ivy_pagetable.specs.Manager.{Ops, Laws}
 use Rattle.proof_routing.specs.ivy_coherence.Coherent.{Coherent}
 use Rattle.proof_routing.specs.ivy_coherence.Faults.{Begun}
+use Rattle.proof_routing.specs.ivy_coherence.Several.{first_out}
 use Rattle.ivy_moves.specs.Cores.{Outcome}
 use Rattle.ivy_moves.specs.Ordered.{Ordered, Steps}
 use Rattle.proof_consistency.specs.ivy_memory.declared.Asked.TheVariants as kinds
 use Rattle.proof_consistency.specs.ivy_memory.Asking.{asked_of}
-use Rattle.proof_consistency.specs.ivy_memory.Memories.{answered, needed, reply_of, reply_there}
-use Rattle.proof_consistency.specs.ivy_host.Hosts.{Host, host_rules, begins_as, serving}
+use Rattle.proof_consistency.specs.ivy_memory.Memories.{answered, needed, reply_of, reply_there, taken_with, taken_out}
+use Rattle.proof_consistency.specs.ivy_memory.Beside.{Beside, nothing_beside}
+use Rattle.proof_consistency.specs.ivy_host.Hosts.{Host, host_rules, begins_as, recorded, serving}
 use Rattle.proof_consistency.specs.ivy_host.Sound.{IsSoundHost}
 use Rattle.proof_consistency.proofs.of_ivy_host.Pages.{page_serving}
 use Rattle.proof_consistency.proofs.of_proof_refinement.HeapDeliveries.{HeapDelivery, serves, learns}
-use Rattle.proof_consistency.proofs.of_proof_refinement.HostTurns.{number_of, asks, asked_for, without_call, asked_coherence}
+use Rattle.proof_consistency.proofs.of_proof_refinement.HostTurns.{number_of, asks, asked_for, made_along, without_call, asked_coherence}
 use Rattle.proof_consistency.proofs.of_proof_refinement.HostTurns.{HostTurn, answers, tries_again, goes_on, refuses, asks_for, serves_heap, asks_heap}
 use Rattle.proof_consistency.proofs.of_proof_refinement.LiftedEvents.{Tells, quiet, answers as is_answered, Starts, busy, hits, waits}
 use Rattle.proof_consistency.proofs.of_proof_refinement.LiftedHosts.{TurnTells, WorldTells, rested, turned, delivered, heap_delivered, kept-steps}
 use Rattle.proof_consistency.proofs.CopiedRows.{copied-kept}
 use Rattle.proof_consistency.proofs.Faithful.{IsFaithful, set-places}
-use Rattle.proof_consistency.proofs.Owing.{IsRunning}
+use Rattle.proof_consistency.proofs.Owing.{HaveReplies, IsRunning}
 use Rattle.proof_consistency.proofs.OwingEvents.{Copies}
 use Rattle.proof_progress.proofs.Stopped.{IsUnanswered, unanswered}
 
@@ -75,54 +78,84 @@ module _ {S : Type 0} (ops : Ops S) (c : Config) where
       none-some other
       (ap (λ (z : Outcome (Host S)). z.after.memory.asked) (same_Some _ out is) ∙ asked)
 
-  begun_pursued : (x page number : ℕ) (f flat : ℕ → List ℕ) (h : Host S) (called : Call) (w : Word)
+  begun_pursued : (x page number : ℕ) (f flat : ℕ → List ℕ) (h : Host S) (called : Call)
+      (more : Beside) (w : Word)
       (out : Outcome (Host S)) → asked_of c called ≡ kinds.Word page w
-      → begins_as h called (asked_for ops h called page w) ≡ Some out
+      → begins_as h called (asked_for ops h called more page w) ≡ Some out
       → Starts (Copies {S = S} c) c x f page w number h.memory.coherence (asks ops h page w).need
       (asks ops h page w).after flat → IsPursued c out.after
-  begun_pursued x page number f flat h called w out of is (busy q lock needs after same) =
+  begun_pursued x page number f flat h called more w out of is (busy q lock needs after same) =
       absurd (none-some out
       (sym (ap
-      (λ d. begins_as h called (needed h.memory called (number_of h) (asks ops h page w) d))
+      (λ d. begins_as h called (needed h.memory called more (number_of h) (asks ops h page w) d))
       needs) ∙ is))
-  begun_pursued x page number f flat h called w out of is (hits o needs done locked carries) =
+  begun_pursued x page number f flat h called more w out of is (hits o needs rest locked carries) =
       hit_pursued h called page w (asks ops h page w) (reply_of o) out of
       (λ plain none. plain_replies w (carries.net.page x page) plain
       (ap reply_of (sym carries.gives) ∙ none))
       (sym (ap
-      (λ d. begins_as h called (needed h.memory called (number_of h) (asks ops h page w) d))
+      (λ d. begins_as h called (needed h.memory called more (number_of h) (asks ops h page w) d))
       needs) ∙ is)
-  begun_pursued x page number f flat h called w out of is (waits needs same done locked there) =
+  begun_pursued x page number f flat h called more w out of is (waits needs same rest locked there) =
       λ other q v asked that plain free none.
       none-some page
       (sym free
-      ∙ ap (λ (k : Coherent S). k.locked) (asked_coherence ops h called page w out is) ∙ locked)
+      ∙ (asked_coherence ops h called more page w out is).locked ∙ locked)
+
+  -- the next of the calls made along has its reply
+  taken_pursued : (n : Host S) → IsRunning c n → (called : Call) (r : Reply) (calls : List Call)
+      (d : Option Out) (outs : List Out) → n.memory.along ≡ calls → n.memory.coherence.done ≡ d
+      → n.memory.coherence.done_more ≡ outs → IsPursued c (recorded n (taken_out n.memory) called r)
+  taken_pursued n running called r [] d outs along done more other q v asked that plain free none =
+      none-some other (sym (ap (λ ks. (taken_with n.memory ks).asked) along) ∙ asked)
+  taken_pursued n running called r (k ∷ ks) None outs along done more other q v asked that plain free
+      none =
+      let f : k ∷ ks ≡ [] =
+      sym along ∙ running.idle
+      (sym (ap (λ js. (taken_with n.memory js).coherence.locked) along) ∙ free) done in cc
+  taken_pursued n running called r (k ∷ ks) (Some o) outs along done more other q v asked that plain
+      free none =
+      elim (running.told o done) [
+        | inl alone ↦ (let f : k ∷ ks ≡ [] = sym along ∙ alone in absurd cc)
+        | inr h ↦
+            next_replies ks outs
+            (subst (λ js. HaveReplies js outs) along
+            (subst (HaveReplies n.memory.along) more h.1))
+            (ap (λ os. reply_there (first_out os)) (sym more)
+            ∙ sym (ap (λ js. reply_there (taken_with n.memory js).coherence.done) along) ∙ none)
+      ]
+    where
+      next_replies : (js : List Call) (os : List Out) → HaveReplies (k ∷ js) os
+          → reply_there (first_out os) ≡ None → ⊥
+      next_replies js [] have gone = have
+      next_replies js (p ∷ ps) have gone = none-some have.0.0 (sym gone ∙ have.0.1)
 
   -- a turn
   turn_pursued : (x : ℕ) (f flat : ℕ → List ℕ) (n : Host S) (good : IsSoundHost ops c x n)
       (out : Outcome (Host S)) (turn : HostTurn ops c n out)
-      → TurnTells (Copies {S = S} c) c x f n out turn flat → IsPursued c n
+      → TurnTells (Copies {S = S} c) c x f n out turn flat → IsRunning c n → IsPursued c n
       → IsPursued c out.after
-  turn_pursued x f flat n good out (answers called r asked there is) tells was =
+  turn_pursued x f flat n good out (answers called r asked there is) tells running was =
       subst (λ (z : Outcome (Host S)). IsPursued c z.after) (sym is)
-      (λ other q v asked that plain free none. none-some other asked)
+      (taken_pursued n running called r n.memory.along n.memory.coherence.done
+      n.memory.coherence.done_more refl refl refl)
   turn_pursued x f flat n good out
-      (tries_again called page w asked untold free of inside lies is) tells was =
-      begun_pursued x page (number_of n) f flat (without_call n) called w out
+      (tries_again called page w asked untold free of inside lies is) tells running was =
+      begun_pursued x page (number_of n) f flat (without_call n) called nothing_beside w out
       (subst (λ d. asked_of d called ≡ kinds.Word page w) good.config of) is tells
-  turn_pursued x f flat n good out (goes_on s idle step is) tells was =
+  turn_pursued x f flat n good out (goes_on s idle step is) tells running was =
       subst (λ (z : Outcome (Host S)). IsPursued c z.after) (sym is) was
-  turn_pursued x f flat n good out (refuses called code idle step refusal is) tells was =
+  turn_pursued x f flat n good out (refuses called code idle step refusal is) tells running was =
       subst (λ (z : Outcome (Host S)). IsPursued c z.after) (sym is)
       (λ other q v asked that plain free none. none-some other (sym idle ∙ asked))
   turn_pursued x f flat n good out (asks_for called page w idle step of inside lies few is)
-      tells was =
-      begun_pursued x page (number_of n) f flat n called w out
+      tells running was =
+      begun_pursued x page (number_of n) f flat n called (made_along n page w) w out
       (subst (λ d. asked_of d called ≡ kinds.Word page w) good.config of) is tells
-  turn_pursued x f flat n good out (serves_heap called k heap idle step of there is) tells was =
+  turn_pursued x f flat n good out (serves_heap called k heap idle step of there is) tells running was =
       subst (λ (z : Outcome (Host S)). IsPursued c z.after) (sym is)
       (λ other q v asked that plain free none. none-some other (sym idle ∙ asked))
-  turn_pursued x f flat n good out (asks_heap called k idle step of away is) tells was =
+  turn_pursued x f flat n good out (asks_heap called k idle step of away is) tells running was =
       subst (λ (z : Outcome (Host S)). IsPursued c z.after) (sym is)
       (λ other q v asked that plain free none.
       (let heap : asked_of c called ≡ kinds.Heap k =
@@ -135,16 +168,17 @@ module _ {S : Type 0} (ops : Ops S) (c : Config) where
   told_pursued : (x : ℕ) (f flat : ℕ → List ℕ) (n : Host S) (k : Coherent S) → IsRunning c n
       → Tells (Copies {S = S} c) c x f n.memory.coherence k flat → IsPursued c n
       → IsPursued c (record n { memory = record n.memory { coherence = k } })
-  told_pursued x f flat n k running (quiet same done locked waiting) was called page w asked of
+  told_pursued x f flat n k running (quiet same rest locked waiting) was called page w asked of
       plain free none =
-      was called page w asked of plain (sym locked ∙ free) (ap reply_there (sym done) ∙ none)
-  told_pursued x f flat n k running (is_answered page w number out lock there free done carries) was
+      was called page w asked of plain (sym locked ∙ free) (ap reply_there (sym rest.done) ∙ none)
+  told_pursued x f flat n k running (is_answered page w number out lock there free alone done carries)
+      was
       called q v asked of plain unlocked none =
-      plain_replies w (carries.net.page x page)
+      plain_replies w (carries.1.net.page x page)
       (subst IsPlain
       (one_word c called called page q w v refl
       (running.waits called page w number asked lock there) of) plain)
-      (ap reply_of (sym carries.gives) ∙ ap reply_there (sym done) ∙ none)
+      (ap reply_of (sym carries.1.gives) ∙ ap reply_there (sym done) ∙ none)
 
 module _ {S : Type 0} (ops : Ops S) (laws : Laws ops) (c : Config) (config : IsConfig c)
     (o o' : Ordered (Host S)) (order : List Record) (f : IsFaithful ops c o order)
@@ -167,7 +201,7 @@ module _ {S : Type 0} (ops : Ops S) (laws : Laws ops) (c : Config) (config : IsC
         | inl here ↦
             subst (IsPursued c) (sym here.1)
             (turn_pursued ops c x f.pages flat t.core (f.sound.sound x t.core t.there) t.outcome
-            turn tells (was x t.core t.there))
+            turn tells (f.running x t.core t.there) (was x t.core t.there))
         | inr other ↦ was j n other.1
       ]
   tells_pursued flat (delivered source x t about tells) j n there =

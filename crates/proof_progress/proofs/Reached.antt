@@ -39,6 +39,7 @@ module _ {S : Type 0} (ops : Ops S) (laws : Laws ops) (c : Config) (config : IsC
         | inl here ↦
             subst (IsServable c) (sym here.1)
             (turn-served ops c t.core t.outcome (f.sound.sound i t.core t.there).config
+            (f.sound.sound i t.core t.there).memory.of_pages
             (served i t.core t.there) t.turned)
         | inr other ↦ served j n other.1
       ]

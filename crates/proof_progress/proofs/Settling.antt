@@ -1,6 +1,6 @@
 -- An ordered world in which all was delivered blocks no node. So one in which no turn does anything
 -- either stands still only where the flat memory has no answer.
-use Rattle.std.proofs.Common.{◌≡◌, ◌≢◌, ◌<◌, ◌≤◌, ◌+◌, ◌⊎◌, ℕ, Bool, true, false, nat_le, List, [], ◌∷◌, ◌++◌, length, map, take, slice_get, Option, Some, None, refl, sym, ap, ◌∙◌, inl, inr, subst, arith, append-nil}
+use Rattle.std.proofs.Common.{◌≡◌, ◌≢◌, ◌<◌, ◌≤◌, ◌+◌, ◌⊎◌, ℕ, Bool, true, false, nat_le, List, [], ◌∷◌, ◌++◌, length, map, take, drop, slice_get, Option, Some, None, refl, sym, ap, ◌∙◌, inl, inr, subst, arith, append-nil}
 use Rattle.std.proofs.lemmas.Bool.{leb-true, leb-false}
 use Rattle.std.proofs.lemmas.List.{take_all, drop_all}
 use Rattle.std.proofs.lemmas.Option.{none-some, same_Some, slice_get_within, slice_get_cases}
@@ -17,6 +17,7 @@ use Rattle.ivy_model.proofs.Counts.{read_count}
 use Rattle.ivy_model.proofs.Sizes.{first_sized, leads_sized}
 use Rattle.ivy_pagetable.specs.declared.Entry.{Entry}
 use Rattle.ivy_pagetable.specs.declared.Entry.TheVariants as entry
+use Rattle.ivy_pagetable.specs.declared.Out.{Out}
 use Rattle.ivy_pagetable.specs.declared.Word.{Word}
 use Rattle.ivy_pagetable.specs.declared.Word.TheVariants as word
 use Rattle.ivy_pagetable.specs.Accesses.{reads}
@@ -35,7 +36,7 @@ use Rattle.proof_consistency.specs.ivy_heap.declared.Errand.TheVariants as erran
 use Rattle.proof_consistency.specs.ivy_heap.declared.HeapCall.{HeapCall}
 use Rattle.proof_consistency.specs.ivy_memory.Asking.{asked_of}
 use Rattle.proof_consistency.specs.ivy_heap.HeapCalls.{reply_told}
-use Rattle.proof_consistency.specs.ivy_memory.Memories.{first_reply, reply_at, reply_there, taken_out}
+use Rattle.proof_consistency.specs.ivy_memory.Memories.{in_progress, first_reply, reply_at, reply_there, taken_with, taken_out}
 use Rattle.proof_consistency.proofs.of_ivy_memory.Pages.{no_errand_of}
 use Rattle.proof_consistency.specs.ivy_host.Hosts.{Host, answered_by, number_of, recorded, turn_of}
 use Rattle.proof_consistency.specs.ivy_host.Sound.{IsSoundHost}
@@ -43,7 +44,8 @@ use Rattle.proof_consistency.specs.proof_refinement.Errands.{about_heap, heap_wa
 use Rattle.proof_consistency.specs.proof_refinement.Nets.{about_pages, entry_of, page_of, net_of}
 use Rattle.proof_consistency.proofs.of_proof_refinement.Errands.{have_errands}
 use Rattle.proof_consistency.proofs.Faithful.{map-places}
-use Rattle.proof_consistency.proofs.Owing.{owed, reply_owed, pending, told-owed, owed-unasked, owed-untold}
+use Rattle.proof_consistency.proofs.Owing.{owed, reply_owed, along_owed, pending, told-owed, owed-unasked, owed-untold, untold-along, then-alone, none_pending, IsRunning}
+use Rattle.proof_consistency.proofs.OwedCalls.{pending-calls}
 use Rattle.proof_progress.specs.Answering.{AreAllDelivered}
 use Rattle.proof_progress.specs.Settled.{HasNoAnswer, AreSettled}
 use Rattle.proof_progress.specs.Unblocked.{IsAnsweredNext, AsksForCountsNext, Stands, waits, replied, reached, AreUnblocked}
@@ -104,6 +106,9 @@ module _ {S : Type 0} (ops : Ops S) (c : Config) (config : IsConfig c) (o : Orde
     good : IsSoundHost ops c i n
     good = sound.sound i n there
 
+    running : IsRunning c n
+    running = faithful.running i n there
+
     idle : (p : ℕ) → is_locked (entry_at n.memory.coherence.table p) ≡ false
     idle p = ap (λ z. is_locked (entry_of z p)) (sym there) ∙ unlocked i p
 
@@ -124,6 +129,28 @@ module _ {S : Type 0} (ops : Ops S) (c : Config) (config : IsConfig c) (o : Orde
     part_whole none = part_is [] none ∙ append-nil n.history
 
     module _ (called : Call) (asked : n.memory.asked ≡ Some called) where
+      -- the reply is there, and owed first
+      owed_first : (r : Reply) → reply_at n.memory ≡ Some r
+          → pending n (heap_way o 0 i)
+          ≡ record { node = number_of n; call = called; reply = r } ∷ along_owed n
+      owed_first r is =
+          ap (λ a. owed (number_of n) a
+          (reply_owed n.memory.side.errand (heap_way o 0 i) n.memory.coherence.done) ++ along_owed n)
+          asked
+          ∙ ap (λ y. owed (number_of n) (Some called) y ++ along_owed n)
+          (told-owed n.memory.side.errand (heap_way o 0 i) n.memory.coherence.done r
+          (λ y e. (good.memory.apart y e).1) is)
+
+      along_calls : (r : Reply) → reply_at n.memory ≡ Some r
+          → map (λ x. x.call) (along_owed n) ≡ n.memory.along
+      along_calls r is = elim (pending-calls ops c i n good running (heap_way o 0 i)) [
+        | inl none ↦ absurd (let f : record { node = number_of n; call = called; reply = r }
+            ∷ along_owed n ≡ [] = sym (owed_first r is) ∙ none in cc)
+        | inr calls ↦
+            ap (drop 1) (sym (ap (λ xs. map (λ x. x.call) xs) (owed_first r is)) ∙ calls
+            ∙ ap (λ a. in_progress a n.memory.along) asked)
+      ]
+
       -- the reply is there
       replied_stands : (r : Reply) → reply_at n.memory ≡ Some r → Stands ops i n order memory
       replied_stands r is =
@@ -133,15 +160,12 @@ module _ {S : Type 0} (ops : Ops S) (c : Config) (config : IsConfig c) (o : Orde
             turned = replied_turn ops n called asked r is;
             history =
                 ap (λ k. n.history ++ record { node = k; call = called; reply = r } ∷ []) good.me;
-            idle = refl;
+            idle = λ alone. ap (λ ks. (taken_with n.memory ks).asked) alone;
           })
-          (part_is (record { node = i; call = called; reply = r } ∷ [])
-          (ap (λ a. owed (number_of n) a
-          (reply_owed n.memory.side.errand (heap_way o 0 i) n.memory.coherence.done)) asked
-          ∙ ap (owed (number_of n) (Some called))
-          (told-owed n.memory.side.errand (heap_way o 0 i) n.memory.coherence.done r
-          (λ y e. (good.memory.apart y e).1) is)
-          ∙ ap (λ k. record { node = k; call = called; reply = r } ∷ []) good.me))
+          (along_owed n) (along_calls r is)
+          (part_is (record { node = i; call = called; reply = r } ∷ along_owed n)
+          (owed_first r is
+          ∙ ap (λ k. record { node = k; call = called; reply = r } ∷ along_owed n) good.me))
 
       -- It is not.
       module _ (none : reply_at n.memory ≡ None) where
@@ -149,6 +173,17 @@ module _ {S : Type 0} (ops : Ops S) (c : Config) (config : IsConfig c) (o : Orde
             × (reply_there n.memory.coherence.done ≡ None)
         untold =
             first_none (reply_told n.memory.side.errand) (reply_there n.memory.coherence.done) none
+
+        -- so no call was made along with it
+        alone : n.memory.along ≡ []
+        alone = at n.memory.coherence.done refl
+          where
+            at : (d : Option Out) → n.memory.coherence.done ≡ d → n.memory.along ≡ []
+            at None is = running.idle free is
+            at (Some out) is = elim (running.told out is) [
+              | inl none_along ↦ none_along
+              | inr h ↦ absurd (none-some h.0.0 (sym untold.1 ∙ ap reply_there is ∙ h.0.1))
+            ]
 
         -- a call of the heap would have it
         no_heap : (k : HeapCall) → asked_of c called ≡ kinds.Heap k → ⊥
@@ -177,6 +212,11 @@ module _ {S : Type 0} (ops : Ops S) (c : Config) (config : IsConfig c) (o : Orde
           asks_await : n.memory.asked ≡ Some (Await await.count least)
           asks_await = asked ∙ ap Some await.is
 
+          await_alone : in_progress n.memory.asked n.memory.along ≡ Await await.count least ∷ []
+          await_alone =
+              ap (λ a. in_progress a n.memory.along) asks_await
+              ∙ ap (λ ks. Await await.count least ∷ ks) alone
+
           -- no record is owed
           none_owed : pending n (heap_way o 0 i) ≡ []
           none_owed =
@@ -188,9 +228,11 @@ module _ {S : Type 0} (ops : Ops S) (c : Config) (config : IsConfig c) (o : Orde
               ∙ ap (asked_of n.memory.coherence.config) (same_Some called k (sym asked ∙ at)) ∙ heap
               in cc
               )) good.memory.side.errand in
-              owed-untold (number_of n) n.memory.asked
+              none_pending _ (along_owed n)
+              (owed-untold (number_of n) n.memory.asked
               (reply_owed n.memory.side.errand (heap_way o 0 i) n.memory.coherence.done)
-              (ap (λ e. reply_owed e (heap_way o 0 i) n.memory.coherence.done) errands ∙ untold.1)
+              (ap (λ e. reply_owed e (heap_way o 0 i) n.memory.coherence.done) errands ∙ untold.1))
+              (untold-along c n running untold.1)
 
           -- a copy that the node may read has the count of the flat memory
           same_count : (v : ℕ) → slice_get memory.counts await.count ≡ Some v
@@ -226,7 +268,7 @@ module _ {S : Type 0} (ops : Ops S) (c : Config) (config : IsConfig c) (o : Orde
                   turned = t.1;
                   history = t.2 ∙ ap (λ k. n.history
                       ++ record { node = k; call = called; reply = Value count } ∷ []) good.me;
-                  idle = t.3;
+                  idle = λ alone. t.3;
                 }))
             next_idle enough s at false unread =
                 let t = await_asks ops n called asked c good.config none free page offset least of s at
@@ -255,7 +297,7 @@ module _ {S : Type 0} (ops : Ops S) (c : Config) (config : IsConfig c) (o : Orde
             counted_stands : (b : Bool) → nat_le least count ≡ b → Stands ops i n order memory
             counted_stands false few =
                 waits
-                (subst (HasNoAnswer memory) (sym asks_await)
+                (subst (HasNoAnswer memory) (sym await_alone)
                 (count, counted, leb-false least count few)) (part_whole none_owed)
             counted_stands true enough =
                 reached await.count least count asks_await counted (leb-true least count enough)
@@ -289,10 +331,13 @@ module _ {S : Type 0} (ops : Ops S) (c : Config) (config : IsConfig c) (o : Orde
     stands : (a : Option Call) → n.memory.asked ≡ a → Stands ops i n order memory
     stands (Some called) is = asked_stands called is (reply_at n.memory) refl
     stands None is =
-        waits (subst (HasNoAnswer memory) (sym is) tt)
+        waits (subst (HasNoAnswer memory) (sym (ap (λ a. in_progress a n.memory.along) is)) tt)
         (part_whole
+        (none_pending _ (along_owed n)
         (owed-unasked (number_of n) n.memory.asked
-        (reply_owed n.memory.side.errand (heap_way o 0 i) n.memory.coherence.done) is))
+        (reply_owed n.memory.side.errand (heap_way o 0 i) n.memory.coherence.done) is)
+        (then-alone (number_of n) n.memory.along n.memory.coherence.done
+        n.memory.coherence.done_more (good.memory.alone is))))
 
   pub order_unblocked : AreUnblocked ops c o.cores
   order_unblocked = record {
@@ -315,9 +360,9 @@ module _ {S : Type 0} (ops : Ops S) (c : Config) (nodes : List (Host S))
   no_answer i n called r none next = none-some _ (sym none ∙ next.turned)
 
   left : (i : ℕ) (n : Host S) → turn_of ops n ≡ None → Stands ops i n order last
-      → HasNoAnswer last n.memory.asked × (part i order ≡ n.history)
+      → HasNoAnswer last (in_progress n.memory.asked n.memory.along) × (part i order ≡ n.history)
   left i n none (waits low whole) = (low, whole)
-  left i n none (replied called r asked next whole) = absurd (no_answer i n called r none next)
+  left i n none (replied called r asked next more along whole) = absurd (no_answer i n called r none next)
   left i n none (reached k least count asked there enough (inl next) whole) =
       absurd (no_answer i n (Await k least) (Value count) none next)
   left i n none (reached k least count asked there enough (inr next) whole) =

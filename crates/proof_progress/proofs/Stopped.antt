@@ -17,16 +17,17 @@ use Rattle.ivy_pagetable.specs.declared.Out.{Out}
 use Rattle.ivy_pagetable.specs.declared.Out.TheVariants as out
 use Rattle.ivy_pagetable.specs.declared.Word.{Word}
 use Rattle.ivy_pagetable.specs.declared.Word.TheVariants as word
-use Rattle.ivy_pagetable.specs.Accesses.{reads}
+use Rattle.ivy_pagetable.specs.Accesses.{reads, suffices}
 use Rattle.ivy_pagetable.specs.States.{IdleState}
 use Rattle.ivy_pagetable.specs.Manager.{Ops}
 use Rattle.ivy_pagetable.specs.Tables.{entry_at, page_at}
 use Rattle.ivy_pagetable.specs.Words.{number_at, awaited, offset_of, width_of, carried_out}
 use Rattle.ivy_pagetable.proofs.Words.{not_yet}
-use Rattle.proof_routing.specs.ivy_coherence.Faults.{Begun, suffices, hit, faulted, accessed, begun_at, begun}
+use Rattle.proof_routing.specs.ivy_coherence.Faults.{Begun, hit, faulted, accessed, begun_at, begun}
 use Rattle.proof_consistency.specs.ivy_memory.declared.Asked.TheVariants as kinds
 use Rattle.proof_consistency.specs.ivy_memory.Asking.{asked_of, word_unless, count_asked}
-use Rattle.proof_consistency.specs.ivy_memory.Memories.{NodeMemory, reply_of, reply_at, taken_out, answered, needed, again, again_unless, tried_as, polled_as}
+use Rattle.proof_consistency.specs.ivy_memory.Beside.{nothing_beside}
+use Rattle.proof_consistency.specs.ivy_memory.Memories.{NodeMemory, reply_of, reply_at, taken_out, without_call, answered, needed, again, again_unless, tried_as, polled_as}
 use Rattle.proof_consistency.proofs.of_ivy_memory.Polling.{polled_so}
 use Rattle.ivy_moves.specs.Cores.{Outcome}
 use Rattle.proof_consistency.specs.ivy_host.Hosts.{Host, number_of, recorded, begins_as, turned_at, turn_of}
@@ -130,27 +131,29 @@ module _ {S : Type 0} (ops : Ops S) (n : Host S) (called : Call)
       (of : asked_of c called ≡ kinds.Word page w) where
     -- what comes of it
     abbrev tried : Begun S → Option (Outcome (Host S))
-    tried b = begins_as n called (again m (needed (taken_out m) called m.number b b.need) b.need)
+    tried b =
+        begins_as n called
+        (again m (needed (without_call m) called nothing_beside m.number b b.need) b.need)
 
-    begun_free : begun ops (taken_out m).coherence page w m.number
-        ≡ accessed ops (taken_out m).coherence page w m.number (entry_at m.coherence.table page)
+    begun_free : begun ops (without_call m).coherence page w m.number
+        ≡ accessed ops (without_call m).coherence page w m.number (entry_at m.coherence.table page)
     unfolding begun
-    begun_free = ap (begun_at ops (taken_out m).coherence page w m.number) free
+    begun_free = ap (begun_at ops (without_call m).coherence page w m.number) free
 
     pub tries : (s : IdleState) (b : Bool) → entry_at m.coherence.table page ≡ entry.Idle s
         → suffices s.access w ≡ b
         → turn_of ops n
         ≡ tried
-        (if b then hit ops (taken_out m).coherence page w
-        else faulted ops (taken_out m).coherence page w m.number s)
+        (if b then hit ops (without_call m).coherence page w
+        else faulted ops (without_call m).coherence page w m.number s)
     tries s b idle enough =
         polls ∙ ap (λ o. begins_as n called (polled_as ops m called o)) none
         ∙ ap (λ d. begins_as n called (tried_as ops m called (asked_of d called))) config
         ∙ ap (λ k. begins_as n called (tried_as ops m called k)) of ∙ ap tried begun_free
-        ∙ ap (λ e. tried (accessed ops (taken_out m).coherence page w m.number e)) idle
+        ∙ ap (λ e. tried (accessed ops (without_call m).coherence page w m.number e)) idle
         ∙ ap (λ v. tried
-        (if v then hit ops (taken_out m).coherence page w
-        else faulted ops (taken_out m).coherence page w m.number s)) enough
+        (if v then hit ops (without_call m).coherence page w
+        else faulted ops (without_call m).coherence page w m.number s)) enough
 
   module _ (c : Config) (config : m.coherence.config ≡ c) (none : reply_at m ≡ None)
       (free : m.coherence.locked ≡ None) (page offset least : ℕ)
@@ -161,8 +164,8 @@ module _ {S : Type 0} (ops : Ops S) (n : Host S) (called : Call)
     given o =
         begins_as n called
         (again_unless m
-        (answered (taken_out m) called m.number
-        (hit ops (taken_out m).coherence page (word.Await offset least)) (reply_of o)) (reply_of o))
+        (answered (without_call m) called m.number
+        (hit ops (without_call m).coherence page (word.Await offset least)) (reply_of o)) (reply_of o))
 
     -- an await whose count is high enough in the node's own copy is answered with the count
     pub await_answered : reads s.access ≡ true → (count : ℕ)

@@ -1,6 +1,6 @@
 -- What is promised of each node where nothing is under way, whatever the turns of the others do: no
 -- page, owner, hint or lock blocks its program.
-use Rattle.std.specs.Prelude.{◌≡◌, ◌≤◌, ◌⊎◌, ℕ, false, List, [], ◌∷◌, ◌++◌, slice_get, Some, None}
+use Rattle.std.specs.Prelude.{◌≡◌, ◌≤◌, ◌⊎◌, ℕ, false, List, [], ◌∷◌, ◌++◌, map, slice_get, Some, None}
 use Rattle.ivy_model.specs.declared.Config.{Config}
 use Rattle.ivy_model.specs.declared.Call.{Call}
 use Rattle.ivy_model.specs.declared.Call.TheVariants.{Await}
@@ -16,6 +16,7 @@ use Rattle.ivy_pagetable.specs.Entries.{readable}
 use Rattle.ivy_pagetable.specs.Manager.{Ops}
 use Rattle.ivy_pagetable.specs.Tables.{entry_at}
 use Rattle.ivy_moves.specs.Cores.{Outcome}
+use Rattle.proof_consistency.specs.ivy_memory.Memories.{in_progress}
 use Rattle.proof_consistency.specs.ivy_host.Hosts.{Host, turn_of}
 use Rattle.proof_progress.specs.Settled.{HasNoAnswer}
 
@@ -24,12 +25,13 @@ module _ {S : Type 0} (ops : Ops S) (i : ℕ) (n : Host S) where
   abbrev pub record_of : Call → Reply → Record
   record_of called reply = record { node = i; call = called; reply = reply }
 
-  -- the next turn records this reply to the call, posts nothing, and leaves no call in progress
+  -- the next turn records this reply to the call, posts nothing, and leaves no call in progress where
+  -- none was made along with it
   pub record IsAnsweredNext (called : Call) (reply : Reply) : Type 0 where
     pub after : Host S
     pub turned : turn_of ops n ≡ Some (record { after = after; posted = [] })
     pub history : after.history ≡ n.history ++ record_of called reply ∷ []
-    pub idle : after.memory.asked ≡ None
+    pub idle : n.memory.along ≡ [] → after.memory.asked ≡ None
 
   -- the node has no copy of page 0, in which the counts lie, and its next turn asks for one
   pub record AsksForCountsNext : Type 0 where
@@ -43,10 +45,13 @@ module _ {S : Type 0} (ops : Ops S) (i : ℕ) (n : Host S) where
   -- How the node stands by an order of records and the flat memory that it leads to.
   pub data Stands (order : List Record) (last : Memory) : Type 0 where
     -- no call is in progress, or a count is awaited that is below the least value
-    waits : HasNoAnswer last n.memory.asked → part i order ≡ n.history → Stands order last
-    -- the reply is there, so its record stands in the order already, and the next turn records it
+    waits : HasNoAnswer last (in_progress n.memory.asked n.memory.along) → part i order ≡ n.history
+        → Stands order last
+    -- the reply is there, so its record stands in the order already, and behind it those of the calls
+    -- made along with it; the next turn records it
     replied : (called : Call) (reply : Reply) → n.memory.asked ≡ Some called
-        → IsAnsweredNext called reply → part i order ≡ n.history ++ record_of called reply ∷ []
+        → IsAnsweredNext called reply → (more : List Record) → map (λ r. r.call) more ≡ n.memory.along
+        → part i order ≡ n.history ++ record_of called reply ∷ more
         → Stands order last
     -- a count is awaited that has come to the least value: the next turn answers it with the count,
     -- or has to ask for a copy first

@@ -25,7 +25,7 @@ use Rattle.ivy_host.specs.ivy_heap.declared.Errand.{Errand}
 use Rattle.ivy_host.specs.ivy_heap.declared.Errand.TheVariants as errand
 use Rattle.ivy_host.specs.ivy_memory.Asking.{asked_of}
 use Rattle.ivy_host.specs.ivy_heap.HeapCalls.{told_of, request, answer_to, reply_told}
-use Rattle.ivy_host.specs.ivy_memory.Memories.{first_reply, reply_there, taken_out}
+use Rattle.ivy_host.specs.ivy_memory.Memories.{first_reply, reply_there}
 use Rattle.ivy_host.proofs.of_ivy_heap.Errands.{request_heap, answer_heap, replied}
 use Rattle.ivy_host.proofs.of_ivy_memory.Pages.{is_of_pages, IsOfPages, begun-pages, no_errand_of}
 use Rattle.ivy_host.proofs.of_ivy_memory.Tame.{idle_side}
@@ -36,7 +36,8 @@ use Rattle.proof_refinement.specs.Errands.{about_heap, heap_way, call_message, C
 use Rattle.proof_refinement.proofs.Led.{get_set}
 use Rattle.proof_refinement.proofs.HeapWays.{IsWithin, heap_there, heap_elsewhere, way_turned, way_still, way_other, way_page, way_taken}
 use Rattle.proof_refinement.proofs.HeapDeliveries.{HeapDelivery, serves, learns}
-use Rattle.proof_refinement.proofs.HostTurns.{HostTurn, answers, tries_again, goes_on, refuses, asks_for, serves_heap, asks_heap, number_of, without_call, asked_posted, asked_side}
+use Rattle.proof_refinement.proofs.HostTurns.{HostTurn, answers, tries_again, goes_on, refuses, asks_for, serves_heap, asks_heap, number_of, without_call, made_along, taken-errand, asked_posted, asked_side}
+use Rattle.ivy_host.specs.ivy_memory.Beside.{nothing_beside}
 
 -- What a turn of node x does to its errand: it posts about pages alone and leaves the errand, or
 -- ends it, where no answer is owed; or it asks node 0.
@@ -74,14 +75,15 @@ module _ {S : Type 0} {ops : Ops S} {c : Config} {x : ℕ} {h : Host S} (good : 
     turn_errand out (answers called r asked there is) =
         subst (λ (z : Outcome (Host S)). TurnErrand x h.memory.side.errand z.after.memory.side.errand
         z.posted) (sym is)
-        (closes (all_none IsOfPages) (rest_replied r h.memory.side.errand refl there) tt)
+        (closes (all_none IsOfPages) (rest_replied r h.memory.side.errand refl there)
+        (subst (λ z. IsAtRest z.errand) (sym (taken-errand h.memory h.memory.along)) tt))
     turn_errand out (tries_again called page word asked untold free of inside is_word is) =
         closes (subst (All IsOfPages)
-        (sym (asked_posted ops (without_call h) called page word out is))
-        (begun-pages ops (taken_out h.memory).coherence page word (number_of h)))
+        (sym (asked_posted ops (without_call h) called nothing_beside page word out is))
+        (begun-pages ops (without_call h).memory.coherence page word (number_of h)))
         (rests (word_rests called page word asked of))
         (subst (λ z. IsAtRest z.errand)
-        (sym (asked_side ops (without_call h) called page word out is)) tt)
+        (sym (asked_side ops (without_call h) called nothing_beside page word out is)) tt)
     turn_errand out (goes_on s idle step is) =
         subst (λ (z : Outcome (Host S)). TurnErrand x h.memory.side.errand z.after.memory.side.errand
         z.posted) (sym is) (leaves (all_none IsOfPages) refl)
@@ -89,9 +91,10 @@ module _ {S : Type 0} {ops : Ops S} {c : Config} {x : ℕ} {h : Host S} (good : 
         subst (λ (z : Outcome (Host S)). TurnErrand x h.memory.side.errand z.after.memory.side.errand
         z.posted) (sym is) (leaves (all_none IsOfPages) refl)
     turn_errand out (asks_for called page word idle step of inside is_word few is) =
-        leaves (subst (All IsOfPages) (sym (asked_posted ops h called page word out is))
+        leaves (subst (All IsOfPages)
+        (sym (asked_posted ops h called (made_along h page word) page word out is))
         (begun-pages ops h.memory.coherence page word (number_of h)))
-        (ap (λ z. z.errand) (asked_side ops h called page word out is))
+        (ap (λ z. z.errand) (asked_side ops h called (made_along h page word) page word out is))
     turn_errand out (serves_heap called k heap idle step of there is) =
         subst (λ (z : Outcome (Host S)). TurnErrand x h.memory.side.errand z.after.memory.side.errand
         z.posted) (sym is) (leaves (all_none IsOfPages) refl)

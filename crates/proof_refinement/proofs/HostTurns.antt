@@ -1,5 +1,5 @@
 -- The turns of a sound node.
-use Rattle.std.proofs.Common.{◌≡◌, ◌<◌, ◌+◌, ◌^◌, ℕ, Bool, true, false, [], ◌∷◌, length, Option, Some, None, refl, sym, ap, ◌∙◌, subst, if◌then◌else◌, nat_lt}
+use Rattle.std.proofs.Common.{◌≡◌, ◌<◌, ◌+◌, ◌^◌, ℕ, Bool, true, false, List, [], ◌∷◌, length, Option, Some, None, refl, sym, ap, ◌∙◌, subst, if◌then◌else◌, nat_lt}
 use Rattle.std.proofs.lemmas.Bool.{ltb-true}
 use Rattle.std.proofs.lemmas.Option.{same_Some, none-some}
 use Rattle.ivy_model.specs.declared.Config.{Config}
@@ -12,10 +12,11 @@ use Rattle.ivy_pagetable.specs.Words.{IsWord}
 use Rattle.ivy_pagetable.specs.Manager.{Ops}
 use Rattle.proof_transitions.specs.ivy_coherence.declared.Need.{Need}
 use Rattle.proof_transitions.specs.ivy_coherence.declared.Need.TheVariants as need
-use Rattle.proof_transitions.specs.ivy_coherence.Faults.{Begun, begun}
+use Rattle.proof_transitions.specs.ivy_coherence.Coherent.{Coherent}
+use Rattle.proof_transitions.specs.ivy_coherence.Faults.{Begun, along, begun}
 use Rattle.ivy_host.specs.ivy_alloc.Heap.{HeapState}
 use Rattle.ivy_program.specs.States.{State}
-use Rattle.ivy_program.specs.Steps.{Step, Local, Asks, Ends, step_of, at_state}
+use Rattle.ivy_program.specs.Steps.{Step, Local, Asks, Ends, step_of, at_state, along_of}
 use Rattle.ivy_program.proofs.Running.{asked_legal}
 use Rattle.ivy_moves.specs.Cores.{Outcome}
 use Rattle.ivy_host.specs.ivy_heap.declared.Answer.{Answer}
@@ -25,11 +26,14 @@ use Rattle.ivy_host.specs.ivy_memory.declared.Asked.TheVariants as kinds
 use Rattle.ivy_host.specs.ivy_heap.declared.HeapCall.{HeapCall}
 use Rattle.ivy_host.specs.ivy_heap.declared.Errand.TheVariants as errand
 use Rattle.ivy_host.specs.ivy_memory.Asking.{asked_of, CanAsk}
-use Rattle.ivy_host.specs.ivy_heap.HeapCalls.{HeapBegun, told_of, kept, request, number_in, heap_begun_at}
-use Rattle.ivy_host.specs.ivy_memory.Memories.{NodeMemory, CallBegun, answered, needed, again_unless, again, heap_answered, begun_as, call_begun, tried_as, polled_as, reply_of, reply_at, taken_out}
+use Rattle.ivy_host.specs.ivy_heap.HeapCalls.{HeapBegun, told_of, kept, closed, request, number_in, heap_begun_at}
+use Rattle.ivy_host.specs.ivy_memory.Memories.{NodeMemory, CallBegun, answered, needed, again_unless, again, heap_answered, begun_as, call_begun, tried_as, polled_as, reply_of, reply_at, taken_with, taken_out}
+use Rattle.ivy_host.specs.ivy_memory.Memories.{without_call as without_asked}
+use Rattle.ivy_host.specs.ivy_memory.Beside.{Beside, nothing_beside, beside}
 use Rattle.ivy_host.proofs.of_ivy_memory.Asking.{can_ask}
 use Rattle.ivy_host.proofs.of_ivy_memory.Tame.{Begins, begun-begins, needed-posted}
 use Rattle.ivy_host.proofs.of_ivy_memory.Polling.{polled_so}
+use Rattle.proof_refinement.proofs.LiftedEvents.{SameNet}
 use Rattle.ivy_host.specs.Hosts.{Host, recorded, quietly, begins_with, begins_as, begins, steps, turned_at, turn_of}
 use Rattle.ivy_host.specs.Sound.{IsSoundHost}
 
@@ -40,14 +44,34 @@ number_of h = length h.history + 1
 abbrev pub asks : {S : Type 0} → Ops S → Host S → ℕ → Word → Begun S
 asks ops h page word = begun ops h.memory.coherence page word (number_of h)
 
--- what the call that asks for this word comes to
-abbrev pub asked_for : {S : Type 0} → Ops S → Host S → Call → ℕ → Word → CallBegun S
-asked_for ops h called page word =
-    needed h.memory called (number_of h) (asks ops h page word) (asks ops h page word).need
+-- what the call that asks for this word comes to, where these are made along with it
+abbrev pub asked_for : {S : Type 0} → Ops S → Host S → Call → Beside → ℕ → Word → CallBegun S
+asked_for ops h called more page word =
+    needed h.memory called more (number_of h) (asks ops h page word) (asks ops h page word).need
+
+-- the calls that are made along with one of a word of a page
+abbrev pub made_along : {S : Type 0} → Host S → ℕ → Word → Beside
+made_along h page word =
+    beside h.memory.coherence.config page word (along_of h.process) (number_of h)
 
 -- the node as if its call in progress had not begun
 abbrev pub without_call : {S : Type 0} → Host S → Host S
-without_call h = record h { memory = taken_out h.memory }
+without_call h = record h { memory = without_asked h.memory }
+
+pub along-net : {S : Type 0} (words : List Word) (k : Coherent S) → SameNet (along words k) k
+along-net [] k = record { me = refl; manager = refl; table = refl; locked = refl; breaches = refl }
+along-net (w ∷ ws) k = record { me = refl; manager = refl; table = refl; locked = refl; breaches = refl }
+
+pub taken-net : {S : Type 0} (m : NodeMemory S) (calls : List Call)
+    → SameNet (taken_with m calls).coherence m.coherence
+taken-net m [] = record { me = refl; manager = refl; table = refl; locked = refl; breaches = refl }
+taken-net m (k ∷ ks) = record { me = refl; manager = refl; table = refl; locked = refl; breaches = refl }
+
+-- no call of the heap is asked for, or told of, then
+pub taken-errand : {S : Type 0} (m : NodeMemory S) (calls : List Call)
+    → (taken_with m calls).side ≡ closed m.side
+taken-errand m [] = refl
+taken-errand m (k ∷ ks) = refl
 
 -- The turns of a node: the reply of its call in progress is there; the word of that call is tried
 -- again; the program goes on by itself; its call is refused; it asks for a word; or it makes a call
@@ -61,8 +85,9 @@ pub data HostTurn {S : Type 0} (ops : Ops S) (c : Config) (h : Host S)
       → reply_at h.memory ≡ None → h.memory.coherence.locked ≡ None
       → asked_of h.memory.coherence.config called ≡ kinds.Word page word → page < c.pages
       → IsWord c.page_size word
-      → begins_as (without_call h) called (asked_for ops (without_call h) called page word)
-      ≡ Some out → HostTurn ops c h out
+      → begins_as (without_call h) called
+      (asked_for ops (without_call h) called nothing_beside page word) ≡ Some out
+      → HostTurn ops c h out
   goes_on : (s : State) → h.memory.asked ≡ None → step_of h.process ≡ Local s
       → out ≡ quietly (record h { process = at_state h.process s }) → HostTurn ops c h out
   refuses : (called : Call) (code : ℕ) → h.memory.asked ≡ None → step_of h.process ≡ Asks called
@@ -72,7 +97,8 @@ pub data HostTurn {S : Type 0} (ops : Ops S) (c : Config) (h : Host S)
       → step_of h.process ≡ Asks called
       → asked_of h.memory.coherence.config called ≡ kinds.Word page word → page < c.pages
       → IsWord c.page_size word
-      → number_of h < 2 ^ 64 → begins_as h called (asked_for ops h called page word) ≡ Some out
+      → number_of h < 2 ^ 64
+      → begins_as h called (asked_for ops h called (made_along h page word) page word) ≡ Some out
       → HostTurn ops c h out
   serves_heap : (called : Call) (k : HeapCall) (heap : HeapState) → h.memory.asked ≡ None
       → step_of h.process ≡ Asks called → asked_of h.memory.coherence.config called ≡ kinds.Heap k
@@ -88,6 +114,7 @@ pub data HostTurn {S : Type 0} (ops : Ops S) (c : Config) (h : Host S)
           memory =
               record h.memory {
                 asked = Some called;
+                along = [];
                 number = number_of h;
                 side = record h.memory.side { errand = Some (errand.Asked k (number_of h)) };
               };
@@ -107,11 +134,12 @@ heap_sent m k number = record {
 abbrev heap_unsent : {S : Type 0} → NodeMemory S → HeapBegun
 heap_unsent m = record { answer = Unserved; after = m.side; posted = [] }
 
-begun_kind : {S : Type 0} (ops : Ops S) (m : NodeMemory S) (called : Call) (number : ℕ)
-    → call_begun ops m called number
-    ≡ begun_as ops m called number (asked_of m.coherence.config called)
+begun_kind : {S : Type 0} (ops : Ops S) (m : NodeMemory S) (called : Call) (calls : List Call)
+    (number : ℕ)
+    → call_begun ops m called calls number
+    ≡ begun_as ops m called calls number (asked_of m.coherence.config called)
 unfolding call_begun
-begun_kind ops m called number = refl
+begun_kind ops m called calls number = refl
 
 module _ {S : Type 0} (ops : Ops S) (c : Config) (x : ℕ) (h : Host S) (good : IsSoundHost ops c x h)
     (out : Outcome (Host S)) where
@@ -143,7 +171,8 @@ module _ {S : Type 0} (ops : Ops S) (c : Config) (x : ℕ) (h : Host S) (good : 
       → step_of h.process ≡ Asks called → asked_of h.memory.coherence.config called ≡ kind
       → CanAsk h.memory.coherence.config kind
       → number_of h < 2 ^ 64
-      → begins_as h called (begun_as ops h.memory called (number_of h) kind) ≡ Some out
+      → begins_as h called
+      (begun_as ops h.memory called (along_of h.process) (number_of h) kind) ≡ Some out
       → HostTurn ops c h out
   kind-cases called (kinds.Refused code) idle step kind can few is =
       refuses called code idle step kind
@@ -159,7 +188,9 @@ module _ {S : Type 0} (ops : Ops S) (c : Config) (x : ℕ) (h : Host S) (good : 
   begins-cases called idle step is = either (nat_lt (number_of h) (2 ^ 64)) refl is
     where
       either : (b : Bool) → nat_lt (number_of h) (2 ^ 64) ≡ b
-          → (if b then begins_as h called (call_begun ops h.memory called (number_of h)) else None)
+          → (if b
+          then begins_as h called
+          (call_begun ops h.memory called (along_of h.process) (number_of h)) else None)
           ≡ Some out → HostTurn ops c h out
       either false few is = absurd (none-some out is)
       either true few is =
@@ -167,7 +198,8 @@ module _ {S : Type 0} (ops : Ops S) (c : Config) (x : ℕ) (h : Host S) (good : 
           (can_ask h.memory.coherence.config called good.memory.coherent.limits
           (asked_legal h.process.program h.process.state called step))
           (ltb-true (number_of h) (2 ^ 64) few)
-          (ap (begins_as h called) (sym (begun_kind ops h.memory called (number_of h))) ∙ is)
+          (ap (begins_as h called)
+          (sym (begun_kind ops h.memory called (along_of h.process) (number_of h))) ∙ is)
 
   steps-cases : (s : Step) → h.memory.asked ≡ None → step_of h.process ≡ s
       → steps ops h s ≡ Some out → HostTurn ops c h out
@@ -185,7 +217,7 @@ module _ {S : Type 0} (ops : Ops S) (c : Config) (x : ℕ) (h : Host S) (good : 
     unless-cases a (Some r) is = is
 
     again-cases : (a : CallBegun S) (b : Begun S) (n : Need)
-        → Begins (taken_out h.memory).coherence b → b.need ≡ n
+        → Begins (without_asked h.memory).coherence b → b.need ≡ n
         → begins_as h called (again h.memory a n) ≡ Some out
         → (h.memory.coherence.locked ≡ None) × (begins_as h called a ≡ Some out)
     again-cases a b (need.Have o) bs needs is = (bs.free o needs, unless-cases a (reply_of o) is)
@@ -199,17 +231,18 @@ module _ {S : Type 0} (ops : Ops S) (c : Config) (x : ℕ) (h : Host S) (good : 
     tried-cases (kinds.Word page word) untold of can is =
         let b : Begun S = asks ops (without_call h) page word in
         let now : begins_as h called
-        (again h.memory (asked_for ops (without_call h) called page word) b.need) ≡ Some out
+        (again h.memory (asked_for ops (without_call h) called nothing_beside page word) b.need)
+        ≡ Some out
         = subst (λ i. begins_as h called
         (again h.memory
-        (needed (taken_out h.memory) called i
-        (begun ops (taken_out h.memory).coherence page word i)
-        (begun ops (taken_out h.memory).coherence page word i).need)
-        (begun ops (taken_out h.memory).coherence page word i).need) ≡ Some out)
+        (needed (without_asked h.memory) called nothing_beside i
+        (begun ops (without_asked h.memory).coherence page word i)
+        (begun ops (without_asked h.memory).coherence page word i).need)
+        (begun ops (without_asked h.memory).coherence page word i).need) ≡ Some out)
         (good.numbered called asked) is in
         let all =
-        again-cases (asked_for ops (without_call h) called page word) b b.need
-        (begun-begins ops (taken_out h.memory).coherence page word (number_of h)) refl now in
+        again-cases (asked_for ops (without_call h) called nothing_beside page word) b b.need
+        (begun-begins ops (without_asked h.memory).coherence page word (number_of h)) refl now in
         tries_again called page word asked untold all.0
         of (subst (λ d. page < d.pages) good.config can.0)
         (subst (λ d. IsWord d.page_size word) good.config can.1) all.1
@@ -237,7 +270,8 @@ module _ {S : Type 0} (ops : Ops S) (c : Config) (x : ℕ) (h : Host S) (good : 
   unfolding turn_of
   turn-cases is = at-cases h.memory.asked refl is
 
-module _ {S : Type 0} (ops : Ops S) (h : Host S) (called : Call) (page : ℕ) (word : Word) where
+module _ {S : Type 0} (ops : Ops S) (h : Host S) (called : Call) (more : Beside) (page : ℕ)
+    (word : Word) where
   pub marks : Begins h.memory.coherence (asks ops h page word)
   marks = begun-begins ops h.memory.coherence page word (number_of h)
 
@@ -256,12 +290,22 @@ module _ {S : Type 0} (ops : Ops S) (h : Host S) (called : Call) (page : ℕ) (w
   answered_coherence b None = refl
   answered_coherence b (Some r) = refl
 
+  same_net : (k j : Coherent S) → k ≡ j → SameNet k j
+  same_net k j is = record {
+    me = ap (λ (z : Coherent S). z.me) is;
+    manager = ap (λ (z : Coherent S). z.manager) is;
+    table = ap (λ (z : Coherent S). z.table) is;
+    locked = ap (λ (z : Coherent S). z.locked) is;
+    breaches = ap (λ (z : Coherent S). z.breaches) is;
+  }
+
   needed_coherence : (d : Need) → (asks ops h page word).need ≡ d
-      → (needed h.memory called (number_of h) (asks ops h page word) d).after.coherence
-      ≡ (asks ops h page word).after
-  needed_coherence (need.Have o) is = answered_coherence (asks ops h page word) (reply_of o)
-  needed_coherence need.Started is = refl
-  needed_coherence need.Busy is = sym (marks.busy is)
+      → SameNet (needed h.memory called more (number_of h) (asks ops h page word) d).after.coherence
+      (asks ops h page word).after
+  needed_coherence (need.Have o) is =
+      same_net _ _ (answered_coherence (asks ops h page word) (reply_of o))
+  needed_coherence need.Started is = along-net more.words (asks ops h page word).after
+  needed_coherence need.Busy is = same_net _ _ (sym (marks.busy is))
 
   answered_side : (b : Begun S) (r : Option Reply)
       → (answered h.memory called (number_of h) b r).after.side ≡ h.memory.side
@@ -269,36 +313,36 @@ module _ {S : Type 0} (ops : Ops S) (h : Host S) (called : Call) (page : ℕ) (w
   answered_side b (Some r) = refl
 
   needed_side : (b : Begun S) (d : Need)
-      → (needed h.memory called (number_of h) b d).after.side ≡ h.memory.side
+      → (needed h.memory called more (number_of h) b d).after.side ≡ h.memory.side
   needed_side b (need.Have o) = answered_side b (reply_of o)
   needed_side b need.Started = refl
   needed_side b need.Busy = refl
 
-  -- the node's coherence and what it posted are those of the access
+  -- the node's coherence, but for what waits along, and what it posted are those of the access
   pub asked_coherence : (out : Outcome (Host S))
-      → begins_as h called (asked_for ops h called page word) ≡ Some out
-      → out.after.memory.coherence ≡ (asks ops h page word).after
+      → begins_as h called (asked_for ops h called more page word) ≡ Some out
+      → SameNet out.after.memory.coherence (asks ops h page word).after
   asked_coherence out is =
-      ap (λ (z : NodeMemory S). z.coherence)
-      (with_memory (asked_for ops h called page word) (asked_for ops h called page word).answer
-      out is).0
-      ∙ needed_coherence (asks ops h page word).need refl
+      subst (λ (z : NodeMemory S). SameNet z.coherence (asks ops h page word).after)
+      (sym (with_memory (asked_for ops h called more page word)
+      (asked_for ops h called more page word).answer out is).0)
+      (needed_coherence (asks ops h page word).need refl)
 
   pub asked_posted : (out : Outcome (Host S))
-      → begins_as h called (asked_for ops h called page word) ≡ Some out
+      → begins_as h called (asked_for ops h called more page word) ≡ Some out
       → out.posted ≡ (asks ops h page word).posted
   asked_posted out is =
-      (with_memory (asked_for ops h called page word) (asked_for ops h called page word).answer out
-      is).1
-      ∙ needed-posted h.memory called (number_of h) (asks ops h page word)
+      (with_memory (asked_for ops h called more page word)
+      (asked_for ops h called more page word).answer out is).1
+      ∙ needed-posted h.memory called more (number_of h) (asks ops h page word)
       (asks ops h page word).need marks refl
 
   -- and its side of the heap is as before
   pub asked_side : (out : Outcome (Host S))
-      → begins_as h called (asked_for ops h called page word) ≡ Some out
+      → begins_as h called (asked_for ops h called more page word) ≡ Some out
       → out.after.memory.side ≡ h.memory.side
   asked_side out is =
       ap (λ (z : NodeMemory S). z.side)
-      (with_memory (asked_for ops h called page word) (asked_for ops h called page word).answer
-      out is).0
+      (with_memory (asked_for ops h called more page word)
+      (asked_for ops h called more page word).answer out is).0
       ∙ needed_side (asks ops h page word) (asks ops h page word).need

@@ -5,8 +5,8 @@ pub mod HostTurns
 pub mod Led
 pub mod ErrandSteps
 pub mod LiftedNets
-pub mod LiftedRows
 pub mod LiftedEvents
+pub mod LiftedRows
 pub mod LiftedServing
 pub mod LiftedMessages
 pub mod LiftedTurns

@@ -1,6 +1,6 @@
 -- What an event of one node comes to: what has to be proved of it, and what the flat memory is
 -- told.
-use Rattle.std.proofs.Common.{◌≡◌, ◌≢◌, ◌<◌, ℕ, true, List, [], Some, None, eq-eqb, refl, sym, ap, ◌∙◌, subst, inl, inr, if◌then◌else◌, ◌==◌}
+use Rattle.std.proofs.Common.{◌≡◌, ◌≢◌, ◌<◌, ℕ, true, List, [], ◌∷◌, Some, None, eq-eqb, refl, sym, ap, ◌∙◌, subst, inl, inr, if◌then◌else◌, ◌==◌}
 use Rattle.std.proofs.lemmas.Bool.{cases_eq, ne_eqb}
 use Rattle.std.proofs.lemmas.List.{append-nil}
 use Rattle.ivy_model.specs.declared.Config.{Config}
@@ -17,7 +17,7 @@ use Rattle.ivy_pagetable.specs.Manager.{Ops}
 use Rattle.proof_transitions.specs.ivy_coherence.declared.need.Need.{Need}
 use Rattle.proof_transitions.specs.ivy_coherence.declared.need.Need.TheVariants as need
 use Rattle.proof_transitions.specs.ivy_coherence.Coherent.{Coherent}
-use Rattle.proof_transitions.specs.ivy_coherence.Faults.{suffices}
+use Rattle.ivy_pagetable.specs.Accesses.{suffices}
 use Rattle.proof_transitions.specs.Letters.{Letter, Net, written}
 use Rattle.proof_transitions.specs.Rows.{with_flat_page, IsKept}
 use Rattle.proof_transitions.proofs.Alike.{alike_holds}
@@ -44,6 +44,35 @@ pub record ComesTo {S : Type 0} (m : ℕ → S) (n : Net) (x : ℕ) (k : Coheren
   pub delivered : (i j : ℕ) → n'.delivered i j ≡ n.delivered i j
   pub loose : n'.loose ≡ []
 
+-- the same node, entries, bytes, manager, lock and count: only what waits along and what was answered
+-- may differ
+pub record SameNet {S : Type 0} (k j : Coherent S) : Type 0 where
+  pub me : k.me ≡ j.me
+  pub manager : k.manager ≡ j.manager
+  pub table : k.table ≡ j.table
+  pub locked : k.locked ≡ j.locked
+  pub breaches : k.breaches ≡ j.breaches
+
+-- an event leads there too, then
+pub comes_alike : {S : Type 0} {m : ℕ → S} {n : Net} {x : ℕ} {k j : Coherent S} {ps : List Parcel}
+    {m' : ℕ → S} {n' : Net} → SameNet k j → ComesTo m n x k ps m' n' → ComesTo m n x j ps m' n'
+comes_alike same l = record {
+  node = record {
+    me = sym same.me ∙ l.node.me;
+    manager = l.node.manager ∙ same.manager;
+    entries = λ p. l.node.entries p ∙ ap (λ t. entry_at t p) same.table;
+    pages = λ p. l.node.pages p ∙ ap (λ t. page_at t p) same.table;
+    breaches = l.node.breaches ∙ same.breaches;
+  };
+  managers = l.managers;
+  entries = l.entries;
+  pages = l.pages;
+  breaches = l.breaches;
+  posted = l.posted;
+  delivered = l.delivered;
+  loose = l.loose;
+}
+
 -- the word of this call waits at the entry
 abbrev pub WaitsAt : Entry → Word → ℕ → Type 0
 WaitsAt (entry.Idle s) word call = ⊥
@@ -67,17 +96,32 @@ pub record Carries {S : Type 0} (P : (ℕ → S) → Net → (ℕ → List ℕ) 
   pub gives : out ≡ (carried_out word (net.page x page)).out
   pub after : flat ≡ with_flat_page f page (carried_out word (f page)).bytes
 
+-- words of node x are carried out one after another, and give these answers
+abbrev pub CarriesAll : {S : Type 0} → ((ℕ → S) → Net → (ℕ → List ℕ) → Type 0) → Config → ℕ
+    → (ℕ → List ℕ) → ℕ → List Word → List Out → (ℕ → List ℕ) → Type 0
+CarriesAll P c x f page [] [] flat = flat ≡ f
+CarriesAll P c x f page (word ∷ words) (out ∷ outs) flat =
+    (mid : ℕ → List ℕ) × Carries P c x f page word out mid × CarriesAll P c x mid page words outs flat
+CarriesAll P c x f page words outs flat = ⊥
+
+-- what waits along, and the answers that are there, are as before
+pub record SameRest {S : Type 0} (k k' : Coherent S) : Type 0 where
+  pub more : k'.more ≡ k.more
+  pub done : k'.done ≡ k.done
+  pub done_more : k'.done_more ≡ k.done_more
+
 -- What a message did to the flat memory's pages, where it led node x from one coherence to another:
 -- nothing, and what waits waited before, for the same; or the word that waited was carried out, and
--- its answer is there.
+-- those that waited along with it behind it, and their answers are there.
 pub data Tells {S : Type 0} (P : (ℕ → S) → Net → (ℕ → List ℕ) → Type 0) (c : Config) (x : ℕ)
     (f : ℕ → List ℕ) (k k' : Coherent S) (flat : ℕ → List ℕ) : Type 0 where
-  quiet : flat ≡ f → k'.done ≡ k.done → k'.locked ≡ k.locked
+  quiet : flat ≡ f → SameRest k k' → k'.locked ≡ k.locked
       → ((q : ℕ) (word : Word) (call : ℕ) → WaitsAt (entry_at k'.table q) word call
       → WaitsAt (entry_at k.table q) word call) → Tells P c x f k k' flat
   answers : (page : ℕ) (word : Word) (call : ℕ) (out : Out) → k.locked ≡ Some page
-      → WaitsAt (entry_at k.table page) word call → k'.locked ≡ None → k'.done ≡ Some out
-      → Carries P c x f page word out flat → Tells P c x f k k' flat
+      → WaitsAt (entry_at k.table page) word call → k'.locked ≡ None → k'.more ≡ []
+      → k'.done ≡ Some out
+      → CarriesAll P c x f page (word ∷ k.more) (out ∷ k'.done_more) flat → Tells P c x f k k' flat
 
 -- What an access did: it cannot begin, since another word waits; it was carried out at once; or it
 -- waits.
@@ -86,9 +130,9 @@ pub data Starts {S : Type 0} (P : (ℕ → S) → Net → (ℕ → List ℕ) →
     (k' : Coherent S) (flat : ℕ → List ℕ) : Type 0 where
   busy : (q : ℕ) → k.locked ≡ Some q → needs ≡ need.Busy → k' ≡ k → flat ≡ f
       → Starts P c x f page word call k needs k' flat
-  hits : (out : Out) → needs ≡ need.Have out → k'.done ≡ k.done → k'.locked ≡ k.locked
+  hits : (out : Out) → needs ≡ need.Have out → SameRest k k' → k'.locked ≡ k.locked
       → Carries P c x f page word out flat → Starts P c x f page word call k needs k' flat
-  waits : needs ≡ need.Started → flat ≡ f → k'.done ≡ k.done → k'.locked ≡ Some page
+  waits : needs ≡ need.Started → flat ≡ f → SameRest k k' → k'.locked ≡ Some page
       → WaitsAt (entry_at k'.table page) word call → Starts P c x f page word call k needs k' flat
 
 -- what an event of node x at page p comes to

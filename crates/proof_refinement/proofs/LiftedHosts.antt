@@ -9,7 +9,7 @@ use Rattle.proof_transitions.specs.ivy_coherence.Steps.{handled}
 use Rattle.ivy_moves.specs.Cores.{Outcome}
 use Rattle.ivy_moves.specs.Ordered.{Ordered, Turns, Delivers, Steps, rests, turns, delivers}
 use Rattle.ivy_host.specs.ivy_heap.HeapCalls.{request}
-use Rattle.ivy_host.specs.ivy_memory.Memories.{taken_out}
+use Rattle.ivy_host.specs.ivy_memory.Beside.{Beside, nothing_beside}
 use Rattle.ivy_host.proofs.of_ivy_heap.Errands.{request_heap}
 use Rattle.ivy_host.proofs.of_ivy_memory.Pages.{is_of_pages}
 use Rattle.ivy_host.specs.Hosts.{Host, host_rules}
@@ -20,7 +20,7 @@ use Rattle.proof_refinement.proofs.LiftedEvents.{Tells, Starts}
 use Rattle.proof_refinement.proofs.LiftedWorlds.{net_of, managers_of, pages_among, IsSoundWorld, fits_heap}
 use Rattle.proof_refinement.proofs.LiftedSteps.{kept-delivers, kept-heap, kept-still, kept-begins}
 pub use Rattle.proof_refinement.proofs.HostTurns.{number_of, asks, asked_for, without_call, HostTurn, answers, tries_again, goes_on, refuses, asks_for, serves_heap, asks_heap, turn-cases}
-use Rattle.proof_refinement.proofs.HostTurns.{marks, asked_coherence, asked_posted}
+use Rattle.proof_refinement.proofs.HostTurns.{made_along, taken-net, marks, asked_coherence, asked_posted}
 
 -- what a turn tells the flat memory
 abbrev pub TurnTells : {S : Type 0} {ops : Ops S} → ((ℕ → S) → Net → (ℕ → List ℕ) → Type 0)
@@ -29,7 +29,7 @@ abbrev pub TurnTells : {S : Type 0} {ops : Ops S} → ((ℕ → S) → Net → (
 TurnTells P c x f h out (answers called r asked there is) flat = flat ≡ f
 TurnTells {ops = ops} P c x f h out
     (tries_again called page word asked untold free of inside is_word is) flat =
-    Starts P c x f page word (number_of h) (taken_out h.memory).coherence
+    Starts P c x f page word (number_of h) (without_call h).memory.coherence
     (asks ops (without_call h) page word).need (asks ops (without_call h) page word).after flat
 TurnTells P c x f h out (goes_on s idle step is) flat = flat ≡ f
 TurnTells P c x f h out (refuses called code idle step refusal is) flat = flat ≡ f
@@ -81,7 +81,8 @@ module _ {S : Type 0} {ops : Ops S} {P : (ℕ → S) → Net → (ℕ → List �
       (turn : HostTurn ops c t.core t.outcome)
       → (flat : ℕ → List ℕ) × Then flat × TurnTells P c x f t.core t.outcome turn flat
   kept-turns x t (answers called r asked there is) =
-      (f, still x t _ [] is refl refl refl refl refl, refl)
+      let net = taken-net t.core.memory t.core.memory.along in
+      (f, still x t _ [] is refl net.me net.manager net.table net.breaches, refl)
   kept-turns x t (goes_on s idle step is) = (f, still x t _ [] is refl refl refl refl refl, refl)
   kept-turns x t (refuses called code idle step refusal is) =
       (f, still x t _ [] is refl refl refl refl refl, refl)
@@ -96,18 +97,19 @@ module _ {S : Type 0} {ops : Ops S} {P : (ℕ → S) → Net → (ℕ → List �
     refl,
   )
   kept-turns x t (asks_for called page word idle step of inside is_word few is) =
-      let after = asked_coherence ops t.core called page word t.outcome is in
+      let more : Beside = made_along t.core page word in
+      let after = asked_coherence ops t.core called more page word t.outcome is in
       kept-begins laws c kept spare o o' f w h x t t.core.memory.coherence.done page word
       (number_of t.core) inside is_word (omega arith)
-      (ap (λ (z : Coherent S). z.me) after ∙ (marks ops t.core called page word).same.me) after
-      (asked_posted ops t.core called page word t.outcome is)
+      (after.me ∙ (marks ops t.core called more page word).same.me) after
+      (asked_posted ops t.core called more page word t.outcome is)
   kept-turns x t (tries_again called page word asked untold free of inside is_word is) =
-      let after = asked_coherence ops (without_call t.core) called page word t.outcome is in
+      let after =
+      asked_coherence ops (without_call t.core) called nothing_beside page word t.outcome is in
       kept-begins laws c kept spare o o' f w h x t None page word (number_of t.core) inside is_word
       (omega arith)
-      (ap (λ (z : Coherent S). z.me) after
-      ∙ (marks ops (without_call t.core) called page word).same.me) after
-      (asked_posted ops (without_call t.core) called page word t.outcome is)
+      (after.me ∙ (marks ops (without_call t.core) called nothing_beside page word).same.me) after
+      (asked_posted ops (without_call t.core) called nothing_beside page word t.outcome is)
 
   -- each step of a sound world keeps what each row keeps
   pub kept-steps : Steps (host_rules ops) o o'

@@ -4,6 +4,7 @@ use Rattle.std.specs.Prelude.{All}
 use Rattle.std.specs.Ordering.{nat_cmp}
 use Rattle.std.specs.FinSet as set
 use Rattle.std.proofs.lemmas.Bool.{eqb-true, eq-eqb}
+use Rattle.std.proofs.lemmas.List.Elements.{All-cons, All-weaker}
 use Rattle.ivy_model.specs.declared.Config.{Config}
 use Rattle.ivy_wire.specs.declared.Content.TheVariants as content
 use Rattle.ivy_wire.specs.Data.{Content, Message, Parcel}
@@ -19,26 +20,26 @@ use Rattle.ivy_pagetable.specs.NodeSets.{Nodes, nodes_with}
 use Rattle.ivy_pagetable.specs.States.{IdleState, WaitingState, AwaitWriteState, AwaitAcksState}
 use Rattle.ivy_pagetable.specs.Entries.{is_locked, is_owner, can_put_off, with_put_off, copying, owning}
 use Rattle.ivy_pagetable.specs.Tables.{entry_at, page_at, with_entry, with_page}
-use Rattle.ivy_pagetable.specs.Words.{IsWord, carried_out}
+use Rattle.ivy_pagetable.specs.Words.{IsWord, needs_write, carried_out}
 use Rattle.ivy_pagetable.specs.Manager.{Ops, Laws}
 use Rattle.ivy_pagetable.proofs.Bits.{with_below}
-use Rattle.ivy_pagetable.proofs.Words.{length-carried_out}
 use Rattle.proof_transitions.specs.ivy_coherence.Coherent.{Coherent}
 use Rattle.proof_transitions.specs.ivy_coherence.Serving.{Serving, serving, put_off_served}
 use Rattle.proof_transitions.specs.ivy_coherence.Serving as served
 use Rattle.proof_transitions.specs.ivy_coherence.Steps.{CoherenceEffect, is_none, breach, unlocked, put_aside, asked, copy_came, owned_with, page_came, left_with, acknowledged, handled, handled_as}
-use Rattle.proof_transitions.specs.ivy_coherence.Faults.{suffices}
+use Rattle.proof_transitions.specs.ivy_coherence.Several.{AllCarried, all_carried}
 use Rattle.proof_transitions.specs.ivy_coherence.IdleSound.{CanBeServed}
-use Rattle.proof_transitions.specs.ivy_coherence.Sound.{IsSoundEntry, IsSound}
+use Rattle.proof_transitions.specs.ivy_coherence.Sound.{Waits, WaitAlong, IsSoundEntry, IsSound}
 use Rattle.proof_transitions.proofs.of_ivy_coherence.IdleServing.{IsServing}
+use Rattle.proof_transitions.proofs.of_ivy_coherence.Along.{length-all_carried}
 use Rattle.proof_transitions.proofs.of_ivy_coherence.Changing.{entry_with, page_with, place}
 use Rattle.proof_transitions.proofs.of_ivy_coherence.SoundEntries.{entry_is}
 use Rattle.proof_transitions.proofs.of_ivy_coherence.Keeping.{idle-start, copy-start, page-start, last-start}
 use Rattle.proof_transitions.specs.Letters.{Letter, Net, content_of, letter_of}
 use Rattle.proof_transitions.specs.Orderly.{AwaitsCopy, AwaitsPage, Collects}
-use Rattle.proof_transitions.specs.Rows.{letter, with_manager, with_flat_page as with_flat, IsFull, Misfits, Comes, Row, IsKept}
+use Rattle.proof_transitions.specs.Rows.{letter, IsFull, Misfits, Comes, Row, IsKept}
 use Rattle.proof_refinement.proofs.LiftedNets.{told-again, reached, Stands, written-here}
-use Rattle.proof_refinement.proofs.LiftedRows.{goes, goes_quietly, comes, comes_quietly, carried_at, dropped_at}
+use Rattle.proof_refinement.proofs.LiftedRows.{goes, goes_quietly, comes, comes_quietly, IsCarried, owner_suffices, carried_all_at, dropped_at}
 use Rattle.proof_refinement.proofs.LiftedServing.{served-at, all_served-at}
 use Rattle.proof_refinement.proofs.LiftedEvents.{IsNode, ComesTo, WaitsAt, Tells, quiet, answers, Ended, stands-first, ended-leads}
 
@@ -67,8 +68,8 @@ GoesTo P m n f k p k' ps =
 module _ {S : Type 0} {ops : Ops S} {P : (ℕ → S) → Net → (ℕ → List ℕ) → Type 0} (m : ℕ → S)
     (n : Net) (k : Coherent S) (sound : IsSound ops k) (p : ℕ) (inside : p < k.config.pages) where
   -- the state after an event that writes the entry of the page, and maybe its bytes
-  pub entry_ended : (z : Entry) (s : S) (lock : Option ℕ) (answer : Option Out) (broken : ℕ)
-      (ps : List Parcel) (flat : ℕ → List ℕ)
+  pub entry_ended : (z : Entry) (s : S) (lock : Option ℕ) (more : List Word)
+      (answer : Option Out) (others : List Out) (broken : ℕ) (ps : List Parcel) (flat : ℕ → List ℕ)
       → Stands P m n k.me p flat z (page_at k.table p) s broken ps []
       → Ended P m n k.me p k
       (record {
@@ -77,10 +78,12 @@ module _ {S : Type 0} {ops : Ops S} {P : (ℕ → S) → Net → (ℕ → List �
         table = with_entry k.table p z;
         manager = s;
         locked = lock;
+        more = more;
         done = answer;
+        done_more = others;
         breaches = broken;
       }) ps flat
-  entry_ended z s lock answer broken ps flat h =
+  entry_ended z s lock more answer others broken ps flat h =
       let within : p < length k.table.entries =
       (let e = sound.entries in omega (arith, inside, e)) in
       record {
@@ -97,8 +100,8 @@ module _ {S : Type 0} {ops : Ops S} {P : (ℕ → S) → Net → (ℕ → List �
         pages = λ q ne. refl;
       }
 
-  pub page_ended : (z : Entry) (bytes : List ℕ) (s : S) (lock : Option ℕ) (answer : Option Out)
-      (broken : ℕ) (ps : List Parcel) (flat : ℕ → List ℕ)
+  pub page_ended : (z : Entry) (bytes : List ℕ) (s : S) (lock : Option ℕ) (more : List Word)
+      (answer : Option Out) (others : List Out) (broken : ℕ) (ps : List Parcel) (flat : ℕ → List ℕ)
       → Stands P m n k.me p flat z bytes s broken ps []
       → Ended P m n k.me p k
       (record {
@@ -107,10 +110,12 @@ module _ {S : Type 0} {ops : Ops S} {P : (ℕ → S) → Net → (ℕ → List �
         table = with_page (with_entry k.table p z) p bytes;
         manager = s;
         locked = lock;
+        more = more;
         done = answer;
+        done_more = others;
         breaches = broken;
       }) ps flat
-  page_ended z bytes s lock answer broken ps flat h =
+  page_ended z bytes s lock more answer others broken ps flat h =
       let within : p < length k.table.entries =
       (let e = sound.entries in omega (arith, inside, e)) in
       let long : p < length k.table.pages = (let e = sound.pages in omega (arith, inside, e)) in
@@ -207,7 +212,7 @@ module _ {S : Type 0} {ops : Ops S} {P : (ℕ → S) → Net → (ℕ → List �
       entries = λ q ne. refl;
       pages = λ q ne. refl;
     },
-    quiet refl refl refl (λ q word call w. w),
+    quiet refl (record { more = refl; done = refl; done_more = refl }) refl (λ q word call w. w),
   )
 
   full-misfits : (e : Entry) (rest : List Letter) (kind : Request) (o call : ℕ) → IsFull e
@@ -228,7 +233,7 @@ module _ {S : Type 0} {ops : Ops S} {P : (ℕ → S) → Net → (ℕ → List �
       either-goes (can_put_off e) _ _
       (λ room. (
         f,
-        entry_ended m n k sound p inside (with_put_off e q) k.manager k.locked k.done k.breaches []
+        entry_ended m n k sound p inside (with_put_off e q) k.manager k.locked k.more k.done k.done_more k.breaches []
             f
             (goes_quietly kept h tt k.manager (λ j. refl) _ [] (Row.puts_off (record {
               node = k.me;
@@ -245,7 +250,7 @@ module _ {S : Type 0} {ops : Ops S} {P : (ℕ → S) → Net → (ℕ → List �
               is = here_is e;
               room = room;
             }))),
-        quiet refl refl refl
+        quiet refl (record { more = refl; done = refl; done_more = refl }) refl
             (waits_still k sound p inside (with_put_off e q)
             (λ word c w. subst (λ z. WaitsAt z word c) (sym is) (waits_put e q word c w))),
       ))
@@ -264,7 +269,7 @@ module _ {S : Type 0} {ops : Ops S} {P : (ℕ → S) → Net → (ℕ → List �
   write_asked-goes request.Invalidate o call a is other sender h =
       let z : Entry = entry.AwaitWrite (record { had_copy = false; waiting = a.waiting }) in (
         f,
-        entry_ended m n k sound p inside z (ops.on_invalidated k.manager p o) k.locked k.done
+        entry_ended m n k sound p inside z (ops.on_invalidated k.manager p o) k.locked k.more k.done k.done_more
             k.breaches _ f
             (goes kept h sound.here _ (told-again m k.me k.manager (λ z. ops.on_invalidated z p o))
             z _ []
@@ -282,7 +287,7 @@ module _ {S : Type 0} {ops : Ops S} {P : (ℕ → S) → Net → (ℕ → List �
               foreign = other;
               is = here_is (entry.AwaitWrite a);
             }) (sender refl))),
-        quiet refl refl refl
+        quiet refl (record { more = refl; done = refl; done_more = refl }) refl
             (waits_still k sound p inside z (λ word c w. subst (λ z. WaitsAt z word c) (sym is) w)),
       )
 
@@ -309,13 +314,13 @@ module _ {S : Type 0} {ops : Ops S} {P : (ℕ → S) → Net → (ℕ → List �
       let v : Serving S =
       put_off_served ops k.me o p (page_at k.table p) i k.manager k.breaches None (q ∷ []) in (
         f,
-        entry_ended m n k sound p inside (entry.Idle v.idle) v.manager k.locked k.done v.breaches
+        entry_ended m n k sound p inside (entry.Idle v.idle) v.manager k.locked k.more k.done k.done_more v.breaches
             v.posted f
             (served-at laws k.config kept m n k.me p sound.here inside f (page_at k.table p)
             k.manager (place k p (page_at k.table p) sound inside (sound.sized p inside))
             (serving i k.manager k.breaches []) from q [] (idle-start k p i sound inside is) can
             sender h),
-        quiet refl refl refl
+        quiet refl (record { more = refl; done = refl; done_more = refl }) refl
             (waits_still k sound p inside (entry.Idle v.idle) (λ word c w. absurd w)),
       )
   asked-goes kind o call (entry.AwaitRead w) is can sender h =
@@ -325,46 +330,58 @@ module _ {S : Type 0} {ops : Ops S} {P : (ℕ → S) → Net → (ℕ → List �
   asked-goes kind o call (entry.AwaitAcks a) is can sender h =
       acks_asked-goes kind o call a is can.foreign h
 
-  -- what a word waits for came: it is carried out, and what was put off is served
+  -- what a word waits for came: it is carried out, with those that wait along, and what was put off is
+  -- served
   unlocked-goes : (i : IdleState) (reply : Option Request) (bytes : List ℕ) (w : WaitingState)
       → Stands P m n k.me p f (entry.Idle i) bytes (served.told ops from p k.manager reply)
       k.breaches [] (map (letter_of k.me p) w.put_off)
       → IsServing ops k.config k.me p k.manager
       (serving i (served.told ops from p k.manager reply) k.breaches [])
-      → IsWord k.config.page_size w.word → length bytes ≡ k.config.page_size
-      → suffices i.access w.word ≡ true
+      → All (IsCarried k.config i) (w.word ∷ k.more) → length bytes ≡ k.config.page_size
       → All (CanBeServed k.config k.me) w.put_off → is_locked (entry_at k.table p) ≡ true
       → WaitsAt (entry_at k.table p) w.word w.call → Goes (unlocked ops k from p i reply bytes w)
-  unlocked-goes i reply bytes w h start word sized enough can lock waits =
-      let now : List ℕ = (carried_out w.word bytes).bytes in
-      let long : length now ≡ k.config.page_size =
-      length-carried_out w.word bytes (subst (λ z. IsWord z w.word) (sym sized) word) ∙ sized in
+  unlocked-goes i reply bytes w h start words sized can lock waits =
+      let all : AllCarried = all_carried (w.word ∷ k.more) bytes in
+      let long : length all.bytes ≡ k.config.page_size =
+      length-all_carried (w.word ∷ k.more) bytes k.config.page_size sized
+      (All-weaker (IsCarried k.config i) (IsWord k.config.page_size) (λ v is. is.0)
+      (w.word ∷ k.more) words) in
       let s : S = served.told ops from p k.manager reply in
-      let v : Serving S = put_off_served ops k.me from p now i k.manager k.breaches reply w.put_off in
-      let flat : ℕ → List ℕ = with_flat f p (carried_out w.word (f p)).bytes in
-      let after = carried_at kept h sound.here inside w.word word enough in (
-        flat,
-        page_ended m n k sound p inside (entry.Idle v.idle) now v.manager None
-            (Some (carried_out w.word bytes).out) v.breaches v.posted flat
-            (all_served-at laws k.config kept m n k.me p sound.here inside flat now k.manager
-            (place k p now sound inside long) (serving i s k.breaches []) w.put_off start can
-            after),
+      let v : Serving S =
+      put_off_served ops k.me from p all.bytes i k.manager k.breaches reply w.put_off in
+      let after = carried_all_at kept sound.here inside (w.word ∷ k.more) h words in (
+        after.0,
+        page_ended m n k sound p inside (entry.Idle v.idle) all.bytes v.manager None []
+            (Some (carried_out w.word bytes).out)
+            (all_carried k.more (carried_out w.word bytes).bytes).outs v.breaches v.posted after.0
+            (all_served-at laws k.config kept m n k.me p sound.here inside after.0 all.bytes
+            k.manager (place k p all.bytes sound inside long) (serving i s k.breaches []) w.put_off
+            start can after.1),
         answers p w.word w.call (carried_out w.word bytes).out (sound.others p lock) waits refl refl
-            (record {
-              managers = with_manager m k.me s;
-              net = reached n k.me p (entry.Idle i) bytes k.breaches []
-                  (map (letter_of k.me p) w.put_off);
-              state = i;
-              holds = h.holds;
-              here = sound.here;
-              inside = inside;
-              is_word = word;
-              idle = here_is (entry.Idle i);
-              enough = enough;
-              gives = ap (λ d. (carried_out w.word d).out) (sym (written-here n.page k.me p bytes));
-              after = refl;
-            }),
+            refl after.2,
       )
+
+  -- the words that wait along with the one at this entry are carried out with it
+  more_carried : (e : Entry) (i : IdleState) → entry_at k.table p ≡ e → is_locked e ≡ true
+      → ((words : List Word) → WaitAlong k.config e words → All (IsCarried k.config i) words)
+      → All (IsCarried k.config i) k.more
+  more_carried e i is lock all =
+      all k.more
+      (subst (λ z. WaitAlong k.config z k.more) is
+      (sound.along p (sound.others p (ap is_locked is ∙ lock))))
+
+  -- with a copy those that only read, with the page all
+  carried_reading : (words : List Word) → All (Waits k.config false) words
+      → All (IsCarried k.config copying) words
+  carried_reading words h =
+      All-weaker (Waits k.config false) (IsCarried k.config copying)
+      (λ w is. (is.0, ap (λ b. if b then false else true) is.1)) words h
+
+  carried_owning : (words : List Word) → All (IsWord k.config.page_size) words
+      → All (IsCarried k.config owning) words
+  carried_owning words h =
+      All-weaker (IsWord k.config.page_size) (IsCarried k.config owning)
+      (λ w is. (is, owner_suffices (needs_write w))) words h
 
   -- a copy comes
   bad_copy : (call : ℕ) (bytes : List ℕ) (e : Entry) → entry_at k.table p ≡ e
@@ -389,8 +406,11 @@ module _ {S : Type 0} {ops : Ops S} {P : (ℕ → S) → Net → (ℕ → List �
       (told-again m k.me k.manager (λ z. ops.on_replied z p false from)) _ _ bytes
       (Row.copy_comes bytes (coming entry.AwaitRead w (λ q. content.ReadRep q bytes) call)
       (eqb-true w.call call same)))
-      (copy-start laws k p from sound inside (ap is_owner is) below foreign) word.0 sized
-      (ap (λ b. if b then false else true) word.1) good.put_off (ap is_locked is)
+      (copy-start laws k p from sound inside (ap is_owner is) below foreign)
+      (All-cons (IsCarried k.config copying) w.word k.more
+      (word.0, ap (λ b. if b then false else true) word.1)
+      (more_carried (entry.AwaitRead w) copying is refl carried_reading))
+      sized good.put_off (ap is_locked is)
       (subst (λ z. WaitsAt z w.word w.call) (sym is) (refl, refl)))
       (λ other. bad_copy call bytes (entry.AwaitRead w) is h
       (λ a. absurd (let g : true ≡ false = sym (eq-eqb w.call call a) ∙ other in cc)))
@@ -431,20 +451,22 @@ module _ {S : Type 0} {ops : Ops S} {P : (ℕ → S) → Net → (ℕ → List �
       (Row.page_comes copies bytes
       (coming entry.AwaitWrite a (λ q. content.WriteRep q copies bytes) call) same
       (none_left (nodes_with copies) none)))
-      (page-start laws k p from sound inside below) word.0 sized
-      (ap (λ b. if b then true else true) word.1) good.put_off (ap is_locked is)
+      (page-start laws k p from sound inside below)
+      (All-cons (IsCarried k.config owning) a.waiting.word k.more
+      (word.0, owner_suffices (needs_write a.waiting.word))
+      (more_carried (entry.AwaitWrite a) owning is refl carried_owning))
+      sized good.put_off (ap is_locked is)
       (subst (λ e. WaitsAt e a.waiting.word a.waiting.call) (sym is) (refl, refl)))
       (λ some. (
         f,
-        page_ended m n k sound p inside z bytes (ops.on_replied k.manager p true from) k.locked
-            k.done k.breaches _ f
+        page_ended m n k sound p inside z bytes (ops.on_replied k.manager p true from) k.locked k.more k.done k.done_more k.breaches _ f
             (comes kept h sound.here _
             (told-again m k.me k.manager (λ z. ops.on_replied z p true from)) z _ [] bytes
             (Row.page_comes_shared copies bytes
             (coming entry.AwaitWrite a (λ q. content.WriteRep q copies bytes) call) same
             (some_left (nodes_with copies) some) apart
             (with_below k.config.nodes copies small))),
-        quiet refl refl refl
+        quiet refl (record { more = refl; done = refl; done_more = refl }) refl
             (waits_still k sound p inside z (λ word c w. subst (λ e. WaitsAt e word c) (sym is) w)),
       ))
 
@@ -495,16 +517,19 @@ module _ {S : Type 0} {ops : Ops S} {P : (ℕ → S) → Net → (ℕ → List �
       (goes_quietly kept h tt k.manager (λ j. refl) _ _
       (Row.acknowledges_last (coming entry.AwaitAcks a content.InvalAck call) same missing
       (none_left (set.remove a.left from) none)))
-      (last-start laws k p from sound inside) word.0 (sound.sized p inside)
-      (ap (λ b. if b then true else true) word.1) good.put_off (ap is_locked is)
+      (last-start laws k p from sound inside)
+      (All-cons (IsCarried k.config owning) a.waiting.word k.more
+      (word.0, owner_suffices (needs_write a.waiting.word))
+      (more_carried (entry.AwaitAcks a) owning is refl carried_owning))
+      (sound.sized p inside) good.put_off (ap is_locked is)
       (subst (λ e. WaitsAt e a.waiting.word a.waiting.call) (sym is) (refl, refl)))
       (λ some. (
         f,
-        entry_ended m n k sound p inside z k.manager k.locked k.done k.breaches [] f
+        entry_ended m n k sound p inside z k.manager k.locked k.more k.done k.done_more k.breaches [] f
             (goes_quietly kept h tt k.manager (λ j. refl) z []
             (Row.acknowledges (coming entry.AwaitAcks a content.InvalAck call) same missing
             (some_left (set.remove a.left from) some))),
-        quiet refl refl refl
+        quiet refl (record { more = refl; done = refl; done_more = refl }) refl
             (waits_still k sound p inside z (λ word c w. subst (λ e. WaitsAt e word c) (sym is) w)),
       ))
 

@@ -1,5 +1,7 @@
 -- A row within an event, told from what stood before the event.
-use Rattle.std.proofs.Common.{◌≡◌, ◌<◌, ℕ, List, [], ◌∷◌, ◌++◌, true, ap, refl, sym, subst}
+use Rattle.std.proofs.Common.{◌≡◌, ◌<◌, ℕ, Bool, true, false, List, [], ◌∷◌, ◌++◌, ap, refl, sym, subst, if◌then◌else◌}
+use Rattle.std.specs.Prelude.{All}
+use Rattle.std.proofs.lemmas.List.Elements.{All-head, All-tail}
 use Rattle.ivy_model.specs.declared.Config.{Config}
 use Rattle.ivy_wire.specs.Data.{Parcel}
 use Rattle.ivy_pagetable.specs.declared.Entry.{Entry}
@@ -8,11 +10,13 @@ use Rattle.ivy_pagetable.specs.declared.Word.{Word}
 use Rattle.ivy_pagetable.specs.States.{IdleState}
 use Rattle.ivy_pagetable.specs.Words.{IsWord, carried_out}
 use Rattle.ivy_pagetable.specs.Manager.{Ops}
+use Rattle.proof_transitions.specs.ivy_coherence.Several.{all_carried}
 use Rattle.proof_transitions.specs.ivy_coherence.Serving.{counted}
-use Rattle.proof_transitions.specs.ivy_coherence.Faults.{suffices}
+use Rattle.ivy_pagetable.specs.Accesses.{suffices}
 use Rattle.proof_transitions.specs.Letters.{Letter, Net, goes_on, installs}
 use Rattle.proof_transitions.specs.Rows.{Notice, Row, Claim, Misfits, IsKept, IsNamedBy, noticed, with_manager, with_flat_page}
 use Rattle.proof_transitions.proofs.Alike.{alike_holds}
+use Rattle.proof_refinement.proofs.LiftedEvents.{CarriesAll}
 use Rattle.proof_refinement.proofs.LiftedNets.{reached, Stands, written-here, told-here, extended-on, extended-none, goes-alike, comes-alike, installs-alike, drops-alike}
 
 module _ {S : Type 0} {ops : Ops S} {P : Claim S} {c : Config} (kept : IsKept ops c P)
@@ -95,6 +99,51 @@ carried_at {P = P} kept {m} {n} {x} {p} {f} {i} {b} {s} {broken} {ps} {rest} h h
             enough = enough;
           })) tt h.holds));
     }
+
+-- a word lies in its page, and this access suffices for it
+abbrev pub IsCarried : Config → IdleState → Word → Type 0
+IsCarried c i w = IsWord c.page_size w × (suffices i.access w ≡ true)
+
+-- an owner may carry out any word
+pub owner_suffices : (writes : Bool) → (if writes then true else true) ≡ true
+owner_suffices true = refl
+owner_suffices false = refl
+
+-- words are carried out one after another
+pub carried_all_at : {S : Type 0} {ops : Ops S} {P : Claim S} {c : Config} → IsKept ops c P
+    → {m : ℕ → S} {n : Net} {x p : ℕ} → x < c.nodes → p < c.pages → (words : List Word)
+    → {f : ℕ → List ℕ} {i : IdleState} {b : List ℕ} {s : S}
+    {broken : ℕ} {ps : List Parcel} {rest : List Letter}
+    → Stands P m n x p f (entry.Idle i) b s broken ps rest → All (IsCarried c i) words
+    → (flat : ℕ → List ℕ)
+    × Stands P m n x p flat (entry.Idle i) (all_carried words b).bytes s broken ps rest
+    × CarriesAll P c x f p words (all_carried words b).outs flat
+carried_all_at kept here inside [] {f} h are = (f, h, refl)
+carried_all_at {P = P} {c = c} kept {m} {n} {x} {p} here inside (w ∷ words) {f} {i} {b} {s} {broken}
+    {ps} {rest} h are =
+    let is : IsCarried c i w = All-head (IsCarried c i) w words are in
+    let next = carried_at kept h here inside w is.0 is.1 in
+    let all = carried_all_at kept here inside words next (All-tail (IsCarried c i) w words are) in (
+      all.0,
+      all.1,
+      (
+        with_flat_page f p (carried_out w (f p)).bytes,
+        record {
+          managers = with_manager m x s;
+          net = reached n x p (entry.Idle i) b broken ps rest;
+          state = i;
+          holds = h.holds;
+          here = here;
+          inside = inside;
+          is_word = is.0;
+          idle = written-here n.entry x p (entry.Idle i);
+          enough = is.1;
+          gives = ap (λ d. (carried_out w d).out) (sym (written-here n.page x p b));
+          after = refl;
+        },
+        all.2,
+      ),
+    )
 
 -- a letter is dropped
 pub dropped_at : {S : Type 0} {ops : Ops S} {P : Claim S} {c : Config} → IsKept ops c P

@@ -25,7 +25,7 @@ use Rattle.ivy_host.specs.Sound.{IsSoundHost}
 use Rattle.proof_transitions.specs.Letters.{Letter, Net}
 use Rattle.proof_transitions.specs.Rows.{taken, Row, IsKept}
 use Rattle.proof_transitions.proofs.Alike.{alike_holds}
-use Rattle.proof_refinement.proofs.LiftedEvents.{IsNode, ComesTo, Tells, Starts}
+use Rattle.proof_refinement.proofs.LiftedEvents.{IsNode, ComesTo, SameNet, comes_alike, Tells, Starts}
 use Rattle.proof_refinement.proofs.LiftedMessages.{kept-handled}
 use Rattle.proof_refinement.proofs.LiftedTurns.{kept-begun, kept-quiet}
 use Rattle.proof_refinement.proofs.HeapWays.{within_taken}
@@ -163,8 +163,8 @@ module _ {S : Type 0} {ops : Ops S} {P : (ℕ → S) → Net → (ℕ → List �
   pub kept-begins : (x : ℕ) (t : Turns (host_rules ops) o x o') (d : Option Out) (page : ℕ)
       (word : Word) (number : ℕ) → page < c.pages → IsWord c.page_size word → 1 ≤ number
       → t.outcome.after.memory.coherence.me ≡ t.core.memory.coherence.me
-      → t.outcome.after.memory.coherence
-      ≡ (begun ops (record t.core.memory.coherence { done = d }) page word number).after
+      → SameNet t.outcome.after.memory.coherence
+      (begun ops (record t.core.memory.coherence { done = d }) page word number).after
       → t.outcome.posted
       ≡ (begun ops (record t.core.memory.coherence { done = d }) page word number).posted
       → (flat : ℕ → List ℕ) × Then flat
@@ -190,8 +190,7 @@ module _ {S : Type 0} {ops : Ops S} {P : (ℕ → S) → Net → (ℕ → List �
       is_word numbered in (
         all.0,
         all.1 (managers_of spare o') (net_of o')
-            (subst (λ z. ComesTo (managers_of spare o) (net_of o) x z
-            (begun ops k page word number).posted (managers_of spare o') (net_of o')) after
+            (comes_alike after
             (subst (λ ps. ComesTo (managers_of spare o) (net_of o) x
             t.outcome.after.memory.coherence ps (managers_of spare o') (net_of o'))
             (all_pages (begun ops k page word number).posted

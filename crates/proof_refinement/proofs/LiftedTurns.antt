@@ -7,7 +7,7 @@ use Rattle.ivy_pagetable.specs.declared.Entry.{Entry}
 use Rattle.ivy_pagetable.specs.declared.Entry.TheVariants as entry
 use Rattle.ivy_pagetable.specs.declared.Word.{Word}
 use Rattle.ivy_pagetable.specs.States.{IdleState}
-use Rattle.ivy_pagetable.specs.Accesses.{reads, writes}
+use Rattle.ivy_pagetable.specs.Accesses.{reads, writes, suffices}
 use Rattle.ivy_pagetable.specs.Entries.{is_locked, is_owner}
 use Rattle.ivy_wire.specs.Data.{Parcel}
 use Rattle.ivy_pagetable.specs.Tables.{entry_at, page_at, with_entry, with_page}
@@ -15,7 +15,7 @@ use Rattle.proof_transitions.specs.ivy_coherence.declared.need.Need.TheVariants 
 use Rattle.ivy_pagetable.specs.Words.{IsWord, needs_write, carried_out}
 use Rattle.ivy_pagetable.specs.Manager.{Ops}
 use Rattle.proof_transitions.specs.ivy_coherence.Coherent.{Coherent}
-use Rattle.proof_transitions.specs.ivy_coherence.Faults.{Begun, hit, faulted, busy, accessed, begun_at, begun, suffices}
+use Rattle.proof_transitions.specs.ivy_coherence.Faults.{Begun, hit, faulted, busy, accessed, begun_at, begun}
 use Rattle.proof_transitions.specs.ivy_coherence.IdleSound.{IsSoundIdle}
 use Rattle.proof_transitions.specs.ivy_coherence.Sound.{IsSound}
 use Rattle.proof_transitions.proofs.of_ivy_coherence.Changing.{entry_with, page_with}
@@ -82,7 +82,7 @@ module _ {S : Type 0} {ops : Ops S} {P : (ℕ → S) → Net → (ℕ → List �
           pages = λ q ne.
               elim (page_with k.table p now q long) [ inl y ↦ absurd (ne y.0) | inr y ↦ y.1 ];
         },
-        hits (carried_out w old).out refl refl refl
+        hits (carried_out w old).out refl (record { more = refl; done = refl; done_more = refl }) refl
             (record {
               managers = with_manager m k.me k.manager;
               net = reached n k.me p (entry.Idle i) old k.breaches [] [];
@@ -144,8 +144,9 @@ module _ {S : Type 0} {ops : Ops S} {P : (ℕ → S) → Net → (ℕ → List �
       let within : p < length k.table.entries =
       (let e = sound.entries in omega (arith, inside, e)) in (
         f,
-        entry_ended m n k sound p inside z k.manager (Some p) k.done k.breaches ps f stands,
-        waits refl refl refl refl
+        entry_ended m n k sound p inside z k.manager (Some p) k.more k.done k.done_more k.breaches ps f
+            stands,
+        waits refl refl (record { more = refl; done = refl; done_more = refl }) refl
             (subst (λ e. WaitsAt e w call)
             (elim (entry_with k.table p z p within) [ inl y ↦ sym y.1 | inr y ↦ absurd (y.0 refl) ])
             waits_there),

@@ -15,12 +15,12 @@ use Rattle.ivy_pagetable.specs.declared.Request.TheVariants as request
 use Rattle.ivy_pagetable.specs.declared.Word.{Word}
 use Rattle.ivy_pagetable.specs.NodeSets.{IsBelow, bits_of, nodes_with}
 use Rattle.ivy_pagetable.specs.States.{IdleState, WaitingState, AwaitWriteState}
-use Rattle.ivy_pagetable.specs.Accesses.{reads, writes}
+use Rattle.ivy_pagetable.specs.Accesses.{reads, writes, suffices}
 use Rattle.ivy_pagetable.specs.Entries.{is_locked, is_owner, can_put_off, with_put_off, without, copying, owning, sharing}
 use Rattle.ivy_pagetable.specs.Words.{IsWord, carried_out}
 use Rattle.ivy_pagetable.specs.Manager.{Ops}
 use Rattle.ivy_coherence.specs.Serving.{counted, invalidations}
-use Rattle.ivy_coherence.specs.Faults.{suffices, waiting_from}
+use Rattle.ivy_coherence.specs.Faults.{waiting_from}
 use Rattle.ivy_moves.specs.Ordered.{one_more}
 use Rattle.proof_transitions.specs.Letters.{Letter, Net, content_of, letter_of, goes_on, installs}
 use Rattle.proof_transitions.specs.Orderly.{AwaitsCopy, AwaitsPage, Collects}

@@ -1,4 +1,6 @@
 //! The texts of programs, and the machine that carries one out.
+ghost use Rattle.ivy_program.specs.Programs.{IsWritten};
+
 use crate::common::{expect_items, expect_same, expect_same_at};
 use failing_alloc::Refusing;
 use ivy_model::{Call, Fault, Reply};
@@ -359,13 +361,19 @@ fn last_of<A: Allocator + Copy>(rt: &impl Abort, mut programs: Vec<Program<A>, A
 }
 
 /// The machine of the last program of a text.
-fn machine_of(rt: &(impl Abort + AllocGlobal), text: &str) -> Machine<Global> {
+fn machine_of(rt: &(impl Abort + AllocGlobal), text: &str) -> Machine<Global>
+    ensures { IsWritten result.program }
+{
     let programs = read(rt.alloc(), text).expect(rt, text);
     Machine::new(last_of(rt, programs))
 }
 
 /// That the next turn of a machine gives this call, which is then answered so.
-fn answers(rt: &impl Abort, machine: &mut Machine<Global>, wanted: Call, reply: Reply) {
+#[tactic(auto, using(ivy_program::proofs::Placed::written_alone))]
+fn answers(rt: &impl Abort, machine: &mut Machine<Global>, wanted: Call, reply: Reply)
+    requires { IsWritten machine.old.program }
+    ensures { IsWritten machine.new.program }
+{
     let Ok(Next::Call(call)) = machine.next() else {
         panic!(rt; "no call");
     };
@@ -375,6 +383,7 @@ fn answers(rt: &impl Abort, machine: &mut Machine<Global>, wanted: Call, reply: 
 
 /// The program of the first load: its call is given until it is answered, and what came is printed.
 #[test]
+#[tactic(auto, using(ivy_program::proofs::Placed::written_alone))]
 fn first_load(rt: HostRuntime) {
     let mut machine = machine_of(&rt, "node 0\nnode 1\nset r1 64\nload 8 r2 r1\nprint r2\n");
     let call = Call::Load { width: 8, addr: 64 };
@@ -390,7 +399,10 @@ fn first_load(rt: HostRuntime) {
 
 /// Whether a machine has ended within 40 turns, in which it makes these calls and no others, each
 /// with its reply.
-fn answers_all(rt: &impl Abort, machine: &mut Machine<Global>, calls: &[(Call, Reply)]) -> bool {
+#[tactic(auto, using(ivy_program::proofs::Placed::written_alone))]
+fn answers_all(rt: &impl Abort, machine: &mut Machine<Global>, calls: &[(Call, Reply)]) -> bool
+    requires { IsWritten machine.old.program }
+{
     let mut left = calls.iter();
     for _ in 0..40 {
         if let Next::Call(call) = machine.next().expect(rt, "a turn") {
@@ -518,6 +530,7 @@ fn blocks(rt: HostRuntime) {
 }
 
 /// That a program which makes no call prints these numbers within so many turns. Whether it has ended then.
+#[tactic(auto, using(ivy_program::proofs::Placed::written_alone))]
 fn ends_within(rt: &(impl Abort + AllocGlobal), text: &str, turns: u64, printed: &[u64]) -> bool {
     let mut machine = machine_of(rt, text);
     for _ in 0..turns {

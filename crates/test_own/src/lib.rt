@@ -13,4 +13,6 @@ mod programs;
 #[cfg(test)]
 mod refusals;
 #[cfg(test)]
+mod rows;
+#[cfg(test)]
 mod wide;

@@ -1,12 +1,18 @@
 //! `ivy_program`: the programs of a text, and a machine that runs one.
+ghost use Rattle.ivy_program.specs.Programs.{IsWritten};
+
 use crate::common::expect_same;
-use ivy_model::{Call, Fault, Reply};
+use ivy_model::{Call, Fault, Reply, Row};
 use ivy_program::{Machine, Next, parse};
 use std::alloc::Global;
 use std::process::Abort;
 
 /// The call that a machine waits for, which is refused then.
-fn refused(rt: &impl Abort, machine: &mut Machine<Global>) -> Call {
+#[tactic(auto, using(ivy_program::proofs::Placed::written_alone))]
+fn refused(rt: &impl Abort, machine: &mut Machine<Global>) -> Call
+    requires { IsWritten machine.old.program }
+    ensures { IsWritten machine.new.program }
+{
     match machine.next().expect(rt, "memory") {
         Next::Call(call) => {
             machine.answer(Reply::Refused(10));
@@ -30,4 +36,16 @@ fn a_machine(rt: HostRuntime) {
 fn no_programs(rt: HostRuntime) {
     let refused = parse(rt.alloc(), "node 0\nset r16 1\n").err();
     expect_same(&rt, refused, Some(Fault::ProgramFault(2)));
+}
+
+/// Own code makes calls together, and takes their replies.
+#[test]
+#[tactic(auto, using(ivy_program::proofs::Handing::handed_called))]
+fn own_code(rt: HostRuntime) {
+    let mut machine = Machine::<Global>::open();
+    assert!(rt; machine.is_free());
+    machine.hand_together(Row::Loads, 64, 2, &[0; 16]);
+    assert!(rt; !machine.is_free());
+    machine.answer_row(2);
+    assert!(rt; machine.is_free());
 }

@@ -13,10 +13,10 @@ hand-requires-clause-width g c = c.may_ask.ensures.width (search rules)
 
 pub returns-clause-played : goal.returns-clause-played
 returns-clause-played g c =
-    calls-played c.args.sites.now.items c.args.node (c.args.call ∷ []) c.hand.new.sites.items
+    calls-played c.args.sites.now.items c.args.node ((c.args.call ∷ []) ∷ []) c.hand.new.sites.items
     c.requires.node c.in_ok-hand.ensures.ok
 
 pub returns-clause-called : goal.returns-clause-called
 returns-clause-called g c =
-    calls-called c.args.sites.now.items c.args.node (c.args.call ∷ []) c.hand.new.sites.items
+    calls-called c.args.sites.now.items c.args.node ((c.args.call ∷ []) ∷ []) c.hand.new.sites.items
     c.requires.node c.in_ok-hand.ensures.ok

@@ -3,5 +3,5 @@ use Rattle.ivy_own.proofs.owned.begin_once.Goals as goal
 
 pub returns-clause-done : goal.returns-clause-done
 returns-clause-done g c =
-    call_made c.args.call c.args.seated.now.site c.call.new.self.site c.requires.makes c.requires.free
-    c.requires.width c.requires.idle c.in_ok-came.came c.in_ok-came.ensures.done
+    call_made c.args.call c.in_ok-came.came c.args.seated.now.site c.call.new.self.site
+    c.in_ok-came.ensures.done

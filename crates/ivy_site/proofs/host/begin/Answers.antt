@@ -1,7 +1,7 @@
 use Rattle.std.proofs.Common.{rules, ◌<◌, ◌^◌, refl, subst, sym, ◌∙◌}
 use Rattle.ivy_host.proofs.of_ivy_memory.Beginning.{err_there}
 use Rattle.ivy_site.specs.Inside.{host_of}
-use Rattle.ivy_site.proofs.Calling.{begin_call, cannot_begin, called, called_few, on_err, serves, unposted}
+use Rattle.ivy_site.proofs.Calling.{begin_alone, cannot_begin, called, called_few, on_err, serves, unposted}
 use Rattle.ivy_site.proofs.Turned.{has_turned}
 use Rattle.ivy_site.proofs.host.begin.Goals as goal
 
@@ -19,13 +19,13 @@ returns-in_err-answer-clause-spent g c =
     err_there c.from_residual.result _ _ c.from_residual.ensures.1
     (cannot_begin (host_of c.args.memory.now c.args.machine.now c.args.history.now.records)
     c.args.call _
-    (begin_call (host_of c.args.memory.now c.args.machine.now c.args.history.now.records) c.args.call
+    (begin_alone (host_of c.args.memory.now c.args.machine.now c.args.history.now.records) c.args.call
     c.next_number-number.result
     (record {
       is = c.next_number-number.ensures.is;
       below = subst (λ n. n < 2 ^ 64) (sym c.next_number-number.ensures.is)
           c.next_number-number.ensures.small;
-    }) c.requires.idle c.requires.asks)
+    }) c.requires.idle c.requires.asks c.requires.alone)
     c.args.outbox.now c.begin.new.post _ _ (c.in_err-answer.ensures.fault c.requires.idle))
 
 pub returns-clause-ok : goal.returns-clause-ok
@@ -33,13 +33,13 @@ returns-clause-ok g c =
     has_turned c.keep.result
     (c.keep.ensures.served ∙ serves c.in_ok-answer.answer c.in_ok-answer.ensures.begins) _ _ _ _
     (called (host_of c.args.memory.now c.args.machine.now c.args.history.now.records) c.args.call _
-    (begin_call (host_of c.args.memory.now c.args.machine.now c.args.history.now.records) c.args.call
+    (begin_alone (host_of c.args.memory.now c.args.machine.now c.args.history.now.records) c.args.call
     c.next_number-number.result
     (record {
       is = c.next_number-number.ensures.is;
       below = subst (λ n. n < 2 ^ 64) (sym c.next_number-number.ensures.is)
           c.next_number-number.ensures.small;
-    }) c.requires.idle c.requires.asks)
+    }) c.requires.idle c.requires.asks c.requires.alone)
     c.args.outbox.now c.begin.new.post c.me.result c.begin.new.self c.keep.new.machine
     c.keep.new.history.records c.keep.result c.in_ok-answer.answer (search rules)
     c.in_ok-answer.ensures.reply c.in_ok-answer.ensures.ok c.in_ok-answer.ensures.took

@@ -1,8 +1,9 @@
 use Rattle.std.proofs.Common.{rules, ◌<◌, ◌^◌, ◌∷◌, [], refl, subst, sym, ◌∙◌}
 use Rattle.ivy_host.proofs.of_ivy_memory.Beginning.{err_there}
 use Rattle.ivy_program.specs.Owned.{process_handed}
+use Rattle.ivy_program.proofs.Nexts.{alone_next}
 use Rattle.ivy_site.specs.Inside.{host_of}
-use Rattle.ivy_site.proofs.Calling.{begin_call, cannot_begin, called, called_few, on_err, serves, unposted}
+use Rattle.ivy_site.proofs.Calling.{begin_alone, cannot_begin, called, called_few, on_err, serves, unposted}
 use Rattle.ivy_site.proofs.Turned.{has_turned}
 use Rattle.ivy_site.proofs.host.make.Goals as goal
 
@@ -17,31 +18,33 @@ returns-in_err-begun-clause-err g c =
 
 pub returns-in_err-begun-clause-spent : goal.returns-in_err-begun-clause-spent
 returns-in_err-begun-clause-spent g c =
-    let p = process_handed (c.args.call ∷ []) c.args.machine.now in
+    let p = process_handed ((c.args.call ∷ []) ∷ []) c.args.machine.now in
     err_there c.from_residual.result _ _ c.from_residual.ensures.1
     (cannot_begin (host_of c.args.memory.now p c.args.history.now.records) c.args.call _
-    (begin_call (host_of c.args.memory.now p c.args.history.now.records) c.args.call
+    (begin_alone (host_of c.args.memory.now p c.args.history.now.records) c.args.call
     c.next_number-number.result
     (record {
       is = c.next_number-number.ensures.is;
       below = subst (λ n. n < 2 ^ 64) (sym c.next_number-number.ensures.is)
           c.next_number-number.ensures.small;
-    }) c.requires.idle (c.requires.next c.args.call c.requires.width))
+    }) c.requires.idle (c.requires.next c.args.call c.requires.width)
+    (alone_next c.args.machine.now c.requires.rests c.args.call))
     c.args.outbox.now c.begin.new.post _ _ (c.in_err-begun.ensures.fault c.requires.idle))
 
 pub returns-clause-ok : goal.returns-clause-ok
 returns-clause-ok g c =
-    let p = process_handed (c.args.call ∷ []) c.args.machine.now in
+    let p = process_handed ((c.args.call ∷ []) ∷ []) c.args.machine.now in
     has_turned c.keep_made.result
     (c.keep_made.ensures.served ∙ serves c.in_ok-begun.begun c.in_ok-begun.ensures.begins) _ _ _ _
     (called (host_of c.args.memory.now p c.args.history.now.records) c.args.call _
-    (begin_call (host_of c.args.memory.now p c.args.history.now.records) c.args.call
+    (begin_alone (host_of c.args.memory.now p c.args.history.now.records) c.args.call
     c.next_number-number.result
     (record {
       is = c.next_number-number.ensures.is;
       below = subst (λ n. n < 2 ^ 64) (sym c.next_number-number.ensures.is)
           c.next_number-number.ensures.small;
-    }) c.requires.idle (c.requires.next c.args.call c.requires.width))
+    }) c.requires.idle (c.requires.next c.args.call c.requires.width)
+    (alone_next c.args.machine.now c.requires.rests c.args.call))
     c.args.outbox.now c.begin.new.post c.me.result c.begin.new.self c.keep_made.new.machine
     c.keep_made.new.history.records c.keep_made.result c.in_ok-begun.begun (search rules)
     c.in_ok-begun.ensures.reply c.in_ok-begun.ensures.ok c.in_ok-begun.ensures.took

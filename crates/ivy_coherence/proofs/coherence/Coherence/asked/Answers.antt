@@ -20,6 +20,7 @@ invariant_of-self-in-Idle g c = (
       c.in_ok-after-in-Idle.ensures.idle c.set_entry.ensures c.in_ok-after-in-Idle.ensures.manager
       c.in_ok-after-in-Idle.ensures.breaches,
   c.self.invariant.1,
+  c.self.invariant.2,
 )
 
 pub returns-in_ok-after-in-Idle : goal.returns-in_ok-after-in-Idle

@@ -1,7 +1,7 @@
 use Rattle.std.proofs.Common.{◌≡◌, true, false, None, List, sym, ap, ◌∙◌, subst}
 use Rattle.ivy_wire.specs.Data.{Parcel}
 use Rattle.ivy_pagetable.specs.Lent.{lent_entry}
-use Rattle.ivy_coherence.specs.Faults.{suffices}
+use Rattle.ivy_pagetable.specs.Accesses.{suffices}
 use Rattle.ivy_coherence.proofs.Opened.{asks, hit_posts, hit_sound}
 use Rattle.ivy_coherence.proofs.coherence.Coherence.begin.Goals as goal
 
@@ -10,6 +10,7 @@ invariant_of-self-then-suffices g c = (
   hit_sound g.met.M.Manager.laws _ _ c.self.view_is c.self.invariant.0 c.args.page c.args.word _
       c.requires.page c.requires.word c.in_ok-carry_out-in-Idle.ensures.bytes,
   c.self.invariant.1,
+  c.self.invariant.2,
 )
 
 pub returns-then-suffices-clause-posted : goal.returns-then-suffices-clause-posted

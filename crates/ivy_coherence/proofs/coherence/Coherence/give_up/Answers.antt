@@ -13,4 +13,5 @@ invariant_of-self g c = (
       c.args.message _ _ c.requires.page c.requires.waits c.requires.message
       (rw c.new.ensures at c.set_entry.ensures) c.on_invalidated.ensures,
   c.self.invariant.1,
+  c.self.invariant.2,
 )

@@ -12,4 +12,5 @@ invariant_of-self g c = (
       c.args.waiting _ c.requires.page c.requires.waits c.requires.left
       (rw c.new.ensures at c.set_entry.ensures),
   c.self.invariant.1,
+  c.self.invariant.2,
 )

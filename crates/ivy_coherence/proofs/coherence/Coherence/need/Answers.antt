@@ -7,4 +7,5 @@ invariant_of-self g c = (
   hit_sound g.met.M.Manager.laws _ _ c.self.view_is c.self.invariant.0 c.args.page c.args.word _
       c.requires.page c.requires.word (c.in-Some.ensures.bytes refl),
   c.self.invariant.1,
+  c.self.invariant.2,
 )

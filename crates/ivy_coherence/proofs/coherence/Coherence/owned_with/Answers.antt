@@ -33,4 +33,5 @@ invariant_of-self-2 g c = (
       c.install.new.spare
       (entries_then _ _ c.self.view_is c.self.invariant.0 c.set_entry.new.self c.args.page _
       c.set_entry.ensures) (c.in_ok-size.ensures.ok ∙ c.requires.sized) c.install.ensures.kept,
+  c.self.invariant.2,
 )

@@ -10,4 +10,5 @@ invariant_of-self-else-not-put_off g c =
       put_off_sound _ _ c.self.view_is c.self.invariant.0 c.args.page c.args.message
           c.put_off.new.self c.requires.page c.requires.message can c.put_off.ensures.kept,
       c.self.invariant.1,
+      c.self.invariant.2,
     )

@@ -15,4 +15,5 @@ invariant_of-self g c = (
       (rw (← c.self.view_is) at c.requires.free)
       c.in_ok-entry.ensures.entry c.set_entry.ensures,
   c.self.invariant.1,
+  c.self.invariant.2,
 )

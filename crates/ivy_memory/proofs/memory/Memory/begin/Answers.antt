@@ -7,6 +7,8 @@ use Rattle.ivy_memory.specs.Asking.{MakesPages}
 use Rattle.ivy_memory.specs.Memories.{NodeMemory}
 use Rattle.ivy_memory.proofs.Beginning.{few_posted, err_refuses, call_asks, heap_memory}
 use Rattle.ivy_memory.specs.Memories.{asked_after, number_after}
+use Rattle.ivy_memory.proofs.Tame.{below}
+use Rattle.ivy_memory.proofs.Same.{begun_size}
 use Rattle.ivy_memory.proofs.memory.Memory.begin.Goals as goal
 
 pub need-requires-clause-page : goal.need-requires-clause-page
@@ -15,7 +17,7 @@ need-requires-clause-page g c =
     c.in-Word.page c.in-Word.word =
     record {
       same = c.self.view_is;
-      sound = c.self.invariant;
+      sound = c.self.invariant.0;
       config = c.config.ensures;
       idle = no_call _ _ c.self.view_is c.is_some.ensures c.if-is_some.false;
       legal = c.requires.width;
@@ -31,7 +33,7 @@ need-requires-clause-word g c =
     c.in-Word.page c.in-Word.word =
     record {
       same = c.self.view_is;
-      sound = c.self.invariant;
+      sound = c.self.invariant.0;
       config = c.config.ensures;
       idle = no_call _ _ c.self.view_is c.is_some.ensures c.if-is_some.false;
       legal = c.requires.width;
@@ -47,19 +49,22 @@ invariant_of-self-in-Some g c =
     c.in-Word.page c.in-Word.word =
     record {
       same = c.self.view_is;
-      sound = c.self.invariant;
+      sound = c.self.invariant.0;
       config = c.config.ensures;
       idle = no_call _ _ c.self.view_is c.is_some.ensures c.if-is_some.false;
       legal = c.requires.width;
       least = c.requires.number;
       most = omega arith;
       asks = sym c.asked_of.ensures.is ∙ c.in-Word.is;
-    } in
-    had_memory g.met.M.Manager.laws _ _ _ _ _ _ _ at c.need.new.self c.in_ok-out-in-Word.field-0
-    c.in-Have.out c.self.inside.asked c.self.inside.number c.self.invariant.width
-    c.self.invariant.numbered c.self.invariant.small
-    (words_before g.met.M.Manager.laws _ _ _ _ _ _ _ at)
-    c.in_ok-out-in-Word.ensures.ok c.in_ok-out-in-Word.ensures.need c.in-Have.is
+    } in (
+      had_memory g.met.M.Manager.laws _ _ _ _ _ _ _ at c.need.new.self c.in_ok-out-in-Word.field-0
+          c.in-Have.out c.self.inside.asked c.self.inside.number c.self.invariant.0.width
+          c.self.invariant.0.numbered (below _ c.self.invariant.0)
+          (words_before g.met.M.Manager.laws _ _ _ _ _ _ _ at)
+          c.in_ok-out-in-Word.ensures.ok c.in_ok-out-in-Word.ensures.need c.in-Have.is,
+      begun_size g.M.Manager.ops c.self.inside.coherence _ _ _ c.need.new.self _ c.self.invariant.1
+          c.in_ok-out-in-Word.ensures.ok,
+    )
 
 pub invariant_of-self-in-None : goal.invariant_of-self-in-None
 invariant_of-self-in-None g c =
@@ -67,18 +72,21 @@ invariant_of-self-in-None g c =
     c.in-Word.page c.in-Word.word =
     record {
       same = c.self.view_is;
-      sound = c.self.invariant;
+      sound = c.self.invariant.0;
       config = c.config.ensures;
       idle = no_call _ _ c.self.view_is c.is_some.ensures c.if-is_some.false;
       legal = c.requires.width;
       least = c.requires.number;
       most = omega arith;
       asks = sym c.asked_of.ensures.is ∙ c.in-Word.is;
-    } in
-    had_memory g.met.M.Manager.laws _ _ _ _ _ _ _ at c.need.new.self c.in_ok-out-in-Word.field-0
-    c.in-Have.out _ c.args.number (wide g.met.M.Manager.laws _ _ _ _ _ _ _ at)
-    (λ j h. c.requires.number) (omega arith) (words_now g.met.M.Manager.laws _ _ _ _ _ _ _ at)
-    c.in_ok-out-in-Word.ensures.ok c.in_ok-out-in-Word.ensures.need c.in-Have.is
+    } in (
+      had_memory g.met.M.Manager.laws _ _ _ _ _ _ _ at c.need.new.self c.in_ok-out-in-Word.field-0
+          c.in-Have.out _ c.args.number (wide g.met.M.Manager.laws _ _ _ _ _ _ _ at)
+          (λ j h. c.requires.number) (omega arith) (words_now g.met.M.Manager.laws _ _ _ _ _ _ _ at)
+          c.in_ok-out-in-Word.ensures.ok c.in_ok-out-in-Word.ensures.need c.in-Have.is,
+      begun_size g.M.Manager.ops c.self.inside.coherence _ _ _ c.need.new.self _ c.self.invariant.1
+          c.in_ok-out-in-Word.ensures.ok,
+    )
 
 pub invariant_of-self-in-Started : goal.invariant_of-self-in-Started
 invariant_of-self-in-Started g c =
@@ -86,16 +94,19 @@ invariant_of-self-in-Started g c =
     c.in-Word.page c.in-Word.word =
     record {
       same = c.self.view_is;
-      sound = c.self.invariant;
+      sound = c.self.invariant.0;
       config = c.config.ensures;
       idle = no_call _ _ c.self.view_is c.is_some.ensures c.if-is_some.false;
       legal = c.requires.width;
       least = c.requires.number;
       most = omega arith;
       asks = sym c.asked_of.ensures.is ∙ c.in-Word.is;
-    } in
-    started_memory g.met.M.Manager.laws _ _ _ _ _ _ _ at c.need.new.self
-    c.in_ok-out-in-Word.ensures.ok
+    } in (
+      started_memory g.met.M.Manager.laws _ _ _ _ _ _ _ at c.need.new.self
+          c.in_ok-out-in-Word.ensures.ok,
+      begun_size g.M.Manager.ops c.self.inside.coherence _ _ _ c.need.new.self _ c.self.invariant.1
+          c.in_ok-out-in-Word.ensures.ok,
+    )
 
 pub invariant_of-self-in-Busy : goal.invariant_of-self-in-Busy
 invariant_of-self-in-Busy g c =
@@ -103,7 +114,7 @@ invariant_of-self-in-Busy g c =
     c.in-Word.page c.in-Word.word =
     record {
       same = c.self.view_is;
-      sound = c.self.invariant;
+      sound = c.self.invariant.0;
       config = c.config.ensures;
       idle = no_call _ _ c.self.view_is c.is_some.ensures c.if-is_some.false;
       legal = c.requires.width;
@@ -120,7 +131,7 @@ returns-in-Busy g c =
     c.in-Word.page c.in-Word.word =
     record {
       same = c.self.view_is;
-      sound = c.self.invariant;
+      sound = c.self.invariant.0;
       config = c.config.ensures;
       idle = no_call _ _ c.self.view_is c.is_some.ensures c.if-is_some.false;
       legal = c.requires.width;
@@ -137,7 +148,7 @@ returns-in_err-out-in-Word-clause-fault g c =
     c.in-Word.page c.in-Word.word =
     record {
       same = c.self.view_is;
-      sound = c.self.invariant;
+      sound = c.self.invariant.0;
       config = c.config.ensures;
       idle = no_call _ _ c.self.view_is c.is_some.ensures c.if-is_some.false;
       legal = c.requires.width;
@@ -164,7 +175,7 @@ returns-in_err-out-in-Word-clause-sure g c =
     c.in-Word.page c.in-Word.word =
     record {
       same = c.self.view_is;
-      sound = c.self.invariant;
+      sound = c.self.invariant.0;
       config = c.config.ensures;
       idle = no_call _ _ c.self.view_is c.is_some.ensures c.if-is_some.false;
       legal = c.requires.width;
@@ -177,59 +188,63 @@ returns-in_err-out-in-Word-clause-sure g c =
 
 pub returns-then-is_some-clause-few : goal.returns-then-is_some-clause-few
 returns-then-is_some-clause-few g c =
-    few_posted _ _ c.self.view_is c.self.invariant c.args.call c.args.number
+    few_posted _ _ c.self.view_is c.self.invariant.0 c.args.call c.args.number
 
 pub returns-in_err-out-in-Word-clause-few : goal.returns-in_err-out-in-Word-clause-few
 returns-in_err-out-in-Word-clause-few g c =
-    few_posted _ _ c.self.view_is c.self.invariant c.args.call c.args.number
+    few_posted _ _ c.self.view_is c.self.invariant.0 c.args.call c.args.number
 
 pub returns-in-Some-clause-few : goal.returns-in-Some-clause-few
 returns-in-Some-clause-few g c =
-    few_posted _ _ c.self.view_is c.self.invariant c.args.call c.args.number
+    few_posted _ _ c.self.view_is c.self.invariant.0 c.args.call c.args.number
 
 pub returns-in-None-clause-few : goal.returns-in-None-clause-few
 returns-in-None-clause-few g c =
-    few_posted _ _ c.self.view_is c.self.invariant c.args.call c.args.number
+    few_posted _ _ c.self.view_is c.self.invariant.0 c.args.call c.args.number
 
 pub returns-in-Started-clause-few : goal.returns-in-Started-clause-few
 returns-in-Started-clause-few g c =
-    few_posted _ _ c.self.view_is c.self.invariant c.args.call c.args.number
+    few_posted _ _ c.self.view_is c.self.invariant.0 c.args.call c.args.number
 
 pub invariant_of-self-in_default : goal.invariant_of-self-in_default
-invariant_of-self-in_default g c =
-    heap_memory g.met.M.Manager.laws _ _ c.config.result c.args.call c.args.number c.in-Heap.of_heap
-    c.me.result
-    (record {
-      same = c.self.view_is;
-      sound = c.self.invariant;
-      config = c.config.ensures;
-      idle = no_call _ _ c.self.view_is c.is_some.ensures c.if-is_some.false;
-      legal = c.requires.width;
-      least = c.requires.number;
-      most = omega arith;
-      asks = sym c.asked_of.ensures.is ∙ c.in-Heap.is;
-      me = c.me.ensures;
-    })
-    c.in_ok-answer-in-Heap.answer c.begin.new.self c.self.inside.asked c.self.inside.number
-    c.in_ok-answer-in-Heap.ensures.reply c.in_ok-answer-in-Heap.ensures.ok (search rules)
-    (search rules)
+invariant_of-self-in_default g c = (
+  heap_memory g.met.M.Manager.laws _ _ c.config.result c.args.call c.args.number c.in-Heap.of_heap
+      c.me.result
+      (record {
+        same = c.self.view_is;
+        sound = c.self.invariant.0;
+        config = c.config.ensures;
+        idle = no_call _ _ c.self.view_is c.is_some.ensures c.if-is_some.false;
+        legal = c.requires.width;
+        least = c.requires.number;
+        most = omega arith;
+        asks = sym c.asked_of.ensures.is ∙ c.in-Heap.is;
+        me = c.me.ensures;
+      })
+      c.in_ok-answer-in-Heap.answer c.begin.new.self c.self.inside.asked c.self.inside.number
+      c.in_ok-answer-in-Heap.ensures.reply c.in_ok-answer-in-Heap.ensures.ok (search rules)
+      (search rules),
+  c.self.invariant.1,
+)
 
 pub invariant_of-self-in-Awaited : goal.invariant_of-self-in-Awaited
-invariant_of-self-in-Awaited g c =
-    heap_memory g.met.M.Manager.laws _ _ c.config.result c.args.call c.args.number c.in-Heap.of_heap
-    c.me.result
-    (record {
-      same = c.self.view_is;
-      sound = c.self.invariant;
-      config = c.config.ensures;
-      idle = no_call _ _ c.self.view_is c.is_some.ensures c.if-is_some.false;
-      legal = c.requires.width;
-      least = c.requires.number;
-      most = omega arith;
-      asks = sym c.asked_of.ensures.is ∙ c.in-Heap.is;
-      me = c.me.ensures;
-    })
-    c.in_ok-answer-in-Heap.answer c.begin.new.self (Some c.args.call) c.args.number
-    c.in_ok-answer-in-Heap.ensures.reply c.in_ok-answer-in-Heap.ensures.ok
-    (ap (asked_after c.self.inside.asked c.args.call) c.in-Awaited.is)
-    (ap (number_after c.self.inside.number c.args.number) c.in-Awaited.is)
+invariant_of-self-in-Awaited g c = (
+  heap_memory g.met.M.Manager.laws _ _ c.config.result c.args.call c.args.number c.in-Heap.of_heap
+      c.me.result
+      (record {
+        same = c.self.view_is;
+        sound = c.self.invariant.0;
+        config = c.config.ensures;
+        idle = no_call _ _ c.self.view_is c.is_some.ensures c.if-is_some.false;
+        legal = c.requires.width;
+        least = c.requires.number;
+        most = omega arith;
+        asks = sym c.asked_of.ensures.is ∙ c.in-Heap.is;
+        me = c.me.ensures;
+      })
+      c.in_ok-answer-in-Heap.answer c.begin.new.self (Some c.args.call) c.args.number
+      c.in_ok-answer-in-Heap.ensures.reply c.in_ok-answer-in-Heap.ensures.ok
+      (ap (asked_after c.self.inside.asked c.args.call) c.in-Awaited.is)
+      (ap (number_after c.self.inside.number c.args.number) c.in-Awaited.is),
+  c.self.invariant.1,
+)

@@ -3,8 +3,10 @@ use Rattle.ivy_wire.specs.Posts.{HasRefused}
 use Rattle.ivy_coherence.specs.Outcomes.{IsWantOfPage}
 use Rattle.ivy_memory.specs.Asking.{MakesPages}
 use Rattle.ivy_memory.specs.Memories.{CallBegun, NodeMemory}
+use Rattle.ivy_memory.specs.Rows.{CallsAlong}
 use Rattle.ivy_memory.proofs.Beginning.{err_refuses}
 use Rattle.ivy_memory.proofs.Polling.{polled-waits, IsRetry, retry_can, given_is, quiet_is, starts_is, waits_is, poll_memory, poll_posts, retry_asks, polled-few}
+use Rattle.ivy_memory.proofs.Same.{begun_size, returned_size}
 use Rattle.ivy_memory.proofs.memory.Memory.poll_reply.Goals as goal
 
 pub returns-then-is_some : goal.returns-then-is_some
@@ -14,7 +16,7 @@ returns-then-is_some g c =
     (sym c.reply.ensures ∙ c.in_default-reply.is) c.locked.result c.locked.ensures
     (search rules) in
     record {
-      few = polled-few _ _ _ c.self.view_is c.self.invariant;
+      few = polled-few _ _ _ c.self.view_is c.self.invariant.0;
       reply = sym (ap (λ (x : CallBegun _). x.answer) is);
       ok = sym (ap (λ (x : CallBegun _). x.after) is);
       posted = sym (g.met.P.Post.laws.after_none c.args.post.now)
@@ -31,14 +33,14 @@ returns-then-is_some g c =
 
 pub need-requires-clause-call : goal.need-requires-clause-call
 need-requires-clause-call g c =
-    let least = c.self.invariant.numbered c.in-Some.call c.in-Some.is in omega (arith, least)
+    let least = c.self.invariant.0.numbered c.in-Some.call c.in-Some.is in omega (arith, least)
 
 pub need-requires-clause-page : goal.need-requires-clause-page
 need-requires-clause-page g c =
     (retry_can g.met.M.Manager.laws _ _ c.config.result c.in-Some.call c.in-Word.page c.in-Word.word
     (record {
       same = c.self.view_is;
-      sound = c.self.invariant;
+      sound = c.self.invariant.0;
       config = c.config.ensures;
       called = c.in-Some.is;
       untold = sym c.reply.ensures ∙ c.in_default-reply.is;
@@ -50,7 +52,7 @@ need-requires-clause-word g c =
     (retry_can g.met.M.Manager.laws _ _ c.config.result c.in-Some.call c.in-Word.page c.in-Word.word
     (record {
       same = c.self.view_is;
-      sound = c.self.invariant;
+      sound = c.self.invariant.0;
       config = c.config.ensures;
       called = c.in-Some.is;
       untold = sym c.reply.ensures ∙ c.in_default-reply.is;
@@ -63,14 +65,14 @@ returns-in_err-out g c =
     c.in-Word.word =
     record {
       same = c.self.view_is;
-      sound = c.self.invariant;
+      sound = c.self.invariant.0;
       config = c.config.ensures;
       called = c.in-Some.is;
       untold = sym c.reply.ensures ∙ c.in_default-reply.is;
       asks = sym c.asked_of.ensures.is ∙ c.in-Word.is;
     } in
     record {
-      few = polled-few _ _ _ c.self.view_is c.self.invariant;
+      few = polled-few _ _ _ c.self.view_is c.self.invariant.0;
       reply = search rules;
       ok = search rules;
       posted = search rules;
@@ -101,18 +103,22 @@ invariant_of-self-in-Some-reply_of g c =
     c.in-Word.word =
     record {
       same = c.self.view_is;
-      sound = c.self.invariant;
+      sound = c.self.invariant.0;
       config = c.config.ensures;
       called = c.in-Some.is;
       untold = sym c.reply.ensures ∙ c.in_default-reply.is;
       asks = sym c.asked_of.ensures.is ∙ c.in-Word.is;
     } in
     let is = given_is g.met.M.Manager.laws _ _ _ _ _ _ at c.need.new.self
-    c.returned-in-Some-reply_of.new.self c.in_ok-out.field-0 c.in-Have.out c.in-Some-reply_of.reply
-    c.close-in-Some-reply_of.new.self c.close-in-Some-reply_of.ensures c.in_ok-out.ensures.ok
-    c.returned-in-Some-reply_of.ensures.taken c.in_ok-out.ensures.need c.in-Have.is
-    (sym c.reply_of.ensures ∙ c.in-Some-reply_of.is) in
-    poll_memory g.met.M.Manager.laws _ _ _ _ _ _ at _ _ _ _ is
+    c.returned.new.self c.in_ok-out.field-0 c.in-Have.out c.in-Some-reply_of.reply
+    c.clear.new.self.calls c.close.new.self
+    (ap (λ (x : CallsAlong). x.calls) c.clear.ensures)
+    c.close.ensures c.in_ok-out.ensures.ok
+    c.returned.ensures.taken c.in_ok-out.ensures.need c.in-Have.is
+    (sym c.reply_of.ensures ∙ c.in-Some-reply_of.is) in (
+      poll_memory g.met.M.Manager.laws _ _ _ _ _ _ at _ _ _ _ _ is,
+      returned_size g.M.Manager.ops c.self.inside.coherence _ _ _ c.need.new.self c.returned.new.self _ (ap (λ (x : CallsAlong). x.size) c.clear.ensures ∙ c.self.invariant.1) c.in_ok-out.ensures.ok c.returned.ensures.taken,
+    )
 
 pub returns-in-Some-reply_of : goal.returns-in-Some-reply_of
 returns-in-Some-reply_of g c =
@@ -120,20 +126,22 @@ returns-in-Some-reply_of g c =
     c.in-Word.word =
     record {
       same = c.self.view_is;
-      sound = c.self.invariant;
+      sound = c.self.invariant.0;
       config = c.config.ensures;
       called = c.in-Some.is;
       untold = sym c.reply.ensures ∙ c.in_default-reply.is;
       asks = sym c.asked_of.ensures.is ∙ c.in-Word.is;
     } in
     let is = given_is g.met.M.Manager.laws _ _ _ _ _ _ at c.need.new.self
-    c.returned-in-Some-reply_of.new.self c.in_ok-out.field-0 c.in-Have.out c.in-Some-reply_of.reply
-    c.close-in-Some-reply_of.new.self c.close-in-Some-reply_of.ensures c.in_ok-out.ensures.ok
-    c.returned-in-Some-reply_of.ensures.taken c.in_ok-out.ensures.need c.in-Have.is
+    c.returned.new.self c.in_ok-out.field-0 c.in-Have.out c.in-Some-reply_of.reply
+    c.clear.new.self.calls c.close.new.self
+    (ap (λ (x : CallsAlong). x.calls) c.clear.ensures)
+    c.close.ensures c.in_ok-out.ensures.ok
+    c.returned.ensures.taken c.in_ok-out.ensures.need c.in-Have.is
     (sym c.reply_of.ensures ∙ c.in-Some-reply_of.is) in
     let posts = poll_posts g.met.M.Manager.laws _ _ _ _ _ _ at in
     record {
-      few = polled-few _ _ _ c.self.view_is c.self.invariant;
+      few = polled-few _ _ _ c.self.view_is c.self.invariant.0;
       reply = sym (ap (λ (x : CallBegun _). x.answer) is);
       ok = sym (ap (λ (x : CallBegun _). x.after) is);
       posted = c.in_ok-out.ensures.posted ∙ ap (g.P.Post.ops.after c.args.post.now) posts;
@@ -150,7 +158,7 @@ invariant_of-self-in-None g c =
     c.in-Word.word =
     record {
       same = c.self.view_is;
-      sound = c.self.invariant;
+      sound = c.self.invariant.0;
       config = c.config.ensures;
       called = c.in-Some.is;
       untold = sym c.reply.ensures ∙ c.in_default-reply.is;
@@ -158,8 +166,10 @@ invariant_of-self-in-None g c =
     } in
     let is = quiet_is g.met.M.Manager.laws _ _ _ _ _ _ at c.need.new.self c.in_ok-out.field-0
     c.in-Have.out c.in_ok-out.ensures.ok c.in_ok-out.ensures.need c.in-Have.is
-    (sym c.reply_of.ensures ∙ c.in-None.is) in
-    poll_memory g.met.M.Manager.laws _ _ _ _ _ _ at _ _ _ _ is
+    (sym c.reply_of.ensures ∙ c.in-None.is) in (
+      poll_memory g.met.M.Manager.laws _ _ _ _ _ _ at _ _ _ _ _ is,
+      begun_size g.M.Manager.ops c.self.inside.coherence _ _ _ c.need.new.self _ c.self.invariant.1 c.in_ok-out.ensures.ok,
+    )
 
 pub returns-in-None : goal.returns-in-None
 returns-in-None g c =
@@ -167,7 +177,7 @@ returns-in-None g c =
     c.in-Word.word =
     record {
       same = c.self.view_is;
-      sound = c.self.invariant;
+      sound = c.self.invariant.0;
       config = c.config.ensures;
       called = c.in-Some.is;
       untold = sym c.reply.ensures ∙ c.in_default-reply.is;
@@ -178,7 +188,7 @@ returns-in-None g c =
     (sym c.reply_of.ensures ∙ c.in-None.is) in
     let posts = poll_posts g.met.M.Manager.laws _ _ _ _ _ _ at in
     record {
-      few = polled-few _ _ _ c.self.view_is c.self.invariant;
+      few = polled-few _ _ _ c.self.view_is c.self.invariant.0;
       reply = sym (ap (λ (x : CallBegun _). x.answer) is);
       ok = sym (ap (λ (x : CallBegun _). x.after) is);
       posted = c.in_ok-out.ensures.posted ∙ ap (g.P.Post.ops.after c.args.post.now) posts;
@@ -195,17 +205,20 @@ invariant_of-self-in-Started g c =
     c.in-Word.word =
     record {
       same = c.self.view_is;
-      sound = c.self.invariant;
+      sound = c.self.invariant.0;
       config = c.config.ensures;
       called = c.in-Some.is;
       untold = sym c.reply.ensures ∙ c.in_default-reply.is;
       asks = sym c.asked_of.ensures.is ∙ c.in-Word.is;
     } in
     let is = starts_is g.met.M.Manager.laws _ _ _ _ _ _ at c.need.new.self
-    c.returned-in-Started.new.self c.in_ok-out.field-0 c.close-in-Started.new.self
-    c.close-in-Started.ensures c.in_ok-out.ensures.ok c.returned-in-Started.ensures.taken
-    c.in_ok-out.ensures.need c.in-Started.is in
-    poll_memory g.met.M.Manager.laws _ _ _ _ _ _ at _ _ _ _ is
+    c.returned-in-Started.new.self c.in_ok-out.field-0
+    c.clear-in-Started.new.self.calls c.close-in-Started.new.self
+    (ap (λ (x : CallsAlong). x.calls) c.clear-in-Started.ensures) c.close-in-Started.ensures c.in_ok-out.ensures.ok c.returned-in-Started.ensures.taken
+    c.in_ok-out.ensures.need c.in-Started.is in (
+      poll_memory g.met.M.Manager.laws _ _ _ _ _ _ at _ _ _ _ _ is,
+      returned_size g.M.Manager.ops c.self.inside.coherence _ _ _ c.need.new.self c.returned-in-Started.new.self _ (ap (λ (x : CallsAlong). x.size) c.clear-in-Started.ensures ∙ c.self.invariant.1) c.in_ok-out.ensures.ok c.returned-in-Started.ensures.taken,
+    )
 
 pub returns-in-Started : goal.returns-in-Started
 returns-in-Started g c =
@@ -213,19 +226,20 @@ returns-in-Started g c =
     c.in-Word.word =
     record {
       same = c.self.view_is;
-      sound = c.self.invariant;
+      sound = c.self.invariant.0;
       config = c.config.ensures;
       called = c.in-Some.is;
       untold = sym c.reply.ensures ∙ c.in_default-reply.is;
       asks = sym c.asked_of.ensures.is ∙ c.in-Word.is;
     } in
     let is = starts_is g.met.M.Manager.laws _ _ _ _ _ _ at c.need.new.self
-    c.returned-in-Started.new.self c.in_ok-out.field-0 c.close-in-Started.new.self
-    c.close-in-Started.ensures c.in_ok-out.ensures.ok c.returned-in-Started.ensures.taken
+    c.returned-in-Started.new.self c.in_ok-out.field-0
+    c.clear-in-Started.new.self.calls c.close-in-Started.new.self
+    (ap (λ (x : CallsAlong). x.calls) c.clear-in-Started.ensures) c.close-in-Started.ensures c.in_ok-out.ensures.ok c.returned-in-Started.ensures.taken
     c.in_ok-out.ensures.need c.in-Started.is in
     let posts = poll_posts g.met.M.Manager.laws _ _ _ _ _ _ at in
     record {
-      few = polled-few _ _ _ c.self.view_is c.self.invariant;
+      few = polled-few _ _ _ c.self.view_is c.self.invariant.0;
       reply = sym (ap (λ (x : CallBegun _). x.answer) is);
       ok = sym (ap (λ (x : CallBegun _). x.after) is);
       posted = c.in_ok-out.ensures.posted ∙ ap (g.P.Post.ops.after c.args.post.now) posts;
@@ -242,15 +256,17 @@ invariant_of-self-in-Busy g c =
     c.in-Word.word =
     record {
       same = c.self.view_is;
-      sound = c.self.invariant;
+      sound = c.self.invariant.0;
       config = c.config.ensures;
       called = c.in-Some.is;
       untold = sym c.reply.ensures ∙ c.in_default-reply.is;
       asks = sym c.asked_of.ensures.is ∙ c.in-Word.is;
     } in
     let is = waits_is g.met.M.Manager.laws _ _ _ _ _ _ at c.need.new.self c.in_ok-out.field-0
-    c.in_ok-out.ensures.ok c.in_ok-out.ensures.need c.in-Busy.is in
-    poll_memory g.met.M.Manager.laws _ _ _ _ _ _ at _ _ _ _ is
+    c.in_ok-out.ensures.ok c.in_ok-out.ensures.need c.in-Busy.is in (
+      poll_memory g.met.M.Manager.laws _ _ _ _ _ _ at _ _ _ _ _ is,
+      begun_size g.M.Manager.ops c.self.inside.coherence _ _ _ c.need.new.self _ c.self.invariant.1 c.in_ok-out.ensures.ok,
+    )
 
 pub returns-in-Busy : goal.returns-in-Busy
 returns-in-Busy g c =
@@ -258,7 +274,7 @@ returns-in-Busy g c =
     c.in-Word.word =
     record {
       same = c.self.view_is;
-      sound = c.self.invariant;
+      sound = c.self.invariant.0;
       config = c.config.ensures;
       called = c.in-Some.is;
       untold = sym c.reply.ensures ∙ c.in_default-reply.is;
@@ -268,7 +284,7 @@ returns-in-Busy g c =
     c.in_ok-out.ensures.ok c.in_ok-out.ensures.need c.in-Busy.is in
     let posts = poll_posts g.met.M.Manager.laws _ _ _ _ _ _ at in
     record {
-      few = polled-few _ _ _ c.self.view_is c.self.invariant;
+      few = polled-few _ _ _ c.self.view_is c.self.invariant.0;
       reply = sym (ap (λ (x : CallBegun _). x.answer) is);
       ok = sym (ap (λ (x : CallBegun _). x.after) is);
       posted = c.in_ok-out.ensures.posted ∙ ap (g.P.Post.ops.after c.args.post.now) posts;

@@ -11,10 +11,10 @@ loop-init c = record { on = stays _ _ refl refl; config = refl }
 
 pub loop-preserved : goal.loop-preserved
 loop-preserved c =
-    let s = c.self.inside.lone.site in
+    let s = c.self.inside.site in
     let s' = c.go_on_with.new.self in
-    let was : c.loop.self ≡ served c.self.inside.lone.site (string_bytes c.self.inside.lines) = search rules in
-    let once : AfterOnce (Some c.in-Some.string) c.args.from c.self.inside.lone.site c.go_on_with.new.self =
+    let was : c.loop.self ≡ served c.self.inside.site (string_bytes c.self.inside.lines) = search rules in
+    let once : AfterOnce (Some c.in-Some.string) c.args.from c.self.inside.site c.go_on_with.new.self =
     subst (λ o. AfterOnce o c.args.from s s') c.in-Some.is c.in_ok-string.ensures.done in
     let one : GoesOn c.loop.self c.note.new.self =
     noted-one (Delivered c.in-Some.string) c.loop.self c.note.new.self s s'

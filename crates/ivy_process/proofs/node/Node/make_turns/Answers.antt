@@ -7,7 +7,7 @@ use Rattle.ivy_process.proofs.node.Node.make_turns.Goals as goal
 
 pub returns-in_ok-note : goal.returns-in_ok-note
 returns-in_ok-note c =
-    let was : c.args.self.now ≡ served c.self.inside.lone.site (string_bytes c.self.inside.lines) = search rules in
-    noted-one (Turns c.in_ok-made.made) c.args.self.now c.note.new.self c.self.inside.lone.site
+    let was : c.args.self.now ≡ served c.self.inside.site (string_bytes c.self.inside.lines) = search rules in
+    noted-one (Turns c.in_ok-made.made) c.args.self.now c.note.new.self c.self.inside.site
     c.make_turns.new.site (string_bytes c.self.inside.lines) was c.in_ok-made.ensures
     c.in_ok-note.ensures

@@ -8,10 +8,10 @@ use Rattle.ivy_process.proofs.node.Node.pulse_to.Goals as goal
 
 pub returns-in_ok-note : goal.returns-in_ok-note
 returns-in_ok-note c =
-    let s = c.self-2.inside.lone.site in
-    let was : c.take_frames.new.self ≡ served c.self-2.inside.lone.site (string_bytes c.self-2.inside.lines) =
+    let s = c.self-2.inside.site in
+    let was : c.take_frames.new.self ≡ served c.self-2.inside.site (string_bytes c.self-2.inside.lines) =
     search rules in
-    let none : c.self-2.inside.lone.site.waiting ≡ [] =
+    let none : c.self-2.inside.site.waiting ≡ [] =
     ap (λ (x : Served). x.site.waiting) (sym was) ∙ c.in_ok-take_frames.ensures.none in
     let one : GoesOn c.take_frames.new.self c.note.new.self =
     noted-one (Pulsed c.args.to) c.take_frames.new.self c.note.new.self s c.pulse.new.self

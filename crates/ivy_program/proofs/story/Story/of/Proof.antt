@@ -37,9 +37,9 @@ of_spec 𝓤 𝓛 𝓜 𝓡 wired T Y L LY g d _ =
     proved 𝓛 En hs c 𝓜 𝓡 (Goes-dropped 𝓛 3 arg yes (λ κs x f. refl), tt) (#self inst) fn (code.unfolded 𝓤 H 𝓜 𝓡 wired (T, (Y, tt)) d)
     (λ κs. (shr_vals, tt)) (λ κs. (shr_Tells (named 0) κs.0 R, tt)) (λ κs qs bounds a gh are.
     let p : Val = vptr a.0.ref_ptr.0 a.0.ref_ptr.1 in
-    let r : Story.the_row.Denot = record { marker = record {}; calls = g.calls a.0.now } in
+    let r : Story.the_row.Denot = record { marker = record {}; rows = g.rows a.0.now } in
     let F : Fml = Story.the_row.own_val r (one ∷ []) in
-    let Same : Type 0 = g.calls a.0.now ≡ g.calls a.0.now in
+    let Same : Type 0 = g.rows a.0.now ≡ g.rows a.0.now in
     let y : (walk_of 𝓛 En hs c).Ghost = ((κs, qs, bounds, a, (p ∷ [], tt)), gh) in let Post : Val → SProp 𝓤 = (walk_of 𝓛 En hs c).post y in
     qed 𝓛 ((raw (alive 𝓛 En.signature κs qs) ⊛ ‵ (owns (types_at En.signature.params κs) a y.0.4)) ∷ raw ((c κs a).requires gh) ∷ []) ∵ split ! $ keep ! (0 ∷ []) $
     enter ! 𝓣.C 𝓣.Λ fn (p ∷ []) Post $ alloc_all ! (λ l. pass_all ! refl ((tt, tt), tt) $

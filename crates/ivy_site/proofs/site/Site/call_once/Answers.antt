@@ -13,16 +13,16 @@ make-requires-clause-idle g c =
 pub returns-in_err-reply-clause-spent : goal.returns-in_err-reply-clause-spent
 returns-in_err-reply-clause-spent g c =
     err_there c.from_residual-in_err-reply.result _ _ c.from_residual-in_err-reply.ensures.1
-    (spent_turn _ _ (ap (site_handed (c.args.call ∷ [])) c.self.view_is)
-    (process_handed (c.args.call ∷ []) c.self.inside.machine) c.reserve.new.self.records _
+    (spent_turn _ _ (ap (site_handed ((c.args.call ∷ []) ∷ [])) c.self.view_is)
+    (process_handed ((c.args.call ∷ []) ∷ []) c.self.inside.machine) c.reserve.new.self.records _
     (record { process = refl; history = c.in_ok-reserve.ensures.records })
     c.in_err-reply.ensures.spent)
 
 pub invariant_of-self-2 : goal.invariant_of-self-2
 invariant_of-self-2 g c = (
-  called_site _ (process_handed (c.args.call ∷ []) c.self.inside.machine) c.reserve.new.self.records
+  called_site _ (process_handed ((c.args.call ∷ []) ∷ []) c.self.inside.machine) c.reserve.new.self.records
       _ c.make.new.outbox _ _
-      (handed_site (c.args.call ∷ []) _ c.self.invariant.0 (c.is_free.ensures.free.0 (search rules)))
+      (handed_site ((c.args.call ∷ []) ∷ []) _ c.self.invariant.0 (c.is_free.ensures.free.0 (search rules)))
       (record { process = refl; history = c.in_ok-reserve.ensures.records })
       c.in_ok-reply.ensures.ok c.in_ok-reserve-2.ensures.same c.push_turn.ensures.marks,
   (
@@ -33,8 +33,8 @@ invariant_of-self-2 g c = (
 
 pub returns-clause-done : goal.returns-clause-done
 returns-clause-done g c = record {
-  turns = called_turn _ _ (ap (site_handed (c.args.call ∷ [])) c.self.view_is)
-      (process_handed (c.args.call ∷ []) c.self.inside.machine) c.reserve.new.self.records _
+  turns = called_turn _ _ (ap (site_handed ((c.args.call ∷ []) ∷ [])) c.self.view_is)
+      (process_handed ((c.args.call ∷ []) ∷ []) c.self.inside.machine) c.reserve.new.self.records _
       c.make.new.outbox _ _
       (record { process = refl; history = c.in_ok-reserve.ensures.records })
       c.in_ok-reply.ensures.ok

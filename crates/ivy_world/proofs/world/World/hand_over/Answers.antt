@@ -15,7 +15,7 @@ invariant_of-self g c =
     let below = c.requires.node in
     let l : c.args.node < length c.self.inside.sites.items = omega (arith, count, nodes, below) in
     after_running c.self.inside.config c.self.inside.sites.items c.self.inside.sent.items
-    c.self.inside.passed c.args.node (c.args.call ∷ []) c.self.invariant.0 c.self.invariant.1 l
+    c.self.inside.passed c.args.node ((c.args.call ∷ []) ∷ []) c.self.invariant.0 c.self.invariant.1 l
     c.hand.result c.hand.new.sites.items
     (record { ok = c.hand.ensures.ok; err = c.hand.ensures.err })
 
@@ -28,7 +28,7 @@ returns-clause-ok g c =
     let l : c.args.node < length c.self.inside.sites.items = omega (arith, count, nodes, below) in
     rw (← c.self.view_is)
     (after_run c.self.inside.config c.self.inside.sites.items c.self.inside.sent.items
-    c.self.inside.passed c.args.node (c.args.call ∷ []) c.self.invariant.0 c.self.invariant.1 l
+    c.self.inside.passed c.args.node ((c.args.call ∷ []) ∷ []) c.self.invariant.0 c.self.invariant.1 l
     c.hand.result c.hand.new.sites.items
     (record { ok = c.hand.ensures.ok; err = c.hand.ensures.err }))
 

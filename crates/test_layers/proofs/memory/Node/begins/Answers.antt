@@ -1,4 +1,4 @@
-use Rattle.std.proofs.Common.{ap, refl, sym, ◌∙◌}
+use Rattle.std.proofs.Common.{[], ap, refl, sym, ◌∙◌}
 use Rattle.test_layers.proofs.Unposted.{unasked}
 use Rattle.ivy_host.specs.ivy_fixed.Fixed.{fixed_ops}
 use Rattle.ivy_host.proofs.of_ivy_memory.Tame.{call-same}
@@ -7,7 +7,7 @@ use Rattle.test_layers.proofs.memory.Node.begins.Goals.{in-Ok, in-Err}
 
 pub invariant_of-self : goal.invariant_of-self
 invariant_of-self g c =
-    let same = call-same fixed_ops c.self.inside.memory c.args.call c.args.number in
+    let same = call-same fixed_ops c.self.inside.memory c.args.call [] c.args.number in
     elim c.match-begin.branch [
       | in-Ok w ↦ (
         ap (λ x. x.coherence.config) w.in-Ok.ensures.ok ∙ same.config ∙ c.self.invariant.0,

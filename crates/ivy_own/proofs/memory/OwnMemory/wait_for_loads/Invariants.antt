@@ -1,0 +1,9 @@
+use Rattle.std.proofs.Common.{◌≡◌, length}
+use Rattle.ivy_own.proofs.memory.OwnMemory.wait_for_loads.Given as goal
+
+abbrev pub invariant-loop : goal.invariant-loop
+invariant-loop g l = record {
+  waits : l.self-inside.mine ≡ l.fn.self;
+  me : l.self-inside.mine.number ≡ l.self-inside.me;
+  sized : length l.into ≡ length l.fn.into;
+}

@@ -1,0 +1,20 @@
+-- A call that was answered at once.
+use Rattle.std.proofs.Common.{◌≡◌, List, [], ◌∷◌, ◌++◌, subst, sym}
+use Rattle.ivy_model.specs.declared.Call.{Call}
+use Rattle.ivy_program.specs.Owned.{awaiting, process_handed}
+use Rattle.ivy_program.specs.Steps.{HasEnded, Process, answered_with}
+use Rattle.ivy_program.proofs.Awaited.{handed_answered, none_left}
+use Rattle.ivy_program.proofs.caller.Caller.hand_answered.Goals as goal
+
+pub returns : goal.returns
+returns c = λ reply.
+    let was = c.self.inside in
+    let none = none_left was.told.rows was.last was.left c.self.invariant
+    (subst HasEnded (sym c.self.view_is) c.requires.free) in
+    subst (λ (rows : List (List Call)). awaiting rows was.left
+    ≡ answered_with (process_handed ((c.args.call ∷ []) ∷ []) c.args.self.now) reply)
+    (sym c.push.ensures)
+    (subst (λ (p : Process). awaiting (was.told.rows ++ (c.args.call ∷ []) ∷ []) was.left
+    ≡ answered_with (process_handed ((c.args.call ∷ []) ∷ []) p) reply)
+    c.self.view_is
+    (handed_answered was.told.rows was.left c.args.call reply none))

@@ -1,0 +1,97 @@
+-- Calls of own code that are made together: the turn in which the first of them begins.
+use Rattle.std.proofs.Common.{◌≡◌, ℕ, zero, suc, ◌+◌, ◌-◌, ◌%◌, ◌≤◌, true, List, [], ◌∷◌, Some, None, drop, length, min, if◌then◌else◌, refl, sym, ap, ◌∙◌, subst, arith}
+use Rattle.std.specs.Prelude.{All}
+use Rattle.ivy_model.specs.declared.Call.{Call}
+use Rattle.ivy_model.specs.declared.Config.{Config}
+use Rattle.ivy_model.specs.declared.Record.{Record}
+use Rattle.ivy_model.specs.declared.Row.{Row}
+use Rattle.ivy_model.specs.Legal.{HasWidth}
+use Rattle.ivy_model.specs.Rows.{calls_of, numbers_in, row}
+use Rattle.ivy_host.specs.Managers.{Managed, managed_ops}
+use Rattle.ivy_host.specs.Hosts.{Host}
+use Rattle.ivy_host.specs.ivy_memory.Memories.{NodeMemory, call_begun, in_progress}
+use Rattle.ivy_host.specs.ivy_memory.Rows.{first_call, other_calls, row_begun, row_has_to_wait}
+use Rattle.ivy_program.specs.Owned.{Rests, process_handed}
+use Rattle.ivy_program.specs.Steps.{Process}
+use Rattle.ivy_program.proofs.Awaited.{row_wide, together_asks, together_along}
+use Rattle.ivy_pagetable.specs.Rows.{row_len}
+use Rattle.ivy_site.specs.Calls.{BeginsRow, row_together}
+use Rattle.ivy_site.specs.Handed.{site_handed}
+use Rattle.ivy_site.specs.Inside.{host_of}
+use Rattle.ivy_site.specs.Shown.{Shown}
+use Rattle.ivy_site.specs.Sites.{SiteTurns}
+use Rattle.ivy_site.proofs.Calling.{IsCall, IsNumbered, begin_call}
+
+-- the calls of a row: the first, and the others
+pub row_split : (kind : Row) (addr words : ℕ) (bytes : List ℕ) → 1 ≤ words
+    → calls_of (row kind 0 addr (numbers_in words bytes))
+    ≡ first_call kind addr bytes ∷ other_calls kind addr words bytes
+row_split kind addr zero bytes some = absurd (omega (arith, some))
+row_split kind addr (suc n) bytes some =
+    ap (λ (k : ℕ). first_call kind addr bytes
+    ∷ calls_of (row kind 0 (addr + 8) (numbers_in k (drop 8 bytes))))
+    (let e : n ≡ suc n - 1 = omega arith in e)
+
+module _ (m : NodeMemory Managed) (p : Process) (history : List Record) (rests : Rests p)
+    (idle : m.asked ≡ None) where
+  -- these calls are made together
+  abbrev made : List Call → Host Managed
+  made calls = host_of m (process_handed (calls ∷ []) p) history
+
+  together : (k : Call) (others : List Call) (number : ℕ) → All HasWidth (k ∷ others)
+      → IsNumbered (made (k ∷ others)) number
+      → IsCall (made (k ∷ others)) k (call_begun managed_ops m k others number)
+  together k others number wide n =
+      subst (λ (ks : List Call). IsCall (made (k ∷ others)) k (call_begun managed_ops m k ks number))
+      (together_along p rests k others wide)
+      (begin_call (made (k ∷ others)) k number n idle (together_asks p rests k others wide))
+
+  -- those of a row
+  pub row_begins : (kind : Row) (addr words : ℕ) (bytes : List ℕ) (number : ℕ) → 1 ≤ words
+      → IsNumbered (made (calls_of (row kind 0 addr (numbers_in words bytes)))) number
+      → IsCall (made (calls_of (row kind 0 addr (numbers_in words bytes)))) (first_call kind addr bytes)
+      (row_begun managed_ops m kind addr words bytes number)
+  row_begins kind addr words bytes number some n =
+      let split = row_split kind addr words bytes some in
+      subst (λ (ks : List Call). IsCall (made ks) (first_call kind addr bytes)
+      (row_begun managed_ops m kind addr words bytes number)) (sym split)
+      (together (first_call kind addr bytes) (other_calls kind addr words bytes) number
+      (subst (All HasWidth) split (row_wide kind 0 addr (numbers_in words bytes)))
+      (record { is = n.is; below = n.below }))
+
+-- the row that a site begins
+pub begins_row : (n new : Shown) (kind : Row) (addr words : ℕ) (bytes : List ℕ) → 1 ≤ words
+    → SiteTurns (site_handed (calls_of (row kind 0 addr (numbers_in words bytes)) ∷ []) n) new
+    → new.node.core.history ≡ n.node.core.history
+    → new.node.core.memory.asked ≡ Some (first_call kind addr bytes)
+    → new.node.core.memory.along ≡ other_calls kind addr words bytes
+    → BeginsRow (calls_of (row kind 0 addr (numbers_in words bytes))) n new
+begins_row n new kind addr words bytes some turns recorded asked along =
+    let split = row_split kind addr words bytes some in
+    subst (λ (ks : List Call). BeginsRow ks n new) (sym split)
+    (record {
+      turns = subst (λ (ks : List Call). SiteTurns (site_handed (ks ∷ []) n) new) split turns;
+      recorded = recorded;
+      waits = (λ j. in_progress (asked j) (along j));
+    })
+
+-- how many calls it has, as the code has it
+pub together_is : (n v : Shown) → v ≡ n → (kind : Row) (addr words len many : ℕ)
+    → row_has_to_wait v.node.core.memory kind addr ≡ true → (c : Config) → c ≡ v.config
+    → many ≡ min words (row_len c.page_size (addr % c.page_size) len)
+    → row_together n kind addr words len ≡ many
+together_is n v same kind addr words len many waits c config is =
+    ap (λ (s : Shown). row_together s kind addr words len) (sym same)
+    ∙ ap (λ b. if b then min words (row_len v.config.page_size (addr % v.config.page_size) len) else 0)
+    waits
+    ∙ ap (λ (k : Config). min words (row_len k.page_size (addr % k.page_size) len)) (sym config)
+    ∙ sym is
+
+-- whether there are calls along, told by their number
+pub none_along : (calls : List Call) (k : ℕ) → k ≡ length calls → k ≡ 0 → calls ≡ []
+none_along [] k is none = refl
+none_along (call ∷ calls) k is none =
+    absurd (let e : length (call ∷ calls) ≡ suc (length calls) = refl in omega (arith, is, none, e))
+
+pub along_none : (calls : List Call) (k : ℕ) → k ≡ length calls → calls ≡ [] → k ≡ 0
+along_none calls k is none = is ∙ ap length none
