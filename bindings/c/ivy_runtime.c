@@ -439,6 +439,24 @@ static void go_on_at_once(ivy_process *p, row *r) {
   r->done += 8 * words;
 }
 
+/* The words for whose page is waited, all at once. Where no word has to wait, or there is a log, none. */
+static void go_on_together(ivy_process *p, row *r) {
+  size_t words = 0, left = r->len - r->done;
+  uint64_t address = r->address + r->done;
+  uint32_t status;
+  if (p->log || !left) return;
+  if (r->kind == IVY_LOAD) status = ivy_begin_load_block(&p->node, address, r->into + r->done, left, &words);
+  else status = ivy_begin_store_block(&p->node, address, r->from + r->done, left, &words);
+  if (status != IVY_PENDING) return;
+  send_frames(p);
+  for (words = 0; !words;) {
+    wait_on(p);
+    if (r->kind == IVY_LOAD) ivy_take_load_block(&p->node, address, r->into + r->done, left, &words);
+    else ivy_take_store_block(&p->node, address, r->from + r->done, left, &words);
+  }
+  r->done += 8 * words;
+}
+
 /* One word, by a call that may wait. */
 static uint32_t go_on_by_call(ivy_process *p, row *r) {
   const call c = { r->kind, 8, r->address + r->done, r->kind == IVY_STORE ? get64(r->from + r->done) : 0, 0 };
@@ -450,13 +468,15 @@ static uint32_t go_on_by_call(ivy_process *p, row *r) {
   return status;
 }
 
-/* What is here; or a word for which a page is waited for, and then, before others take the page again, what is with it. */
+/* What is here; or what a page is waited for, in one; or a word, and then, before others take its page again, what is with
+ * it. */
 static uint32_t carry_out(ivy_process *p, row r) {
   uint32_t status = r.len % 8 ? (uint32_t)IVY_BAD_ARGUMENT : (uint32_t)IVY_DONE;
   while (status == IVY_DONE && r.done < r.len) {
     size_t before = r.done;
     enter(p);
     go_on_at_once(p, &r);
+    if (r.done == before) go_on_together(p, &r);
     if (r.done == before && (status = go_on_by_call(p, &r)) == IVY_DONE) go_on_at_once(p, &r);
     leave(p);
   }

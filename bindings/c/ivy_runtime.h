@@ -75,10 +75,10 @@ uint64_t ivy_alloc(ivy_process *process, uint64_t bytes);
 void ivy_free(ivy_process *process, uint64_t address);
 
 /* Reads or writes `len` bytes from an address on, which are whole words of 8: one after another as ivy_call would, those
- * of a page that is here at once. Others may write meanwhile wherever the page changes or has to be waited for. In the
- * buffer each word has its highest byte first. IVY_DONE; IVY_BAD_ARGUMENT where `len` is no multiple of 8, and nothing was
- * done; or the refusal of the first word that was refused, and those before it were carried out. Where a log is written
- * they go word by word, so that it has lines for each call. */
+ * of a page that is here, or that comes, at once. Others may write meanwhile wherever the page changes or has to be waited
+ * for. In the buffer each word has its highest byte first. IVY_DONE; IVY_BAD_ARGUMENT where `len` is no multiple of 8, and
+ * nothing was done; or the refusal of the first word that was refused, and those before it were carried out. Where a log is
+ * written they go word by word, so that it has lines for each call. */
 uint32_t ivy_read(ivy_process *process, uint64_t address, void *into, size_t len);
 uint32_t ivy_write(ivy_process *process, uint64_t address, const void *from, size_t len);
 

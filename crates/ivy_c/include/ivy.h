@@ -17,9 +17,9 @@
  *
  * OWNERSHIP. An ivy_node begins as IVY_NONE. Its member is neither read nor written. It is never copied while open; it
  * may be moved to another thread. Two threads are never inside functions of one node at once: take a lock round them.
- * Different nodes are independent. No pointer is null, but for `bytes` and `from` where `len` is 0, and no memory that is
- * passed overlaps other memory that is passed and written. A node owns memory until ivy_close: its pages, strings that
- * came early, and what peers have not acknowledged.
+ * Different nodes are independent. No pointer is null, but for `bytes`, `from` and `room` where `len` is 0, and no memory
+ * that is passed overlaps other memory that is passed and written. A node owns memory until ivy_close: its pages, strings
+ * that came early, and what peers have not acknowledged.
  *
  * UNITS. Addresses and sizes are in bytes. A word has 1, 2, 4 or 8 bytes and is a number; in a page it is big-endian,
  * which only blocks show. The first page holds the eventcounts, page_size / 8 of them, numbered from 0; the heap begins at
@@ -165,8 +165,9 @@ uint32_t ivy_reply(ivy_node *node, uint64_t *value);
  * these words is not to be used after ivy_load_block. The buffer is the caller's, and is not kept.
  *
  * IVY_DONE with *words 0: nothing was done. The page is not here, or not here to be written; the address is no multiple of
- * 8, or no word of the heap is there; a call is in progress; the buffer has less than 8 bytes. Then make the first word's
- * call by ivy_begin: it asks for the page, or its status says what is wrong. While the page is here, blocks go on.
+ * 8, or no word of the heap is there; a call is in progress; the buffer has less than 8 bytes. Then begin what is left as a
+ * block that waits (below), or make the first word's call by ivy_begin: each asks for the page, and the status of the call
+ * says what is wrong. While the page is here, blocks go on.
  *
  * No string waits after a block that did not wait before, and none takes memory: such a node keeps no list of its calls.
  * A driver that keeps a log with a line for each call makes the calls one by one instead. */
@@ -177,9 +178,42 @@ uint32_t ivy_load_block(ivy_node *node, uint64_t address, uint8_t *into, size_t 
 /* Stores a block: IVY_DONE, with the number of words, CLOSED. */
 uint32_t ivy_store_block(ivy_node *node, uint64_t address, const uint8_t *from, size_t len, size_t *words);
 
+/* ---- Blocks that wait ---------------------------------------------------------------------------------------------
+ *
+ * Where the page of a block is not here, the calls of its words are made together, and the first of them asks for the
+ * page. When it comes all of them are carried out, before another node can take it again, and their replies are taken at
+ * once:
+ *
+ *   1. ivy_load_block, and for what it leaves again, while it loads any. 0 words: go on here.
+ *   2. ivy_begin_load_block of what is left. IVY_PENDING: the calls of *words words are in progress, and cannot be
+ *      withdrawn. IVY_DONE with *words 0: nothing was done, so make the first word's call by ivy_begin.
+ *   3. Take the strings that wait, as after each call, and ask ivy_take_load_block after each ivy_deliver, until it gives
+ *      words: they are all of those that began, and no call is in progress. Go on with what is left of the block.
+ *
+ * Stores are begun by ivy_begin_store_block and taken by ivy_take_store_block, in the same way.
+ *
+ * Whoever may make a call may begin a block: while one is in progress, calls are refused, blocks do nothing, and strings
+ * and pulses go on. ivy_reply takes the reply of the first word that has none yet, as of any call; then those left are
+ * taken by ivy_reply, or from the next word's address on. No buffer is kept: the replies may be taken into another one. */
+
+/* Makes the loads, or the stores, of words from `address` on together, where the first has to wait: as many as lie in
+ * `len` bytes whole and from `address` to the end of its page. No byte of `room` is read or written: the buffer for the
+ * words will do. IVY_PENDING, with how many. IVY_DONE with *words 0: nothing was done; the first word need not wait, or is
+ * none of the heap, `len` is less than 8, or a call is in progress. MEMORY, NUMBERS_SPENT: no call was made, and nothing
+ * changed. CLOSED. */
+uint32_t ivy_begin_load_block(ivy_node *node, uint64_t address, const uint8_t *room, size_t len, size_t *words);
+uint32_t ivy_begin_store_block(ivy_node *node, uint64_t address, const uint8_t *from, size_t len, size_t *words);
+
+/* Takes the replies to all calls in progress, where they are loads of words from just this address on, or stores there of
+ * just the words at the head of `from`, the replies are there, and all of the words lie in `len` bytes: IVY_DONE, with how
+ * many. Loaded words stand at the head of `into`. IVY_DONE with *words 0: nothing was done, and what stands in `into` is
+ * not to be used. No string waits that did not before, and none takes memory. CLOSED. */
+uint32_t ivy_take_load_block(ivy_node *node, uint64_t address, uint8_t *into, size_t len, size_t *words);
+uint32_t ivy_take_store_block(ivy_node *node, uint64_t address, const uint8_t *from, size_t len, size_t *words);
+
 /* How many turns the node has had since it was opened, modulo 2^64. An ivy_begin and an ivy_reply has one turn or none,
- * whatever its status, a block one for each of its words, and nothing else has any: so a driver that keeps a log of the
- * node knows which had one. It changes nothing. IVY_DONE, CLOSED. */
+ * whatever its status, a block that is carried out or taken one for each of its words, one that begins one, and nothing
+ * else has any: so a driver that keeps a log of the node knows which had one. It changes nothing. IVY_DONE, CLOSED. */
 uint32_t ivy_turns(ivy_node *node, uint64_t *turns);
 
 /* ---- Strings ------------------------------------------------------------------------------------------------------ */

@@ -9,7 +9,7 @@ ghost use Rattle.std.specs.Mem.{manually_drop_value};
 ghost use Rattle.ivy_model.specs.declared.Config.{Config};
 ghost use Rattle.ivy_model.specs.declared.Row.TheVariants.{Loads, Stores};
 ghost use Rattle.ivy_embedded.specs.Nodes.{first_embedded};
-ghost use Rattle.ivy_embedded.specs.Exports.{Answers, Begins, CarriesOut, Delivers, IsConfigOf, IsRequest, Polls, Pulses, RefusesCall, RefusesPoll, RefusesPulse, RefusesString, TakesAt};
+ghost use Rattle.ivy_embedded.specs.Exports.{Answers, Begins, BeginsBlock, CarriesOut, Delivers, IsConfigOf, IsRequest, Polls, Pulses, RefusesCall, RefusesPoll, RefusesPulse, RefusesString, TakesAt, TakesBlock, TellsWant};
 ghost use Rattle.ivy_embedded.specs.Peers.{KeepsFor, OwesTo, TellsThose};
 ghost use Rattle.ivy_embedded.specs.Turns.{TellsTurns};
 
@@ -18,9 +18,10 @@ mod handle;
 pub use handle::{Handle, Held};
 use handle::{end, held};
 use ivy_embedded::{
-    BAD_ARGUMENT, BAD_CONFIG, CLOSED, DONE, Embedded, MEMORY, NO_CALL, NO_FRAME, OPEN,
+    BAD_ARGUMENT, BAD_CONFIG, CLOSED, DONE, Embedded, MEMORY, NO_CALL, NO_FRAME, OPEN, PENDING,
     SHORT_BUFFER, Taken, call_of, config_of, status_of, tell, verdict_number,
 };
+use ivy_model::Row;
 use std::alloc::Global;
 use std::mem::replace;
 
@@ -186,6 +187,104 @@ pub extern "C" fn ivy_store_block(
         return CLOSED;
     };
     *words = node.store_row(addr, from);
+    put(alloc, handle, node);
+    DONE
+}
+
+/// The calls of words of 8 bytes in a row from an address on are made together, where the first has to wait, and it is
+/// told how many: as many as the bytes have, and as lie in the page of the address.
+fn begin_block(
+    alloc: Global,
+    handle: &mut Handle,
+    kind: Row,
+    addr: u64,
+    bytes: &[u8],
+    words: &mut usize,
+) -> u32
+    ensures { Answers result handle.old.held handle.new.held (BeginsBlock kind addr bytes.now result words.new) (λ _. TellsWant result) }
+{
+    let Some(mut node) = take(alloc, handle) else {
+        return CLOSED;
+    };
+    let begun = node.call_row(kind, addr, bytes.len() / 8, bytes);
+    put(alloc, handle, node);
+    match begun {
+        Ok(many) => {
+            *words = many;
+            if many == 0 { DONE } else { PENDING }
+        }
+        Err(fault) => status_of(fault),
+    }
+}
+
+/// The loads of words of 8 bytes in a row from an address on, for which a buffer has room, are made together, where the
+/// first has to wait, and it is told how many. Where it is none nothing was done. No byte of the buffer is looked at, or
+/// kept.
+#[unsafe(no_mangle)]
+pub extern "C" fn ivy_begin_load_block(
+    alloc: Global,
+    handle: &mut Handle,
+    addr: u64,
+    room: &[u8],
+    words: &mut usize,
+) -> u32
+    ensures { Answers result handle.old.held handle.new.held (BeginsBlock Loads addr room.now result words.new) (λ _. TellsWant result) }
+{
+    begin_block(alloc, handle, Row::Loads, addr, room, words)
+}
+
+/// The stores of the words of 8 bytes of a buffer in a row from an address on are made together, as those of loads are by
+/// [`ivy_begin_load_block`]. The buffer is not kept.
+#[unsafe(no_mangle)]
+pub extern "C" fn ivy_begin_store_block(
+    alloc: Global,
+    handle: &mut Handle,
+    addr: u64,
+    from: &[u8],
+    words: &mut usize,
+) -> u32
+    ensures { Answers result handle.old.held handle.new.held (BeginsBlock Stores addr from.now result words.new) (λ _. TellsWant result) }
+{
+    begin_block(alloc, handle, Row::Stores, addr, from, words)
+}
+
+/// The replies to loads in a row from an address on, which are in progress, are taken at once, where they are there and the
+/// buffer has room for all of their words, and it is told how many. Where it is none nothing was done.
+#[unsafe(no_mangle)]
+pub extern "C" fn ivy_take_load_block(
+    alloc: Global,
+    handle: &mut Handle,
+    addr: u64,
+    into: &mut [u8],
+    words: &mut usize,
+) -> u32
+    ensures taken { Answers result handle.old.held handle.new.held (TakesBlock Loads addr into.new result words.new) (λ _. ⊥) }
+    ensures sized { length into.new ≡ length into.old }
+{
+    let Some(mut node) = take(alloc, handle) else {
+        return CLOSED;
+    };
+    *words = node.take_loads(addr, into);
+    put(alloc, handle, node);
+    DONE
+}
+
+/// The replies to stores of the words at the head of a buffer in a row from an address on, which are in progress, are
+/// taken, as those of loads are by [`ivy_take_load_block`].
+#[unsafe(no_mangle)]
+pub extern "C" fn ivy_take_store_block(
+    alloc: Global,
+    handle: &mut Handle,
+    addr: u64,
+    from: &[u8],
+    words: &mut usize,
+) -> u32
+    ensures { Answers result handle.old.held handle.new.held (TakesBlock Stores addr from.now result words.new) (λ _. ⊥) }
+{
+    let Some(mut node) = take(alloc, handle) else {
+        return CLOSED;
+    };
+    *words = node.take_stores(addr, from);
     put(alloc, handle, node);
     DONE
 }

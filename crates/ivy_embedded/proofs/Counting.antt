@@ -1,10 +1,10 @@
 -- What a site does to the number of turns that it lists: a turn is one more, a row one more for each
--- of its words, and nothing else is.
-use Rattle.std.proofs.Common.{◌≡◌, ℕ, ◌+◌, ◌%◌, ◌^◌, List, [], ◌∷◌, ◌++◌, length, refl, sym, ap, ◌∙◌, arith}
+-- of its words, or one more in all where it begins, and nothing else is.
+use Rattle.std.proofs.Common.{◌≡◌, ℕ, zero, suc, ◌+◌, ◌<◌, ◌%◌, ◌^◌, List, [], ◌∷◌, ◌++◌, length, refl, sym, ap, ◌∙◌, arith}
 use Rattle.std.proofs.Math.Nat.{mod-add-mod}
 use Rattle.ivy_model.specs.declared.Record.{Record}
 use Rattle.ivy_model.specs.declared.Row.{Row}
-use Rattle.ivy_model.specs.Rows.{numbers_in, row}
+use Rattle.ivy_model.specs.Rows.{calls_of, numbers_in, row}
 use Rattle.ivy_model.proofs.Rows.{length-numbers_in, length-row}
 use Rattle.ivy_wire.specs.Data.{Frame}
 use Rattle.ivy_moves.specs.ivy_link.declared.Verdict.{Verdict}
@@ -12,7 +12,7 @@ use Rattle.ivy_moves.specs.ivy_link.declared.Verdict.TheVariants as verdict
 use Rattle.ivy_moves.specs.Marks.{Mark, Turn, Delivery, Pulse}
 use Rattle.ivy_moves.specs.Nodes.{pulsing}
 use Rattle.ivy_moves.specs.Parts.{pulse_marks}
-use Rattle.ivy_site.specs.Calls.{AreAnswered}
+use Rattle.ivy_site.specs.Calls.{AreAnswered, AreTaken, BeginsRow}
 use Rattle.ivy_site.specs.Shown.{Shown, after_pulse_to}
 use Rattle.ivy_site.specs.Sites.{SiteTurns, SiteDelivers, SiteGoesOn, FollowsDelivery, AfterDelivery}
 use Rattle.ivy_embedded.specs.Turns.{turns_in, CountsTurns}
@@ -65,18 +65,66 @@ answered (r ∷ rs) old new a =
     ap (λ (s : Shown). turns_in s.events) a.1.turns.after ∙ one_more old.events in
     omega (arith, first, answered rs a.0 new a.2)
 
--- so a row is counted by its words, in 64 bits
+-- and so is each call in progress whose reply is taken
+taken : (rs : List Record) (old new : Shown) → AreTaken rs old new
+    → turns_in new.events ≡ turns_in old.events + length rs
+taken [] old new same = omega (arith, ap (λ (s : Shown). turns_in s.events) same)
+taken (r ∷ rs) old new a =
+    let first : turns_in a.0.events ≡ turns_in old.events + 1 =
+    ap (λ (s : Shown). turns_in s.events) a.1.turns.after ∙ one_more old.events in
+    omega (arith, first, taken rs a.0 new a.2)
+
+words_of : (kind : Row) (node addr words : ℕ) (bytes : List ℕ)
+    → length (row kind node addr (numbers_in words bytes)) ≡ words
+words_of kind node addr words bytes =
+    length-row kind node addr (numbers_in words bytes) ∙ length-numbers_in words bytes
+
+-- so many more are counted, in 64 bits
+counted : (many before after : ℕ) (old new : List Mark) → turns_in new ≡ turns_in old + many
+    → CountsTurns before old → after ≡ (before + many) % 2 ^ 64 → CountsTurns after new
+counted many before after old new more counts is =
+    is ∙ (ap (λ n. (n + many) % 2 ^ 64) counts
+    ∙ (mod-add-mod (turns_in old) (2 ^ 64) many ∙ ap (λ n. n % 2 ^ 64) (sym more)))
+
+-- so a row is counted by its words
 pub counted_row : (kind : Row) (node addr words : ℕ) (bytes : List ℕ) (old new : Shown)
     → AreAnswered (row kind node addr (numbers_in words bytes)) old new → (before after : ℕ)
     → CountsTurns before old.events → after ≡ (before + words) % 2 ^ 64
     → CountsTurns after new.events
 counted_row kind node addr words bytes old new a before after counts is =
-    let many : length (row kind node addr (numbers_in words bytes)) ≡ words =
-    length-row kind node addr (numbers_in words bytes) ∙ length-numbers_in words bytes in
-    is ∙ (ap (λ n. (n + words) % 2 ^ 64) counts
-    ∙ (mod-add-mod (turns_in old.events) (2 ^ 64) words
-    ∙ ap (λ n. n % 2 ^ 64) (sym (answered (row kind node addr (numbers_in words bytes)) old new a
-    ∙ ap (λ n. turns_in old.events + n) many))))
+    counted words before after old.events new.events
+    (answered (row kind node addr (numbers_in words bytes)) old new a
+    ∙ ap (λ n. turns_in old.events + n) (words_of kind node addr words bytes)) counts is
+
+-- and one whose replies are taken
+pub counted_taken : (kind : Row) (node addr words : ℕ) (bytes : List ℕ) (old new : Shown)
+    → AreTaken (row kind node addr (numbers_in words bytes)) old new → (before after : ℕ)
+    → CountsTurns before old.events → after ≡ (before + words) % 2 ^ 64
+    → CountsTurns after new.events
+counted_taken kind node addr words bytes old new a before after counts is =
+    counted words before after old.events new.events
+    (taken (row kind node addr (numbers_in words bytes)) old new a
+    ∙ ap (λ n. turns_in old.events + n) (words_of kind node addr words bytes)) counts is
+
+-- a row that begins is one more
+pub counted_together : (kind : Row) (addr words : ℕ) (bytes : List ℕ) (old new : Shown)
+    → BeginsRow (calls_of (row kind 0 addr (numbers_in words bytes))) old new → 0 < words
+    → (before after : ℕ) → CountsTurns before old.events → after ≡ (before + 1) % 2 ^ 64
+    → CountsTurns after new.events
+counted_together kind addr zero bytes old new b some before after counts is =
+    absurd (omega (arith, some))
+counted_together kind addr (suc words) bytes old new b some before after counts is =
+    counted 1 before after old.events new.events
+    (ap (λ (s : Shown). turns_in s.events) b.turns.after ∙ one_more old.events) counts is
+
+-- or none, and nothing is counted
+pub counted_none : (kind : Row) (addr words : ℕ) (bytes : List ℕ) (old new : Shown)
+    → BeginsRow (calls_of (row kind 0 addr (numbers_in words bytes))) old new → words ≡ 0
+    → (count : ℕ) → CountsTurns count old.events → CountsTurns count new.events
+counted_none kind addr zero bytes old new same none count counts =
+    counts ∙ ap (λ n. n % 2 ^ 64) (sym (ap (λ (s : Shown). turns_in s.events) same))
+counted_none kind addr (suc words) bytes old new b none count counts =
+    absurd (omega (arith, none))
 
 delivers : (bytes : List ℕ) (v : Verdict) (old new : Shown) → SiteDelivers bytes v old new
     → turns_in new.events ≡ turns_in old.events

@@ -12,7 +12,7 @@ use Rattle.ivy_model.specs.declared.Reply.{Reply}
 use Rattle.ivy_model.specs.declared.Reply.TheVariants.{Value, Done, Refused}
 use Rattle.ivy_model.specs.declared.Row.{Row}
 use Rattle.ivy_model.specs.Numbers.{fault_number}
-use Rattle.ivy_model.specs.Rows.{numbers_in, row}
+use Rattle.ivy_model.specs.Rows.{calls_of, numbers_in, row}
 use Rattle.ivy_model.specs.Wants.{IsWant}
 use Rattle.ivy_wire.specs.Destinations.{dest_of}
 use Rattle.ivy_wire.specs.Faults.{checked}
@@ -22,7 +22,7 @@ use Rattle.ivy_moves.specs.Nodes.{pulsing}
 use Rattle.ivy_program.specs.Owned.{IsFree}
 use Rattle.ivy_program.specs.Steps.{Asks, step_of}
 use Rattle.ivy_site.specs.ivy_host.Hosts.{number_of}
-use Rattle.ivy_site.specs.Calls.{AreAnswered}
+use Rattle.ivy_site.specs.Calls.{AreAnswered, AreTaken, BeginsRow}
 use Rattle.ivy_site.specs.Handed.{site_handed}
 use Rattle.ivy_site.specs.Shown.{Shown, after_pulse_to}
 use Rattle.ivy_site.specs.Sites.{AfterDelivery, SiteTurns}
@@ -147,6 +147,26 @@ abbrev pub CarriesOut : Row → ℕ → List ℕ → ℕ → ℕ → Embedded �
 CarriesOut kind addr buffer status words s t = (status ≡ DONE) × (8 * words ≤ length buffer)
     × (waiting_in t ≡ waiting_in s)
     × OfSite (AreAnswered (row kind s.site.me addr (numbers_in words buffer))) s t
+
+-- the status tells whether calls of so many words are in progress, or of none
+abbrev pub TellsBegun : ℕ → ℕ → Type 0
+TellsBegun words status =
+    ((words ≡ 0) × (status ≡ DONE)) ⊎ ((words ≢ 0) × (status ≡ PENDING))
+
+-- the calls of so many words in a row from the address on, for which the buffer has bytes, were made
+-- together, and the first of them waits; or of none, and nothing was done
+abbrev pub BeginsBlock : Row → ℕ → List ℕ → ℕ → ℕ → Embedded → Embedded → Type 0
+BeginsBlock kind addr buffer status words s t = TellsBegun words status
+    × (8 * words ≤ length buffer)
+    × OfSite (BeginsRow (calls_of (row kind 0 addr (numbers_in words buffer)))) s t
+
+-- calls of so many words in a row from the address on, whose bytes stand at the head of the buffer,
+-- were in progress, and each had its reply, one after another, and the same strings wait; where
+-- there were any, no call is in progress
+abbrev pub TakesBlock : Row → ℕ → List ℕ → ℕ → ℕ → Embedded → Embedded → Type 0
+TakesBlock kind addr buffer status words s t = (status ≡ DONE) × (8 * words ≤ length buffer)
+    × (waiting_in t ≡ waiting_in s) × (words ≢ 0 → t.site.node.core.memory.asked ≡ None)
+    × OfSite (AreTaken (row kind s.site.me addr (numbers_in words buffer))) s t
 
 -- the number of a verdict
 abbrev pub verdict_number : Verdict → ℕ

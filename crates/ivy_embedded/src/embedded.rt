@@ -2,13 +2,13 @@
 ghost use Rattle.std.specs.Prelude.{◌≡◌, ◌≢◌, ◌↔◌, ◌≤◌, ◌⊎◌, ◌-◌, ◌*◌, ◌∷◌, [], ◌<◌, None, Some, Err, take, length, slice_get, IfOk, IfErr, IsTrue, IsFalse, MatchOption, MatchResult, IsOkUnless};
 ghost use Rattle.ivy_model.specs.Config.{IsConfig};
 ghost use Rattle.ivy_model.specs.Legal.{HasWidth};
-ghost use Rattle.ivy_model.specs.Rows.{numbers_in, row};
+ghost use Rattle.ivy_model.specs.Rows.{calls_of, numbers_in, row};
 ghost use Rattle.ivy_model.specs.declared.Row.TheVariants.{Loads, Stores};
 ghost use Rattle.ivy_model.specs.Wants.{IsWant};
 ghost use Rattle.ivy_moves.specs.Nodes.{pulsing};
 ghost use Rattle.ivy_program.specs.Owned.{IsFree};
 ghost use Rattle.ivy_site.specs.ivy_host.ivy_memory.AtOnce.{IsStored, row_at_hand};
-ghost use Rattle.ivy_site.specs.Calls.{AreAnswered, MayCallInRow};
+ghost use Rattle.ivy_site.specs.Calls.{AreAnswered, AreTaken, BeginsRow, MayCallInRow, row_together};
 ghost use Rattle.ivy_site.specs.Shown.{after_pulse_to};
 ghost use Rattle.ivy_site.specs.Sites.{AfterDelivery};
 ghost use Rattle.ivy_wire.specs.Faults.{checked};
@@ -20,7 +20,7 @@ ghost use Rattle.ivy_embedded.specs.Peers.{AreThose, KeepsFor, OwesTo};
 ghost use Rattle.ivy_pagetable.specs.NodeSets.{nodes_with};
 
 use crate::peers::{Kept, Owed, peers_of};
-use ivy_model::{Call, Config, Fault, Reply};
+use ivy_model::{Call, Config, Fault, Reply, Row};
 use ivy_site::{Keep, Site, Turn, Verdict};
 use ivy_wire::{Bytes, destination};
 use std::alloc::Global;
@@ -195,8 +195,62 @@ impl Embedded {
         words
     }
 
+    /// Makes the calls of words of 8 bytes in a row together, from an address on, with one turn, in which the first begins
+    /// and waits [1, 17]: as many as `words`, as there are bytes for, and as lie in the page of the address. It says how many.
+    /// Where that is none nothing was done, as where the first need not wait. A refused row was not made.
+    /// [`Embedded::take_loads`] and [`Embedded::take_stores`] take the replies at once, [`Embedded::poll`] one after another.
+    #[tactic(auto, using(crate::proofs::Counting::counted_together, crate::proofs::Counting::counted_none))]
+    pub fn call_row(
+        &mut self,
+        kind: Row,
+        addr: u64,
+        words: usize,
+        bytes: &[u8],
+    ) -> Result<usize, Fault>
+        ensures done { MatchResult result (λ n. OfSite (BeginsRow (calls_of (row kind 0 addr (numbers_in n bytes.now)))) self.old self.new) (λ _. self.new ≡ self.old) }
+        ensures many { MayCallInRow self.old.site addr (length bytes.now) → IfOk result (λ n. n ≡ row_together self.old.site kind addr words (length bytes.now)) }
+        ensures fits { IfOk result (λ n. (n ≤ words) × (8 * n ≤ length bytes.now)) }
+        ensures want { IfErr result IsWant }
+    {
+        let begun = self.site.call_row(kind, addr, words, bytes)?;
+        if begun > 0 {
+            self.turns = self.turns.wrapping_add(1);
+        }
+        Ok(begun)
+    }
+
+    /// Takes the replies to loads in a row from an address on, which are in progress, made together or one alone, each in a
+    /// turn of its own, and writes their words to the head of the buffer: all of them, where they are there and the buffer
+    /// has room, and it says how many. Else it takes none, and nothing was done.
+    #[tactic(auto, using(crate::proofs::Counting::counted_taken))]
+    pub fn take_loads(&mut self, addr: u64, into: &mut [u8]) -> usize
+        ensures taken { OfSite (AreTaken (row Loads self.old.site.me addr (numbers_in result into.new))) self.old self.new }
+        ensures fits { 8 * result ≤ length into.new }
+        ensures sized { length into.new ≡ length into.old }
+        ensures rests { result ≢ 0 → self.new.site.node.core.memory.asked ≡ None }
+        ensures waiting { waiting_in self.new ≡ waiting_in self.old }
+    {
+        let words = self.site.take_loads(addr, into);
+        self.turns = self.turns.wrapping_add(words as u64);
+        words
+    }
+
+    /// Takes the replies to stores of the words of the buffer in a row from an address on, as [`Embedded::take_loads`] does.
+    #[tactic(auto, using(crate::proofs::Counting::counted_taken))]
+    pub fn take_stores(&mut self, addr: u64, from: &[u8]) -> usize
+        ensures taken { OfSite (AreTaken (row Stores self.old.site.me addr (numbers_in result from.now))) self.old self.new }
+        ensures fits { 8 * result ≤ length from.now }
+        ensures rests { result ≢ 0 → self.new.site.node.core.memory.asked ≡ None }
+        ensures waiting { waiting_in self.new ≡ waiting_in self.old }
+    {
+        let words = self.site.take_stores(addr, from);
+        self.turns = self.turns.wrapping_add(words as u64);
+        words
+    }
+
     /// How many turns the node listed since it was opened, in 64 bits: a call of [`Embedded::begin`] or
-    /// [`Embedded::poll`] had one turn, or none, and a row one for each of its words.
+    /// [`Embedded::poll`] had one turn, or none, a row that is carried out or whose replies are taken one for each of its
+    /// words, and a row that begins one.
     pub fn turns(&self) -> u64
         ensures { CountsTurns result self.now.site.events }
     {

@@ -11,7 +11,7 @@ use Rattle.ivy_model.specs.declared.Reply as reply
 use Rattle.ivy_model.specs.declared.Row.{Row}
 use Rattle.ivy_model.specs.declared.Row.TheVariants.{Loads, Stores}
 use Rattle.ivy_model.specs.Config.{IsConfig}
-use Rattle.ivy_model.specs.Rows.{numbers_in, row}
+use Rattle.ivy_model.specs.Rows.{calls_of, numbers_in, row}
 use Rattle.ivy_program.specs.Programs.{Program, Called}
 use Rattle.ivy_moves.specs.Nodes.{pulsing}
 use Rattle.ivy_moves.specs.declared.Move.{Move}
@@ -20,7 +20,7 @@ use Rattle.ivy_moves.specs.declared.keep.Keep.TheVariants.{History}
 use Rattle.ivy_moves.specs.ivy_link.declared.Verdict.{Verdict}
 use Rattle.ivy_moves.proofs.Places.{set-cases, set-there, set-same}
 use Rattle.ivy_embedded.specs.ivy_site.declared.turn.Turn.TheVariants.{Moved}
-use Rattle.ivy_embedded.specs.ivy_site.Calls.{AreAnswered}
+use Rattle.ivy_embedded.specs.ivy_site.Calls.{AreAnswered, AreTaken, BeginsRow}
 use Rattle.ivy_embedded.specs.ivy_site.Handed.{site_handed}
 use Rattle.ivy_embedded.specs.ivy_site.Shown.{Shown, after_pulse_to}
 use Rattle.ivy_embedded.specs.ivy_site.Sites.{SiteTurns, AfterDelivery, first_keeping}
@@ -34,7 +34,7 @@ use Rattle.ivy_world.proofs.Making.{turn_went, pulse_went}
 use Rattle.ivy_world.proofs.Handed.{handed_running}
 use Rattle.ivy_world.proofs.Worlds.{first_running-of, running_each, runs_on}
 use Rattle.proof_headline.proofs.Headline.{keeps-reached}
-use Rattle.proof_embedded.specs.Driven.{Request, Begin, Reply, LoadBlock, StoreBlock, Deliver, NextFrame, Pulse, Driven, TakesOut, Does, Asks, DrivesTo, first_from, opened, node_in, program_in, AreOfOneRun, DrivenNodesAreOfOneRun}
+use Rattle.proof_embedded.specs.Driven.{Request, Begin, Reply, LoadBlock, StoreBlock, BeginLoadBlock, BeginStoreBlock, TakeLoadBlock, TakeStoreBlock, Deliver, NextFrame, Pulse, Driven, TakesOut, Does, Asks, DrivesTo, first_from, opened, node_in, program_in, AreOfOneRun, DrivenNodesAreOfOneRun}
 use Rattle.proof_embedded.proofs.Emptied.{with_strings, turn_carries, delivery_carries, pulse_carries}
 
 -- the node as a site whose strings are on the wire
@@ -124,24 +124,47 @@ module _ (c : Config) (sites : List Shown) (sent : List (List ℕ)) (i : ℕ) (o
             (k.goes []) refl refl refl));
       }
 
--- the call is handed in first
+-- the calls are handed in first
 module _ (c : Config) (sites : List Shown) (sent : List (List ℕ)) (i : ℕ) (old : Shown)
     (there : slice_get sites i ≡ Some (with_strings [] old)) (h : IsRunning c sites sent) where
-  handed : (call : Call) (new : Shown)
-      → (new ≡ site_handed ((call ∷ []) ∷ []) old) ⊎ SiteTurns (site_handed ((call ∷ []) ∷ []) old) new
+  handed : (calls : List Call) (new : Shown)
+      → (new ≡ site_handed (calls ∷ []) old) ⊎ SiteTurns (site_handed (calls ∷ []) old) new
       → Further c sites sent i old there h new
-  handed call new w =
-      let mid : Shown = site_handed ((call ∷ []) ∷ []) old in
+  handed calls new w =
+      let mid : Shown = site_handed (calls ∷ []) old in
       let after : List Shown = set sites i (with_strings [] mid) in
       let at : slice_get after i ≡ Some (with_strings [] mid) =
       set-there sites i (with_strings [] mid) (with_strings [] old) there in
       let f = turned_once c after sent i mid at
-      (handed_running c sites sent i (with_strings [] old) there ((call ∷ []) ∷ []) h) new w in record {
+      (handed_running c sites sent i (with_strings [] old) there (calls ∷ []) h) new w in record {
         more = f.more;
         waiting = f.waiting;
         running = subst (λ ss. IsRunning c ss (sent ++ f.more))
             (set-set sites i (with_strings [] mid) (with_strings [] new)) f.running;
       }
+
+  -- together, with a turn in which the first begins, or there are none
+  together : (calls : List Call) (new : Shown) → BeginsRow calls old new
+      → Further c sites sent i old there h new
+  together [] new same = stayed c sites sent i old there h new same
+  together (call ∷ calls) new b = handed (call ∷ calls) new (inr b.turns)
+
+-- one step of the site, and then others
+followed : (c : Config) (sites : List Shown) (sent : List (List ℕ)) (i : ℕ) (old mid new : Shown)
+    (there : slice_get sites i ≡ Some (with_strings [] old)) (h : IsRunning c sites sent)
+    (first : Further c sites sent i old there h mid)
+    → Further c (set sites i (with_strings [] mid)) (sent ++ first.more) i mid
+    (set-there sites i (with_strings [] mid) (with_strings [] old) there) first.running new
+    → Further c sites sent i old there h new
+followed c sites sent i old mid new there h first rest = record {
+  more = first.more ++ rest.more;
+  waiting = rest.waiting ∙ (ap (λ l. l ++ rest.more) first.waiting
+      ∙ append_assoc old.waiting first.more rest.more);
+  running = subst (λ ss. IsRunning c ss (sent ++ (first.more ++ rest.more)))
+      (set-set sites i (with_strings [] mid) (with_strings [] new))
+      (subst (IsRunning c (set (set sites i (with_strings [] mid)) i (with_strings [] new)))
+      (append_assoc sent first.more rest.more) rest.running);
+}
 
 -- calls of a row are handed in one after another
 answered : (c : Config) (sites : List Shown) (sent : List (List ℕ)) (i : ℕ) (rs : List Record)
@@ -149,20 +172,21 @@ answered : (c : Config) (sites : List Shown) (sent : List (List ℕ)) (i : ℕ) 
     (h : IsRunning c sites sent) → AreAnswered rs old new → Further c sites sent i old there h new
 answered c sites sent i [] old new there h same = stayed c sites sent i old there h new same
 answered c sites sent i (r ∷ rs) old new there h a =
-    let mid : Shown = a.0 in
-    let after : List Shown = set sites i (with_strings [] mid) in
-    let at : slice_get after i ≡ Some (with_strings [] mid) =
-    set-there sites i (with_strings [] mid) (with_strings [] old) there in
-    let first = handed c sites sent i old there h r.call mid (inr a.1.turns) in
-    let rest = answered c after (sent ++ first.more) i rs mid new at first.running a.2 in record {
-      more = first.more ++ rest.more;
-      waiting = rest.waiting ∙ (ap (λ l. l ++ rest.more) first.waiting
-          ∙ append_assoc old.waiting first.more rest.more);
-      running = subst (λ ss. IsRunning c ss (sent ++ (first.more ++ rest.more)))
-          (set-set sites i (with_strings [] mid) (with_strings [] new))
-          (subst (IsRunning c (set after i (with_strings [] new)))
-          (append_assoc sent first.more rest.more) rest.running);
-    }
+    let first = handed c sites sent i old there h (r.call ∷ []) a.0 (inr a.1.turns) in
+    followed c sites sent i old a.0 new there h first
+    (answered c (set sites i (with_strings [] a.0)) (sent ++ first.more) i rs a.0 new
+    (set-there sites i (with_strings [] a.0) (with_strings [] old) there) first.running a.2)
+
+-- and their replies are taken so, each in a turn
+replied : (c : Config) (sites : List Shown) (sent : List (List ℕ)) (i : ℕ) (rs : List Record)
+    (old new : Shown) (there : slice_get sites i ≡ Some (with_strings [] old))
+    (h : IsRunning c sites sent) → AreTaken rs old new → Further c sites sent i old there h new
+replied c sites sent i [] old new there h same = stayed c sites sent i old there h new same
+replied c sites sent i (r ∷ rs) old new there h a =
+    let first = turned c sites sent i old there h a.0 a.1.turns in
+    followed c sites sent i old a.0 new there h first
+    (replied c (set sites i (with_strings [] a.0)) (sent ++ first.more) i rs a.0 new
+    (set-there sites i (with_strings [] a.0) (with_strings [] old) there) first.running a.2)
 
 -- what waits at a node with more strings
 
@@ -230,10 +254,11 @@ module _ (c : Config) (nodes : List Embedded) (strings : List (List ℕ)) (i : �
   begun : (call : Call) (progress : Option reply.Reply) (t : Embedded)
       → AfterBegin call progress s.site t.site → Goes t.site
   begun call None t a =
-      handed c (map seen nodes) d.sent i s.site seen_there d.running call t.site
+      handed c (map seen nodes) d.sent i s.site seen_there d.running (call ∷ []) t.site
       (⊎_elim inl (λ w. inr w.0) a)
   begun call (Some r) t a =
-      handed c (map seen nodes) d.sent i s.site seen_there d.running call t.site (inr a.turns)
+      handed c (map seen nodes) d.sent i s.site seen_there d.running (call ∷ []) t.site
+      (inr a.turns)
 
   polled : (progress : Option reply.Reply) (t : Embedded) → AfterCall progress s.site t.site
       → Goes t.site
@@ -247,6 +272,18 @@ module _ (c : Config) (nodes : List Embedded) (strings : List (List ℕ)) (i : �
       → AreAnswered (row kind s.site.me addr (numbers_in words bytes)) s.site t.site → Goes t.site
   carried kind addr words bytes t a =
       answered c (map seen nodes) d.sent i (row kind s.site.me addr (numbers_in words bytes)) s.site
+      t.site seen_there d.running a
+
+  begun_row : (kind : Row) (addr words : ℕ) (bytes : List ℕ) (t : Embedded)
+      → BeginsRow (calls_of (row kind 0 addr (numbers_in words bytes))) s.site t.site → Goes t.site
+  begun_row kind addr words bytes t b =
+      together c (map seen nodes) d.sent i s.site seen_there d.running
+      (calls_of (row kind 0 addr (numbers_in words bytes))) t.site b
+
+  taken_row : (kind : Row) (addr words : ℕ) (bytes : List ℕ) (t : Embedded)
+      → AreTaken (row kind s.site.me addr (numbers_in words bytes)) s.site t.site → Goes t.site
+  taken_row kind addr words bytes t a =
+      replied c (map seen nodes) d.sent i (row kind s.site.me addr (numbers_in words bytes)) s.site
       t.site seen_there d.running a
 
   -- a string was taken out, or none was
@@ -318,6 +355,18 @@ module _ (c : Config) (nodes : List Embedded) (strings : List (List ℕ)) (i : �
       (λ none. absurd none.0) h.1.3)
   did (StoreBlock addr bytes) t more h =
       rw h.0 (⊎_elim (λ does. further t does.3.0 (carried Stores addr h.1.1 bytes t does.3.1))
+      (λ none. absurd none.0) h.1.2)
+  did (BeginLoadBlock addr bytes) t more h =
+      rw h.0 (⊎_elim (λ does. further t does.2.0 (begun_row Loads addr h.1.1 bytes t does.2.1))
+      (λ refused. unchanged t refused.1) h.1.2)
+  did (BeginStoreBlock addr bytes) t more h =
+      rw h.0 (⊎_elim (λ does. further t does.2.0 (begun_row Stores addr h.1.1 bytes t does.2.1))
+      (λ refused. unchanged t refused.1) h.1.2)
+  did (TakeLoadBlock addr) t more h =
+      rw h.0 (⊎_elim (λ does. further t does.4.0 (taken_row Loads addr h.1.1 h.1.2 t does.4.1))
+      (λ none. absurd none.0) h.1.3)
+  did (TakeStoreBlock addr bytes) t more h =
+      rw h.0 (⊎_elim (λ does. further t does.4.0 (taken_row Stores addr h.1.1 bytes t does.4.1))
       (λ none. absurd none.0) h.1.2)
   did (Deliver bytes) t more h =
       rw h.0 (⊎_elim

@@ -9,17 +9,21 @@ use Rattle.ivy_moves.specs.Worlds.{World}
 use Rattle.ivy_embedded.specs.ivy_site.ivy_host.Hosts.{Host}
 use Rattle.ivy_embedded.specs.ivy_site.ivy_host.Managers.{Managed}
 use Rattle.ivy_embedded.specs.Nodes.{Embedded, first_embedded}
-use Rattle.ivy_embedded.specs.Exports.{Answers, Begins, CarriesOut, Delivers, IsRequest, Polls, Pulses, RefusesCall, RefusesPoll, RefusesPulse, RefusesString, TakesAt}
+use Rattle.ivy_embedded.specs.Exports.{Answers, Begins, BeginsBlock, CarriesOut, Delivers, IsRequest, Polls, Pulses, RefusesCall, RefusesPoll, RefusesPulse, RefusesString, TakesAt, TakesBlock, TellsWant}
 use Rattle.ivy_embedded.specs.declared.status.TheConstants.{DONE}
 use Rattle.proof_headline.specs.Keeping.{Keeps}
 
 -- what the program asks of a node; the five numbers are those that a call is begun with, and a block
--- is read or written from an address on
+-- is read or written from an address on, or begun, and then taken, with these bytes of its buffer
 pub data Request : Type 0 where
   Begin : ℕ → ℕ → ℕ → ℕ → ℕ → Request
   Reply : Request
   LoadBlock : ℕ → Request
   StoreBlock : ℕ → List ℕ → Request
+  BeginLoadBlock : ℕ → List ℕ → Request
+  BeginStoreBlock : ℕ → List ℕ → Request
+  TakeLoadBlock : ℕ → Request
+  TakeStoreBlock : ℕ → List ℕ → Request
   Deliver : List ℕ → Request
   NextFrame : Request
   Pulse : ℕ → Request
@@ -51,6 +55,18 @@ Does (LoadBlock addr) strings s t more = (more ≡ strings)
 Does (StoreBlock addr bytes) strings s t more = (more ≡ strings)
     × ((status words : ℕ) × Answers status (Some s) (Some t)
     (CarriesOut Stores addr bytes status words) (λ _. ⊥))
+Does (BeginLoadBlock addr bytes) strings s t more = (more ≡ strings)
+    × ((status words : ℕ) × Answers status (Some s) (Some t)
+    (BeginsBlock Loads addr bytes status words) (λ _. TellsWant status))
+Does (BeginStoreBlock addr bytes) strings s t more = (more ≡ strings)
+    × ((status words : ℕ) × Answers status (Some s) (Some t)
+    (BeginsBlock Stores addr bytes status words) (λ _. TellsWant status))
+Does (TakeLoadBlock addr) strings s t more = (more ≡ strings)
+    × ((status words : ℕ) × (buffer : List ℕ) × Answers status (Some s) (Some t)
+    (TakesBlock Loads addr buffer status words) (λ _. ⊥))
+Does (TakeStoreBlock addr bytes) strings s t more = (more ≡ strings)
+    × ((status words : ℕ) × Answers status (Some s) (Some t)
+    (TakesBlock Stores addr bytes status words) (λ _. ⊥))
 Does (Deliver bytes) strings s t more = (more ≡ strings) × Contains strings bytes
     × ((status what : ℕ) × Answers status (Some s) (Some t) (Delivers bytes status what)
     (RefusesString bytes status))
