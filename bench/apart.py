@@ -42,10 +42,11 @@ def ran(command, folder):
 
 @dataclass(frozen=True)
 class Apart:
-    """A program: its line of crates.txt, and the folder of its files."""
+    """A program: its line of crates.txt, the folder of its files, and those that it has from other folders."""
 
     line: str
     sources: Path
+    others: tuple[Path, ...] = ()
 
     @property
     def name(self):
@@ -75,7 +76,7 @@ class Apart:
         folder = top / "crates" / self.name
         shutil.rmtree(folder / "src", ignore_errors=True)
         (folder / "src").mkdir(parents=True)
-        for file in self.sources.glob("*.rattle"):
+        for file in (*self.sources.glob("*.rattle"), *self.others):
             shutil.copy(file, folder / "src" / f"{file.stem}.rt")
         return folder, [it for it in crates[:-1] if not (top / "crates" / it / BUILT).is_dir()]
 

@@ -19,8 +19,14 @@ from timing import write_lines
 
 EXAMPLE = ROOT / "examples" / "producer_consumer.ivy"
 SOURCES = ROOT / "bench" / "own"
+# The drawn blocks are those of the plays.
+ARRAYS = ROOT / "bench" / "plays" / "arrays.rattle"
+# What is built stays where the gate does not look.
+KEPT = ROOT / ".git" / "ivy-bench"
 APART = Apart(
-    "bench_own: ivy_model ivy_alloc ivy_calls ivy_sync ivy_programs ivy_program ivy_session ivy_own anyhow", SOURCES
+    "bench_own: ivy_model ivy_alloc ivy_calls ivy_sync ivy_programs ivy_program ivy_session ivy_own anyhow",
+    SOURCES,
+    (ARRAYS,),
 )
 RUNS = 5
 # How many times fewer units an unproved program does, which is checked as it runs.
@@ -32,6 +38,11 @@ SUMMING = 4
 MULTIPLYING = 4
 
 
+def built_program(top=KEPT):
+    """The program, which is built where it has to be."""
+    return APART.build(top, ("mutex", "1", "1"))
+
+
 class Program:
     """The program that runs own code and texts."""
 
@@ -39,7 +50,7 @@ class Program:
         self.unproved = unproved
         self.folder, _ = APART.make_root(top)
         if not unproved:
-            APART.build(top, ("mutex", "1", "1"))
+            built_program(top)
 
     def run(self, *words):
         """The nanoseconds that a run counts, and its greatest memory in MiB."""
@@ -242,10 +253,9 @@ RUN = {Own: time_own, Flat: weigh_own, Wide: open_wide}
 
 def measure_own(chosen, unproved):
     """Runs the measures. Whether each is within its limit."""
-    kept = ROOT / ".git" / "ivy-bench"
     with tempfile.TemporaryDirectory() as room:
-        # What is built stays where the gate does not look, and is built anew where there is no such folder.
-        program = Program(kept if kept.parent.is_dir() else Path(room), unproved)
+        # It is built anew where there is no such folder.
+        program = Program(KEPT if KEPT.parent.is_dir() else Path(room), unproved)
         if any(isinstance(measure, Own) for measure in chosen):
             print(ROW.format(*HEAD), flush=True)
         within = [RUN[type(it)](program, it) for it in chosen]
